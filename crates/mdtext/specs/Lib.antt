@@ -1,0 +1,3 @@
+pub mod ByteClass
+pub mod Counted
+pub mod Escaped

@@ -1,0 +1,14 @@
+//! Characters, columns, entities, labels and escapes: what every layer of the engine says of a text.
+#![tactic(auto)]
+
+pub use self::byte_class::{Class, first_special};
+pub use self::counters::{Count, Tally};
+pub use self::escapes::escape_text;
+use std::alloc::AllocError;
+
+mod byte_class;
+mod counters;
+mod escapes;
+
+/// A growth was refused.
+pub type NoMemory = AllocError;
