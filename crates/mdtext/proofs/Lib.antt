@@ -1,1 +1,2 @@
 pub mod Specials
+pub mod Tables

@@ -1,3 +1,4 @@
 pub mod ByteClass
 pub mod Counted
+pub mod EntityTable
 pub mod Escaped

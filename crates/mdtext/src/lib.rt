@@ -3,11 +3,13 @@
 
 pub use self::byte_class::{Class, first_special};
 pub use self::counters::{Count, Tally};
+pub use self::entity_table::Entities;
 pub use self::escapes::escape_text;
 use std::alloc::AllocError;
 
 mod byte_class;
 mod counters;
+mod entity_table;
 mod escapes;
 
 /// A growth was refused.

@@ -1,0 +1,82 @@
+//! The names of entity references, and the texts that they stand for.
+ghost use Rattle.std.specs.Prelude.{◌≡◌, [], IfOk, map, option_map};
+ghost use Rattle.mdtext.specs.EntityTable.{entity_text, put_all, builtin_table};
+
+use crate::NoMemory;
+use std::alloc::Global;
+use std::collections::BTreeMap;
+use std::marker::Model;
+
+/// The entities that are used where no other table is handed in.
+const BUILTIN: [(&str, &str); 23] = [
+    ("amp", "&"),
+    ("lt", "<"),
+    ("gt", ">"),
+    ("quot", "\""),
+    ("apos", "'"),
+    ("nbsp", "\u{A0}"),
+    ("copy", "\u{A9}"),
+    ("reg", "\u{AE}"),
+    ("trade", "\u{2122}"),
+    ("AElig", "\u{C6}"),
+    ("auml", "\u{E4}"),
+    ("ouml", "\u{F6}"),
+    ("frac34", "\u{BE}"),
+    ("Dcaron", "\u{10E}"),
+    ("ndash", "\u{2013}"),
+    ("mdash", "\u{2014}"),
+    ("lsquo", "\u{2018}"),
+    ("rsquo", "\u{2019}"),
+    ("ldquo", "\u{201C}"),
+    ("rdquo", "\u{201D}"),
+    ("hellip", "\u{2026}"),
+    ("euro", "\u{20AC}"),
+    ("times", "\u{D7}"),
+];
+
+/// A table of entity references (CommonMark 2.5): each name once, without `&` and `;`, with its text.
+#[derive(Debug, Drop)]
+pub struct Entities {
+    texts: BTreeMap<String, String, Global>,
+}
+
+impl Model for Entities {
+    ghost use Rattle.std.specs.Prelude.{List, ℕ, map, string_bytes};
+
+    ghost Value = { List (List ℕ × List ℕ) };
+
+    ghost view = { λ entities. map (λ e. (string_bytes e.0, string_bytes e.1)) entities.texts.entries };
+}
+
+impl Entities {
+    /// The names `amp`, `lt`, `gt`, `quot`, `apos`, `nbsp`, `copy`, `reg`, `trade`, `AElig`, `auml`, `ouml`, `frac34`,
+    /// `Dcaron`, `ndash`, `mdash`, `lsquo`, `rsquo`, `ldquo`, `rdquo`, `hellip`, `euro` and `times`, with HTML's characters.
+    pub fn builtin(alloc: Global) -> Result<Entities, NoMemory>
+        ensures { IfOk result (λ entities. entities ≡ builtin_table) }
+    {
+        Entities::of(alloc, &BUILTIN)
+    }
+
+    fn of(alloc: Global, pairs: &[(&str, &str)]) -> Result<Entities, NoMemory>
+        ensures { IfOk result (λ entities. entities ≡ put_all (map (λ p. (p.0.now, p.1.now)) pairs.now) []) }
+    {
+        let mut texts = BTreeMap::new(alloc);
+        for (name, text) in pairs {
+            texts.insert(
+                String::from_str(alloc, name)?,
+                String::from_str(alloc, text)?,
+            )?;
+        }
+        Ok(Entities { texts })
+    }
+
+    /// The text that a name, without `&` and `;`, stands for. It takes no memory.
+    pub fn get(&self, name: &str) -> Option<&str>
+        ensures { option_map (λ text. text.now) result ≡ entity_text self.now name.now }
+    {
+        match self.texts.get(name) {
+            Some(text) => Some(text.as_str()),
+            None => None,
+        }
+    }
+}
