@@ -1,4 +1,5 @@
 pub mod ByteClass
+pub mod Characters
 pub mod Counted
 pub mod EntityTable
 pub mod Escaped

@@ -2,12 +2,14 @@
 #![tactic(auto)]
 
 pub use self::byte_class::{Class, first_special};
+pub use self::characters::{is_punct, is_white};
 pub use self::counters::{Count, Tally};
 pub use self::entity_table::Entities;
 pub use self::escapes::escape_text;
 use std::alloc::AllocError;
 
 mod byte_class;
+mod characters;
 mod counters;
 mod entity_table;
 mod escapes;
