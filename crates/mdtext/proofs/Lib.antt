@@ -1,2 +1,3 @@
+pub mod PlainRuns
 pub mod Specials
 pub mod Tables

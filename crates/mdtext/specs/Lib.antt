@@ -3,3 +3,4 @@ pub mod Characters
 pub mod Counted
 pub mod EntityTable
 pub mod Escaped
+pub mod Lines

@@ -4,7 +4,8 @@ ghost use Rattle.mdtext.specs.ByteClass.{in_class};
 ghost use Rattle.mdtext.specs.Escaped.{escaped_byte, escaped, text_specials};
 
 use crate::NoMemory;
-use crate::byte_class::{Class, first_special};
+use crate::byte_class::Class;
+use crate::runs::split_at_special;
 
 /// Appends the text with `&`, `<`, `>` and `"` as entity references: all of it, or nothing after `NoMemory`.
 pub fn escape_text(text: &str, out: &mut String) -> Result<(), NoMemory>
@@ -27,13 +28,13 @@ fn append_escaped(text: &str, out: &mut String) -> Result<(), NoMemory>
     let specials = Class::of(b"&<>\"");
     let mut rest = text;
     loop {
-        let stop = first_special(rest.as_bytes(), &specials);
-        out.push_str(&rest[..stop])?;
-        if stop == rest.len() {
+        let (plain, special) = split_at_special(rest, &specials);
+        out.push_str(plain)?;
+        let Some((byte, after)) = special else {
             return Ok(());
-        }
-        out.push_str(reference(rest.as_bytes()[stop]))?;
-        rest = &rest[stop + 1..];
+        };
+        out.push_str(reference(byte))?;
+        rest = after;
     }
 }
 

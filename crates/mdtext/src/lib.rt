@@ -6,6 +6,7 @@ pub use self::characters::{is_punct, is_white};
 pub use self::counters::{Count, Tally};
 pub use self::entity_table::Entities;
 pub use self::escapes::escape_text;
+pub use self::lines::{clean_len, clean_line};
 use std::alloc::AllocError;
 
 mod byte_class;
@@ -13,6 +14,8 @@ mod characters;
 mod counters;
 mod entity_table;
 mod escapes;
+mod lines;
+mod runs;
 
 /// A growth was refused.
 pub type NoMemory = AllocError;
