@@ -1,3 +1,4 @@
+pub mod LineEnds
 pub mod PlainRuns
 pub mod Specials
 pub mod Tables

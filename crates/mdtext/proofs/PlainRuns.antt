@@ -48,7 +48,7 @@ run_plain p bs run n s e = ap (list_any p) (e ∙ front bs n) ∙ s.plain
 pub record Replaces (class : List ℕ) (f : ℕ → List ℕ) : Type 0 where
   pub plain : (b : ℕ) → in_class class b ≡ false → f b ≡ b ∷ []
 
-either_false : (a b : Bool) → (a || b) ≡ false → (a ≡ false) × (b ≡ false)
+pub either_false : (a b : Bool) → (a || b) ≡ false → (a ≡ false) × (b ≡ false)
 either_false true b h = cc
 either_false false b h = (refl, h)
 

@@ -6,7 +6,7 @@ pub use self::characters::{is_punct, is_white};
 pub use self::counters::{Count, Tally};
 pub use self::entity_table::Entities;
 pub use self::escapes::escape_text;
-pub use self::lines::{clean_len, clean_line};
+pub use self::lines::{clean_len, clean_line, lines_of};
 use std::alloc::AllocError;
 
 mod byte_class;

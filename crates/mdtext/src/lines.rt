@@ -1,11 +1,62 @@
 //! The lines of a text.
-ghost use Rattle.std.specs.Prelude.{◌≡◌, ◌-◌, ◌^◌, IfOk, length, min, string_bytes};
-ghost use Rattle.mdtext.specs.Lines.{without_nul};
+ghost use Rattle.std.specs.Prelude.{◌≡◌, ◌-◌, ◌^◌, ◌<◌, ◌∷◌, IfOk, drop, if◌then◌else◌, length, map, min, string_bytes};
+ghost use Rattle.mdtext.specs.Lines.{without_nul, without_mark, begins_with_lf, split_lines, text_lines};
+ghost use Rattle.std.specs.Str.{IsUtf8};
 
 use crate::NoMemory;
 use crate::byte_class::Class;
 use crate::runs::split_at_special;
 use std::alloc::Global;
+
+/// The lines of a whole text (CommonMark 2.1): a line ends at LF, at CR LF, at CR without LF after it, and at the end of
+/// the text. A leading U+FEFF is dropped, and U+FFFD stands for each U+0000. The empty text has no line.
+pub fn lines_of(alloc: Global, text: &str) -> Result<Vec<String>, NoMemory>
+    ensures { IfOk result (λ lines. map string_bytes lines.items ≡ text_lines text.now) }
+{
+    let mut lines = Vec::new(alloc);
+    let mut rest = after_mark(text);
+    while !rest.is_empty() {
+        let (line, after) = split_line(rest);
+        lines.push(clean_line(alloc, line)?)?;
+        rest = after;
+    }
+    Ok(lines)
+}
+
+fn after_mark(text: &str) -> &str
+    ensures { result.now ≡ without_mark text.now }
+{
+    match text.strip_prefix("\u{FEFF}") {
+        Some(rest) => rest,
+        None => text,
+    }
+}
+
+// The first line, and the text after its ending.
+fn split_line(text: &str) -> (&str, &str)
+    requires { 0 < length text.now }
+    ensures lines { split_lines text.now ≡ result.0.now ∷ split_lines result.1.now }
+    ensures shorter { length result.1.now < length text.now }
+    ensures text { IsUtf8 result.1.now }
+{
+    let (line, ending) = split_at_special(text, &Class::of(b"\r\n"));
+    let Some((byte, after)) = ending else {
+        return (line, "");
+    };
+    if byte == b'\r' {
+        return (line, after_lf(after));
+    }
+    (line, after)
+}
+
+fn after_lf(text: &str) -> &str
+    ensures { result.now ≡ (if begins_with_lf text.now then drop 1 text.now else text.now) }
+{
+    match text.strip_prefix('\n') {
+        Some(rest) => rest,
+        None => text,
+    }
+}
 
 /// The line with U+FFFD for each U+0000 (CommonMark 2.3).
 pub fn clean_line(alloc: Global, line: &str) -> Result<String, NoMemory>
