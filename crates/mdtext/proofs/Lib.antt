@@ -1,4 +1,6 @@
+pub mod Indents
 pub mod LineEnds
 pub mod PlainRuns
 pub mod Specials
+pub mod Strips
 pub mod Tables

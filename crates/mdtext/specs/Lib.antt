@@ -1,5 +1,6 @@
 pub mod ByteClass
 pub mod Characters
+pub mod Columns
 pub mod Counted
 pub mod EntityTable
 pub mod Escaped

@@ -4,6 +4,7 @@
 pub use self::byte_class::{Class, first_special};
 pub use self::characters::{is_punct, is_white};
 pub use self::counters::{Count, Tally};
+pub use self::cursor::Cursor;
 pub use self::entity_table::Entities;
 pub use self::escapes::escape_text;
 pub use self::lines::{clean_len, clean_line, lines_of};
@@ -12,6 +13,7 @@ use std::alloc::AllocError;
 mod byte_class;
 mod characters;
 mod counters;
+mod cursor;
 mod entity_table;
 mod escapes;
 mod lines;
