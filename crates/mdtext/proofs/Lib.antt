@@ -4,3 +4,4 @@ pub mod PlainRuns
 pub mod Specials
 pub mod Strips
 pub mod Tables
+pub mod UrlBytes

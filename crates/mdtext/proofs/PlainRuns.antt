@@ -73,3 +73,8 @@ pub write_last : (class : List ℕ) (f : ℕ → List ℕ) → Replaces class f 
 write_last class f r seen out plain rest text e h g w =
     ap (λ l. out ++ l) (sym (append-nil plain)) ∙ ap (λ l. out ++ l) (sym (run_stays class f r plain [] (ap (λ s. list_any (in_class s) plain) (sym e) ∙ h)))
     ∙ ap (λ l. out ++ flat_map f l) (append-nil plain) ∙ ap (λ l. out ++ flat_map f l) (sym g) ∙ w
+
+-- what a text becomes byte by byte, it becomes part by part
+pub parts : (f : ℕ → List ℕ) (xs ys : List ℕ) → flat_map f (xs ++ ys) ≡ flat_map f xs ++ flat_map f ys
+parts f [] ys = refl
+parts f (x ∷ xs) ys = ap (λ l. f x ++ l) (parts f xs ys) ∙ sym (append_assoc (f x) (flat_map f xs) (flat_map f ys))

@@ -4,4 +4,5 @@ pub mod Columns
 pub mod Counted
 pub mod EntityTable
 pub mod Escaped
+pub mod EscapedUrl
 pub mod Lines

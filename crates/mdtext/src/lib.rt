@@ -8,6 +8,7 @@ pub use self::cursor::Cursor;
 pub use self::entity_table::Entities;
 pub use self::escapes::escape_text;
 pub use self::lines::{clean_len, clean_line, lines_of};
+pub use self::urls::escape_url;
 use std::alloc::AllocError;
 
 mod byte_class;
@@ -18,6 +19,7 @@ mod entity_table;
 mod escapes;
 mod lines;
 mod runs;
+mod urls;
 
 /// A growth was refused.
 pub type NoMemory = AllocError;
