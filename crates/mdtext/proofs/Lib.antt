@@ -1,4 +1,6 @@
+pub mod BareBrackets
 pub mod Indents
+pub mod LabelWords
 pub mod LineEnds
 pub mod PlainRuns
 pub mod Specials

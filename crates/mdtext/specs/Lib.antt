@@ -5,4 +5,5 @@ pub mod Counted
 pub mod EntityTable
 pub mod Escaped
 pub mod EscapedUrl
+pub mod Labels
 pub mod Lines

@@ -1,0 +1,179 @@
+//! Link labels, and what they lead to.
+ghost use Rattle.std.specs.Prelude.{◌≡◌, ◌++◌, ◌∷◌, false, Some, IfOk, OnOk, chars, fold, length, nat_eq, nat_le, not, refl, string_bytes};
+ghost use Rattle.std.specs.Cmp.{partial_equiv_from_equiv};
+ghost use Rattle.std.specs.Cmp.Lexicographic.{pointwise, nat_list_eq_equiv, nat_list_cmp_total, slice_cmp, texts_po, texts_ties};
+ghost use Rattle.std.specs.List.{list_any};
+ghost use Rattle.std.specs.Ordering.{nat_cmp};
+ghost use Rattle.mdtext.specs.Labels.{add_word, collapsed, folded, gap, has_bare_bracket, is_label, is_label_space, label_of, words};
+
+use crate::NoMemory;
+use crate::byte_class::Class;
+use crate::runs::split_at_special;
+use caseless::default_case_fold_str;
+use std::alloc::Global;
+use std::cmp::Ordering;
+use std::marker::Model;
+
+/// A link label as labels are matched (CommonMark 4.7): after Unicode case folding, without spaces, tabs and line
+/// endings at its ends, and with one space for each run of them inside. Labels are ordered by this text's bytes.
+#[derive(Debug, Drop)]
+pub struct Label {
+    folded: String,
+}
+
+impl Model for Label {
+    ghost use Rattle.std.specs.Prelude.{List, ℕ, string_bytes};
+
+    ghost Value = { List ℕ };
+
+    ghost view = { λ label. string_bytes label.folded };
+}
+
+impl Label {
+    /// The text by which labels are matched.
+    pub fn as_str(&self) -> &str
+        ensures { result.now ≡ self.now }
+    {
+        self.folded.as_str()
+    }
+}
+
+impl PartialEq for Label {
+    ghost eq = { λ a b. pointwise nat_eq a b };
+
+    ghost laws = { partial_equiv_from_equiv nat_list_eq_equiv };
+
+    fn eq(&self, other: &Self) -> bool {
+        self.as_str() == other.as_str()
+    }
+}
+
+impl Eq for Label {
+    ghost laws = { nat_list_eq_equiv };
+}
+
+impl PartialOrd for Label {
+    ghost partial_cmp = { λ a b. Some (slice_cmp nat_cmp a b) };
+
+    ghost laws = { texts_po };
+
+    fn partial_cmp(&self, other: &Self) -> Option<Ordering> {
+        Some(self.cmp(other))
+    }
+}
+
+impl Ord for Label {
+    ghost cmp = { λ a b. slice_cmp nat_cmp a b };
+
+    ghost total = { nat_list_cmp_total };
+
+    ghost matches_partial_cmp = { λ a b. refl };
+
+    ghost matches_eq = { λ a b. texts_ties a b };
+
+    fn cmp(&self, other: &Self) -> Ordering {
+        self.as_str().cmp(other.as_str())
+    }
+}
+
+/// What a link leads to: its destination and its title, both after backslash escapes and references are replaced. A
+/// missing title is the empty one.
+#[derive(Debug, Drop, PartialEq, Eq)]
+pub struct Target {
+    /// The destination.
+    pub url: String,
+    /// The title.
+    pub title: String,
+}
+
+/// The label that stands in brackets, from what stands between them (CommonMark 4.7).
+///
+/// `None` where it has no character but spaces, tabs and line endings, more than 999 characters, or a bracket that no
+/// backslash escapes. Escapes and references stay as they are written.
+pub fn fold_label(alloc: Global, inside: &str) -> Result<Option<Label>, NoMemory>
+    ensures { IfOk result (λ label. label ≡ label_of inside.now) }
+{
+    if !is_label(inside) {
+        return Ok(None);
+    }
+    let text = collapse(alloc, inside)?;
+    Ok(Some(Label {
+        folded: default_case_fold_str(alloc, text.as_str())?,
+    }))
+}
+
+fn is_label(inside: &str) -> bool
+    ensures { result ≡ is_label inside.now }
+{
+    is_short(inside) && has_text(inside) && !has_bare_bracket(inside)
+}
+
+fn is_short(inside: &str) -> bool
+    ensures { result ≡ nat_le (length (chars inside.now)) 999 }
+{
+    inside.chars().count() <= 999
+}
+
+fn has_text(inside: &str) -> bool
+    ensures { result ≡ list_any (λ b. not (is_label_space b)) inside.now }
+{
+    inside.as_bytes().iter().any(|byte| !is_label_space(*byte))
+}
+
+fn is_label_space(byte: u8) -> bool
+    ensures { result ≡ is_label_space byte }
+{
+    matches!(byte, b' ' | b'\t' | b'\n' | b'\r')
+}
+
+// The words of a label, with a space between them.
+fn collapse(alloc: Global, inside: &str) -> Result<String, NoMemory>
+    ensures { IfOk result (λ text. string_bytes text ≡ collapsed inside.now) }
+{
+    let spaces = Class::of(b" \t\n\r");
+    let mut text = String::with_capacity(alloc, inside.len())?;
+    let mut rest = inside;
+    loop {
+        let (word, space) = split_at_special(rest, &spaces);
+        push_word(word, &mut text)?;
+        let Some((_, after)) = space else {
+            return Ok(text);
+        };
+        rest = after;
+    }
+}
+
+// An empty word is none.
+fn push_word(word: &str, text: &mut String) -> Result<(), NoMemory>
+    requires { list_any is_label_space word.now ≡ false }
+    ensures { OnOk result (string_bytes text.new ≡ fold add_word (string_bytes text.old) (words word.now)) }
+{
+    if word.is_empty() {
+        return Ok(());
+    }
+    text.push_str(gap(text.as_str()))?;
+    text.push_str(word)?;
+    Ok(())
+}
+
+fn gap(text: &str) -> &'static str
+    ensures { result.now ≡ gap text.now }
+{
+    if text.is_empty() { "" } else { " " }
+}
+
+fn has_bare_bracket(text: &str) -> bool
+    ensures { result ≡ has_bare_bracket text.now }
+{
+    let mut is_escaped = false;
+    for byte in text.as_bytes() {
+        if is_escaped {
+            is_escaped = false;
+        } else if *byte == b'\\' {
+            is_escaped = true;
+        } else if *byte == b'[' || *byte == b']' {
+            return true;
+        }
+    }
+    false
+}
