@@ -1,5 +1,5 @@
 -- Brackets in a label, read from the left.
-use Rattle.std.proofs.Common.{◌≡◌, ℕ, ◌+◌, ◌<◌, Bool, true, false, List, [], ◌∷◌, length, drop, get_or, refl, ap, sym, ◌∙◌, arith, cond, ◌||◌, eqb, ◌⊎◌, inl, inr, ◌≤◌}
+use Rattle.std.proofs.Common.{◌≡◌, ℕ, ◌+◌, ◌<◌, Bool, true, false, List, [], ◌∷◌, length, drop, get_or, refl, ap, sym, ◌∙◌, arith, ◌||◌, eqb, ◌⊎◌, ◌≤◌}
 use Rattle.std.proofs.lemmas.List.{drop_more, drop_all}
 use Rattle.mdtext.specs.Labels.{has_bare_bracket}
 

@@ -1,5 +1,5 @@
 -- The words of a label, run by run.
-use Rattle.std.proofs.Common.{◌≡◌, ℕ, Bool, true, false, List, [], ◌∷◌, ◌++◌, refl, ap, sym, ◌∙◌, fold, length, ◌<◌, arith}
+use Rattle.std.proofs.Common.{◌≡◌, ℕ, true, false, List, [], ◌∷◌, ◌++◌, refl, ap, sym, ◌∙◌, fold, length, ◌<◌, arith}
 use Rattle.std.specs.List.{list_any}
 use Rattle.mdtext.specs.Labels.{is_label_space, at_front_of_word, ends_word, words, add_word}
 use Rattle.mdtext.proofs.PlainRuns.{either_false}

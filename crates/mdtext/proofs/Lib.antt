@@ -2,6 +2,8 @@ pub mod BareBrackets
 pub mod Indents
 pub mod LabelWords
 pub mod LineEnds
+pub mod Meanings
+pub mod Numerals
 pub mod PlainRuns
 pub mod Specials
 pub mod Strips

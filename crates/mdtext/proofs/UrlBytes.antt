@@ -10,7 +10,7 @@ use Rattle.mdtext.specs.EscapedUrl.{is_alphanumeric, is_url_plain, url_byte, url
 use Rattle.mdtext.proofs.PlainRuns.{either_false}
 use Rattle.percent_encoding.specs.Percent.{percent_encode_byte, percent_encode, encode_byte}
 use Rattle.mdtext.specs.declared.urls.TheConstants.{ESCAPED}
-use Rattle.percent_encoding.specs.AsciiSet.{contains, should_percent_encode}
+use Rattle.percent_encoding.specs.AsciiSet.{should_percent_encode}
 
 abbrev same : Bool → Bool → Bool
 same true b = b

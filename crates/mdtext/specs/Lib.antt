@@ -7,3 +7,5 @@ pub mod Escaped
 pub mod EscapedUrl
 pub mod Labels
 pub mod Lines
+pub mod References
+pub mod Referents

@@ -9,6 +9,8 @@ pub use self::entity_table::Entities;
 pub use self::escapes::escape_text;
 pub use self::labels::{Label, Target, fold_label};
 pub use self::lines::{clean_len, clean_line, lines_of};
+pub use self::references::{Reference, Referent, read_reference};
+pub use self::unescapes::unescape;
 pub use self::urls::escape_url;
 use std::alloc::AllocError;
 
@@ -20,7 +22,9 @@ mod entity_table;
 mod escapes;
 mod labels;
 mod lines;
+mod references;
 mod runs;
+mod unescapes;
 mod urls;
 
 /// A growth was refused.

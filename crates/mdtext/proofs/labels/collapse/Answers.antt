@@ -1,4 +1,4 @@
-use Rattle.std.proofs.Common.{◌≡◌, ◌++◌, ◌∷◌, ap, sym, ◌∙◌, string_bytes, fold}
+use Rattle.std.proofs.Common.{ap, sym, ◌∙◌, string_bytes, fold}
 use Rattle.mdtext.specs.Labels.{add_word, words}
 use Rattle.mdtext.proofs.LabelWords.{fold_run}
 use Rattle.mdtext.proofs.labels.collapse.Goals as goal

@@ -1,5 +1,5 @@
-use Rattle.std.proofs.Common.{◌≡◌, true, false, ap, sym, ◌∙◌, inl, inr, drop}
-use Rattle.mdtext.proofs.BareBrackets.{bare_from, after_escaped, after_backslash, after_plain, at_bracket, at_end}
+use Rattle.std.proofs.Common.{inl, inr}
+use Rattle.mdtext.proofs.BareBrackets.{after_escaped, after_backslash, after_plain, at_bracket, at_end}
 use Rattle.mdtext.proofs.labels.has_bare_bracket.Goals.{then-byte-eq91-via-then-byte-eq91, then-byte-eq91-via-else-byte-eq91+then-byte-eq93, then-is_escaped, else-is_escaped+then-byte-eq92, else-is_escaped+else-byte-eq92+else-byte-eq91+else-byte-eq93}
 use Rattle.mdtext.proofs.labels.has_bare_bracket.Goals as goal
 

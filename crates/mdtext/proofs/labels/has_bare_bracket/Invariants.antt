@@ -1,4 +1,4 @@
-use Rattle.std.proofs.Common.{◌≡◌, drop, cond}
+use Rattle.std.proofs.Common.{◌≡◌, drop}
 use Rattle.mdtext.specs.Labels.{has_bare_bracket}
 use Rattle.mdtext.proofs.BareBrackets.{bare_from}
 use Rattle.mdtext.proofs.labels.has_bare_bracket.Given as goal

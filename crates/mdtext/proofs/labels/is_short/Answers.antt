@@ -1,4 +1,4 @@
-use Rattle.std.proofs.Common.{◌≡◌, ap, sym, ◌∙◌, length, nat_le}
+use Rattle.std.proofs.Common.{ap, sym, ◌∙◌, length, nat_le}
 use Rattle.std.specs.Str.{chars}
 use Rattle.std.proofs.lemmas.Str.{Chars-Drains, encodes-chars}
 use Rattle.mdtext.proofs.labels.is_short.Goals as goal

@@ -1,4 +1,4 @@
-use Rattle.std.proofs.Common.{◌≡◌, ap, sym, ◌∙◌, ◌++◌, string_bytes, fold, arith}
+use Rattle.std.proofs.Common.{ap, sym, ◌∙◌, ◌++◌, string_bytes, fold, arith}
 use Rattle.std.proofs.lemmas.Bool.{eqb-true}
 use Rattle.std.proofs.lemmas.Bool.Decides.{nat_tests}
 use Rattle.mdtext.specs.Labels.{add_word, gap}
