@@ -1,0 +1,18 @@
+//! Recognisers of Markdown's constructs, on the rest of a line or on a text from a place on.
+//!
+//! Each answers where a front of the grammar stands, and with which parts. None but `cells` takes memory.
+//! Positions are bytes, counted from 0. The rest of a line is handed in without its indentation and its end.
+#![tactic(auto)]
+
+mod block_quotes;
+mod fences;
+mod runs;
+mod setext_headings;
+mod spans;
+mod thematic_breaks;
+
+pub use block_quotes::quote_marker;
+pub use fences::{FenceLine, fence, fence_end};
+pub use setext_headings::setext;
+pub use spans::Span;
+pub use thematic_breaks::thematic;
