@@ -1,1 +1,3 @@
 pub mod Boundaries
+pub mod Digits
+pub mod Headings

@@ -14,3 +14,8 @@ is_blank_text text = list_all is_blank text
 abbrev pub begins_with : ℕ → List ℕ → Bool
 begins_with mark [] = false
 begins_with mark (b ∷ _) = b == mark
+
+-- nothing at all, or a space or tab first
+abbrev pub ends_or_blank : List ℕ → Bool
+ends_or_blank [] = true
+ends_or_blank (b ∷ _) = is_blank b

@@ -4,3 +4,6 @@ pub mod ThematicBreak
 pub mod BlockQuote
 pub mod SetextHeading
 pub mod CodeFence
+pub mod AtxHeading
+pub mod ListMarker
+pub mod TaskMarker

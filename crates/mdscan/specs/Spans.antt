@@ -1,5 +1,5 @@
 -- Parts of a text, by their places in it.
-use Rattle.std.specs.Prelude.{ℕ, ◌+◌, ◌-◌, ◌≤◌, List, length, drop}
+use Rattle.std.specs.Prelude.{ℕ, ◌+◌, ◌-◌, ◌≤◌, List, length, take, drop}
 use Rattle.std.specs.List.{prefix_len, suffix_len}
 use Rattle.std.specs.Str.{IsCharBoundary}
 use Rattle.mdscan.specs.declared.spans.Span.{Span}
@@ -11,6 +11,10 @@ pub record IsSpanOf (text : List ℕ) (span : Span) : Type 0 where
   pub within : span.end ≤ length text
   pub starts_whole : IsCharBoundary text span.start
   pub ends_whole : IsCharBoundary text span.end
+
+-- the bytes of a span
+abbrev pub part : List ℕ → Span → List ℕ
+part text span = take (span.end - span.start) (drop span.start text)
 
 -- the part of a text from a place on, without the spaces and tabs at its ends
 abbrev pub trimmed_from : List ℕ → ℕ → Span

@@ -4,15 +4,21 @@
 //! Positions are bytes, counted from 0. The rest of a line is handed in without its indentation and its end.
 #![tactic(auto)]
 
+mod atx_headings;
 mod block_quotes;
 mod fences;
+mod list_markers;
 mod runs;
 mod setext_headings;
 mod spans;
+mod tasks;
 mod thematic_breaks;
 
+pub use atx_headings::{AtxLine, atx};
 pub use block_quotes::quote_marker;
 pub use fences::{FenceLine, fence, fence_end};
+pub use list_markers::{Marker, list_marker};
 pub use setext_headings::setext;
 pub use spans::Span;
+pub use tasks::{TaskMark, task};
 pub use thematic_breaks::thematic;

@@ -1,8 +1,9 @@
 //! Runs of one byte, or of spaces and tabs, at the ends of a text.
 
 ghost use Rattle.std.specs.Prelude.{◌≡◌, ◌==◌, ◌≤◌, length};
+ghost use Rattle.std.specs.Char.{is_ascii_digit};
 ghost use Rattle.std.specs.List.{list_any, prefix_len, suffix_len};
-ghost use Rattle.mdscan.specs.Blanks.{is_blank, is_blank_text, begins_with};
+ghost use Rattle.mdscan.specs.Blanks.{is_blank, is_blank_text, begins_with, ends_or_blank};
 
 /// Whether a byte is a space or a tab.
 pub(crate) fn blank(byte: u8) -> bool
@@ -57,4 +58,30 @@ pub(crate) fn holds(text: &[u8], mark: u8) -> bool
     ensures { result ≡ list_any (λ b. b == mark) text.now }
 {
     text.iter().any(|byte| *byte == mark)
+}
+
+/// Whether a text is empty or begins with a space or tab.
+pub(crate) fn blank_follows(text: &[u8]) -> bool
+    ensures { result ≡ ends_or_blank text.now }
+{
+    match text {
+        [first, ..] => blank(*first),
+        [] => true,
+    }
+}
+
+/// How many of the last bytes are `mark`.
+pub(crate) fn trailing(text: &[u8], mark: u8) -> usize
+    ensures count { result ≡ suffix_len (λ b. b == mark) text.now }
+    ensures within { result ≤ length text.now }
+{
+    text.iter().rev().take_while(|byte| **byte == mark).count()
+}
+
+/// How many of the first bytes are ASCII digits.
+pub(crate) fn leading_digits(text: &[u8]) -> usize
+    ensures count { result ≡ prefix_len is_ascii_digit text.now }
+    ensures within { result ≤ length text.now }
+{
+    text.iter().take_while(|byte| byte.is_ascii_digit()).count()
 }
