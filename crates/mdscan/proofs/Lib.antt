@@ -1,3 +1,4 @@
 pub mod Boundaries
 pub mod Digits
 pub mod Headings
+pub mod HtmlEnds

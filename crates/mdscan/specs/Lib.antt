@@ -7,3 +7,4 @@ pub mod CodeFence
 pub mod AtxHeading
 pub mod ListMarker
 pub mod TaskMarker
+pub mod HtmlBlock

@@ -7,6 +7,7 @@
 mod atx_headings;
 mod block_quotes;
 mod fences;
+mod html_blocks;
 mod list_markers;
 mod runs;
 mod setext_headings;
@@ -17,6 +18,7 @@ mod thematic_breaks;
 pub use atx_headings::{AtxLine, atx};
 pub use block_quotes::quote_marker;
 pub use fences::{FenceLine, fence, fence_end};
+pub use html_blocks::html_end;
 pub use list_markers::{Marker, list_marker};
 pub use setext_headings::setext;
 pub use spans::Span;

@@ -1,7 +1,7 @@
 //! Runs of one byte, or of spaces and tabs, at the ends of a text.
 
 ghost use Rattle.std.specs.Prelude.{◌≡◌, ◌==◌, ◌≤◌, length};
-ghost use Rattle.std.specs.Char.{is_ascii_digit};
+ghost use Rattle.std.specs.Char.{is_ascii_alphanumeric, is_ascii_digit};
 ghost use Rattle.std.specs.List.{list_any, prefix_len, suffix_len};
 ghost use Rattle.mdscan.specs.Blanks.{is_blank, is_blank_text, begins_with, ends_or_blank};
 
@@ -84,4 +84,12 @@ pub(crate) fn leading_digits(text: &[u8]) -> usize
     ensures within { result ≤ length text.now }
 {
     text.iter().take_while(|byte| byte.is_ascii_digit()).count()
+}
+
+/// How many of the first bytes are ASCII letters or digits.
+pub(crate) fn leading_name(text: &[u8]) -> usize
+    ensures count { result ≡ prefix_len is_ascii_alphanumeric text.now }
+    ensures within { result ≤ length text.now }
+{
+    text.iter().take_while(|byte| byte.is_ascii_alphanumeric()).count()
 }
