@@ -2,3 +2,4 @@ pub mod Boundaries
 pub mod Digits
 pub mod Headings
 pub mod HtmlEnds
+pub mod Rows

@@ -8,3 +8,4 @@ pub mod AtxHeading
 pub mod ListMarker
 pub mod TaskMarker
 pub mod HtmlBlock
+pub mod TableRow

@@ -12,6 +12,7 @@ mod list_markers;
 mod runs;
 mod setext_headings;
 mod spans;
+mod tables;
 mod tasks;
 mod thematic_breaks;
 
@@ -22,5 +23,6 @@ pub use html_blocks::html_end;
 pub use list_markers::{Marker, list_marker};
 pub use setext_headings::setext;
 pub use spans::Span;
+pub use tables::{Align, cells};
 pub use tasks::{TaskMark, task};
 pub use thematic_breaks::thematic;

@@ -22,9 +22,12 @@ pub(crate) fn trimmed(text: &str, at: usize) -> Span
     trimmed_bytes(text.as_bytes(), at)
 }
 
-fn trimmed_bytes(text: &[u8], at: usize) -> Span
+/// The same of bytes.
+pub(crate) fn trimmed_bytes(text: &[u8], at: usize) -> Span
     requires { at ≤ length text.now }
-    ensures { result ≡ trimmed_from text.now at }
+    ensures value { result ≡ trimmed_from text.now at }
+    ensures ordered { result.start ≤ result.end }
+    ensures within { result.end ≤ length text.now }
 {
     let start = at + leading_blanks(&text[at..]);
     let body = &text[start..];

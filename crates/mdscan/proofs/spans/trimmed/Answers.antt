@@ -6,5 +6,5 @@ use Rattle.mdscan.proofs.spans.trimmed.Goals as goal
 
 pub returns-clause-span : goal.returns-clause-span
 returns-clause-span c =
-    let e = subst (λ (t : List ℕ). c.trimmed_bytes.result ≡ trimmed_from t c.args.at) c.as_bytes.ensures.value c.trimmed_bytes.ensures in
+    let e = subst (λ (t : List ℕ). c.trimmed_bytes.result ≡ trimmed_from t c.args.at) c.as_bytes.ensures.value c.trimmed_bytes.ensures.value in
     subst (λ (s : Span). IsSpanOf c.args.text.now s) (sym e) (trimmed_is_span c.args.text.now c.args.at c.utf8.text c.requires)
