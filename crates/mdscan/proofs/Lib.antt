@@ -3,3 +3,4 @@ pub mod Digits
 pub mod Headings
 pub mod HtmlEnds
 pub mod Rows
+pub mod Delimiters

@@ -9,3 +9,4 @@ pub mod ListMarker
 pub mod TaskMarker
 pub mod HtmlBlock
 pub mod TableRow
+pub mod DelimiterRow

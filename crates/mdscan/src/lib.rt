@@ -6,6 +6,7 @@
 
 mod atx_headings;
 mod block_quotes;
+mod delimiter_rows;
 mod fences;
 mod html_blocks;
 mod list_markers;
@@ -18,11 +19,12 @@ mod thematic_breaks;
 
 pub use atx_headings::{AtxLine, atx};
 pub use block_quotes::quote_marker;
+pub use delimiter_rows::{Align, align_at, delimiter_row};
 pub use fences::{FenceLine, fence, fence_end};
 pub use html_blocks::html_end;
 pub use list_markers::{Marker, list_marker};
 pub use setext_headings::setext;
 pub use spans::Span;
-pub use tables::{Align, cells};
+pub use tables::cells;
 pub use tasks::{TaskMark, task};
 pub use thematic_breaks::thematic;

@@ -1,21 +1,10 @@
 //! Rows of tables.
 
-use crate::runs::{begins, holds, leading};
 use crate::spans::{Span, trimmed_bytes};
 use std::alloc::{AllocError, Global};
 
-ghost use Rattle.std.specs.Prelude.{◌≡◌, ◌<◌, ◌≤◌, IfOk, length, unwrap_or};
-ghost use Rattle.mdscan.specs.Spans.{part};
-ghost use Rattle.mdscan.specs.TableRow.{inside, splits, cell, row_cells, is_delimiter, delimiter_columns, delimiter_align, column_align};
-
-/// How a table's column is aligned.
-#[derive(Clone, Copy, Debug, PartialEq, Eq)]
-pub enum Align {
-    Plain,
-    Left,
-    Center,
-    Right,
-}
+ghost use Rattle.std.specs.Prelude.{◌≡◌, ◌<◌, ◌≤◌, IfOk, length};
+ghost use Rattle.mdscan.specs.TableRow.{inside, splits, cell, row_cells};
 
 /// The cells of a table's row, without the spaces and tabs at their ends (GFM 4.10). A backslash before a bar
 /// is still there.
@@ -44,7 +33,7 @@ fn cells_of(alloc: Global, row: &[u8]) -> Result<Vec<Span>, AllocError>
 
 /// A row without the spaces and tabs at its ends, one bar at its beginning and one at its end.
 #[tactic(auto, unfolding(crate::specs::TableRow::inside))]
-fn inner(row: &[u8]) -> Span
+pub(crate) fn inner(row: &[u8]) -> Span
     ensures value { result ≡ inside row.now }
     ensures ordered { result.start ≤ result.end }
     ensures within { result.end ≤ length row.now }
@@ -62,7 +51,7 @@ fn inner(row: &[u8]) -> Span
 }
 
 /// Whether a row is split at a place: a bar stands there, and not directly after a backslash.
-fn is_split(row: &[u8], at: usize) -> bool
+pub(crate) fn is_split(row: &[u8], at: usize) -> bool
     requires { at < length row.now }
     ensures { result ≡ splits row.now at }
 {
@@ -70,10 +59,12 @@ fn is_split(row: &[u8], at: usize) -> bool
 }
 
 /// What stands between two places, without the spaces and tabs at its ends.
-fn cell_at(row: &[u8], start: usize, end: usize) -> Span
+pub(crate) fn cell_at(row: &[u8], start: usize, end: usize) -> Span
     requires ordered { start ≤ end }
     requires within { end ≤ length row.now }
-    ensures { result ≡ cell row.now start end }
+    ensures value { result ≡ cell row.now start end }
+    ensures ordered { result.start ≤ result.end }
+    ensures inside { result.end ≤ length row.now }
 {
     trimmed_bytes(&row[..end], start)
 }
