@@ -4,3 +4,4 @@ pub mod Headings
 pub mod HtmlEnds
 pub mod Rows
 pub mod Delimiters
+pub mod Attributes

@@ -10,3 +10,5 @@ pub mod TaskMarker
 pub mod HtmlBlock
 pub mod TableRow
 pub mod DelimiterRow
+pub mod Gaps
+pub mod HtmlTag

@@ -1,6 +1,6 @@
 //! Runs of one byte, or of spaces and tabs, at the ends of a text.
 
-ghost use Rattle.std.specs.Prelude.{◌≡◌, ◌==◌, ◌≤◌, length};
+ghost use Rattle.std.specs.Prelude.{◌≡◌, ◌==◌, ◌<◌, ◌≤◌, IsTrue, length};
 ghost use Rattle.std.specs.Char.{is_ascii_alphanumeric, is_ascii_digit};
 ghost use Rattle.std.specs.List.{list_any, prefix_len, suffix_len};
 ghost use Rattle.mdscan.specs.Blanks.{is_blank, is_blank_text, begins_with, ends_or_blank};
@@ -45,7 +45,8 @@ pub(crate) fn trailing_blanks(text: &[u8]) -> usize
 
 /// Whether the first byte is `mark`.
 pub(crate) fn begins(text: &[u8], mark: u8) -> bool
-    ensures { result ≡ begins_with mark text.now }
+    ensures value { result ≡ begins_with mark text.now }
+    ensures some { IsTrue result → 0 < length text.now }
 {
     match text {
         [first, ..] => *first == mark,
