@@ -5,3 +5,4 @@ pub mod HtmlEnds
 pub mod Rows
 pub mod Delimiters
 pub mod Attributes
+pub mod Places

@@ -1,9 +1,10 @@
 -- HTML blocks (CommonMark 4.6): which of the kinds 1 to 7 a line begins, and which lines end a kind.
-use Rattle.std.specs.Prelude.{ℕ, ◌+◌, Bool, true, false, ◌||◌, ◌&&◌, ◌==◌, nat_lt, List, [], ◌∷◌, map, length, take, drop, nat_eq, codes}
+use Rattle.std.specs.Prelude.{ℕ, ◌+◌, Bool, false, not, ◌||◌, ◌&&◌, ◌==◌, List, [], ◌∷◌, map, length, take, drop, nat_eq, codes, Option, Some, None, if◌then◌else◌}
 use Rattle.std.specs.Char.{is_ascii_alphabetic, is_ascii_alphanumeric}
 use Rattle.std.specs.List.{prefix_len, list_any, starts_with}
 use Rattle.std.specs.Str.{str_eq_ignore_ascii_case}
-use Rattle.mdscan.specs.Blanks.{is_blank, begins_with, ends_or_blank}
+use Rattle.mdscan.specs.Blanks.{is_blank_text, begins_with, ends_or_blank}
+use Rattle.mdscan.specs.HtmlTag.{first_is, tag_name_length, open_tag, closing_tag}
 
 -- how long the run of letters and digits is that a text begins with
 abbrev pub name_length : List ℕ → ℕ
@@ -57,11 +58,7 @@ begins_block line = (begins_with 60 line && is_block_name (drop 1 line)) || (sta
 
 -- `<!` and a letter
 abbrev pub begins_declaration : List ℕ → Bool
-begins_declaration line = starts_with nat_eq line (codes "<!") && begins_letter (drop 2 line)
-  where
-    begins_letter : List ℕ → Bool
-    begins_letter [] = false
-    begins_letter (b ∷ _) = is_ascii_alphabetic b
+begins_declaration line = starts_with nat_eq line (codes "<!") && first_is is_ascii_alphabetic (drop 2 line)
 
 -- `</`, a name of the first kind and `>`
 unfoldable pub begins_raw_end : List ℕ → Bool
@@ -80,3 +77,27 @@ ends_kind kind text =
 unfoldable pub holds_end : ℕ → List ℕ → Bool
 holds_end kind [] = false
 holds_end kind (b ∷ bs) = ends_kind kind (b ∷ bs) || holds_end kind bs
+
+-- the open tag that a line begins with has a name of the first kind
+unfoldable pub is_raw_tag : List ℕ → Bool
+is_raw_tag line = list_any (λ name. str_eq_ignore_ascii_case name (take (tag_name_length (drop 1 line)) (drop 1 line))) raw_names
+
+-- a tag that ends at this place is all of the line but spaces and tabs
+abbrev pub fills_line : List ℕ → Option ℕ → Bool
+fills_line line None = false
+fills_line line (Some end) = is_blank_text (drop end line)
+
+-- One whole open tag with a name not of the first kind, or a closing tag, and then only spaces and tabs.
+unfoldable pub begins_whole_tag : List ℕ → Bool
+begins_whole_tag line = (fills_line line (open_tag line) && not (is_raw_tag line)) || fills_line line (closing_tag line)
+
+-- The first kind that fits.
+unfoldable pub html_kind : List ℕ → Option ℕ
+html_kind line =
+    if begins_raw line then Some 1
+    else (if starts_with nat_eq line (codes "<!--") then Some 2
+    else (if starts_with nat_eq line (codes "<?") then Some 3
+    else (if begins_declaration line then Some 4
+    else (if starts_with nat_eq line (codes "<![CDATA[") then Some 5
+    else (if begins_block line then Some 6
+    else (if begins_whole_tag line then Some 7 else None))))))

@@ -12,3 +12,4 @@ pub mod TableRow
 pub mod DelimiterRow
 pub mod Gaps
 pub mod HtmlTag
+pub mod RawHtml

@@ -1,11 +1,13 @@
 //! The beginnings and ends of HTML blocks.
 
-use crate::runs::{begins, blank_follows, leading_name};
+use crate::html_tags::{closing, opening, tag_name};
+use crate::runs::{all_blank, begins, blank_follows, leading_name};
 
-ghost use Rattle.std.specs.Prelude.{◌≡◌};
+ghost use Rattle.std.specs.Prelude.{◌≡◌, ◌<◌, ◌&&◌, not, length};
 ghost use Rattle.std.specs.List.{list_any};
 ghost use Rattle.std.specs.Str.{str_eq_ignore_ascii_case};
-ghost use Rattle.mdscan.specs.HtmlBlock.{begins_raw, begins_raw_end, begins_block, is_block_name, begins_declaration, begins_one_of, raw_names, block_names, ends_raw_name, ends_block_name, ends_kind, holds_end};
+ghost use Rattle.mdscan.specs.HtmlTag.{open_tag, closing_tag};
+ghost use Rattle.mdscan.specs.HtmlBlock.{begins_raw, begins_raw_end, begins_block, is_block_name, begins_declaration, begins_one_of, raw_names, block_names, ends_raw_name, ends_block_name, ends_kind, holds_end, is_raw_tag, fills_line, begins_whole_tag, html_kind};
 
 /// The names of the first kind, whose content is no Markdown.
 const RAW_NAMES: [&str; 4] = ["pre", "script", "style", "textarea"];
@@ -19,6 +21,78 @@ const BLOCK_NAMES: [&str; 62] = [
     "option", "p", "param", "search", "section", "summary", "table", "tbody", "td", "tfoot", "th", "thead",
     "title", "tr", "track", "ul",
 ];
+
+/// The kind of HTML block that the rest of a line begins, 1 to 7: the first that fits (CommonMark 4.6).
+#[tactic(auto, unfolding(crate::specs::HtmlBlock::html_kind))]
+pub fn html_start(rest: &str) -> Option<u8>
+    ensures { result ≡ html_kind rest.now }
+{
+    let line = rest.as_bytes();
+    if raw_begins(line) {
+        Some(1)
+    } else if line.starts_with(b"<!--") {
+        Some(2)
+    } else if line.starts_with(b"<?") {
+        Some(3)
+    } else if declaration_begins(line) {
+        Some(4)
+    } else if line.starts_with(b"<![CDATA[") {
+        Some(5)
+    } else if block_begins(line) {
+        Some(6)
+    } else if whole_tag(line) {
+        Some(7)
+    } else {
+        None
+    }
+}
+
+/// Whether a line begins with `<!` and a letter.
+fn declaration_begins(line: &[u8]) -> bool
+    ensures { result ≡ begins_declaration line.now }
+{
+    match line {
+        [b'<', b'!', letter, ..] => letter.is_ascii_alphabetic(),
+        _ => false,
+    }
+}
+
+/// Whether a line is one whole tag, and then only spaces and tabs.
+#[tactic(auto, unfolding(crate::specs::HtmlBlock::begins_whole_tag))]
+fn whole_tag(line: &[u8]) -> bool
+    ensures { result ≡ begins_whole_tag line.now }
+{
+    whole_open_tag(line) || whole_closing_tag(line)
+}
+
+fn whole_open_tag(line: &[u8]) -> bool
+    ensures { result ≡ (fills_line line.now (open_tag line.now) && not (is_raw_tag line.now)) }
+{
+    match opening(line) {
+        Some(end) => all_blank(&line[end..]) && !raw_tag(line),
+        None => false,
+    }
+}
+
+fn whole_closing_tag(line: &[u8]) -> bool
+    ensures { result ≡ fills_line line.now (closing_tag line.now) }
+{
+    match closing(line) {
+        Some(end) => all_blank(&line[end..]),
+        None => false,
+    }
+}
+
+/// Whether the open tag that a line begins with has a name of the first kind.
+#[tactic(auto, unfolding(crate::specs::HtmlBlock::raw_names, crate::specs::HtmlBlock::is_raw_tag))]
+fn raw_tag(line: &[u8]) -> bool
+    requires { 0 < length line.now }
+    ensures { result ≡ is_raw_tag line.now }
+{
+    let names: [&str; 4] = RAW_NAMES;
+    let name = &line[1..];
+    one_of(names.as_slice(), &name[..tag_name(name)])
+}
 
 /// Whether a line holds what ends an HTML block of a kind (CommonMark 4.6). Kinds 6 and 7 end before a blank
 /// line, and so no line holds their end; nor is there one of other kinds.

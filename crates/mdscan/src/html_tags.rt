@@ -12,6 +12,7 @@ ghost use Rattle.mdscan.specs.HtmlTag.{in_tag_name, in_attribute_name, in_unquot
 #[tactic(auto, unfolding(crate::specs::HtmlTag::open_tag))]
 pub(crate) fn opening(text: &[u8]) -> Option<usize>
     ensures value { result ≡ open_tag text.now }
+    ensures some { IfSome result (λ n. 0 < n) }
     ensures within { IfSome result (λ n. n ≤ length text.now) }
 {
     if !begins(text, b'<') {
