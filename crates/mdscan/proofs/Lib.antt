@@ -4,5 +4,7 @@ pub mod Headings
 pub mod HtmlEnds
 pub mod Rows
 pub mod Delimiters
-pub mod Attributes
+pub mod Sequences
 pub mod Places
+pub mod Stops
+pub mod BlankLines

@@ -1,10 +1,11 @@
 -- Open and closing tags (CommonMark 6.6). Each length is that of the longest such piece that a text begins
 -- with, and 0 where there is none.
-use Rattle.std.specs.Prelude.{ℕ, zero, suc, ◌+◌, ◌-◌, Bool, true, false, not, ◌||◌, ◌&&◌, ◌==◌, nat_lt, List, [], ◌∷◌, length, drop, nat_eq, codes, Option, Some, None, if◌then◌else◌}
+use Rattle.std.specs.Prelude.{ℕ, ◌+◌, Bool, false, not, ◌||◌, ◌&&◌, ◌==◌, nat_lt, List, [], ◌∷◌, length, drop, nat_eq, codes, Option, Some, None, if◌then◌else◌}
 use Rattle.std.specs.Char.{is_ascii_alphabetic, is_ascii_alphanumeric}
 use Rattle.std.specs.List.{prefix_len, starts_with}
 use Rattle.mdscan.specs.Blanks.{begins_with}
 use Rattle.mdscan.specs.Gaps.{gap_length}
+use Rattle.mdscan.specs.Repeats.{repeats}
 
 -- whether the first byte passes the test
 abbrev pub first_is : (ℕ → Bool) → List ℕ → Bool
@@ -64,15 +65,9 @@ attribute_length text =
     let name = attribute_name_length (drop gap text) in
     if nat_lt 0 gap && nat_lt 0 name then gap + name + value_part_length (drop (gap + name) text) else 0
 
--- how long the attributes are that stand one after the other, after so many bytes of one
-abbrev pub attributes_after : ℕ → List ℕ → ℕ
-attributes_after inside [] = 0
-attributes_after (suc inside) (_ ∷ bs) = 1 + attributes_after inside bs
-attributes_after zero (b ∷ bs) = if nat_lt 0 (attribute_length (b ∷ bs)) then 1 + attributes_after (attribute_length (b ∷ bs) - 1) bs else 0
-
-unfoldable pub attributes_length : List ℕ → ℕ
-attributes_length text = attributes_after 0 text
-
+-- attributes one after the other
+abbrev pub attributes_length : List ℕ → ℕ
+attributes_length text = repeats attribute_length text
 
 -- the end of an open tag: a gap or none, `/` or none, and `>`
 unfoldable pub open_end_length : List ℕ → ℕ

@@ -11,5 +11,11 @@ pub mod HtmlBlock
 pub mod TableRow
 pub mod DelimiterRow
 pub mod Gaps
+pub mod Repeats
 pub mod HtmlTag
 pub mod RawHtml
+pub mod AutoLink
+pub mod Escapes
+pub mod LinkLabel
+pub mod LinkDestination
+pub mod LinkTitle

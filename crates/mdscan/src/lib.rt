@@ -5,12 +5,16 @@
 #![tactic(auto)]
 
 mod atx_headings;
+mod autolinks;
 mod block_quotes;
 mod delimiter_rows;
+mod escapes;
 mod fences;
 mod gaps;
 mod html_blocks;
 mod html_tags;
+mod link_labels;
+mod links;
 mod list_markers;
 mod raw_html;
 mod runs;
@@ -21,10 +25,13 @@ mod tasks;
 mod thematic_breaks;
 
 pub use atx_headings::{AtxLine, atx};
+pub use autolinks::{Auto, autolink};
 pub use block_quotes::quote_marker;
 pub use delimiter_rows::{Align, align_at, delimiter_row};
 pub use fences::{FenceLine, fence, fence_end};
 pub use html_blocks::{html_end, html_start};
+pub use link_labels::link_label;
+pub use links::{Dest, destination, title};
 pub use list_markers::{Marker, list_marker};
 pub use raw_html::html_tag;
 pub use setext_headings::setext;
