@@ -19,3 +19,5 @@ pub mod Escapes
 pub mod LinkLabel
 pub mod LinkDestination
 pub mod LinkTitle
+pub mod InlineTail
+pub mod LinkDefinition

@@ -4,7 +4,7 @@ use crate::escapes::before;
 use crate::runs::begins;
 use crate::spans::Span;
 
-ghost use Rattle.std.specs.Prelude.{◌≡◌, ◌≤◌, IfSome, count_by, length};
+ghost use Rattle.std.specs.Prelude.{◌≡◌, ◌<◌, ◌≤◌, IfSome, count_by, length};
 ghost use Rattle.std.specs.List.{list_any};
 ghost use Rattle.std.specs.Str.{IsCharBoundary};
 ghost use Rattle.mdscan.specs.LinkLabel.{begins_character, is_visible, is_label_text, label_at};
@@ -21,10 +21,10 @@ pub fn link_label(text: &str, at: usize) -> Option<Span>
 }
 
 #[tactic(auto, unfolding(crate::specs::LinkLabel::label_at))]
-fn brackets(text: &[u8], at: usize) -> Option<Span>
+pub(crate) fn brackets(text: &[u8], at: usize) -> Option<Span>
     requires { at ≤ length text.now }
     ensures value { result ≡ label_at text.now at }
-    ensures within { IfSome result (λ span. span.end ≤ length text.now) }
+    ensures within { IfSome result (λ span. span.end < length text.now) }
 {
     if !begins(&text[at..], b'[') {
         return None;
