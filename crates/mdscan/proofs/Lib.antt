@@ -1,0 +1,10 @@
+pub mod Boundaries
+pub mod Digits
+pub mod Headings
+pub mod HtmlEnds
+pub mod Rows
+pub mod Delimiters
+pub mod Sequences
+pub mod Places
+pub mod Stops
+pub mod BlankLines

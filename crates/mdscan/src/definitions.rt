@@ -1,0 +1,107 @@
+//! Link reference definitions.
+
+use crate::inline_tails::after_gap;
+use crate::link_labels::brackets;
+use crate::links::{Dest, quoted, target};
+use crate::runs::{begins, leading_blanks};
+use crate::spans::Span;
+
+ghost use Rattle.std.specs.Prelude.{◌≡◌, ◌<◌, ◌≤◌, IfSome, None, length};
+ghost use Rattle.mdscan.specs.LinkDefinition.{definition_of, labelled_def, titled_def, def_to, line_end};
+
+/// A link reference definition: the inside of its label, its destination, its title where it has one, and the
+/// end, after its last line's ending.
+#[derive(Clone, Copy, Debug, PartialEq, Eq)]
+pub struct Def {
+    pub label: Span,
+    pub destination: Span,
+    pub title: Option<Span>,
+    pub end: usize,
+}
+
+/// The link reference definition that a text begins with (CommonMark 4.7).
+pub fn definition(text: &str) -> Option<Def>
+    ensures value { result ≡ definition_of text.now }
+{
+    defined(text.as_bytes())
+}
+
+#[tactic(auto, unfolding(crate::specs::LinkDefinition::definition_of))]
+fn defined(text: &[u8]) -> Option<Def>
+    ensures value { result ≡ definition_of text.now }
+{
+    match brackets(text, 0) {
+        Some(label) => labelled(text, label),
+        None => None,
+    }
+}
+
+/// The definition with this label.
+#[tactic(auto, unfolding(crate::specs::LinkDefinition::labelled_def))]
+fn labelled(text: &[u8], label: Span) -> Option<Def>
+    requires { label.end < length text.now }
+    ensures { result ≡ labelled_def text.now label }
+{
+    if !begins(&text[label.end + 1..], b':') {
+        return None;
+    }
+    match target(text, after_gap(text, label.end + 2)) {
+        Some(dest) => with_title(text, label, dest).or(without_title(text, label, dest)),
+        None => None,
+    }
+}
+
+fn without_title(text: &[u8], label: Span, dest: Dest) -> Option<Def>
+    requires { dest.end ≤ length text.now }
+    ensures { result ≡ def_to label dest None (line_end text.now dest.end) }
+{
+    up_to(label, dest, None, rest_of_line(text, dest.end))
+}
+
+/// The definition with a title, which a gap parts from the destination.
+#[tactic(auto, unfolding(crate::specs::LinkDefinition::titled_def))]
+fn with_title(text: &[u8], label: Span, dest: Dest) -> Option<Def>
+    requires { dest.end ≤ length text.now }
+    ensures { result ≡ titled_def text.now label dest }
+{
+    let next = after_gap(text, dest.end);
+    if next <= dest.end {
+        return None;
+    }
+    match quoted(text, next) {
+        Some(title) => up_to(label, dest, Some(title.span), rest_of_line(text, title.end)),
+        None => None,
+    }
+}
+
+/// The definition with these parts, where it has an end.
+fn up_to(label: Span, dest: Dest, title: Option<Span>, end: Option<usize>) -> Option<Def>
+    ensures { result ≡ def_to label dest title end }
+{
+    match end {
+        Some(end) => Some(Def {
+            label,
+            destination: dest.span,
+            title,
+            end,
+        }),
+        None => None,
+    }
+}
+
+/// Where the next line begins, or the text ends, where only spaces and tabs stand before that.
+#[tactic(auto, unfolding(crate::specs::LinkDefinition::line_end))]
+fn rest_of_line(text: &[u8], at: usize) -> Option<usize>
+    requires { at ≤ length text.now }
+    ensures value { result ≡ line_end text.now at }
+    ensures within { IfSome result (λ n. n ≤ length text.now) }
+{
+    let next = at + leading_blanks(&text[at..]);
+    if next == text.len() {
+        Some(next)
+    } else if begins(&text[next..], b'\n') {
+        Some(next + 1)
+    } else {
+        None
+    }
+}

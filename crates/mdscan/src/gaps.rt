@@ -1,0 +1,20 @@
+//! Spaces and tabs with at most one line ending.
+
+use crate::runs::{begins, leading_blanks};
+
+ghost use Rattle.std.specs.Prelude.{◌≡◌, ◌≤◌, length};
+ghost use Rattle.mdscan.specs.Gaps.{gap_length};
+
+/// How many of the first bytes are spaces and tabs with at most one line ending among them.
+#[tactic(auto, unfolding(crate::specs::Gaps::gap_length))]
+pub(crate) fn gap(text: &[u8]) -> usize
+    ensures value { result ≡ gap_length text.now }
+    ensures within { result ≤ length text.now }
+{
+    let first = leading_blanks(text);
+    if begins(&text[first..], b'\n') {
+        first + 1 + leading_blanks(&text[first + 1..])
+    } else {
+        first
+    }
+}

@@ -1,0 +1,107 @@
+//! What follows an inline link's text.
+
+use crate::gaps::gap;
+use crate::links::{Dest, quoted, target};
+use crate::runs::begins;
+use crate::spans::Span;
+
+ghost use Rattle.std.specs.Prelude.{◌≡◌, ◌≤◌, Some, None, length};
+ghost use Rattle.std.specs.Str.{IsCharBoundary};
+ghost use Rattle.mdscan.specs.Gaps.{past_gap};
+ghost use Rattle.mdscan.specs.InlineTail.{inline_tail_at, tail_inside, tail_to, titled_tail};
+
+/// What follows an inline link's text: its destination and its title, where it has them, and the end, after
+/// the closing parenthesis.
+#[derive(Clone, Copy, Debug, PartialEq, Eq)]
+pub struct Tail {
+    pub destination: Option<Span>,
+    pub title: Option<Span>,
+    pub end: usize,
+}
+
+/// The tail of an inline link that stands at a place of a text, from its `(` on (CommonMark 6.3).
+///
+/// The place is a character's beginning or the text's end.
+pub fn inline_tail(text: &str, at: usize) -> Option<Tail>
+    requires { IsCharBoundary text.now at }
+    ensures value { result ≡ inline_tail_at text.now at }
+{
+    parentheses(text.as_bytes(), at)
+}
+
+#[tactic(auto, unfolding(crate::specs::InlineTail::inline_tail_at))]
+fn parentheses(text: &[u8], at: usize) -> Option<Tail>
+    requires { at ≤ length text.now }
+    ensures value { result ≡ inline_tail_at text.now at }
+{
+    if begins(&text[at..], b'(') {
+        inside(text, after_gap(text, at + 1))
+    } else {
+        None
+    }
+}
+
+/// The place after the gap that stands at a place.
+pub(crate) fn after_gap(text: &[u8], at: usize) -> usize
+    requires { at ≤ length text.now }
+    ensures value { result ≡ past_gap text.now at }
+    ensures from { at ≤ result }
+    ensures within { result ≤ length text.now }
+{
+    at + gap(&text[at..])
+}
+
+/// The tail whose opening parenthesis, with the gap behind it, stands before a place.
+#[tactic(auto, unfolding(crate::specs::InlineTail::tail_inside))]
+fn inside(text: &[u8], at: usize) -> Option<Tail>
+    requires { at ≤ length text.now }
+    ensures value { result ≡ tail_inside text.now at }
+{
+    if begins(&text[at..], b')') {
+        return close(text, at, None, None);
+    }
+    match target(text, at) {
+        Some(dest) => with_title(text, dest).or(without_title(text, dest)),
+        None => None,
+    }
+}
+
+fn without_title(text: &[u8], dest: Dest) -> Option<Tail>
+    requires { dest.end ≤ length text.now }
+    ensures { result ≡ tail_to text.now (past_gap text.now dest.end) (Some dest.span) None }
+{
+    close(text, after_gap(text, dest.end), Some(dest.span), None)
+}
+
+/// The tail with a title, which a gap parts from the destination.
+#[tactic(auto, unfolding(crate::specs::InlineTail::titled_tail))]
+fn with_title(text: &[u8], dest: Dest) -> Option<Tail>
+    requires { dest.end ≤ length text.now }
+    ensures { result ≡ titled_tail text.now dest }
+{
+    let next = after_gap(text, dest.end);
+    if next <= dest.end {
+        return None;
+    }
+    match quoted(text, next) {
+        Some(title) => close(text, after_gap(text, title.end), Some(dest.span), Some(title.span)),
+        None => None,
+    }
+}
+
+/// The tail with these parts, where the closing parenthesis stands at a place.
+#[tactic(auto, unfolding(crate::specs::InlineTail::tail_to))]
+fn close(text: &[u8], at: usize, destination: Option<Span>, title: Option<Span>) -> Option<Tail>
+    requires { at ≤ length text.now }
+    ensures { result ≡ tail_to text.now at destination title }
+{
+    if begins(&text[at..], b')') {
+        Some(Tail {
+            destination,
+            title,
+            end: at + 1,
+        })
+    } else {
+        None
+    }
+}

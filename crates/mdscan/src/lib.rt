@@ -1,0 +1,45 @@
+//! Recognisers of Markdown's constructs, on the rest of a line or on a text from a place on.
+//!
+//! Each answers where a front of the grammar stands, and with which parts. None but `cells` takes memory.
+//! Positions are bytes, counted from 0. The rest of a line is handed in without its indentation and its end.
+#![tactic(auto)]
+
+mod atx_headings;
+mod autolinks;
+mod block_quotes;
+mod delimiter_rows;
+mod definitions;
+mod escapes;
+mod fences;
+mod gaps;
+mod html_blocks;
+mod html_tags;
+mod inline_tails;
+mod link_labels;
+mod links;
+mod list_markers;
+mod raw_html;
+mod runs;
+mod setext_headings;
+mod spans;
+mod tables;
+mod tasks;
+mod thematic_breaks;
+
+pub use atx_headings::{AtxLine, atx};
+pub use autolinks::{Auto, autolink};
+pub use block_quotes::quote_marker;
+pub use definitions::{Def, definition};
+pub use delimiter_rows::{Align, align_at, delimiter_row};
+pub use fences::{FenceLine, fence, fence_end};
+pub use html_blocks::{html_end, html_start};
+pub use inline_tails::{Tail, inline_tail};
+pub use link_labels::link_label;
+pub use links::{Dest, destination, title};
+pub use list_markers::{Marker, list_marker};
+pub use raw_html::html_tag;
+pub use setext_headings::setext;
+pub use spans::Span;
+pub use tables::cells;
+pub use tasks::{TaskMark, task};
+pub use thematic_breaks::thematic;

@@ -1,0 +1,174 @@
+//! Destinations and titles of links.
+
+use crate::escapes::{before, escape};
+use crate::runs::{begins, leading_blanks};
+use crate::spans::Span;
+
+ghost use Rattle.std.specs.Prelude.{◌≡◌, ◌<◌, ◌≤◌, IfSome, length};
+ghost use Rattle.std.specs.Str.{IsCharBoundary};
+ghost use Rattle.mdscan.specs.LinkDestination.{angle_destination, bare_end, bare_dest, destination_at, ends_bare};
+ghost use Rattle.mdscan.specs.LinkTitle.{begins_blank_line, holds_blank_line, title_at, title_to};
+
+/// A destination or a title: what stands between its marks, and where it ends, after them.
+#[derive(Clone, Copy, Debug, PartialEq, Eq)]
+pub struct Dest {
+    pub span: Span,
+    pub end: usize,
+}
+
+/// The link destination that stands at a place of a text (CommonMark 6.3), bare or between `<` and `>`. No
+/// more than 32 parentheses are open at once in a bare one.
+///
+/// The place is a character's beginning or the text's end.
+pub fn destination(text: &str, at: usize) -> Option<Dest>
+    requires { IsCharBoundary text.now at }
+    ensures value { result ≡ destination_at text.now at }
+{
+    target(text.as_bytes(), at)
+}
+
+/// The link title that stands at a place of a text (CommonMark 6.3).
+///
+/// The place is a character's beginning or the text's end.
+pub fn title(text: &str, at: usize) -> Option<Dest>
+    requires { IsCharBoundary text.now at }
+    ensures value { result ≡ title_at text.now at }
+{
+    quoted(text.as_bytes(), at)
+}
+
+#[tactic(auto, unfolding(crate::specs::LinkDestination::destination_at))]
+pub(crate) fn target(text: &[u8], at: usize) -> Option<Dest>
+    requires { at ≤ length text.now }
+    ensures value { result ≡ destination_at text.now at }
+    ensures within { IfSome result (λ dest. dest.end ≤ length text.now) }
+{
+    if begins(&text[at..], b'<') {
+        return angle(text, at);
+    }
+    match bare(text, at) {
+        Some(end) if at < end => Some(Dest {
+            span: Span { start: at, end },
+            end,
+        }),
+        _ => None,
+    }
+}
+
+/// A destination whose `<` stands at a place.
+#[tactic(auto, unfolding(crate::specs::LinkDestination::angle_destination))]
+fn angle(text: &[u8], at: usize) -> Option<Dest>
+    requires { at < length text.now }
+    ensures value { result ≡ angle_destination text.now at }
+    ensures within { IfSome result (λ dest. dest.end ≤ length text.now) }
+{
+    let start = at + 1;
+    let end = start + before(&text[start..], b"\n<>");
+    if begins(&text[end..], b'>') {
+        Some(Dest {
+            span: Span { start, end },
+            end: end + 1,
+        })
+    } else {
+        None
+    }
+}
+
+/// Where the bare destination ends that begins at a place, where its parentheses are balanced.
+#[tactic(auto, unfolding(crate::specs::LinkDestination::bare_end))]
+fn bare(text: &[u8], at: usize) -> Option<usize>
+    requires { at ≤ length text.now }
+    ensures value { result ≡ bare_end text.now at }
+    ensures within { IfSome result (λ n. n ≤ length text.now) }
+{
+    let mut depth: usize = 0;
+    let mut escaped = false;
+    for end in at..text.len() {
+        let byte = text[end];
+        if escaped {
+            escaped = false;
+        } else if escape(&text[end..]) {
+            escaped = true;
+        } else if bare_ends(byte) {
+            return if depth == 0 { Some(end) } else { None };
+        } else if byte == b'(' {
+            if depth >= 32 {
+                return None;
+            }
+            depth += 1;
+        } else if byte == b')' {
+            if depth == 0 {
+                return Some(end);
+            }
+            depth -= 1;
+        }
+    }
+    if depth == 0 { Some(text.len()) } else { None }
+}
+
+/// Whether a byte is a space or an ASCII control character.
+fn bare_ends(byte: u8) -> bool
+    ensures { result ≡ ends_bare byte }
+{
+    byte.is_ascii_control() || byte == b' '
+}
+
+#[tactic(auto, unfolding(crate::specs::LinkTitle::title_at))]
+pub(crate) fn quoted(text: &[u8], at: usize) -> Option<Dest>
+    requires { at ≤ length text.now }
+    ensures value { result ≡ title_at text.now at }
+    ensures within { IfSome result (λ dest. dest.end ≤ length text.now) }
+{
+    let rest = &text[at..];
+    if begins(rest, b'"') {
+        title_up_to(text, at, b"\"", b'"')
+    } else if begins(rest, b'\'') {
+        title_up_to(text, at, b"'", b'\'')
+    } else if begins(rest, b'(') {
+        title_up_to(text, at, b"()", b')')
+    } else {
+        None
+    }
+}
+
+/// A title whose opening mark stands at a place, up to the first of the stops that is not escaped.
+#[tactic(auto, unfolding(crate::specs::LinkTitle::title_to))]
+fn title_up_to(text: &[u8], at: usize, stops: &[u8], closing: u8) -> Option<Dest>
+    requires { at < length text.now }
+    ensures value { result ≡ title_to text.now at stops.now closing }
+    ensures within { IfSome result (λ dest. dest.end ≤ length text.now) }
+{
+    let start = at + 1;
+    let end = start + before(&text[start..], stops);
+    if begins(&text[end..], closing) && !blank_line_inside(&text[start..end]) {
+        Some(Dest {
+            span: Span { start, end },
+            end: end + 1,
+        })
+    } else {
+        None
+    }
+}
+
+/// Whether a text holds a blank line.
+fn blank_line_inside(text: &[u8]) -> bool
+    ensures { result ≡ holds_blank_line text.now }
+{
+    for at in 0..text.len() {
+        if blank_line_begins(&text[at..]) {
+            return true;
+        }
+    }
+    false
+}
+
+/// Whether a text begins with a line ending, spaces and tabs, and a line ending.
+fn blank_line_begins(text: &[u8]) -> bool
+    ensures { result ≡ begins_blank_line text.now }
+{
+    if !begins(text, b'\n') {
+        return false;
+    }
+    let blanks = leading_blanks(&text[1..]);
+    begins(&text[1 + blanks..], b'\n')
+}

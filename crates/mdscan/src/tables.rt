@@ -1,0 +1,70 @@
+//! Rows of tables.
+
+use crate::spans::{Span, trimmed_bytes};
+use std::alloc::{AllocError, Global};
+
+ghost use Rattle.std.specs.Prelude.{◌≡◌, ◌<◌, ◌≤◌, IfOk, length};
+ghost use Rattle.mdscan.specs.TableRow.{inside, splits, cell, row_cells};
+
+/// The cells of a table's row, without the spaces and tabs at their ends (GFM 4.10). A backslash before a bar
+/// is still there.
+pub fn cells(alloc: Global, row: &str) -> Result<Vec<Span>, AllocError>
+    ensures { IfOk result (λ cells. cells.items ≡ row_cells row.now) }
+{
+    cells_of(alloc, row.as_bytes())
+}
+
+#[tactic(auto, unfolding(crate::specs::TableRow::row_cells))]
+fn cells_of(alloc: Global, row: &[u8]) -> Result<Vec<Span>, AllocError>
+    ensures { IfOk result (λ cells. cells.items ≡ row_cells row.now) }
+{
+    let inner = inner(row);
+    let mut cells = Vec::new(alloc);
+    let mut start = inner.start;
+    for at in inner.start..inner.end {
+        if is_split(row, at) {
+            cells.push(cell_at(row, start, at))?;
+            start = at + 1;
+        }
+    }
+    cells.push(cell_at(row, start, inner.end))?;
+    Ok(cells)
+}
+
+/// A row without the spaces and tabs at its ends, one bar at its beginning and one at its end.
+#[tactic(auto, unfolding(crate::specs::TableRow::inside))]
+pub(crate) fn inner(row: &[u8]) -> Span
+    ensures value { result ≡ inside row.now }
+    ensures ordered { result.start ≤ result.end }
+    ensures within { result.end ≤ length row.now }
+{
+    let whole = trimmed_bytes(row, 0);
+    let mut start = whole.start;
+    if start < whole.end && row[start] == b'|' {
+        start += 1;
+    }
+    let mut end = whole.end;
+    if start < end && is_split(row, end - 1) {
+        end -= 1;
+    }
+    Span { start, end }
+}
+
+/// Whether a row is split at a place: a bar stands there, and not directly after a backslash.
+pub(crate) fn is_split(row: &[u8], at: usize) -> bool
+    requires { at < length row.now }
+    ensures { result ≡ splits row.now at }
+{
+    row[at] == b'|' && (at == 0 || row[at - 1] != b'\\')
+}
+
+/// What stands between two places, without the spaces and tabs at its ends.
+pub(crate) fn cell_at(row: &[u8], start: usize, end: usize) -> Span
+    requires ordered { start ≤ end }
+    requires within { end ≤ length row.now }
+    ensures value { result ≡ cell row.now start end }
+    ensures ordered { result.start ≤ result.end }
+    ensures inside { result.end ≤ length row.now }
+{
+    trimmed_bytes(&row[..end], start)
+}
