@@ -1,0 +1,67 @@
+-- Why a search for an opener may stop at a bottom.
+use Rattle.std.proofs.Common.{◌≡◌, ℕ, ◌+◌, ◌-◌, ◌%◌, ◌<◌, ◌≤◌, Bool, true, false, cond, eqb, nat_lt, not, ◌&&◌, ◌||◌, List, [], ◌∷◌, ◌++◌, Some, None, refl, sym, ap, ◌∙◌, arith}
+use Rattle.std.proofs.Math.Nat.{add-mod}
+use Rattle.std.proofs.lemmas.Bool.Decides.{nat_tests}
+use Rattle.std.specs.List.{AllByRecursion}
+use Rattle.mdpair.specs.declared.runs.DelimiterChar.{DelimiterChar}
+use Rattle.mdpair.specs.declared.runs.DelimiterChar.TheVariants.{Asterisk, Underscore, Tilde}
+use Rattle.mdpair.specs.declared.runs.DelimiterRun.{DelimiterRun}
+use Rattle.mdpair.specs.declared.emphasis.Remaining.{Remaining}
+use Rattle.mdpair.specs.DelimiterRun.{same_delimiter, can_both, lengths_fit, lengths_match, is_admissible}
+use Rattle.mdpair.specs.Takings.{nearest, without, IsBelow}
+use Rattle.mdpair.specs.OpenersBottom.{IsSameKind, IsBottom, Descends, nearest_above}
+
+lengths_same : (o c d : DelimiterRun) → c.length % 3 ≡ d.length % 3 → can_both c ≡ can_both d → lengths_fit o c ≡ lengths_fit o d
+lengths_same o c d rest opens =
+    let sum : (o.length + c.length) % 3 ≡ (o.length + d.length) % 3 =
+    add-mod o.length c.length 3 ∙ ap (λ r. (o.length % 3 + r) % 3) rest ∙ sym (add-mod o.length d.length 3) in
+    ap (λ b. not (can_both o || b) || not (eqb ((o.length + c.length) % 3) 0) || (eqb (o.length % 3) 0 && eqb (c.length % 3) 0)) opens
+    ∙ ap (λ s. not (can_both o || can_both d) || not (eqb s 0) || (eqb (o.length % 3) 0 && eqb (c.length % 3) 0)) sum
+    ∙ ap (λ r. not (can_both o || can_both d) || not (eqb ((o.length + d.length) % 3) 0) || (eqb (o.length % 3) 0 && eqb r 0)) rest
+
+match_same : (m : DelimiterChar) (o c d : DelimiterRun) → c.length % 3 ≡ d.length % 3 → can_both c ≡ can_both d → (m ≡ Tilde → c.length ≡ d.length) → lengths_match m o c ≡ lengths_match m o d
+match_same Tilde o c d rest opens tilde = ap (λ n. eqb o.length n) (tilde refl)
+match_same Asterisk o c d rest opens tilde = lengths_same o c d rest opens
+match_same Underscore o c d rest opens tilde = lengths_same o c d rest opens
+
+pub same_kind : (o c d : DelimiterRun) → IsSameKind c d → is_admissible o c ≡ is_admissible o d
+same_kind o c d k =
+    ap (λ b. o.can_open && same_delimiter o.delimiter c.delimiter && b) (match_same c.delimiter o c d k.thirds k.both k.tildes)
+    ∙ ap (λ m. o.can_open && same_delimiter o.delimiter m && lengths_match m o d) k.delimiter
+
+none_below : (bottom k : ℕ) (c : DelimiterRun) (ls : List Remaining) → k ≤ bottom → AllByRecursion (IsBelow k) ls → IsBottom bottom c ls → nearest c ls ≡ None
+none_below bottom k c [] le low sound = refl
+none_below bottom k c (l ∷ ls) le low sound =
+    ap (λ b. cond b (Some (l, ls)) (nearest c ls)) (sound.0 (omega arith)) ∙ none_below bottom k c ls le low.1 sound.1
+
+pub stops : (bottom : ℕ) (c : DelimiterRun) (ls : List Remaining) → Descends ls → IsBottom bottom c ls → nearest_above bottom c ls ≡ nearest c ls
+stops bottom c [] falls sound = refl
+stops bottom c (l ∷ ls) falls sound =
+    at (nat_lt l.place bottom) refl (stops bottom c ls falls.1 sound.1)
+  where
+    at : (b : Bool) → nat_lt l.place bottom ≡ b → nearest_above bottom c ls ≡ nearest c ls →
+        cond b None (cond (is_admissible l.run c) (Some (l, ls)) (nearest_above bottom c ls)) ≡ cond (is_admissible l.run c) (Some (l, ls)) (nearest c ls)
+    at false e later = ap (λ o. cond (is_admissible l.run c) (Some (l, ls)) o) later
+    at true e later =
+        let lt : l.place < bottom = grind (arith, nat_tests) in
+        sym (ap (λ b. cond b (Some (l, ls)) (nearest c ls)) (sound.0 lt) ∙ none_below bottom l.place c ls (omega arith) falls.0 sound.1)
+
+-- a search that found nothing makes the place a bottom for each closer of the kind
+pub missed : (p : ℕ) (c d : DelimiterRun) (ls : List Remaining) → nearest c ls ≡ None → IsSameKind c d → IsBottom p d ls
+missed p c d [] none k = tt
+missed p c d (l ∷ ls) none k = at (is_admissible l.run c) refl none (λ h. missed p c d ls h k)
+  where
+    at : (b : Bool) → is_admissible l.run c ≡ b → cond b (Some (l, ls)) (nearest c ls) ≡ None → (nearest c ls ≡ None → IsBottom p d ls) → IsBottom p d (l ∷ ls)
+    at true e h later = cc
+    at false e h later = (λ _. sym (same_kind l.run c d k) ∙ e, later h)
+
+-- what a taking leaves of the stack keeps its bottoms; so does a run that is put on it, above them
+pub kept : (bottom n : ℕ) (c : DelimiterRun) (o : Remaining) (below : List Remaining) → IsBottom bottom c (o ∷ below) → IsBottom bottom c (without n o ++ below)
+kept bottom n c o below sound = at (eqb (o.left - n) 0)
+  where
+    at : (b : Bool) → IsBottom bottom c (cond b [] (record { place = o.place; left = o.left - n; run = o.run } ∷ []) ++ below)
+    at true = sound.1
+    at false = sound
+
+pub put_on : (bottom : ℕ) (c : DelimiterRun) (l : Remaining) (ls : List Remaining) → bottom ≤ l.place → IsBottom bottom c ls → IsBottom bottom c (l ∷ ls)
+put_on bottom c l ls le sound = (λ lt. absurd (omega arith), sound)

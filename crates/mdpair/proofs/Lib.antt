@@ -1,0 +1,6 @@
+pub mod BottomKept
+pub mod Characters
+pub mod RunEnds
+pub mod Sweep
+pub mod Thirds
+pub mod Widths

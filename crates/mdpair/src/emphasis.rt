@@ -1,0 +1,159 @@
+//! The pairing of the delimiter runs of a text (CommonMark, appendix, process emphasis).
+
+ghost use Rattle.std.specs.Prelude.{◌≡◌, ℕ, ◌+◌, ◌-◌, ◌<◌, ◌≤◌, All, true, Some, None, List, ◌∷◌, ◌++◌, IfOk, MatchOption, length, take, slice_index_or};
+ghost use Rattle.std.specs.List.{AllByRecursion};
+ghost use Rattle.mdpair.specs.declared.emphasis.Remaining.{Remaining as Left};
+ghost use Rattle.mdpair.specs.DelimiterRun.{is_admissible};
+ghost use Rattle.mdpair.specs.Takings.{nearest, onto, stack, width_of, left_of, Leads, IsClear, IsLeft, IsOrdered, IsBelow, IsProcessed, takings};
+
+use crate::runs::{DelimiterChar, DelimiterRun};
+use std::alloc::{AllocError, Global};
+
+/// An opener and a closer, by their places in the list of runs, and how many characters are taken of each.
+///
+/// Of asterisks and underscores one makes emphasis and two make strong emphasis; a run of tildes is taken whole and makes a strikethrough.
+#[derive(Clone, Copy, Debug, Drop)]
+pub struct Taking {
+    pub opener: usize,
+    pub closer: usize,
+    pub width: usize,
+}
+
+/// What is left of the run at a place of the list.
+#[derive(Clone, Copy, Drop)]
+pub(crate) struct Remaining {
+    place: usize,
+    left: usize,
+    run: DelimiterRun,
+}
+
+/// Which runs belong together, in the order in which they are taken.
+///
+/// Again and again the leftmost closer that has an admissible opener takes the nearest such opener; the runs between the two are then text, and
+/// so is what is left of runs in the end. `runs` are all runs of one text, in its order; the inside of a link is a text of its own.
+pub fn pair(alloc: Global, runs: &[DelimiterRun]) -> Result<Vec<Taking>, AllocError>
+    ensures value { IfOk result (λ ts. ts.items ≡ takings runs.now) }
+    ensures processed { IfOk result (λ ts. IsProcessed runs.now ts.items) }
+    ensures ordered { IfOk result (λ ts. All (IsOrdered (length runs.now)) ts.items) }
+{
+    let mut takings = Vec::new(alloc);
+    let mut passed = Vec::new(alloc);
+    for (place, run) in runs.iter().enumerate() {
+        pass(&mut passed, &mut takings, place, *run)?;
+    }
+    Ok(takings)
+}
+
+/// Takes what a run can close, and puts what is left of it on the stack.
+#[tactic(auto, using(crate::proofs::Sweep::pushed_below, crate::proofs::Sweep::onto_left, crate::proofs::Widths::pushed_left))]
+fn pass(
+    passed: &mut Vec<Remaining>,
+    takings: &mut Vec<Taking>,
+    place: usize,
+    run: DelimiterRun,
+) -> Result<(), AllocError>
+    requires clear { IsClear (stack passed.old.items) }
+    requires each { AllByRecursion IsLeft (stack passed.old.items) }
+    requires low { AllByRecursion (IsBelow place) (stack passed.old.items) }
+    ensures leads { IfOk result (λ _. (start rest : List Left) → Leads start takings.old.items (onto (stack passed.old.items) (left_of place run.length run ++ rest))
+        → Leads start takings.new.items (onto (stack passed.new.items) rest)) }
+    ensures clear { IfOk result (λ _. IsClear (stack passed.new.items)) }
+    ensures each { IfOk result (λ _. AllByRecursion IsLeft (stack passed.new.items)) }
+    ensures low { IfOk result (λ _. AllByRecursion (IsBelow (place + 1)) (stack passed.new.items)) }
+    ensures ordered { IfOk result (λ _. (k : ℕ) → place < k → All (IsOrdered k) takings.old.items → All (IsOrdered k) takings.new.items) }
+{
+    if !run.can_close || run.length == 0 {
+        return push_left(passed, place, run.length, run);
+    }
+    let closer = Remaining {
+        place,
+        left: run.length,
+        run,
+    };
+    let left = close(passed, takings, closer)?;
+    push_left(passed, place, left, run)
+}
+
+/// Takes what the closer can take, and answers how many of its characters are left.
+fn close(
+    passed: &mut Vec<Remaining>,
+    takings: &mut Vec<Taking>,
+    closer: Remaining,
+) -> Result<usize, AllocError>
+    requires closes { closer.run.can_close ≡ true }
+    requires left { IsLeft closer }
+    requires clear { IsClear (stack passed.old.items) }
+    requires each { AllByRecursion IsLeft (stack passed.old.items) }
+    requires low { AllByRecursion (IsBelow closer.place) (stack passed.old.items) }
+    ensures leads { IfOk result (λ left. (start rest : List Left) → Leads start takings.old.items (onto (stack passed.old.items) (closer ∷ rest))
+        → Leads start takings.new.items (onto (stack passed.new.items) (left_of closer.place left closer.run ++ rest))) }
+    ensures done { IfOk result (λ left. 0 < left → nearest closer.run (stack passed.new.items) ≡ None) }
+    ensures left { IfOk result (λ left. closer.run.delimiter ≡ DelimiterChar.Tilde → 0 < left → left ≡ closer.run.length) }
+    ensures clear { IfOk result (λ _. IsClear (stack passed.new.items)) }
+    ensures each { IfOk result (λ _. AllByRecursion IsLeft (stack passed.new.items)) }
+    ensures low { IfOk result (λ _. AllByRecursion (IsBelow closer.place) (stack passed.new.items)) }
+    ensures ordered { IfOk result (λ _. (k : ℕ) → closer.place < k → All (IsOrdered k) takings.old.items → All (IsOrdered k) takings.new.items) }
+{
+    let mut left = closer.left;
+    while left > 0 {
+        let Some(at) = opener(passed.as_slice(), &closer.run) else {
+            break;
+        };
+        let open = passed[at];
+        let width = width(&open, &closer.run, left);
+        takings.push(Taking {
+            opener: open.place,
+            closer: closer.place,
+            width,
+        })?;
+        passed.truncate(at);
+        push_left(passed, open.place, open.left - width, open.run)?;
+        left -= width;
+    }
+    Ok(left)
+}
+
+/// The place in the stack of the nearest admissible opener.
+fn opener(passed: &[Remaining], closer: &DelimiterRun) -> Option<usize>
+    ensures { MatchOption result (nearest closer.now (stack passed.now) ≡ None) (λ i. (i < length passed.now) × ((d : Left) → nearest closer.now (stack passed.now) ≡ Some (slice_index_or passed.now i d, stack (take i passed.now)))) }
+{
+    for i in (0..passed.len()).rev() {
+        if passed[i].run.may_open(closer) {
+            return Some(i);
+        }
+    }
+    None
+}
+
+/// How many characters an opener and a closer with `left` characters lose.
+#[tactic(auto, using(crate::proofs::Widths::takes))]
+fn width(opener: &Remaining, closer: &DelimiterRun, left: usize) -> usize
+    requires fits { is_admissible opener.now.run closer.now ≡ true }
+    requires opener { IsLeft opener.now }
+    requires left { 0 < left }
+    requires closer { closer.now.delimiter ≡ DelimiterChar.Tilde → left ≡ closer.now.length }
+    ensures value { result ≡ width_of closer.now.delimiter closer.now.length opener.now.left left }
+    ensures some { 0 < result }
+    ensures opener { result ≤ opener.now.left }
+    ensures closer { result ≤ left }
+{
+    match closer.delimiter {
+        DelimiterChar::Tilde => closer.length,
+        _ => { if opener.left > 1 && left > 1 { 2 } else { 1 } }
+    }
+}
+
+#[tactic(auto, using(crate::proofs::Sweep::stack_push))]
+fn push_left(
+    passed: &mut Vec<Remaining>,
+    place: usize,
+    left: usize,
+    run: DelimiterRun,
+) -> Result<(), AllocError>
+    ensures { IfOk result (λ _. stack passed.new.items ≡ left_of place left run ++ stack passed.old.items) }
+{
+    if left > 0 {
+        passed.push(Remaining { place, left, run })?;
+    }
+    Ok(())
+}

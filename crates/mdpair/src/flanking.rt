@@ -1,0 +1,148 @@
+//! The delimiter run at a place of a text, and what it can do there (CommonMark 6.2).
+
+ghost use Rattle.std.specs.Prelude.{◌≡◌, ◌+◌, ◌-◌, ◌<◌, ◌≤◌, IfSome, length, drop, slice_get};
+ghost use Rattle.std.specs.Str.{chars, IsCharBoundary};
+ghost use Rattle.std.specs.Option.{option_and_then};
+ghost use Rattle.mdpair.specs.Neighbours.{white_at, punct_at, left_flanking, right_flanking, opens_between, closes_between, run_between, char_before, char_after, delimiter_of, byte_of, run_length, run_at};
+
+use crate::runs::{DelimiterChar, DelimiterRun};
+use mdtext::{is_punct, is_white};
+
+/// The delimiter run that begins at the byte `at` of an inline text, or none where no delimiter character stands there.
+///
+/// Its neighbours are the characters as they are written, before escapes and references; the beginning and the end of the text count as
+/// whitespace. Three or more tildes can neither open nor close. Takes no memory.
+#[tactic(auto, unfolding(crate::specs::Neighbours::run_at))]
+pub fn delimiter_run(text: &str, at: usize) -> Option<DelimiterRun>
+    ensures value { result ≡ run_at text.now at }
+    ensures some { IfSome result (λ run. 0 < run.length) }
+    ensures within { IfSome result (λ run. at + run.length ≤ length text.now) }
+    ensures boundary { IfSome result (λ run. IsCharBoundary text.now (at + run.length)) }
+{
+    let bytes = text.as_bytes();
+    let delimiter = delimiter_at(bytes, at)?;
+    let length = length_of(delimiter, &bytes[at..]);
+    let before = last_char(&text[..at]);
+    let after = first_char(&text[at + length..]);
+    Some(DelimiterRun {
+        delimiter,
+        length,
+        can_open: can_open(delimiter, length, before, after),
+        can_close: can_close(delimiter, length, before, after),
+    })
+}
+
+/// The delimiter character that stands at a byte.
+fn delimiter_at(bytes: &[u8], at: usize) -> Option<DelimiterChar>
+    ensures { result ≡ option_and_then delimiter_of (slice_get bytes.now at) }
+{
+    match *bytes.get(at)? {
+        b'*' => Some(DelimiterChar::Asterisk),
+        b'_' => Some(DelimiterChar::Underscore),
+        b'~' => Some(DelimiterChar::Tilde),
+        _ => None,
+    }
+}
+
+/// How many of these delimiter characters stand in a row.
+fn length_of(delimiter: DelimiterChar, rest: &[u8]) -> usize
+    ensures value { result ≡ run_length delimiter rest.now }
+    ensures bound { result ≤ length rest.now }
+{
+    let mark = byte_of(delimiter);
+    rest.iter().take_while(|b| **b == mark).count()
+}
+
+fn byte_of(delimiter: DelimiterChar) -> u8
+    ensures { result ≡ byte_of delimiter }
+{
+    match delimiter {
+        DelimiterChar::Asterisk => b'*',
+        DelimiterChar::Underscore => b'_',
+        DelimiterChar::Tilde => b'~',
+    }
+}
+
+fn first_char(rest: &str) -> Option<char>
+    ensures { result ≡ slice_get (chars rest.now) 0 }
+{
+    rest.chars().next()
+}
+
+fn last_char(front: &str) -> Option<char>
+    ensures { result ≡ slice_get (chars front.now) (length (chars front.now) - 1) }
+{
+    front.chars().next_back()
+}
+
+/// Whether a run of `length` such characters between these neighbours can open (rules 1, 2, 5 and 6).
+#[tactic(auto, unfolding(crate::specs::Neighbours::opens_between))]
+fn can_open(
+    delimiter: DelimiterChar,
+    length: usize,
+    before: Option<char>,
+    after: Option<char>,
+) -> bool
+    ensures { result ≡ opens_between delimiter length before after }
+{
+    let left = is_left_flanking(before, after);
+    match delimiter {
+        DelimiterChar::Asterisk => left,
+        DelimiterChar::Underscore => left
+            && (!is_right_flanking(before, after) || is_punct_at(before)),
+        DelimiterChar::Tilde => left && length < 3,
+    }
+}
+
+/// Whether a run of `length` such characters between these neighbours can close (rules 3, 4, 7 and 8).
+#[tactic(auto, unfolding(crate::specs::Neighbours::closes_between))]
+fn can_close(
+    delimiter: DelimiterChar,
+    length: usize,
+    before: Option<char>,
+    after: Option<char>,
+) -> bool
+    ensures { result ≡ closes_between delimiter length before after }
+{
+    let right = is_right_flanking(before, after);
+    match delimiter {
+        DelimiterChar::Asterisk => right,
+        DelimiterChar::Underscore => right
+            && (!is_left_flanking(before, after) || is_punct_at(after)),
+        DelimiterChar::Tilde => right && length < 3,
+    }
+}
+
+#[tactic(auto, unfolding(crate::specs::Neighbours::left_flanking))]
+fn is_left_flanking(before: Option<char>, after: Option<char>) -> bool
+    ensures { result ≡ left_flanking before after }
+{
+    !is_white_at(after) && (!is_punct_at(after) || is_white_at(before) || is_punct_at(before))
+}
+
+#[tactic(auto, unfolding(crate::specs::Neighbours::right_flanking))]
+fn is_right_flanking(before: Option<char>, after: Option<char>) -> bool
+    ensures { result ≡ right_flanking before after }
+{
+    !is_white_at(before) && (!is_punct_at(before) || is_white_at(after) || is_punct_at(after))
+}
+
+/// Whether a neighbour is Unicode whitespace; one beyond the text's ends is.
+fn is_white_at(neighbour: Option<char>) -> bool
+    ensures { result ≡ white_at neighbour }
+{
+    match neighbour {
+        Some(c) => is_white(c),
+        None => true,
+    }
+}
+
+/// Whether a neighbour is Unicode punctuation.
+fn is_punct_at(neighbour: Option<char>) -> bool
+    ensures { result ≡ punct_at neighbour }
+{
+    match neighbour {
+        Some(c) => is_punct(c),
+        None => false,
+    }
+}

@@ -1,0 +1,21 @@
+//! Delimiter runs of `*`, `_` and `~`, and their pairing: which of them open and close emphasis, strong emphasis and strikethrough together.
+//!
+//! A delimiter run is read by [`delimiter_run`], from the characters beside it (CommonMark 6.2, left-flanking and right-flanking). What the runs of
+//! one text take of each other is [`pair`]'s answer (CommonMark 6.2, rules 9 to 17; of tildes GFM, Strikethrough): again and again the leftmost
+//! closer that has an admissible opener takes the nearest one. Nothing is known here of the text between the runs.
+#![tactic(auto)]
+
+mod bottoms;
+mod emphasis;
+mod flanking;
+mod runs;
+
+pub use bottoms::{
+    failed_search_makes_bottom, push_keeps_bottom, search_stops_at_bottom, taking_keeps_bottom,
+};
+pub use emphasis::{Taking, pair};
+pub use flanking::delimiter_run;
+pub use runs::{DelimiterChar, DelimiterRun};
+
+#[cfg(test)]
+mod tests;
