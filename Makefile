@@ -1,0 +1,38 @@
+# The targets for people and for the gate. `rt` is the command of the Rattle toolchain.
+RT ?= rt
+PROGRAMS := mdpreview
+# The grammar that stands, as the comparison with an oracle names it.
+LEVEL := small
+SCRIPTS ?= 600
+
+.PHONY: help run test build check fmt compare
+
+help:
+	@echo "make run                 proves, builds and runs mdpreview on a writer's few edits, and shows what goes in and out"
+	@echo "make test                the gate: every proof from nothing, the tests and must-fail edits, and the example files"
+	@echo "make build               proves and builds the programs into bin/"
+	@echo "make check               a quick check of every crate, over what earlier checks kept"
+	@echo "make fmt                 lays out the sources"
+	@echo "make compare ORACLE=DIR  builds, and runs DIR/compare on the programs, with SCRIPTS=$(SCRIPTS) random scripts"
+
+run: build
+	@tools/show examples/writer.script
+
+build:
+	@for program in $(PROGRAMS); do \
+	  (cd crates/$$program && $(RT) run < /dev/null > /dev/null) || exit 1; \
+	  mkdir -p bin && cp crates/$$program/out/$$program bin/$$program || exit 1; \
+	  echo "built bin/$$program"; \
+	done
+
+test:
+	@tools/gate
+
+check:
+	@$(RT) all check
+
+fmt:
+	@for crate in crates/*/; do (cd $$crate && $(RT) fmt) || exit 1; done
+
+compare: build
+	@$(ORACLE)/compare bin $(LEVEL) --scripts $(SCRIPTS)

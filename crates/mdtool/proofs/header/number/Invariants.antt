@@ -1,0 +1,11 @@
+use Rattle.std.proofs.Common.{◌≡◌, ◌<◌, ◌^◌, ◌+◌, ◌-◌, ◌*◌, take, fold, true}
+use Rattle.std.specs.List.{list_all}
+use Rattle.std.specs.Char.{is_ascii_digit}
+use Rattle.mdtool.proofs.header.number.Given as goal
+
+abbrev pub invariant-loop-byte : goal.invariant-loop-byte
+invariant-loop-byte l = record {
+  digits : list_all is_ascii_digit (take l.byte-index l.word) ≡ true;
+  value : l.value ≡ fold (λ n digit. n * 10 + (digit - 48)) 0 (take l.byte-index l.word);
+  small : l.value < 10 ^ l.byte-index;
+}

@@ -1,0 +1,23 @@
+-- The names and numbers of refusals.
+use Rattle.std.specs.Prelude.{ℕ, List, ◌∷◌, ◌++◌, codes, decimal}
+use Rattle.mdtool.specs.declared.view.fault.EditFault.{EditFault}
+use Rattle.mdtool.specs.declared.view.fault.EditFault.TheVariants.{OutOfRange, BreakInLine, TooManyLines, TooLarge, NoMemory}
+
+-- a refusal's name and number
+abbrev pub name_of : EditFault → List ℕ
+name_of (OutOfRange lines) = codes "OutOfRange"
+name_of (BreakInLine index) = codes "BreakInLine"
+name_of TooManyLines = codes "TooManyLines"
+name_of TooLarge = codes "TooLarge"
+name_of NoMemory = codes "NoMemory"
+
+abbrev pub number_of : EditFault → ℕ
+number_of (OutOfRange lines) = lines
+number_of (BreakInLine index) = index
+number_of TooManyLines = 0
+number_of TooLarge = 0
+number_of NoMemory = 0
+
+-- a refusal as replies and error lines have it
+abbrev pub refused_text : EditFault → List ℕ
+refused_text fault = codes "refused " ++ name_of fault ++ 32 ∷ decimal (number_of fault)

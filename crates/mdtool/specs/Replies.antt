@@ -1,0 +1,53 @@
+-- The replies to the commands of a script.
+use Rattle.std.specs.Prelude.{ℕ, ◌+◌, Bool, List, [], ◌∷◌, ◌++◌, length, codes, decimal, Result, Ok, Err, if◌then◌else◌}
+use Rattle.std.specs.List.{concat}
+use Rattle.mdtool.specs.declared.view.fault.EditFault.{EditFault}
+use Rattle.mdtool.specs.FaultNames.{refused_text}
+use Rattle.mdtool.specs.Stretch.{Stretch}
+use Rattle.mdtool.specs.Patch.{brings}
+use Rattle.mdtool.specs.Document.{Document}
+use Rattle.mdtool.specs.Outcome.{outcome}
+use Rattle.mdtool.specs.Commands.{Command, Html, Edit}
+
+-- a piece with its number and its length
+abbrev pub piece_reply : ℕ → List ℕ → List ℕ
+piece_reply number piece = codes "piece " ++ decimal number ++ 32 ∷ decimal (length piece) ++ 10 ∷ piece
+
+-- those of the pieces, numbered from i, that the patch brings
+abbrev pub brought : Stretch → ℕ → List (List ℕ) → List ℕ
+brought patch i [] = []
+brought patch i (piece ∷ pieces) = (if brings patch i then piece_reply i piece else []) ++ brought patch (i + 1) pieces
+
+abbrev pub patch_line : Stretch → List ℕ
+patch_line patch = codes "ok " ++ decimal patch.first ++ 32 ∷ decimal patch.removed ++ 32 ∷ decimal patch.added ++ 32 ∷ decimal (length patch.again) ++ 10 ∷ []
+
+abbrev pub refused_reply : EditFault → List ℕ
+refused_reply fault = refused_text fault ++ 10 ∷ []
+
+-- the reply to an edit that left these pieces
+abbrev pub edit_reply : Result Stretch EditFault → List (List ℕ) → List ℕ
+edit_reply (Ok patch) pieces = patch_line patch ++ brought patch 0 pieces
+edit_reply (Err fault) pieces = refused_reply fault
+
+-- the reply to `html`
+abbrev pub html_reply : List (List ℕ) → List ℕ
+html_reply pieces = codes "html " ++ decimal (length (concat pieces)) ++ 10 ∷ concat pieces
+
+-- a command, and whether memory refuses the edit that it is
+pub record ScriptTurn : Type 0 where
+  pub command : Command
+  pub starved : Bool
+
+-- what is held behind a command
+abbrev pub held_behind : Document → Command → Bool → Document
+held_behind old Html starved = old
+held_behind old (Edit call) starved = (outcome old call starved).1
+
+abbrev pub reply : Document → Command → Bool → List ℕ
+reply old Html starved = html_reply old.pieces
+reply old (Edit call) starved = edit_reply ((outcome old call starved).0) ((outcome old call starved).1.pieces)
+
+-- the replies to the commands, one after the other
+unfoldable pub replies : Document → List ScriptTurn → List ℕ
+replies old [] = []
+replies old (turn ∷ turns) = reply old turn.command turn.starved ++ replies (held_behind old turn.command turn.starved) turns

@@ -1,0 +1,61 @@
+-- What a script of edits is answered, at each end.
+use Rattle.std.specs.Prelude.{◌≡◌, ℕ, ◌+◌, Bool, true, List, Option, Result, Ok, Err, map}
+use Rattle.mdtool.specs.declared.fault.ToolFault.{ToolFault}
+use Rattle.mdtool.specs.declared.fault.ToolFault.TheVariants.{Read, Write, Refused, BadCommand, Truncated, Table, NoMemory}
+use Rattle.mdtool.specs.Bytes.{Takes, AtEnd, Gains, GainsFront}
+use Rattle.mdtool.specs.Document.{Document}
+use Rattle.mdtool.specs.Commands.{Command, Stop, Done, Open, Bad, Short, Script, Leads, script_lines}
+use Rattle.mdtool.specs.Replies.{ScriptTurn, replies, reply, held_behind}
+
+abbrev pub commands_of : List ScriptTurn → List Command
+commands_of turns = map (λ (turn : ScriptTurn). turn.command) turns
+
+-- each whole command of the bytes that were taken was answered, and behind these the script goes on so
+pub record Answered (document : Document) (left left' written written' : Option (List ℕ)) (stop : Stop) : Type 0 where
+  pub bytes : List ℕ
+  pub ended : Bool
+  pub turns : List ScriptTurn
+  pub taken : Takes left bytes left'
+  pub at_end : ended ≡ true → AtEnd left'
+  pub script : Script bytes ended (commands_of turns) stop
+  pub replied : Gains written (replies document turns) written'
+
+-- of the replies to some whole commands, at the front of the bytes that were taken, a beginning was written
+pub record Broken (document : Document) (left left' written written' : Option (List ℕ)) : Type 0 where
+  pub bytes : List ℕ
+  pub ended : Bool
+  pub turns : List ScriptTurn
+  pub next : ℕ
+  pub rest : List (List ℕ)
+  pub taken : Takes left bytes left'
+  pub at_end : ended ≡ true → AtEnd left'
+  pub leads : Leads 1 (script_lines ended bytes) (commands_of turns) next rest
+  pub replied : GainsFront written (replies document turns) written'
+
+-- what each end says; there is no other
+abbrev pub Served : {T : Type 0} → Result T ToolFault → Document → Option (List ℕ) → Option (List ℕ) → Option (List ℕ) → Option (List ℕ) → Type 0
+Served (Ok answer) document left left' written written' = Answered document left left' written written' Done
+Served (Err (BadCommand line)) document left left' written written' = Answered document left left' written written' (Bad line)
+Served (Err (Truncated line)) document left left' written written' = Answered document left left' written written' (Short line)
+Served (Err Read) document left left' written written' = Answered document left left' written written' Open
+Served (Err Write) document left left' written written' = Broken document left left' written written'
+Served (Err NoMemory) document left left' written written' = Broken document left left' written written'
+Served (Err (Refused fault)) document left left' written written' = ⊥
+Served (Err (Table fault)) document left left' written written' = ⊥
+
+-- the out's failures afterwards: `Write` answers one more
+abbrev pub out_failures_after : {T : Type 0} → Result T ToolFault → ℕ → ℕ
+out_failures_after (Ok answer) failures = failures
+out_failures_after (Err Write) failures = failures + 1
+out_failures_after (Err Read) failures = failures
+out_failures_after (Err (Refused fault)) failures = failures
+out_failures_after (Err (BadCommand line)) failures = failures
+out_failures_after (Err (Truncated line)) failures = failures
+out_failures_after (Err (Table fault)) failures = failures
+out_failures_after (Err NoMemory) failures = failures
+
+-- a command was answered so, with memory or starved of it
+pub record Replied (old : Document) (command : Command) (bytes : List ℕ) (new : Document) : Type 0 where
+  pub starved : Bool
+  pub bytes_are : bytes ≡ reply old command starved
+  pub holds : new ≡ held_behind old command starved

@@ -1,0 +1,19 @@
+//! A command of the script.
+
+/// What a command's first line says. Numbers are in lines, counted from 0.
+#[derive(Clone, Copy, Debug, PartialEq, Eq)]
+pub enum Header {
+    Html,
+    Edit { at: usize, del: usize, add: usize },
+}
+
+/// A whole command: an edit with the lines that it adds.
+#[derive(Drop)]
+pub enum Command {
+    Html,
+    Edit {
+        at: usize,
+        del: usize,
+        add: Vec<String>,
+    },
+}

@@ -1,0 +1,81 @@
+ghost use Rattle.std.specs.Prelude.{◌≡◌};
+ghost use Rattle.mdtool.specs.declared.fault.ToolFault.TheVariants.{NoMemory};
+
+use crate::view::fault::EditFault;
+use std::alloc::{AllocError, AllocFailed};
+use thiserror::Error;
+
+/// Why an engine stopped.
+#[derive(Debug, Drop, Error)]
+pub enum ToolFault {
+    /// The feed failed.
+    #[error("read failed")]
+    Read,
+    /// The out failed.
+    #[error("write failed")]
+    Write,
+    /// The whole text was refused.
+    #[error("text refused")]
+    Refused(EditFault),
+    /// The line of the script, counted from 1, is no command.
+    #[error("bad command in line {0}")]
+    BadCommand(u64),
+    /// The script ends inside the edit that begins in this line, counted from 1.
+    #[error("script ends inside the edit of line {0}")]
+    Truncated(u64),
+    /// The entity file was refused.
+    #[error("entity file refused")]
+    Table(TableFault),
+    /// A growth was refused.
+    #[error("no memory")]
+    NoMemory,
+}
+
+impl From<AllocError> for ToolFault {
+    ghost from_gives = { λ _ e. e ≡ NoMemory };
+
+    fn from(_error: AllocError) -> ToolFault {
+        ToolFault::NoMemory
+    }
+}
+
+impl<T: Drop> From<AllocFailed<T>> for ToolFault {
+    ghost from_gives = { λ _ e. e ≡ NoMemory };
+
+    fn from(_error: AllocFailed<T>) -> ToolFault {
+        ToolFault::NoMemory
+    }
+}
+
+/// Why an entity file was refused.
+#[derive(Clone, Copy, Debug, PartialEq, Eq)]
+pub enum TableFault {
+    /// It is not JSON, or no object.
+    NotJson,
+    /// A member is no entity with its characters.
+    BadEntry,
+    /// A growth was refused.
+    NoMemory,
+}
+
+/// Why a program's words were not followed.
+#[derive(Debug, Drop)]
+pub enum WordFault {
+    /// The help was asked for; this is its text.
+    Help(String),
+    /// They are not understood, or not UTF-8.
+    NotUnderstood,
+    /// A growth was refused.
+    NoMemory,
+}
+
+/// Why a program stopped before its end.
+#[derive(Debug, Drop)]
+pub enum Stop {
+    /// By its words.
+    Words(WordFault),
+    /// The file of this name could not be opened.
+    NotOpened(String),
+    /// By an engine.
+    Tool(ToolFault),
+}

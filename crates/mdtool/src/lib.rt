@@ -1,0 +1,28 @@
+//! The engines of the programs, over any source and sink of bytes: a script of line edits in, the pieces of HTML that
+//! changed out.
+#![tactic(auto)]
+
+mod command;
+mod device;
+mod endings;
+mod fault;
+mod header;
+mod memory;
+mod options;
+mod replies;
+mod script;
+mod serving;
+mod standard;
+#[cfg(test)]
+mod tests;
+mod view;
+
+pub use device::{DeviceFault, Feed, Out};
+pub use endings::ending;
+pub use fault::{Stop, TableFault, ToolFault, WordFault};
+pub use memory::{MemoryFeed, MemoryOut};
+pub use options::{Breaks, Options};
+pub use serving::serve;
+pub use standard::{ReadFeed, WriteOut};
+pub use view::fault::EditFault;
+pub use view::laws::edits_are_made_from_nothing;

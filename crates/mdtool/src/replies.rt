@@ -1,0 +1,83 @@
+//! What the script's commands are answered.
+ghost use Rattle.std.specs.Prelude.{◌≡◌, ◌++◌, string_bytes, IfOk, OnOk};
+ghost use Rattle.std.specs.List.{concat};
+ghost use Rattle.mdtool.specs.Replies.{html_reply, edit_reply, refused_reply, piece_reply, patch_line, brought};
+
+use crate::view::fault::EditFault;
+use crate::view::patch::Patch;
+use crate::view::preview::Preview;
+use std::alloc::{AllocError, Global};
+
+/// The reply to `html`: the number of bytes of all pieces, and these.
+pub fn html_reply(alloc: Global, preview: &Preview) -> Result<String, AllocError>
+    ensures { IfOk result (λ reply. string_bytes reply ≡ html_reply preview.now.pieces) }
+{
+    let mut html = String::new(alloc);
+    push_pieces(preview, &mut html)?;
+    let mut reply = format!(in alloc; "html {}\n", html.len())?;
+    reply.push_str(html.as_str())?;
+    Ok(reply)
+}
+
+/// Adds the bytes of all pieces.
+fn push_pieces(preview: &Preview, html: &mut String) -> Result<(), AllocError>
+    ensures { OnOk result (string_bytes html.new ≡ string_bytes html.old ++ concat preview.now.pieces) }
+{
+    for piece in preview.pieces() {
+        html.push_str(piece)?;
+    }
+    Ok(())
+}
+
+/// The reply to an edit.
+pub fn edit_reply(
+    alloc: Global,
+    preview: &Preview,
+    answer: &Result<Patch, EditFault>,
+) -> Result<String, AllocError>
+    ensures { IfOk result (λ reply. string_bytes reply ≡ edit_reply answer.now preview.now.pieces) }
+{
+    match answer {
+        Ok(patch) => accepted_reply(alloc, preview, patch),
+        Err(fault) => refused_reply(alloc, fault),
+    }
+}
+
+fn refused_reply(alloc: Global, fault: &EditFault) -> Result<String, AllocError>
+    ensures { IfOk result (λ reply. string_bytes reply ≡ refused_reply fault.now) }
+{
+    let name = fault.name();
+    let number = fault.number();
+    format!(in alloc; "refused {name} {number}\n")
+}
+
+/// The reply to an accepted edit: the patch, and each piece that it brings with its number and its bytes.
+fn accepted_reply(alloc: Global, preview: &Preview, patch: &Patch) -> Result<String, AllocError>
+    ensures { IfOk result (λ reply. string_bytes reply ≡ patch_line patch.now ++ brought patch.now 0 preview.now.pieces) }
+{
+    let mut reply = patch_reply(alloc, patch)?;
+    for i in 0..preview.units() {
+        if let Some(text) = patch.text(preview, i) {
+            push_piece(i, text, &mut reply)?;
+        }
+    }
+    Ok(reply)
+}
+
+fn patch_reply(alloc: Global, patch: &Patch) -> Result<String, AllocError>
+    ensures { IfOk result (λ reply. string_bytes reply ≡ patch_line patch.now) }
+{
+    let first = patch.first;
+    let removed = patch.removed;
+    let added = patch.added;
+    let again = patch.again.len();
+    format!(in alloc; "ok {first} {removed} {added} {again}\n")
+}
+
+fn push_piece(number: usize, text: &str, reply: &mut String) -> Result<(), AllocError>
+    ensures { OnOk result (string_bytes reply.new ≡ string_bytes reply.old ++ piece_reply number text.now) }
+{
+    let len = text.len();
+    write!(reply, "piece {number} {len}\n")?;
+    reply.push_str(text)
+}

@@ -1,0 +1,224 @@
+//! The lines and the commands of a script, as they come from a feed.
+//!
+//! Bytes are taken in chunks, and each is searched once for the end of its line.
+ghost use Rattle.std.specs.Prelude.{◌≡◌, ◌≢◌, ℕ, ◌+◌, ◌-◌, ◌*◌, ◌^◌, ◌<◌, ◌≤◌, true, false, List, [], MatchOption, length, take, drop, map, get_or, string_bytes, OnOk, IfOk, IfSome, IfNone, OnSome, if◌then◌else◌};
+ghost use Rattle.std.specs.Str.Lossy.{utf8_lossy};
+ghost use Rattle.mdtool.specs.Commands.{has_break};
+ghost use Rattle.mdtool.specs.Pending.{Reads, Draws, HasLine, IsOver, used, fresh};
+ghost use Rattle.mdtool.specs.Steps.{Steps, failures_after, FewLines, ReadsTexts, NextCommand};
+
+use crate::command::{Command, Header};
+use crate::device::Feed;
+use crate::fault::ToolFault;
+use crate::header::header;
+use std::alloc::Global;
+use std::marker::Model;
+
+const CHUNK: usize = 16384;
+
+/// A script that is read line by line. A line ends at LF alone; a last line without LF counts if it is not empty.
+#[derive(Drop)]
+pub struct Script {
+    taken: Vec<u8>,
+    /// Where the bytes begin that no line has used yet.
+    start: usize,
+    /// No LF stands from `start` to here.
+    searched: usize,
+    is_ended: bool,
+    /// How many lines were read; it stays at its greatest value.
+    lines: u64,
+}
+
+impl Model for Script {
+    ghost use Rattle.std.specs.Prelude.{◌≡◌, ◌-◌, ◌≤◌, ◌^◌, false, length, take, drop};
+    ghost use Rattle.mdtool.specs.Commands.{has_break};
+    ghost use Rattle.mdtool.specs.Pending.{Pending};
+
+    ghost Value = { Pending };
+
+    ghost view = { λ s. record { bytes = drop s.start s.taken.items; is_ended = s.is_ended; lines = s.lines } };
+
+    ghost invariant = { λ s. (s.start ≤ s.searched) × (s.searched ≤ length s.taken.items) × (has_break (take (s.searched - s.start) (drop s.start s.taken.items)) ≡ false) };
+}
+
+impl Script {
+    /// A script of which nothing is read yet.
+    pub fn new(alloc: Global) -> Script
+        ensures { result ≡ fresh }
+    {
+        Script {
+            taken: Vec::new(alloc),
+            start: 0,
+            searched: 0,
+            is_ended: false,
+            lines: 0,
+        }
+    }
+
+    /// The next command, or nothing at the end.
+    pub fn next_command<R: Feed>(
+        &mut self,
+        alloc: Global,
+        feed: &mut R,
+    ) -> Result<Option<Command>, ToolFault>
+        requires { R.failures feed.old < 2 ^ 64 - 1 }
+        ensures next { NextCommand result (R.left feed.old) self.old (R.left feed.new) self.new }
+        ensures failures { R.failures feed.new ≡ failures_after result (R.failures feed.old) }
+        ensures falls { IfOk result (λ found. OnSome found (R.calls_left feed.new * 16384 + length self.new.bytes < R.calls_left feed.old * 16384 + length self.old.bytes)) }
+    {
+        let Some(len) = self.find_line(feed)? else {
+            return Ok(None);
+        };
+        let head = header(self.front(len));
+        self.use_line(len);
+        let line = self.lines;
+        let Some(head) = head else {
+            return Err(ToolFault::BadCommand(line));
+        };
+        match head {
+            Header::Html => Ok(Some(Command::Html)),
+            Header::Edit { at, del, add } => {
+                let Some(add) = self.next_texts(alloc, feed, add)? else {
+                    return Err(ToolFault::Truncated(line));
+                };
+                Ok(Some(Command::Edit { at, del, add }))
+            }
+        }
+    }
+
+    /// The next `count` lines, or nothing where there are fewer. Bytes that are no UTF-8 are read as U+FFFD. Room is made
+    /// for the lines that come, and not for the number.
+    fn next_texts<R: Feed>(
+        &mut self,
+        alloc: Global,
+        feed: &mut R,
+        count: usize,
+    ) -> Result<Option<Vec<String>>, ToolFault>
+        requires { R.failures feed.old < 2 ^ 64 - 1 }
+        ensures steps { Steps result
+            (λ found. MatchOption found (FewLines (R.left feed.old) self.old (R.left feed.new) self.new true count) (ReadsTexts (R.left feed.old) self.old (R.left feed.new) self.new count))
+            (FewLines (R.left feed.old) self.old (R.left feed.new) self.new false count)
+            (Draws (R.left feed.old) self.old.is_ended (R.left feed.new)) }
+        ensures failures { R.failures feed.new ≡ failures_after result (R.failures feed.old) }
+        ensures weight { OnOk result (R.calls_left feed.new * 16384 + length self.new.bytes ≤ R.calls_left feed.old * 16384 + length self.old.bytes) }
+    {
+        let mut texts = Vec::new(alloc);
+        while texts.len() < count {
+            let Some(len) = self.find_line(feed)? else {
+                return Ok(None);
+            };
+            texts.push(String::from_utf8_lossy(alloc, self.front(len))?)?;
+            self.use_line(len);
+        }
+        Ok(Some(texts))
+    }
+
+    /// How long the next line is, without its LF, or nothing at the end.
+    fn find_line<R: Feed>(&mut self, feed: &mut R) -> Result<Option<usize>, ToolFault>
+        requires { R.failures feed.old < 2 ^ 64 - 1 }
+        ensures steps { Steps result
+            (λ found. Reads (R.left feed.old) self.old [] (R.left feed.new) self.new × MatchOption found (IsOver true self.new) (λ len. HasLine len self.new))
+            (Reads (R.left feed.old) self.old [] (R.left feed.new) self.new × IsOver false self.new)
+            (Draws (R.left feed.old) self.old.is_ended (R.left feed.new)) }
+        ensures within { IfOk result (λ found. IfSome found (λ len. len ≤ length self.new.bytes)) }
+        ensures some { IfOk result (λ found. IfSome found (λ len. 0 < length self.new.bytes)) }
+        ensures failures { R.failures feed.new ≡ failures_after result (R.failures feed.old) }
+        ensures weight { OnOk result (R.calls_left feed.new * 16384 + length self.new.bytes ≤ R.calls_left feed.old * 16384 + length self.old.bytes) }
+    {
+        loop {
+            if let Some(at) = first_break(&self.taken[self.searched..]) {
+                self.searched += at;
+                return Ok(Some(self.searched - self.start));
+            }
+            self.searched = self.taken.len();
+            if self.is_ended {
+                let left = self.taken.len() - self.start;
+                if left == 0 {
+                    return Ok(None);
+                }
+                return Ok(Some(left));
+            }
+            self.take_more(feed)?;
+        }
+    }
+
+    /// Takes a chunk from the feed, or finds that it has ended.
+    fn take_more<R: Feed>(&mut self, feed: &mut R) -> Result<(), ToolFault>
+        requires feed { R.failures feed.old < 2 ^ 64 - 1 }
+        requires open { self.old.is_ended ≡ false }
+        ensures steps { Steps result
+            (λ _. Reads (R.left feed.old) self.old [] (R.left feed.new) self.new)
+            (Reads (R.left feed.old) self.old [] (R.left feed.new) self.new × (self.new ≡ self.old))
+            (Draws (R.left feed.old) self.old.is_ended (R.left feed.new)) }
+        ensures failures { R.failures feed.new ≡ failures_after result (R.failures feed.old) }
+        ensures weight { OnOk result (R.calls_left feed.new * 16384 + length self.new.bytes ≤ R.calls_left feed.old * 16384 + length self.old.bytes) }
+        ensures falls { OnOk result (R.calls_left feed.new + (if self.new.is_ended then 0 else 1) < R.calls_left feed.old + 1) }
+    {
+        let mut chunk = [0; CHUNK];
+        let Ok(count) = feed.get(&mut chunk) else {
+            return Err(ToolFault::Read);
+        };
+        if count == 0 {
+            self.is_ended = true;
+            return Ok(());
+        }
+        self.drop_used();
+        if self.taken.extend_from_slice(&chunk[..count]).is_err() {
+            return Err(ToolFault::NoMemory);
+        }
+        Ok(())
+    }
+
+    /// Drops the bytes that lines have used.
+    fn drop_used(&mut self)
+        ensures { self.new ≡ self.old }
+    {
+        if self.start > 0 {
+            drop_front(&mut self.taken, self.start);
+            self.searched -= self.start;
+            self.start = 0;
+        }
+    }
+
+    /// The first bytes that no line has used yet.
+    fn front(&self, len: usize) -> &[u8]
+        requires { len ≤ length self.now.bytes }
+        ensures { result.now ≡ take len self.now.bytes }
+    {
+        &self.taken[self.start..self.start + len]
+    }
+
+    /// Uses a line of this length, and its LF if it has one.
+    fn use_line(&mut self, len: usize)
+        requires { len ≤ length self.old.bytes }
+        ensures { self.new ≡ used len self.old }
+    {
+        self.start += len;
+        if self.start < self.taken.len() {
+            self.start += 1;
+        }
+        self.searched = self.start;
+        self.lines = self.lines.saturating_add(1);
+    }
+}
+
+/// Where the first LF stands.
+fn first_break(bytes: &[u8]) -> Option<usize>
+    ensures some { IfSome result (λ at. (at < length bytes.now) × (get_or bytes.now at 0 ≡ 10) × (has_break (take at bytes.now) ≡ false)) }
+    ensures none { IfNone result (has_break bytes.now ≡ false) }
+{
+    for at in 0..bytes.len() {
+        if bytes[at] == b'\n' {
+            return Some(at);
+        }
+    }
+    None
+}
+
+/// Takes the first bytes away.
+fn drop_front(bytes: &mut Vec<u8>, count: usize)
+    requires { count ≤ length bytes.old.items }
+    ensures { bytes.new.items ≡ drop count bytes.old.items }
+{
+    bytes.drain(..count);
+}

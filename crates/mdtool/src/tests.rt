@@ -1,0 +1,357 @@
+//! What no clause says: that calls succeed with ample memory, the worked scripts, and that replies are flushed one by one.
+
+use crate::view::patch::Patch;
+use crate::view::preview::Preview;
+use crate::{
+    Breaks, EditFault, MemoryFeed, MemoryOut, Options, Stop, TableFault, ToolFault, WordFault,
+    ending, serve,
+};
+use mdtext::{Entities, Tally};
+use std::alloc::{AllocError, Global};
+use std::process::Abort;
+use std::test::Fail;
+
+fn options(breaks: Breaks) -> Options {
+    Options {
+        unsafe_html: false,
+        breaks,
+    }
+}
+
+/// What `serve` writes for a script, how it ends, and how often it flushed.
+fn served(
+    alloc: Global,
+    script: &[u8],
+    step: usize,
+    breaks: Breaks,
+) -> Result<(String, String, u64), AllocError>
+    requires { 0 < step }
+{
+    let mut feed = MemoryFeed::new(script, step, None);
+    let mut out = MemoryOut::new(alloc, step, None);
+    let entities = Entities::builtin(alloc)?;
+    let end = serve(alloc, &mut feed, &mut out, entities, options(breaks));
+    let written = String::from_utf8_lossy(alloc, out.bytes())?;
+    let end = format!(in alloc; "{end:?}")?;
+    Ok((written, end, out.flushes()))
+}
+
+fn check(
+    rt: &impl Abort,
+    alloc: Global,
+    script: &str,
+    want: &str,
+    want_end: &str,
+) -> Result<(), AllocError> {
+    let (written, end, _) = served(alloc, script.as_bytes(), 7, Breaks::Soft)?;
+    assert_eq!(rt; written.as_str(), want, "{script}");
+    assert_eq!(rt; end.as_str(), want_end, "{script}");
+    Ok(())
+}
+
+const EDITS: &str = "edit 0 0 3\n# a\nb  \nc\nedit 0 1 0\nhtml\n";
+
+const REPLIES: &str =
+    "ok 0 0 2 0\npiece 0 11\n<h1>a</h1>\npiece 1 17\n<p>b<br />\nc</p>\nok 0 2 1 0\npiece 0 17\n<p>b<br />\nc</p>\nhtml 17\n<p>b<br />\nc</p>\n";
+
+#[test]
+fn answers_edits(rt: HostRuntime) -> Result<(), Fail> {
+    let alloc = rt.alloc();
+    check(&rt, alloc, EDITS, REPLIES, "Ok(())")?;
+    check(&rt, alloc, "", "", "Ok(())")?;
+    // The script goes on after a refusal, and the text is as before.
+    check(
+        &rt,
+        alloc,
+        "edit 0 0 5\na\n\nb\n\nc\nedit 9 1 0\nhtml\n",
+        "ok 0 0 3 0\npiece 0 9\n<p>a</p>\npiece 1 9\n<p>b</p>\npiece 2 9\n<p>c</p>\nrefused OutOfRange 5\nhtml 27\n<p>a</p>\n<p>b</p>\n<p>c</p>\n",
+        "Ok(())",
+    )?;
+    check(
+        &rt,
+        alloc,
+        "edit 0 0 1\na\rb\nhtml\n",
+        "refused BreakInLine 0\nhtml 0\n",
+        "Ok(())",
+    )?;
+    Ok(())
+}
+
+#[test]
+fn ends_at_what_is_no_command(rt: HostRuntime) -> Result<(), Fail> {
+    let alloc = rt.alloc();
+    let bad = "Err(BadCommand(1))";
+    for script in [
+        "\n",
+        "edit 0 0\n",
+        "edit  0 0 0\n",
+        "html \n",
+        "edit 0 0 1000000000\n",
+        "edit +1 0 0\n",
+        "\u{FEFF}html\n",
+    ] {
+        check(&rt, alloc, script, "", bad)?;
+    }
+    check(&rt, alloc, "edit 0 0 2\na\n", "", "Err(Truncated(1))")?;
+    check(
+        &rt,
+        alloc,
+        "edit 0 0 999999999\na\n",
+        "",
+        "Err(Truncated(1))",
+    )?;
+    check(
+        &rt,
+        alloc,
+        "edit 0 0 1\na\nfoo\nhtml\n",
+        "ok 0 0 1 0\npiece 0 9\n<p>a</p>\n",
+        "Err(BadCommand(3))",
+    )?;
+    // The last line counts without LF.
+    check(
+        &rt,
+        alloc,
+        "edit 00 0 0\nhtml",
+        "ok 0 0 0 0\nhtml 0\n",
+        "Ok(())",
+    )?;
+    Ok(())
+}
+
+#[test]
+fn reads_lines(rt: HostRuntime) -> Result<(), Fail> {
+    let alloc = rt.alloc();
+    for (line, piece) in [
+        ("   ###   a b  ## \t", "<h3>a b</h3>\n"),
+        ("# a#", "<h1>a#</h1>\n"),
+        ("#", "<h1></h1>\n"),
+        ("###### ######", "<h6></h6>\n"),
+        ("#\tx", "<h1>x</h1>\n"),
+        ("####### a", "<p>####### a</p>\n"),
+        ("    # a", "<p># a</p>\n"),
+        ("#a", "<p>#a</p>\n"),
+        (
+            " a < b & \"c\" \\",
+            "<p>a &lt; b &amp; &quot;c&quot; \\</p>\n",
+        ),
+        ("\0", "<p>\u{FFFD}</p>\n"),
+    ] {
+        let script = format!(in alloc; "edit 0 0 1\n{line}\n")?;
+        let len = piece.len();
+        let want = format!(in alloc; "ok 0 0 1 0\npiece 0 {len}\n{piece}")?;
+        check(&rt, alloc, &script, &want, "Ok(())")?;
+    }
+    // Bytes that are no UTF-8 are read as U+FFFD.
+    let (written, _, _) = served(alloc, b"edit 0 0 1\na\xFF\n", 3, Breaks::Soft)?;
+    assert_eq!(rt;
+        written.as_str(),
+        "ok 0 0 1 0\npiece 0 12\n<p>a\u{FFFD}</p>\n"
+    );
+    Ok(())
+}
+
+#[test]
+fn writes_breaks_as_the_options_say(rt: HostRuntime) -> Result<(), Fail> {
+    let alloc = rt.alloc();
+    for (breaks, want) in [
+        (Breaks::Soft, "html 19\n<p>a\nb<br />\nc</p>\n"),
+        (Breaks::Hard, "html 25\n<p>a<br />\nb<br />\nc</p>\n"),
+        (Breaks::Space, "html 19\n<p>a b<br />\nc</p>\n"),
+    ] {
+        let (written, _, _) = served(alloc, b"edit 0 0 3\na \nb\\\nc\nhtml\n", 9, breaks)?;
+        assert!(rt; written.as_str().ends_with(want), "{written}");
+    }
+    Ok(())
+}
+
+#[test]
+fn flushes_each_reply(rt: HostRuntime) -> Result<(), Fail> {
+    let (written, _, flushes) = served(rt.alloc(), EDITS.as_bytes(), 1, Breaks::Soft)?;
+    assert_eq!(rt; written.as_str(), REPLIES);
+    assert_eq!(rt; flushes, 3);
+    Ok(())
+}
+
+/// What an ending writes, and its status.
+fn ended(rt: &impl Abort, alloc: Global, stop: &Stop, want: &str, status: u8) {
+    let mut err = MemoryOut::new(alloc, 4, None);
+    assert_eq!(rt; ending("mdpreview", stop, &mut err), status);
+    assert_eq!(rt; err.bytes(), want.as_bytes());
+}
+
+#[test]
+fn gives_each_stop_its_line_and_status(rt: HostRuntime) -> Result<(), Fail> {
+    let alloc = rt.alloc();
+    let help = String::from_str(alloc, "how to\n")?;
+    ended(
+        &rt,
+        alloc,
+        &Stop::Words(WordFault::Help(help)),
+        "how to\n",
+        0,
+    );
+    let name = String::from_str(alloc, "a b.md")?;
+    ended(
+        &rt,
+        alloc,
+        &Stop::NotOpened(name),
+        "mdpreview: cannot open a b.md\n",
+        1,
+    );
+    for (fault, want, status) in [
+        (
+            WordFault::NotUnderstood,
+            "mdpreview: words not understood\n",
+            2,
+        ),
+        (WordFault::NoMemory, "mdpreview: no memory\n", 1),
+    ] {
+        ended(&rt, alloc, &Stop::Words(fault), want, status);
+    }
+    for (fault, want, status) in [
+        (ToolFault::Read, "mdpreview: read failed\n", 1),
+        (ToolFault::Write, "mdpreview: write failed\n", 1),
+        (
+            ToolFault::Refused(EditFault::OutOfRange { lines: 5 }),
+            "mdpreview: refused OutOfRange 5\n",
+            1,
+        ),
+        (
+            ToolFault::Refused(EditFault::BreakInLine { index: 12 }),
+            "mdpreview: refused BreakInLine 12\n",
+            1,
+        ),
+        (
+            ToolFault::Refused(EditFault::TooManyLines),
+            "mdpreview: refused TooManyLines 0\n",
+            1,
+        ),
+        (
+            ToolFault::Refused(EditFault::TooLarge),
+            "mdpreview: refused TooLarge 0\n",
+            1,
+        ),
+        (
+            ToolFault::Refused(EditFault::NoMemory),
+            "mdpreview: no memory\n",
+            1,
+        ),
+        (
+            ToolFault::BadCommand(7),
+            "mdpreview: bad command in line 7\n",
+            2,
+        ),
+        (
+            ToolFault::Truncated(1),
+            "mdpreview: script ends inside the edit of line 1\n",
+            2,
+        ),
+        (
+            ToolFault::Table(TableFault::NotJson),
+            "mdpreview: entity file is not JSON\n",
+            1,
+        ),
+        (
+            ToolFault::Table(TableFault::BadEntry),
+            "mdpreview: bad entry in entity file\n",
+            1,
+        ),
+        (
+            ToolFault::Table(TableFault::NoMemory),
+            "mdpreview: no memory\n",
+            1,
+        ),
+        (ToolFault::NoMemory, "mdpreview: no memory\n", 1),
+    ] {
+        ended(&rt, alloc, &Stop::Tool(fault), want, status);
+    }
+    Ok(())
+}
+
+#[test]
+fn ends_at_each_device_fault(rt: HostRuntime) -> Result<(), Fail> {
+    let alloc = rt.alloc();
+    for call in 0..8 {
+        let mut feed = MemoryFeed::new(EDITS.as_bytes(), 6, Some(call));
+        let mut out = MemoryOut::new(alloc, 1000, None);
+        let entities = Entities::builtin(alloc)?;
+        let end = serve(alloc, &mut feed, &mut out, entities, options(Breaks::Soft));
+        assert!(rt; matches!(end, Err(ToolFault::Read)), "read {call}");
+        assert!(rt; REPLIES.as_bytes().starts_with(out.bytes()), "read {call}");
+    }
+    // A put and a flush for each of the three replies.
+    for (call, replies) in [(0, 0), (1, 1), (2, 1), (3, 2), (4, 2), (5, 3)] {
+        let mut feed = MemoryFeed::new(EDITS.as_bytes(), 1000, None);
+        let mut out = MemoryOut::new(alloc, 1000, Some(call));
+        let entities = Entities::builtin(alloc)?;
+        let end = serve(alloc, &mut feed, &mut out, entities, options(Breaks::Soft));
+        assert!(rt; matches!(end, Err(ToolFault::Write)), "write {call}");
+        let lens = [0, 61, 100, 125];
+        let len = lens.get(replies).copied().unwrap_or(0);
+        assert_eq!(rt; out.bytes().len(), len, "write {call}");
+    }
+    Ok(())
+}
+
+#[test]
+fn previews_a_text(rt: HostRuntime) -> Result<(), Fail> {
+    let alloc = rt.alloc();
+    let mut preview = Preview::new(alloc, Entities::builtin(alloc)?, options(Breaks::Soft));
+    let mut count = Tally::new();
+    let added = ["# a", "", "b", "c"];
+    let patch: Patch = preview
+        .edit(0, 0, added.as_slice(), &mut count)
+        .map_err(|_| "refused")?;
+    assert_eq!(rt; (preview.len(), preview.units()), (4, 2));
+    assert_eq!(rt; preview.line(3), Some("c"));
+    assert_eq!(rt; preview.line(4), None);
+    assert_eq!(rt; preview.piece(1), Some("<p>b\nc</p>\n"));
+    assert_eq!(rt; patch.text(&preview, 0), Some("<h1>a</h1>\n"));
+    assert_eq!(rt; patch.text(&preview, 2), None);
+    assert_eq!(rt; (count.lines(), count.inlines()), (4, 2));
+    let before = count;
+    let refused = preview.edit(5, 0, added.as_slice(), &mut count);
+    assert!(rt; matches!(refused, Err(EditFault::OutOfRange { lines: 4 })));
+    let refused = preview.edit(0, 0, ["a", "b\nc"].as_slice(), &mut count);
+    assert!(rt; matches!(refused, Err(EditFault::BreakInLine { index: 1 })));
+    assert_eq!(rt; count, before);
+    assert_eq!(rt; preview.pieces().count(), 2);
+    Ok(())
+}
+
+#[test]
+fn keeps_the_limits(rt: HostRuntime) -> Result<(), Fail> {
+    let alloc = rt.alloc();
+    let mut preview = Preview::new(alloc, Entities::builtin(alloc)?, options(Breaks::Soft));
+    let many = vec![in alloc; ""; 1_000_001]?;
+    let refused = preview.edit(0, 0, many.as_slice(), &mut Tally::new());
+    assert!(rt; matches!(refused, Err(EditFault::TooManyLines)));
+    // Lines of 16,776,960 and 254 bytes fit, with one for each line's end; one byte more does not.
+    let long = letters(alloc, 16_776_960)?;
+    let fits = preview.edit(0, 0, [long.as_str()].as_slice(), &mut Tally::new());
+    assert!(rt; fits.is_ok());
+    let more = letters(alloc, 255)?;
+    let refused = preview.edit(1, 0, [more.as_str()].as_slice(), &mut Tally::new());
+    assert!(rt; matches!(refused, Err(EditFault::TooLarge)));
+    let more = letters(alloc, 254)?;
+    let fits = preview.edit(1, 0, [more.as_str()].as_slice(), &mut Tally::new());
+    assert!(rt; fits.is_ok());
+    assert_eq!(rt; (preview.len(), preview.units()), (2, 1));
+    Ok(())
+}
+
+/// A line of so many letters.
+fn letters(alloc: Global, count: usize) -> Result<String, AllocError> {
+    let mut chunk = String::new(alloc);
+    for _ in 0..4096 {
+        chunk.push('a')?;
+    }
+    let mut line = String::with_capacity(alloc, count)?;
+    for _ in 0..count / 4096 {
+        line.push_str(&chunk)?;
+    }
+    for _ in 0..count % 4096 {
+        line.push('a')?;
+    }
+    Ok(line)
+}

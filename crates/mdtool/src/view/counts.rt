@@ -1,0 +1,24 @@
+//! What is read, counted.
+ghost use Rattle.std.specs.Prelude.{◌≡◌, ◌≤◌, ◌+◌};
+
+use mdtext::Count;
+
+/// Counts this many lines.
+pub fn count_lines<C: Count>(count: &mut C, lines: usize)
+    ensures lines { C.lines count.new ≤ C.lines count.old + lines }
+    ensures inlines { C.inlines count.new ≡ C.inlines count.old }
+{
+    for _ in 0..lines {
+        count.line();
+    }
+}
+
+/// Counts this many inline texts.
+pub fn count_inlines<C: Count>(count: &mut C, texts: usize)
+    ensures lines { C.lines count.new ≡ C.lines count.old }
+    ensures inlines { C.inlines count.new ≤ C.inlines count.old + texts }
+{
+    for _ in 0..texts {
+        count.inline();
+    }
+}
