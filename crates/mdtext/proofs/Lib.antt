@@ -1,4 +1,5 @@
 pub mod BareBrackets
+pub mod EntityMembers
 pub mod Indents
 pub mod LabelWords
 pub mod LineEnds

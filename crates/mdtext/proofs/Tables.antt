@@ -7,14 +7,11 @@ use Rattle.std.specs.String.{string_cmp}
 use Rattle.std.specs.BTreeMap.{is_at, insert_entry}
 use Rattle.std.specs.Cmp.Lexicographic.{slice_cmp}
 use Rattle.std.proofs.lemmas.Map.Text.{is_eq-slice_cmp}
-use Rattle.mdtext.specs.EntityTable.{EntityTable, entity_text, put_all}
+use Rattle.mdtext.specs.EntityTable.{EntityTable, entity_text, put_all, shown}
 
 -- the pairs of references, by what they point to
 abbrev pub told : List (Bor (List ℕ) × Bor (List ℕ)) → List (List ℕ × List ℕ)
 told pairs = map (λ p. (p.0.now, p.1.now)) pairs
-
-abbrev pub shown : List (String Global × String Global) → EntityTable
-shown entries = map (λ e. (string_bytes e.0, string_bytes e.1)) entries
 
 at_head : (b : Bool) (v : String Global) (w : Option (String Global)) (u : Option (List ℕ)) → option_map string_bytes w ≡ u → option_map string_bytes (cond b (Some v) w) ≡ cond b (Some (string_bytes v)) u
 at_head true v w u h = refl

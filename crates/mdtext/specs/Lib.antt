@@ -2,6 +2,7 @@ pub mod ByteClass
 pub mod Characters
 pub mod Columns
 pub mod Counted
+pub mod EntityFile
 pub mod EntityTable
 pub mod Escaped
 pub mod EscapedUrl

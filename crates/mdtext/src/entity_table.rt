@@ -1,8 +1,12 @@
 //! The names of entity references, and the texts that they stand for.
-ghost use Rattle.std.specs.Prelude.{◌≡◌, [], IfOk, map, option_map};
+ghost use Rattle.std.specs.Prelude.{◌≡◌, ◌≢◌, [], None, Ok, Err, Some, IfErr, IfOk, map, option_map};
+ghost use Rattle.serde_json.specs.View.{members_view};
+ghost use Rattle.mdtext.specs.EntityFile.{file_table, with_members};
 ghost use Rattle.mdtext.specs.EntityTable.{entity_text, put_all, builtin_table};
 
 use crate::NoMemory;
+use crate::entity_file::{TableFault, add_member, read_json};
+use serde_json::{Map, Value};
 use std::alloc::Global;
 use std::collections::BTreeMap;
 use std::marker::Model;
@@ -55,6 +59,32 @@ impl Entities {
         ensures { IfOk result (λ entities. entities ≡ builtin_table) }
     {
         Entities::of(alloc, &BUILTIN)
+    }
+
+    /// The entities of a JSON object: `&`, letters or digits and `;` as the names of its members, each an object with a
+    /// text `characters`, as in the file of HTML's names. Members whose names don't end with `;` are ignored.
+    ///
+    /// `NotJson` where the bytes are no JSON or their value is no object, `BadEntry` where another member is not so.
+    pub fn from_json(alloc: Global, bytes: &[u8]) -> Result<Entities, TableFault>
+        ensures ok { IfOk result (λ entities. file_table bytes.now ≡ Ok entities) }
+        ensures err { IfErr result (λ fault. fault ≢ TableFault.NoMemory → file_table bytes.now ≡ Err fault) }
+    {
+        let value = read_json(alloc, bytes)?;
+        match value.as_object() {
+            Some(members) => Entities::of_members(alloc, members),
+            None => Err(TableFault::NotJson),
+        }
+    }
+
+    fn of_members(alloc: Global, members: &Map<String, Value>) -> Result<Entities, TableFault>
+        ensures ok { IfOk result (λ entities. with_members (members_view members.now.entries) [] ≡ Some entities) }
+        ensures err { IfErr result (λ fault. fault ≢ TableFault.NoMemory → (fault ≡ TableFault.BadEntry) × (with_members (members_view members.now.entries) [] ≡ None)) }
+    {
+        let mut texts = BTreeMap::new(alloc);
+        for (key, value) in members {
+            add_member(alloc, key.as_str(), value, &mut texts)?;
+        }
+        Ok(Entities { texts })
     }
 
     fn of(alloc: Global, pairs: &[(&str, &str)]) -> Result<Entities, NoMemory>

@@ -124,7 +124,8 @@ fn digit_count(text: &str, base: u32) -> usize
     text.len()
 }
 
-fn name_len(text: &str) -> usize
+// How many letters and digits stand at the front.
+pub fn name_len(text: &str) -> usize
     ensures { result ≡ prefix_len is_letter_or_digit text.now }
 {
     for (i, byte) in text.as_bytes().iter().enumerate() {

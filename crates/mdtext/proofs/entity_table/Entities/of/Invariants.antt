@@ -1,6 +1,6 @@
 use Rattle.std.proofs.Common.{◌≡◌, drop, []}
-use Rattle.mdtext.specs.EntityTable.{put_all}
-use Rattle.mdtext.proofs.Tables.{shown, told}
+use Rattle.mdtext.specs.EntityTable.{put_all, shown}
+use Rattle.mdtext.proofs.Tables.{told}
 use Rattle.mdtext.proofs.entity_table.Entities.of.Given as goal
 
 abbrev pub invariant-loop-name : goal.invariant-loop-name
