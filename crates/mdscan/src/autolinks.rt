@@ -5,6 +5,7 @@ use crate::runs::{begins, holds};
 ghost use Rattle.std.specs.Prelude.{◌≡◌, ◌==◌, ◌<◌, ◌≤◌, IfSome, length};
 ghost use Rattle.std.specs.List.{list_any, prefix_len};
 ghost use Rattle.std.specs.Str.{IsCharBoundary};
+ghost use Rattle.mdscan.specs.Spans.{IsEndAfter, EndsAfterMark};
 ghost use Rattle.mdscan.specs.Repeats.{repeats};
 ghost use Rattle.mdscan.specs.AutoLink.{autolink_at, uri_end, mail_end, in_scheme, in_uri, in_mail_name, mail_marks, in_domain_label, scheme_length, domain_label_length, dotted_label_length};
 
@@ -24,6 +25,7 @@ pub struct Auto {
 pub fn autolink(text: &str, at: usize) -> Option<Auto>
     requires { IsCharBoundary text.now at }
     ensures value { result ≡ autolink_at text.now at }
+    ensures end { IfSome result (λ auto. IsEndAfter text.now at auto.end) }
 {
     auto_at(text.as_bytes(), at)
 }
@@ -32,6 +34,7 @@ pub fn autolink(text: &str, at: usize) -> Option<Auto>
 fn auto_at(text: &[u8], at: usize) -> Option<Auto>
     requires { at ≤ length text.now }
     ensures value { result ≡ autolink_at text.now at }
+    ensures end { IfSome result (λ auto. EndsAfterMark text.now at auto.end) }
 {
     if !begins(&text[at..], b'<') {
         return None;
@@ -50,7 +53,7 @@ fn auto_at(text: &[u8], at: usize) -> Option<Auto>
 fn uri(text: &[u8], at: usize) -> Option<usize>
     requires { at < length text.now }
     ensures value { result ≡ uri_end text.now at }
-    ensures within { IfSome result (λ n. n ≤ length text.now) }
+    ensures end { IfSome result (λ end. EndsAfterMark text.now at end) }
 {
     let scheme = scheme(&text[at + 1..]);
     let colon = at + 1 + scheme;
@@ -109,7 +112,7 @@ fn uri_goes_on(byte: u8) -> bool
 fn mail(text: &[u8], at: usize) -> Option<usize>
     requires { at < length text.now }
     ensures value { result ≡ mail_end text.now at }
-    ensures within { IfSome result (λ n. n ≤ length text.now) }
+    ensures end { IfSome result (λ end. EndsAfterMark text.now at end) }
 {
     let name = mail_name(&text[at + 1..]);
     let sign = at + 1 + name;

@@ -43,3 +43,6 @@ pub use spans::Span;
 pub use tables::cells;
 pub use tasks::{TaskMark, task};
 pub use thematic_breaks::thematic;
+
+#[cfg(test)]
+mod tests;
