@@ -37,7 +37,7 @@ pub use inline_tails::{Tail, inline_tail};
 pub use link_labels::link_label;
 pub use links::{Dest, destination, title};
 pub use list_markers::{Marker, list_marker};
-pub use raw_html::html_tag;
+pub use raw_html::{find_from, html_tag, none_later};
 pub use setext_headings::setext;
 pub use spans::Span;
 pub use tables::cells;

@@ -2,7 +2,7 @@
 
 use crate::html_tags::{closing, opening};
 
-ghost use Rattle.std.specs.Prelude.{◌≡◌, ◌+◌, ◌-◌, ◌<◌, ◌≤◌, true, nat_eq, IfSome, length, drop, slice_index};
+ghost use Rattle.std.specs.Prelude.{◌≡◌, ◌+◌, ◌-◌, ◌<◌, ◌≤◌, true, nat_eq, ℕ, List, None, IfSome, length, drop, slice_index};
 ghost use Rattle.std.specs.List.{starts_with};
 ghost use Rattle.std.specs.Option.{option_map};
 ghost use Rattle.std.specs.Str.{IsCharBoundary};
@@ -18,6 +18,26 @@ pub fn html_tag(text: &str, at: usize) -> Option<usize>
     ensures end { IfSome result (λ end. IsEndAfter text.now at end) }
 {
     html_at(text.as_bytes(), at)
+}
+
+/// The first place from `at` on at which `needle` stands. Where there is none, there is none from any later
+/// place on (`none_later`): so who looks for the ends of many comments need not look again.
+///
+/// The place is a character's beginning or the text's end.
+pub fn find_from(text: &str, at: usize, needle: &str) -> Option<usize>
+    requires { IsCharBoundary text.now at }
+    ensures { result ≡ option_map (λ n. at + n) (place_of needle.now (drop at text.now)) }
+{
+    match find(&text.as_bytes()[at..], needle.as_bytes()) {
+        Some(place) => Some(at + place),
+        None => None,
+    }
+}
+
+/// A needle that stands nowhere from a place on stands nowhere from a later one on.
+pub fn none_later()
+    ensures { (needle text : List ℕ) (i j : ℕ) → i ≤ j → place_of needle (drop i text) ≡ None → place_of needle (drop j text) ≡ None }
+{
 }
 
 fn html_at(text: &[u8], at: usize) -> Option<usize>
