@@ -1,5 +1,5 @@
 -- Ends and spans that ASCII bytes mark cut no character. Where line holds the text's bytes.
-use Rattle.std.proofs.Common.{◌≡◌, ℕ, ◌+◌, ◌-◌, ◌<◌, ◌≤◌, List, length, Option, Some, None, IfSome, arith, subst, sym}
+use Rattle.std.proofs.Common.{◌≡◌, ℕ, ◌+◌, ◌-◌, ◌<◌, List, length, Option, Some, None, IfSome, arith, subst, sym}
 use Rattle.std.specs.Str.{IsUtf8, IsCharBoundary}
 use Rattle.std.proofs.lemmas.Str.{IsCharBoundary-before_ascii, IsCharBoundary-after_ascii}
 use Rattle.mdscan.specs.declared.spans.Span.{Span}
@@ -28,7 +28,8 @@ span_of text at span u h =
     let starts = h.starts in
     let inside : at < length text = omega arith in
     record {
-      ordered = ordered; within = omega arith;
+      ordered = ordered;
+      within = omega arith;
       starts_whole = subst (λ (i : ℕ). IsCharBoundary text i) (sym starts) (IsCharBoundary-after_ascii text at u inside h.opens);
       ends_whole = IsCharBoundary-before_ascii text span.end within h.closes;
     }
@@ -44,7 +45,8 @@ after_enclosed text line at span end same u h e =
     let within = f.within in
     let starts = f.starts in
     record {
-      later = omega arith; within = omega arith;
+      later = omega arith;
+      within = omega arith;
       whole = subst (λ (i : ℕ). IsCharBoundary text i) (sym e) (IsCharBoundary-after_ascii text span.end u within f.closes);
     }
 

@@ -1,5 +1,5 @@
 -- The first place of a needle, place by place.
-use Rattle.std.proofs.Common.{◌≡◌, ℕ, ◌+◌, ◌-◌, ◌<◌, ◌≤◌, true, false, Bool, List, ◌∷◌, [], length, take, drop, get_or, drop-cons, add-one, ap, refl, ◌∙◌, zero, suc, arith, subst, nat_eq, Option, Some, None, cond}
+use Rattle.std.proofs.Common.{◌≡◌, ℕ, ◌+◌, ◌-◌, ◌<◌, ◌≤◌, true, false, Bool, List, ◌∷◌, [], length, take, drop, get_or, drop-cons, add-one, ap, refl, ◌∙◌, zero, suc, arith, subst, nat_eq, Some, None, cond}
 use Rattle.std.specs.List.{starts_with}
 use Rattle.std.proofs.lemmas.List.{take_rest, drop-drop}
 use Rattle.std.proofs.Math.ListN.{drop_of_length-le}

@@ -1,13 +1,13 @@
 //! Autolinks.
 
-use crate::runs::{begins, holds};
-
 ghost use Rattle.std.specs.Prelude.{◌≡◌, ◌==◌, ◌<◌, ◌≤◌, IfSome, length};
 ghost use Rattle.std.specs.List.{list_any, prefix_len};
 ghost use Rattle.std.specs.Str.{IsCharBoundary};
 ghost use Rattle.mdscan.specs.Spans.{IsEndAfter, EndsAfterMark};
 ghost use Rattle.mdscan.specs.Repeats.{repeats};
 ghost use Rattle.mdscan.specs.AutoLink.{autolink_at, uri_end, mail_end, in_scheme, in_uri, in_mail_name, mail_marks, in_domain_label, scheme_length, domain_label_length, dotted_label_length};
+
+use crate::runs::{begins, holds};
 
 /// The marks of a mail address before its `@`, beside letters and digits.
 const MAIL_MARKS: [u8; 20] = *b".!#$%&'*+/=?^_`{|}~-";
@@ -85,7 +85,9 @@ fn scheme_run(text: &[u8]) -> usize
     ensures value { result ≡ prefix_len in_scheme text.now }
     ensures within { result ≤ length text.now }
 {
-    text.iter().take_while(|byte| scheme_goes_on(**byte)).count()
+    text.iter()
+        .take_while(|byte| scheme_goes_on(**byte))
+        .count()
 }
 
 fn scheme_goes_on(byte: u8) -> bool
@@ -133,7 +135,9 @@ fn mail_name(text: &[u8]) -> usize
     ensures value { result ≡ prefix_len in_mail_name text.now }
     ensures within { result ≤ length text.now }
 {
-    text.iter().take_while(|byte| mail_name_goes_on(**byte)).count()
+    text.iter()
+        .take_while(|byte| mail_name_goes_on(**byte))
+        .count()
 }
 
 fn mail_name_goes_on(byte: u8) -> bool
@@ -158,7 +162,11 @@ fn domain_label(text: &[u8]) -> usize
 {
     let run = domain_label_run(text);
     match text {
-        [first, ..] if first.is_ascii_alphanumeric() && run > 0 && run <= 63 && text[run - 1].is_ascii_alphanumeric() => run,
+        [first, ..]
+            if first.is_ascii_alphanumeric()
+                && run > 0
+                && run <= 63
+                && text[run - 1].is_ascii_alphanumeric() => run,
         _ => 0,
     }
 }
@@ -167,7 +175,9 @@ fn domain_label_run(text: &[u8]) -> usize
     ensures value { result ≡ prefix_len in_domain_label text.now }
     ensures within { result ≤ length text.now }
 {
-    text.iter().take_while(|byte| byte.is_ascii_alphanumeric() || **byte == b'-').count()
+    text.iter()
+        .take_while(|byte| byte.is_ascii_alphanumeric() || **byte == b'-')
+        .count()
 }
 
 /// Labels with a dot before each, one after the other.

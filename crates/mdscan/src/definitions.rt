@@ -1,13 +1,13 @@
 //! Link reference definitions.
 
+ghost use Rattle.std.specs.Prelude.{◌≡◌, ◌<◌, ◌≤◌, IfSome, Some, None, length};
+ghost use Rattle.mdscan.specs.LinkDefinition.{definition_of, labelled_def, titled_def, def_to, line_end};
+
 use crate::inline_tails::after_gap;
 use crate::link_labels::brackets;
 use crate::links::{Dest, quoted, target};
 use crate::runs::{begins, leading_blanks};
 use crate::spans::Span;
-
-ghost use Rattle.std.specs.Prelude.{◌≡◌, ◌<◌, ◌≤◌, IfSome, Some, None, length};
-ghost use Rattle.mdscan.specs.LinkDefinition.{definition_of, labelled_def, titled_def, def_to, line_end};
 
 /// A link reference definition: the inside of its label, its destination, its title where it has one, and the
 /// end, after its last line's ending.

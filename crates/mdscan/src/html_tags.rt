@@ -1,13 +1,13 @@
 //! Open and closing tags. Lengths are of the longest piece of a kind that a text begins with, and 0 where
 //! there is none.
 
-use crate::gaps::gap;
-use crate::runs::begins;
-
 ghost use Rattle.std.specs.Prelude.{◌≡◌, ◌<◌, ◌≤◌, ◌==◌, ◌-◌, not, IfSome, length, slice_index};
 ghost use Rattle.std.specs.List.{prefix_len};
 ghost use Rattle.mdscan.specs.Spans.{EndsAfterMark};
 ghost use Rattle.mdscan.specs.HtmlTag.{in_tag_name, in_attribute_name, in_unquoted_value, begins_attribute_name, tag_name_length, attribute_name_length, quoted_length, value_length, equals_length, value_part_length, attribute_length, attributes_length, open_end_length, open_tag, closing_tag};
+
+use crate::gaps::gap;
+use crate::runs::begins;
 
 /// The length of the open tag that a text begins with (CommonMark 6.6).
 #[tactic(auto, unfolding(crate::specs::HtmlTag::open_tag))]
@@ -62,7 +62,9 @@ fn tag_name_run(text: &[u8]) -> usize
     ensures value { result ≡ prefix_len in_tag_name text.now }
     ensures within { result ≤ length text.now }
 {
-    text.iter().take_while(|byte| byte.is_ascii_alphanumeric() || **byte == b'-').count()
+    text.iter()
+        .take_while(|byte| byte.is_ascii_alphanumeric() || **byte == b'-')
+        .count()
 }
 
 /// The attributes that stand one after the other.
@@ -202,7 +204,10 @@ fn unquoted(text: &[u8]) -> usize
 fn value_goes_on(byte: u8) -> bool
     ensures { result ≡ in_unquoted_value byte }
 {
-    !matches!(byte, b' ' | b'\t' | b'\n' | b'"' | b'\'' | b'=' | b'<' | b'>' | b'`')
+    !matches!(
+        byte,
+        b' ' | b'\t' | b'\n' | b'"' | b'\'' | b'=' | b'<' | b'>' | b'`'
+    )
 }
 
 /// The end of an open tag: a gap or none, `/` or none, and `>`.

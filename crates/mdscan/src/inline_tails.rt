@@ -1,15 +1,15 @@
 //! What follows an inline link's text.
 
-use crate::gaps::gap;
-use crate::links::{Dest, quoted, target};
-use crate::runs::begins;
-use crate::spans::Span;
-
 ghost use Rattle.std.specs.Prelude.{◌≡◌, ◌≤◌, Some, None, IfSome, length};
 ghost use Rattle.std.specs.Str.{IsCharBoundary};
 ghost use Rattle.mdscan.specs.Spans.{IsEndAfter, EndsAfterMark};
 ghost use Rattle.mdscan.specs.Gaps.{past_gap};
 ghost use Rattle.mdscan.specs.InlineTail.{inline_tail_at, tail_inside, tail_to, titled_tail};
+
+use crate::gaps::gap;
+use crate::links::{Dest, quoted, target};
+use crate::runs::begins;
+use crate::spans::Span;
 
 /// What follows an inline link's text: its destination and its title, where it has them, and the end, after
 /// the closing parenthesis.
@@ -90,7 +90,12 @@ fn with_title(text: &[u8], dest: Dest) -> Option<Tail>
         return None;
     }
     match quoted(text, next) {
-        Some(title) => close(text, after_gap(text, title.end), Some(dest.span), Some(title.span)),
+        Some(title) => close(
+            text,
+            after_gap(text, title.end),
+            Some(dest.span),
+            Some(title.span),
+        ),
         None => None,
     }
 }

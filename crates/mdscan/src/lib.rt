@@ -7,8 +7,8 @@
 mod atx_headings;
 mod autolinks;
 mod block_quotes;
-mod delimiter_rows;
 mod definitions;
+mod delimiter_rows;
 mod escapes;
 mod fences;
 mod gaps;

@@ -1,14 +1,14 @@
 //! Link labels.
 
-use crate::escapes::before;
-use crate::runs::begins;
-use crate::spans::Span;
-
 ghost use Rattle.std.specs.Prelude.{◌≡◌, ◌<◌, ◌≤◌, IfSome, count_by, length};
 ghost use Rattle.std.specs.List.{list_any};
 ghost use Rattle.std.specs.Str.{IsCharBoundary};
 ghost use Rattle.mdscan.specs.Spans.{IsEnclosed, IsSpanOf};
 ghost use Rattle.mdscan.specs.LinkLabel.{begins_character, is_visible, is_label_text, label_at};
+
+use crate::escapes::before;
+use crate::runs::begins;
+use crate::spans::Span;
 
 /// The inside of the link label whose brackets stand at a place of a text (CommonMark 6.3): 1 to 999
 /// characters, not all of them spaces, tabs and line endings, and no bracket that is not escaped.

@@ -1,14 +1,14 @@
 //! Destinations and titles of links.
 
-use crate::escapes::{before, escape};
-use crate::runs::{begins, leading_blanks};
-use crate::spans::Span;
-
 ghost use Rattle.std.specs.Prelude.{◌≡◌, ◌+◌, ◌<◌, ◌≤◌, IfSome, length, slice_index};
 ghost use Rattle.std.specs.Str.{IsUtf8, IsCharBoundary};
 ghost use Rattle.mdscan.specs.Spans.{IsEnclosed, IsEndAfter, IsSpanOf};
 ghost use Rattle.mdscan.specs.LinkDestination.{angle_destination, bare_end, bare_dest, destination_at, ends_bare};
 ghost use Rattle.mdscan.specs.LinkTitle.{begins_blank_line, holds_blank_line, title_at, title_to};
+
+use crate::escapes::{before, escape};
+use crate::runs::{begins, leading_blanks};
+use crate::spans::Span;
 
 /// A destination or a title: what stands between its marks, and where it ends, after them.
 #[derive(Clone, Copy, Debug, PartialEq, Eq)]

@@ -1,13 +1,13 @@
 //! Raw HTML in a text.
 
-use crate::html_tags::{closing, opening};
-
 ghost use Rattle.std.specs.Prelude.{◌≡◌, ◌+◌, ◌-◌, ◌<◌, ◌≤◌, true, nat_eq, ℕ, List, None, IfSome, length, drop, slice_index};
 ghost use Rattle.std.specs.List.{starts_with};
 ghost use Rattle.std.specs.Option.{option_map};
 ghost use Rattle.std.specs.Str.{IsCharBoundary};
 ghost use Rattle.mdscan.specs.Spans.{IsEndAfter, EndsAfterMark};
 ghost use Rattle.mdscan.specs.RawHtml.{comment, declaration, delimited, place_of, raw_html};
+
+use crate::html_tags::{closing, opening};
 
 /// Where the raw HTML ends that stands at a place of a text (CommonMark 6.6).
 ///
@@ -37,8 +37,7 @@ pub fn find_from(text: &str, at: usize, needle: &str) -> Option<usize>
 /// A needle that stands nowhere from a place on stands nowhere from a later one on.
 pub fn none_later()
     ensures { (needle text : List ℕ) (i j : ℕ) → i ≤ j → place_of needle (drop i text) ≡ None → place_of needle (drop j text) ≡ None }
-{
-}
+{}
 
 fn html_at(text: &[u8], at: usize) -> Option<usize>
     requires { at ≤ length text.now }
@@ -60,7 +59,10 @@ fn front(text: &[u8]) -> Option<usize>
     let tag = opening(text).or(closing(text));
     let section = closed(text, b"<![CDATA[", b"]]>");
     let processing = closed(text, b"<?", b"?>");
-    tag.or(commented(text)).or(processing).or(declared(text)).or(section)
+    tag.or(commented(text))
+        .or(processing)
+        .or(declared(text))
+        .or(section)
 }
 
 /// The length of the comment that a text begins with.

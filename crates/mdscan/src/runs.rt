@@ -93,5 +93,7 @@ pub(crate) fn leading_name(text: &[u8]) -> usize
     ensures count { result ≡ prefix_len is_ascii_alphanumeric text.now }
     ensures within { result ≤ length text.now }
 {
-    text.iter().take_while(|byte| byte.is_ascii_alphanumeric()).count()
+    text.iter()
+        .take_while(|byte| byte.is_ascii_alphanumeric())
+        .count()
 }

@@ -1,18 +1,17 @@
 //! Borders of each recogniser of inline structure and of definitions. What is wanted is from the standard's text
 //! and another program.
 
+ghost use Rattle.std.specs.Str.{IsCharBoundary};
+
 use crate::*;
 use std::alloc::AllocError;
-
-ghost use Rattle.std.specs.Str.{IsCharBoundary};
 
 type Pair = Option<(usize, usize)>;
 
 /// A text's beginning cuts no character.
 fn whole(text: &str)
     ensures { IsCharBoundary text.now 0 }
-{
-}
+{}
 
 fn ends(span: Option<Span>) -> Pair {
     span.map(|span| (span.start, span.end))
@@ -24,7 +23,10 @@ static RAW_HTML_ENDS: [(&str, Option<usize>); 39] = [
     ("<a/>", Some(4)),
     ("<b2/>", Some(5)),
     ("<a  /><b2\ndata=\"foo\" >", Some(6)),
-    ("<a foo=\"bar\" bam = 'baz <em>\"</em>'\n_boolean zoop:33=zoop:33 />", Some(63)),
+    (
+        "<a foo=\"bar\" bam = 'baz <em>\"</em>'\n_boolean zoop:33=zoop:33 />",
+        Some(63),
+    ),
     ("<33>", None),
     ("<__>", None),
     ("<a h*#ref=\"hi\">", None),
@@ -71,7 +73,10 @@ fn raw_html_ends(rt: HostRuntime) {
 
 static AUTOLINKS: [(&str, Option<(usize, bool)>); 37] = [
     ("<http://foo.bar.baz>", Some((20, false))),
-    ("<https://foo.bar.baz/test?q=hello&id=22&boolean>", Some((48, false))),
+    (
+        "<https://foo.bar.baz/test?q=hello&id=22&boolean>",
+        Some((48, false)),
+    ),
     ("<irc://foo.bar:2233/baz>", Some((24, false))),
     ("<MAILTO:FOO@BAR.BAZ>", Some((20, false))),
     ("<a+b+c:d>", Some((9, false))),
@@ -95,15 +100,24 @@ static AUTOLINKS: [(&str, Option<(usize, bool)>); 37] = [
     ("<1a:x>", None),
     ("<http://ä/>", Some((12, false))),
     ("<a@b>", Some((5, true))),
-    ("<a@bbbbbbbbbbbbbbbbbbbbbbbbbbbbbbbbbbbbbbbbbbbbbbbbbbbbbbbbbbbbbbb>", Some((67, true))),
-    ("<a@bbbbbbbbbbbbbbbbbbbbbbbbbbbbbbbbbbbbbbbbbbbbbbbbbbbbbbbbbbbbbbbb>", None),
+    (
+        "<a@bbbbbbbbbbbbbbbbbbbbbbbbbbbbbbbbbbbbbbbbbbbbbbbbbbbbbbbbbbbbbbb>",
+        Some((67, true)),
+    ),
+    (
+        "<a@bbbbbbbbbbbbbbbbbbbbbbbbbbbbbbbbbbbbbbbbbbbbbbbbbbbbbbbbbbbbbbbb>",
+        None,
+    ),
     ("<a@b-.c>", None),
     ("<a@-b>", None),
     ("<a@b.>", None),
     ("<a@b..c>", None),
     ("<a@>", None),
     ("<@b>", None),
-    ("<a@b.ccccccccccccccccccccccccccccccccccccccccccccccccccccccccccccccc.d>", Some((71, true))),
+    (
+        "<a@b.ccccccccccccccccccccccccccccccccccccccccccccccccccccccccccccccc.d>",
+        Some((71, true)),
+    ),
     ("<!#$%&'*+/=?^_`{|}~-@x>", Some((23, true))),
     ("<a:b", None),
     ("<ab:c\x7f>", None),
@@ -171,8 +185,14 @@ static DESTINATIONS: [(&str, Option<(usize, usize, usize)>); 32] = [
     ("a\\ b", Some((0, 2, 2))),
     ("ä b", Some((0, 2, 2))),
     ("a\x01b", Some((0, 1, 1))),
-    ("(((((((((((((((((((((((((((((((())))))))))))))))))))))))))))))))", Some((0, 64, 64))),
-    ("((((((((((((((((((((((((((((((((()))))))))))))))))))))))))))))))))", None),
+    (
+        "(((((((((((((((((((((((((((((((())))))))))))))))))))))))))))))))",
+        Some((0, 64, 64)),
+    ),
+    (
+        "((((((((((((((((((((((((((((((((()))))))))))))))))))))))))))))))))",
+        None,
+    ),
     ("\\(", Some((0, 2, 2))),
     ("a\\", Some((0, 2, 2))),
     ("<\\<>", Some((1, 3, 4))),
@@ -229,8 +249,14 @@ static INLINE_TAILS: [(&str, Option<(Pair, Pair, usize)>); 21] = [
     ("(/my uri)", None),
     ("(foo)", Some((Some((1, 4)), None, 5))),
     ("(/url \"title \"and\" title\")", None),
-    ("(/url 'title \"and\" title')", Some((Some((1, 5)), Some((7, 24)), 26))),
-    ("(   /uri\n  \"title\"  )", Some((Some((4, 8)), Some((12, 17)), 21))),
+    (
+        "(/url 'title \"and\" title')",
+        Some((Some((1, 5)), Some((7, 24)), 26)),
+    ),
+    (
+        "(   /uri\n  \"title\"  )",
+        Some((Some((4, 8)), Some((12, 17)), 21)),
+    ),
     ("( )", Some((None, None, 3))),
     ("(a\"t\")", Some((Some((1, 5)), None, 6))),
     ("(/u \"t\" x)", None),
@@ -255,27 +281,51 @@ fn inline_tails(rt: HostRuntime) {
 }
 
 static DEFINITIONS: [(&str, Option<((usize, usize), (usize, usize), Pair, usize)>); 21] = [
-    ("[foo]: /url \"title\"", Some(((1, 4), (7, 11), Some((13, 18)), 19))),
-    ("[foo]: \n      /url  \n           'the title'  ", Some(((1, 4), (14, 18), Some((33, 42)), 45))),
-    ("[Foo*bar\\]]:my_(url) 'title (with parens)'", Some(((1, 10), (12, 20), Some((22, 41)), 42))),
-    ("[foo]: /url '\ntitle\nline1\n'", Some(((1, 4), (7, 11), Some((13, 26)), 27))),
+    (
+        "[foo]: /url \"title\"",
+        Some(((1, 4), (7, 11), Some((13, 18)), 19)),
+    ),
+    (
+        "[foo]: \n      /url  \n           'the title'  ",
+        Some(((1, 4), (14, 18), Some((33, 42)), 45)),
+    ),
+    (
+        "[Foo*bar\\]]:my_(url) 'title (with parens)'",
+        Some(((1, 10), (12, 20), Some((22, 41)), 42)),
+    ),
+    (
+        "[foo]: /url '\ntitle\nline1\n'",
+        Some(((1, 4), (7, 11), Some((13, 26)), 27)),
+    ),
     ("[foo]: /url 'title\n\nwith blank line'", None),
     ("[foo]:\n/url", Some(((1, 4), (7, 11), None, 11))),
     ("[foo]:", None),
     ("[foo]: <>", Some(((1, 4), (8, 8), None, 9))),
     ("[foo]: <bar>(baz)", None),
-    ("[foo]: /url\\bar\\*baz \"foo\\\"bar\\baz\"", Some(((1, 4), (7, 20), Some((22, 34)), 35))),
+    (
+        "[foo]: /url\\bar\\*baz \"foo\\\"bar\\baz\"",
+        Some(((1, 4), (7, 20), Some((22, 34)), 35)),
+    ),
     ("[foo]: /url \"title\" ok", None),
-    ("[foo]: /url\n\"title\" ok", Some(((1, 4), (7, 11), None, 12))),
+    (
+        "[foo]: /url\n\"title\" ok",
+        Some(((1, 4), (7, 11), None, 12)),
+    ),
     ("[foo]: /url\n\"title", Some(((1, 4), (7, 11), None, 12))),
     ("[\nfoo\n]: /url\nbar", Some(((1, 6), (9, 13), None, 14))),
     ("[foo] : /url", None),
-    ("[foo]: /url \"a\"\nb", Some(((1, 4), (7, 11), Some((13, 14)), 16))),
+    (
+        "[foo]: /url \"a\"\nb",
+        Some(((1, 4), (7, 11), Some((13, 14)), 16)),
+    ),
     ("[foo]: /url\n\n\"t\"", Some(((1, 4), (7, 11), None, 12))),
     ("[]: /u", None),
     ("foo: /u", None),
     ("[foo]:/u", Some(((1, 4), (6, 8), None, 8))),
-    ("[ä]: /ü \"ö\"\nx", Some(((1, 3), (6, 9), Some((11, 13)), 15))),
+    (
+        "[ä]: /ü \"ö\"\nx",
+        Some(((1, 3), (6, 9), Some((11, 13)), 15)),
+    ),
 ];
 
 /// The standard's examples, and titles that something follows.
@@ -284,7 +334,12 @@ fn definitions(rt: HostRuntime) {
     for &(text, want) in &DEFINITIONS {
         let found = definition(text).map(|it| {
             let label = (it.label.start, it.label.end);
-            (label, (it.destination.start, it.destination.end), ends(it.title), it.end)
+            (
+                label,
+                (it.destination.start, it.destination.end),
+                ends(it.title),
+                it.end,
+            )
         });
         assert_eq!(rt; found, want, "at {text}");
     }
@@ -293,7 +348,12 @@ fn definitions(rt: HostRuntime) {
 /// Labels of 999 and of 1,000 characters, of one byte and of two.
 #[test]
 fn long_labels(rt: HostRuntime) -> Result<(), AllocError> {
-    let rows: [(&str, usize, bool); 4] = [("a", 999, true), ("a", 1000, false), ("ä", 999, true), ("ä", 1000, false)];
+    let rows: [(&str, usize, bool); 4] = [
+        ("a", 999, true),
+        ("a", 1000, false),
+        ("ä", 999, true),
+        ("ä", 1000, false),
+    ];
     for (letter, count, want) in rows {
         let mut text = String::from_str(rt.alloc(), "[")?;
         for _ in 0..count {
@@ -301,7 +361,11 @@ fn long_labels(rt: HostRuntime) -> Result<(), AllocError> {
         }
         text.push_str("]")?;
         whole(text.as_str());
-        assert_eq!(rt; link_label(text.as_str(), 0).is_some(), want, "at {count} of {letter}");
+        assert_eq!(rt;
+            link_label(text.as_str(), 0).is_some(),
+            want,
+            "at {count} of {letter}"
+        );
     }
     Ok(())
 }

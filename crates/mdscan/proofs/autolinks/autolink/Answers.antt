@@ -1,4 +1,3 @@
-use Rattle.mdscan.specs.Spans.{IsEndAfter, EndsAfterMark}
 use Rattle.mdscan.proofs.Ends.{if_some, end_is}
 use Rattle.mdscan.proofs.autolinks.autolink.Goals as goal
 
