@@ -1,5 +1,5 @@
 -- Where a text holds a blank line, place by place.
-use Rattle.std.proofs.Common.{◌≡◌, ℕ, ◌+◌, ◌-◌, ◌<◌, ◌||◌, true, false, Bool, List, length, take, drop, refl, ap, ◌∙◌}
+use Rattle.std.proofs.Common.{◌≡◌, ℕ, ◌+◌, ◌-◌, ◌<◌, ◌||◌, false, Bool, List, length, take, drop, refl, ap, ◌∙◌}
 use Rattle.std.proofs.lemmas.List.{take_rest}
 use Rattle.mdscan.specs.LinkTitle.{begins_blank_line, holds_blank_line}
 use Rattle.mdscan.proofs.Stops.{from_here}

@@ -3,7 +3,7 @@ use Rattle.std.proofs.Common.{◌≡◌, ℕ, nat_eq, zero, suc, ◌+◌, ◌-�
 use Rattle.std.specs.Str.{IsUtf8, IsCharBoundary}
 use Rattle.std.specs.List.{prefix_len, suffix_len}
 use Rattle.std.proofs.lemmas.Str.{IsCharBoundary-start, IsCharBoundary-end, IsCharBoundary-before_ascii, IsCharBoundary-after_ascii, IsCharBoundary-from_rest, IsUtf8-drop}
-use Rattle.std.proofs.lemmas.List.{get_or-reverse, length-reverse}
+use Rattle.std.proofs.lemmas.List.{get_or-reverse}
 use Rattle.std.proofs.lemmas.List.Sums.{prefix_len-le-length, prefix_len_passes, suffix_len-le-length}
 use Rattle.std.proofs.Math.Nat.{eq-or-lt_of_le}
 use Rattle.std.proofs.lemmas.Bool.Decides.{nat_tests}
@@ -93,8 +93,9 @@ pub front_boundary : (text : List ℕ) (n i : ℕ) → IsCharBoundary text n →
 front_boundary text n i b h =
     let within : i ≤ n = omega (arith, length-take n text, h.0) in
     elim (eq-or-lt_of_le within) [
-        inr before ↦ (omega (arith, b.0), λ inside high. rw (← get_or-take n text i 0 before) (h.1 (omega (arith, length-take n text)) (rw (get_or-take n text i 0 before) high)))
-      | inl same ↦ subst (λ (j : ℕ). IsCharBoundary text j) (sym same) b ]
+      | inr before ↦ (omega (arith, b.0), λ inside high. rw (← get_or-take n text i 0 before) (h.1 (omega (arith, length-take n text)) (rw (get_or-take n text i 0 before) high)))
+      | inl same ↦ subst (λ (j : ℕ). IsCharBoundary text j) (sym same) b
+    ]
 
 -- a heading's content ends at a character
 pub content_boundary : (body : List ℕ) → IsCharBoundary body (content_length body)
@@ -105,8 +106,9 @@ content_boundary body =
     let size : length front ≡ before_hashes body = omega (arith, length-take (before_hashes body) body) in
     let spaces = tail_boundary is_blank front ascii_blank in
     elim (is_closed body) as (λ v. IsCharBoundary body (cond v (before_hashes body - suffix_len is_blank front) (length body))) [
-        true ↦ front_boundary body (before_hashes body) (before_hashes body - suffix_len is_blank front) hashes (subst (λ (n : ℕ). IsCharBoundary front (n - suffix_len is_blank front)) size spaces)
-      | false ↦ IsCharBoundary-end body ]
+      | true ↦ front_boundary body (before_hashes body) (before_hashes body - suffix_len is_blank front) hashes (subst (λ (n : ℕ). IsCharBoundary front (n - suffix_len is_blank front)) size spaces)
+      | false ↦ IsCharBoundary-end body
+    ]
 
 -- what lies from one place to another ends at a character
 pub inner_boundary : (text : List ℕ) (start n i : ℕ) → start ≤ length text → IsCharBoundary text (start + n) → IsCharBoundary (take n (drop start text)) i → IsCharBoundary text (start + i)

@@ -1,12 +1,11 @@
 -- A delimiter row, cell by cell.
-use Rattle.std.proofs.Common.{◌≡◌, ℕ, suc, zero, ◌+◌, ◌-◌, ◌<◌, ◌≤◌, ◌&&◌, ◌==◌, true, false, Bool, List, ◌∷◌, [], length, arith, ap, sym, ◌∙◌, add-one, refl, Option, Some, None, slice_get, cond}
+use Rattle.std.proofs.Common.{◌≡◌, ℕ, suc, zero, ◌+◌, ◌-◌, ◌<◌, ◌≤◌, ◌&&◌, ◌==◌, true, false, Bool, List, ◌∷◌, [], length, arith, ap, sym, ◌∙◌, refl, Option, Some, None, slice_get, cond}
 use Rattle.std.specs.List.{list_all, list_any}
-use Rattle.std.proofs.lemmas.Grind.{common_steps}
 use Rattle.mdscan.specs.declared.spans.Span.{Span}
 use Rattle.mdscan.specs.declared.delimiter_rows.Align.TheVariants.{Plain}
 use Rattle.mdscan.specs.Spans.{part}
-use Rattle.mdscan.specs.TableRow.{bars, cell, cells_split, splits, inside, row_cells}
-use Rattle.mdscan.specs.DelimiterRow.{is_delimiter, delimiter_columns, delimiter_align, align_of, column_align}
+use Rattle.mdscan.specs.TableRow.{cell, splits, inside, row_cells}
+use Rattle.mdscan.specs.DelimiterRow.{is_delimiter, delimiter_columns, delimiter_align, align_of}
 use Rattle.mdscan.proofs.Rows.{rest_cells, cut_here, no_cut, last_cell}
 
 -- at the beginning all cells are left

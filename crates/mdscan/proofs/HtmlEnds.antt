@@ -1,5 +1,5 @@
 -- Where a line holds the end of an HTML block, place by place.
-use Rattle.std.proofs.Common.{◌≡◌, ℕ, ◌+◌, ◌-◌, ◌<◌, ◌≤◌, ◌||◌, true, false, List, ◌∷◌, [], length, take, drop, get_or, drop-cons, add-one, arith, ap, sym, ◌∙◌}
+use Rattle.std.proofs.Common.{◌≡◌, ℕ, ◌+◌, ◌-◌, ◌<◌, ◌≤◌, ◌||◌, true, false, List, length, take, drop, drop-cons, add-one, ap, ◌∙◌}
 use Rattle.std.proofs.lemmas.List.{take_rest}
 use Rattle.std.proofs.Math.ListN.{drop_of_length-le}
 use Rattle.mdscan.specs.HtmlBlock.{ends_kind, holds_end}

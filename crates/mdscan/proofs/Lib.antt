@@ -8,3 +8,5 @@ pub mod Sequences
 pub mod Places
 pub mod Stops
 pub mod BlankLines
+pub mod Ends
+pub mod Closes

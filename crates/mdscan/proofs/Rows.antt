@@ -1,6 +1,5 @@
 -- The cells of a row, place by place.
-use Rattle.std.proofs.Common.{◌≡◌, ℕ, suc, zero, ◌+◌, ◌-◌, ◌<◌, ◌≤◌, true, false, Bool, List, ◌∷◌, [], length, take, filter, ◌++◌, append_assoc, arith, ap, sym, ◌∙◌, cond, add-one, subst, refl}
-use Rattle.std.specs.List.{range_with_len}
+use Rattle.std.proofs.Common.{◌≡◌, ℕ, suc, ◌+◌, ◌-◌, ◌<◌, ◌≤◌, true, false, List, ◌∷◌, [], ◌++◌, append_assoc, arith, ap, sym, ◌∙◌, cond, refl}
 use Rattle.mdscan.specs.declared.spans.Span.{Span}
 use Rattle.mdscan.specs.TableRow.{bars, cell, cells_split, splits}
 

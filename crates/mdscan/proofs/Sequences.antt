@@ -1,5 +1,5 @@
 -- Pieces one after the other.
-use Rattle.std.proofs.Common.{◌≡◌, ℕ, suc, zero, ◌+◌, ◌-◌, ◌<◌, ◌≤◌, true, false, Bool, List, ◌∷◌, [], length, drop, arith, ap, sym, ◌∙◌, subst, zero-add, refl, cond, nat_lt, length-drop}
+use Rattle.std.proofs.Common.{◌≡◌, ℕ, suc, zero, ◌+◌, ◌-◌, ◌<◌, ◌≤◌, true, List, ◌∷◌, [], length, drop, arith, ap, sym, ◌∙◌, subst, zero-add, refl, nat_lt, length-drop}
 use Rattle.std.proofs.lemmas.Bool.Decides.{nat_tests}
 use Rattle.std.proofs.lemmas.List.{drop-drop}
 use Rattle.mdscan.specs.Repeats.{repeats_after, repeats}

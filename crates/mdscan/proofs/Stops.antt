@@ -1,6 +1,6 @@
 -- The bytes before a stop, place by place.
 use Rattle.std.specs.Prelude.{if◌then◌else◌}
-use Rattle.std.proofs.Common.{◌≡◌, ℕ, ◌+◌, ◌-◌, ◌<◌, ◌≤◌, true, false, Bool, List, ◌∷◌, [], length, take, drop, get_or, drop-cons, add-one, refl, arith, ap, sym, ◌∙◌}
+use Rattle.std.proofs.Common.{◌≡◌, ℕ, ◌+◌, ◌-◌, ◌<◌, ◌≤◌, true, false, Bool, List, ◌∷◌, length, take, drop, get_or, drop-cons, add-one, refl, arith}
 use Rattle.std.proofs.lemmas.List.{take_rest}
 use Rattle.std.proofs.Math.ListN.{drop_of_length-le}
 use Rattle.mdscan.specs.Escapes.{begins_escape, is_one_of, run_after}

@@ -1,6 +1,6 @@
 -- Autolinks (CommonMark 6.5). Each length is that of the longest such piece that a text begins with, and 0
 -- where there is none.
-use Rattle.std.specs.Prelude.{ℕ, ◌+◌, ◌-◌, Bool, true, false, not, ◌||◌, ◌&&◌, ◌==◌, nat_lt, nat_le, List, [], ◌∷◌, drop, slice_index, codes, Option, Some, None, if◌then◌else◌}
+use Rattle.std.specs.Prelude.{ℕ, ◌+◌, ◌-◌, Bool, true, false, not, ◌||◌, ◌&&◌, ◌==◌, nat_lt, nat_le, List, drop, slice_index, codes, Option, Some, None, if◌then◌else◌}
 use Rattle.std.specs.Char.{is_ascii_alphabetic, is_ascii_alphanumeric, is_ascii_control}
 use Rattle.std.specs.List.{prefix_len, list_any}
 use Rattle.mdscan.specs.declared.autolinks.Auto.{Auto}
@@ -58,7 +58,7 @@ mail_end text at =
     let label = domain_label_length (drop (at + 1 + name + 1) text) in
     let labels = repeats dotted_label_length (drop (at + 1 + name + 1 + label) text) in
     if nat_lt 0 name && begins_with 64 (drop (at + 1 + name) text) && nat_lt 0 label
-        && begins_with 62 (drop (at + 1 + name + 1 + label + labels) text)
+    && begins_with 62 (drop (at + 1 + name + 1 + label + labels) text)
     then Some (at + 1 + name + 1 + label + labels + 1) else None
 
 abbrev pub auto_of : (mail : Bool) → Option ℕ → Option Auto

@@ -1,5 +1,5 @@
 -- HTML blocks (CommonMark 4.6): which of the kinds 1 to 7 a line begins, and which lines end a kind.
-use Rattle.std.specs.Prelude.{ℕ, ◌+◌, Bool, false, not, ◌||◌, ◌&&◌, ◌==◌, List, [], ◌∷◌, map, length, take, drop, nat_eq, codes, Option, Some, None, if◌then◌else◌}
+use Rattle.std.specs.Prelude.{ℕ, Bool, false, not, ◌||◌, ◌&&◌, ◌==◌, List, [], ◌∷◌, take, drop, nat_eq, codes, Option, Some, None, if◌then◌else◌}
 use Rattle.std.specs.Char.{is_ascii_alphabetic, is_ascii_alphanumeric}
 use Rattle.std.specs.List.{prefix_len, list_any, starts_with}
 use Rattle.std.specs.Str.{str_eq_ignore_ascii_case}

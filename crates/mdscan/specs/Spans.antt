@@ -1,5 +1,5 @@
 -- Parts of a text, by their places in it.
-use Rattle.std.specs.Prelude.{ℕ, ◌+◌, ◌-◌, ◌≤◌, List, length, take, drop}
+use Rattle.std.specs.Prelude.{ℕ, ◌+◌, ◌-◌, ◌≡◌, ◌<◌, ◌≤◌, List, length, take, drop, slice_index}
 use Rattle.std.specs.List.{prefix_len, suffix_len}
 use Rattle.std.specs.Str.{IsCharBoundary}
 use Rattle.mdscan.specs.declared.spans.Span.{Span}
@@ -22,3 +22,23 @@ trimmed_from text at =
     let start = at + prefix_len is_blank (drop at text) in
     let body = drop start text in
     record { start = start; end = start + (length body - suffix_len is_blank body) }
+
+-- An end of what stands at a place: after the place, within the text, and no character is cut.
+pub record IsEndAfter (text : List ℕ) (at end : ℕ) : Type 0 where
+  pub later : at < end
+  pub within : end ≤ length text
+  pub whole : IsCharBoundary text end
+
+-- an end of what stands at a place, just after an ASCII byte
+pub record EndsAfterMark (text : List ℕ) (at end : ℕ) : Type 0 where
+  pub later : at < end
+  pub within : end ≤ length text
+  pub mark : slice_index text (end - 1) < 128
+
+-- what stands between two ASCII bytes, the first of which stands at a place
+pub record IsEnclosed (text : List ℕ) (at : ℕ) (span : Span) : Type 0 where
+  pub opens : slice_index text at < 128
+  pub starts : span.start ≡ at + 1
+  pub ordered : span.start ≤ span.end
+  pub closes : slice_index text span.end < 128
+  pub within : span.end < length text

@@ -1,12 +1,12 @@
 //! ATX headings.
 
-use crate::runs::{blank, blank_follows, leading, trailing, trailing_blanks};
-use crate::spans::{Span, trimmed};
-
 ghost use Rattle.std.specs.Prelude.{◌≡◌, ◌≤◌, IfSome, length};
 ghost use Rattle.std.specs.Str.{IsCharBoundary};
 ghost use Rattle.mdscan.specs.AtxHeading.{atx_heading, content_length, heading_content};
 ghost use Rattle.mdscan.specs.Spans.{IsSpanOf};
+
+use crate::runs::{blank, blank_follows, leading, trailing, trailing_blanks};
+use crate::spans::{Span, trimmed};
 
 /// A heading line: its level, 1 to 6, and where its content is.
 #[derive(Clone, Copy, Debug, PartialEq, Eq)]

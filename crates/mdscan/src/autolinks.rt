@@ -1,12 +1,13 @@
 //! Autolinks.
 
-use crate::runs::{begins, holds};
-
 ghost use Rattle.std.specs.Prelude.{◌≡◌, ◌==◌, ◌<◌, ◌≤◌, IfSome, length};
 ghost use Rattle.std.specs.List.{list_any, prefix_len};
 ghost use Rattle.std.specs.Str.{IsCharBoundary};
+ghost use Rattle.mdscan.specs.Spans.{IsEndAfter, EndsAfterMark};
 ghost use Rattle.mdscan.specs.Repeats.{repeats};
 ghost use Rattle.mdscan.specs.AutoLink.{autolink_at, uri_end, mail_end, in_scheme, in_uri, in_mail_name, mail_marks, in_domain_label, scheme_length, domain_label_length, dotted_label_length};
+
+use crate::runs::{begins, holds};
 
 /// The marks of a mail address before its `@`, beside letters and digits.
 const MAIL_MARKS: [u8; 20] = *b".!#$%&'*+/=?^_`{|}~-";
@@ -24,6 +25,7 @@ pub struct Auto {
 pub fn autolink(text: &str, at: usize) -> Option<Auto>
     requires { IsCharBoundary text.now at }
     ensures value { result ≡ autolink_at text.now at }
+    ensures end { IfSome result (λ auto. IsEndAfter text.now at auto.end) }
 {
     auto_at(text.as_bytes(), at)
 }
@@ -32,6 +34,7 @@ pub fn autolink(text: &str, at: usize) -> Option<Auto>
 fn auto_at(text: &[u8], at: usize) -> Option<Auto>
     requires { at ≤ length text.now }
     ensures value { result ≡ autolink_at text.now at }
+    ensures end { IfSome result (λ auto. EndsAfterMark text.now at auto.end) }
 {
     if !begins(&text[at..], b'<') {
         return None;
@@ -50,7 +53,7 @@ fn auto_at(text: &[u8], at: usize) -> Option<Auto>
 fn uri(text: &[u8], at: usize) -> Option<usize>
     requires { at < length text.now }
     ensures value { result ≡ uri_end text.now at }
-    ensures within { IfSome result (λ n. n ≤ length text.now) }
+    ensures end { IfSome result (λ end. EndsAfterMark text.now at end) }
 {
     let scheme = scheme(&text[at + 1..]);
     let colon = at + 1 + scheme;
@@ -82,7 +85,9 @@ fn scheme_run(text: &[u8]) -> usize
     ensures value { result ≡ prefix_len in_scheme text.now }
     ensures within { result ≤ length text.now }
 {
-    text.iter().take_while(|byte| scheme_goes_on(**byte)).count()
+    text.iter()
+        .take_while(|byte| scheme_goes_on(**byte))
+        .count()
 }
 
 fn scheme_goes_on(byte: u8) -> bool
@@ -109,7 +114,7 @@ fn uri_goes_on(byte: u8) -> bool
 fn mail(text: &[u8], at: usize) -> Option<usize>
     requires { at < length text.now }
     ensures value { result ≡ mail_end text.now at }
-    ensures within { IfSome result (λ n. n ≤ length text.now) }
+    ensures end { IfSome result (λ end. EndsAfterMark text.now at end) }
 {
     let name = mail_name(&text[at + 1..]);
     let sign = at + 1 + name;
@@ -130,7 +135,9 @@ fn mail_name(text: &[u8]) -> usize
     ensures value { result ≡ prefix_len in_mail_name text.now }
     ensures within { result ≤ length text.now }
 {
-    text.iter().take_while(|byte| mail_name_goes_on(**byte)).count()
+    text.iter()
+        .take_while(|byte| mail_name_goes_on(**byte))
+        .count()
 }
 
 fn mail_name_goes_on(byte: u8) -> bool
@@ -155,7 +162,11 @@ fn domain_label(text: &[u8]) -> usize
 {
     let run = domain_label_run(text);
     match text {
-        [first, ..] if first.is_ascii_alphanumeric() && run > 0 && run <= 63 && text[run - 1].is_ascii_alphanumeric() => run,
+        [first, ..]
+            if first.is_ascii_alphanumeric()
+                && run > 0
+                && run <= 63
+                && text[run - 1].is_ascii_alphanumeric() => run,
         _ => 0,
     }
 }
@@ -164,7 +175,9 @@ fn domain_label_run(text: &[u8]) -> usize
     ensures value { result ≡ prefix_len in_domain_label text.now }
     ensures within { result ≤ length text.now }
 {
-    text.iter().take_while(|byte| byte.is_ascii_alphanumeric() || **byte == b'-').count()
+    text.iter()
+        .take_while(|byte| byte.is_ascii_alphanumeric() || **byte == b'-')
+        .count()
 }
 
 /// Labels with a dot before each, one after the other.

@@ -1,13 +1,13 @@
 //! Link reference definitions.
 
+ghost use Rattle.std.specs.Prelude.{◌≡◌, ◌<◌, ◌≤◌, IfSome, Some, None, length};
+ghost use Rattle.mdscan.specs.LinkDefinition.{definition_of, labelled_def, titled_def, def_to, line_end};
+
 use crate::inline_tails::after_gap;
 use crate::link_labels::brackets;
 use crate::links::{Dest, quoted, target};
 use crate::runs::{begins, leading_blanks};
 use crate::spans::Span;
-
-ghost use Rattle.std.specs.Prelude.{◌≡◌, ◌<◌, ◌≤◌, IfSome, None, length};
-ghost use Rattle.mdscan.specs.LinkDefinition.{definition_of, labelled_def, titled_def, def_to, line_end};
 
 /// A link reference definition: the inside of its label, its destination, its title where it has one, and the
 /// end, after its last line's ending.
@@ -22,6 +22,7 @@ pub struct Def {
 /// The link reference definition that a text begins with (CommonMark 4.7).
 pub fn definition(text: &str) -> Option<Def>
     ensures value { result ≡ definition_of text.now }
+    ensures within { IfSome result (λ def. def.end ≤ length text.now) }
 {
     defined(text.as_bytes())
 }
@@ -29,6 +30,7 @@ pub fn definition(text: &str) -> Option<Def>
 #[tactic(auto, unfolding(crate::specs::LinkDefinition::definition_of))]
 fn defined(text: &[u8]) -> Option<Def>
     ensures value { result ≡ definition_of text.now }
+    ensures within { IfSome result (λ def. def.end ≤ length text.now) }
 {
     match brackets(text, 0) {
         Some(label) => labelled(text, label),
@@ -40,7 +42,8 @@ fn defined(text: &[u8]) -> Option<Def>
 #[tactic(auto, unfolding(crate::specs::LinkDefinition::labelled_def))]
 fn labelled(text: &[u8], label: Span) -> Option<Def>
     requires { label.end < length text.now }
-    ensures { result ≡ labelled_def text.now label }
+    ensures value { result ≡ labelled_def text.now label }
+    ensures within { IfSome result (λ def. def.end ≤ length text.now) }
 {
     if !begins(&text[label.end + 1..], b':') {
         return None;
@@ -53,7 +56,8 @@ fn labelled(text: &[u8], label: Span) -> Option<Def>
 
 fn without_title(text: &[u8], label: Span, dest: Dest) -> Option<Def>
     requires { dest.end ≤ length text.now }
-    ensures { result ≡ def_to label dest None (line_end text.now dest.end) }
+    ensures value { result ≡ def_to label dest None (line_end text.now dest.end) }
+    ensures within { IfSome result (λ def. def.end ≤ length text.now) }
 {
     up_to(label, dest, None, rest_of_line(text, dest.end))
 }
@@ -62,7 +66,8 @@ fn without_title(text: &[u8], label: Span, dest: Dest) -> Option<Def>
 #[tactic(auto, unfolding(crate::specs::LinkDefinition::titled_def))]
 fn with_title(text: &[u8], label: Span, dest: Dest) -> Option<Def>
     requires { dest.end ≤ length text.now }
-    ensures { result ≡ titled_def text.now label dest }
+    ensures value { result ≡ titled_def text.now label dest }
+    ensures within { IfSome result (λ def. def.end ≤ length text.now) }
 {
     let next = after_gap(text, dest.end);
     if next <= dest.end {
@@ -76,7 +81,8 @@ fn with_title(text: &[u8], label: Span, dest: Dest) -> Option<Def>
 
 /// The definition with these parts, where it has an end.
 fn up_to(label: Span, dest: Dest, title: Option<Span>, end: Option<usize>) -> Option<Def>
-    ensures { result ≡ def_to label dest title end }
+    ensures value { result ≡ def_to label dest title end }
+    ensures end { IfSome result (λ def. Some def.end ≡ end) }
 {
     match end {
         Some(end) => Some(Def {

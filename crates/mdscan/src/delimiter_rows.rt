@@ -1,12 +1,12 @@
 //! Delimiter rows of tables.
 
-use crate::runs::{begins, holds, leading};
-use crate::tables::{cell_at, inner, is_split};
-
 ghost use Rattle.std.specs.Prelude.{◌≡◌, ◌<◌, ◌≤◌, length, unwrap_or};
 ghost use Rattle.mdscan.specs.Spans.{part};
 ghost use Rattle.mdscan.specs.TableRow.{cell};
 ghost use Rattle.mdscan.specs.DelimiterRow.{is_colon_or_none, is_hyphens, is_delimiter, delimiter_columns, delimiter_align, align_by, column_align};
+
+use crate::runs::{begins, holds, leading};
+use crate::tables::{cell_at, inner, is_split};
 
 /// How a table's column is aligned.
 #[derive(Clone, Copy, Debug, PartialEq, Eq)]
@@ -137,7 +137,10 @@ fn colon_or_none(text: &[u8]) -> bool
 fn colons(text: &[u8]) -> Align
     ensures { result ≡ delimiter_align text.now }
 {
-    align_with(begins(text, b':'), text.len() > 0 && text[text.len() - 1] == b':')
+    align_with(
+        begins(text, b':'),
+        text.len() > 0 && text[text.len() - 1] == b':',
+    )
 }
 
 fn align_with(left: bool, right: bool) -> Align

@@ -1,9 +1,9 @@
 //! Backslash escapes, and the bytes up to a stop.
 
-use crate::runs::holds;
-
 ghost use Rattle.std.specs.Prelude.{◌≡◌, ◌≤◌, length};
 ghost use Rattle.mdscan.specs.Escapes.{begins_escape, run_before};
+
+use crate::runs::holds;
 
 /// Whether a text begins with a backslash before ASCII punctuation.
 pub(crate) fn escape(text: &[u8]) -> bool

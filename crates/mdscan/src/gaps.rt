@@ -1,9 +1,9 @@
 //! Spaces and tabs with at most one line ending.
 
-use crate::runs::{begins, leading_blanks};
-
 ghost use Rattle.std.specs.Prelude.{◌≡◌, ◌≤◌, length};
 ghost use Rattle.mdscan.specs.Gaps.{gap_length};
+
+use crate::runs::{begins, leading_blanks};
 
 /// How many of the first bytes are spaces and tabs with at most one line ending among them.
 #[tactic(auto, unfolding(crate::specs::Gaps::gap_length))]

@@ -1,25 +1,81 @@
 //! The beginnings and ends of HTML blocks.
 
-use crate::html_tags::{closing, opening, tag_name};
-use crate::runs::{all_blank, begins, blank_follows, leading_name};
-
 ghost use Rattle.std.specs.Prelude.{◌≡◌, ◌<◌, ◌&&◌, not, length};
 ghost use Rattle.std.specs.List.{list_any};
 ghost use Rattle.std.specs.Str.{str_eq_ignore_ascii_case};
 ghost use Rattle.mdscan.specs.HtmlTag.{open_tag, closing_tag};
 ghost use Rattle.mdscan.specs.HtmlBlock.{begins_raw, begins_raw_end, begins_block, is_block_name, begins_declaration, begins_one_of, raw_names, block_names, ends_raw_name, ends_block_name, ends_kind, holds_end, is_raw_tag, fills_line, begins_whole_tag, html_kind};
 
+use crate::html_tags::{closing, opening, tag_name};
+use crate::runs::{all_blank, begins, blank_follows, leading_name};
+
 /// The names of the first kind, whose content is no Markdown.
 const RAW_NAMES: [&str; 4] = ["pre", "script", "style", "textarea"];
 
 /// The names of the sixth kind.
 const BLOCK_NAMES: [&str; 62] = [
-    "address", "article", "aside", "base", "basefont", "blockquote", "body", "caption", "center", "col",
-    "colgroup", "dd", "details", "dialog", "dir", "div", "dl", "dt", "fieldset", "figcaption", "figure",
-    "footer", "form", "frame", "frameset", "h1", "h2", "h3", "h4", "h5", "h6", "head", "header", "hr", "html",
-    "iframe", "legend", "li", "link", "main", "menu", "menuitem", "nav", "noframes", "ol", "optgroup",
-    "option", "p", "param", "search", "section", "summary", "table", "tbody", "td", "tfoot", "th", "thead",
-    "title", "tr", "track", "ul",
+    "address",
+    "article",
+    "aside",
+    "base",
+    "basefont",
+    "blockquote",
+    "body",
+    "caption",
+    "center",
+    "col",
+    "colgroup",
+    "dd",
+    "details",
+    "dialog",
+    "dir",
+    "div",
+    "dl",
+    "dt",
+    "fieldset",
+    "figcaption",
+    "figure",
+    "footer",
+    "form",
+    "frame",
+    "frameset",
+    "h1",
+    "h2",
+    "h3",
+    "h4",
+    "h5",
+    "h6",
+    "head",
+    "header",
+    "hr",
+    "html",
+    "iframe",
+    "legend",
+    "li",
+    "link",
+    "main",
+    "menu",
+    "menuitem",
+    "nav",
+    "noframes",
+    "ol",
+    "optgroup",
+    "option",
+    "p",
+    "param",
+    "search",
+    "section",
+    "summary",
+    "table",
+    "tbody",
+    "td",
+    "tfoot",
+    "th",
+    "thead",
+    "title",
+    "tr",
+    "track",
+    "ul",
 ];
 
 /// The kind of HTML block that the rest of a line begins, 1 to 7: the first that fits (CommonMark 4.6).
@@ -158,7 +214,8 @@ fn raw_begins(line: &[u8]) -> bool
 fn block_begins(line: &[u8]) -> bool
     ensures { result ≡ begins_block line.now }
 {
-    (begins(line, b'<') && block_name(&line[1..])) || (line.starts_with(b"</") && block_name(&line[2..]))
+    (begins(line, b'<') && block_name(&line[1..]))
+        || (line.starts_with(b"</") && block_name(&line[2..]))
 }
 
 /// Whether a text begins with a name of the sixth kind and the end of a name.

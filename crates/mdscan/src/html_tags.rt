@@ -1,19 +1,19 @@
 //! Open and closing tags. Lengths are of the longest piece of a kind that a text begins with, and 0 where
 //! there is none.
 
+ghost use Rattle.std.specs.Prelude.{◌≡◌, ◌<◌, ◌≤◌, ◌==◌, ◌-◌, not, IfSome, length, slice_index};
+ghost use Rattle.std.specs.List.{prefix_len};
+ghost use Rattle.mdscan.specs.Spans.{EndsAfterMark};
+ghost use Rattle.mdscan.specs.HtmlTag.{in_tag_name, in_attribute_name, in_unquoted_value, begins_attribute_name, tag_name_length, attribute_name_length, quoted_length, value_length, equals_length, value_part_length, attribute_length, attributes_length, open_end_length, open_tag, closing_tag};
+
 use crate::gaps::gap;
 use crate::runs::begins;
-
-ghost use Rattle.std.specs.Prelude.{◌≡◌, ◌<◌, ◌≤◌, ◌==◌, ◌+◌, not, IfSome, length};
-ghost use Rattle.std.specs.List.{prefix_len};
-ghost use Rattle.mdscan.specs.HtmlTag.{in_tag_name, in_attribute_name, in_unquoted_value, begins_attribute_name, tag_name_length, attribute_name_length, quoted_length, value_length, equals_length, value_part_length, attribute_length, attributes_length, open_end_length, open_tag, closing_tag};
 
 /// The length of the open tag that a text begins with (CommonMark 6.6).
 #[tactic(auto, unfolding(crate::specs::HtmlTag::open_tag))]
 pub(crate) fn opening(text: &[u8]) -> Option<usize>
     ensures value { result ≡ open_tag text.now }
-    ensures some { IfSome result (λ n. 0 < n) }
-    ensures within { IfSome result (λ n. n ≤ length text.now) }
+    ensures end { IfSome result (λ end. EndsAfterMark text.now 0 end) }
 {
     if !begins(text, b'<') {
         return None;
@@ -32,7 +32,7 @@ pub(crate) fn opening(text: &[u8]) -> Option<usize>
 #[tactic(auto, unfolding(crate::specs::HtmlTag::closing_tag))]
 pub(crate) fn closing(text: &[u8]) -> Option<usize>
     ensures value { result ≡ closing_tag text.now }
-    ensures within { IfSome result (λ n. n ≤ length text.now) }
+    ensures end { IfSome result (λ end. EndsAfterMark text.now 0 end) }
 {
     if !text.starts_with(b"</") {
         return None;
@@ -62,7 +62,9 @@ fn tag_name_run(text: &[u8]) -> usize
     ensures value { result ≡ prefix_len in_tag_name text.now }
     ensures within { result ≤ length text.now }
 {
-    text.iter().take_while(|byte| byte.is_ascii_alphanumeric() || **byte == b'-').count()
+    text.iter()
+        .take_while(|byte| byte.is_ascii_alphanumeric() || **byte == b'-')
+        .count()
 }
 
 /// The attributes that stand one after the other.
@@ -202,7 +204,10 @@ fn unquoted(text: &[u8]) -> usize
 fn value_goes_on(byte: u8) -> bool
     ensures { result ≡ in_unquoted_value byte }
 {
-    !matches!(byte, b' ' | b'\t' | b'\n' | b'"' | b'\'' | b'=' | b'<' | b'>' | b'`')
+    !matches!(
+        byte,
+        b' ' | b'\t' | b'\n' | b'"' | b'\'' | b'=' | b'<' | b'>' | b'`'
+    )
 }
 
 /// The end of an open tag: a gap or none, `/` or none, and `>`.
@@ -210,6 +215,7 @@ fn value_goes_on(byte: u8) -> bool
 fn open_end(text: &[u8]) -> usize
     ensures value { result ≡ open_end_length text.now }
     ensures within { result ≤ length text.now }
+    ensures mark { 0 < result → slice_index text.now (result - 1) ≡ 62 }
 {
     let gap = gap(text);
     let rest = &text[gap..];

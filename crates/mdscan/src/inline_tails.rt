@@ -1,14 +1,15 @@
 //! What follows an inline link's text.
 
+ghost use Rattle.std.specs.Prelude.{◌≡◌, ◌≤◌, Some, None, IfSome, length};
+ghost use Rattle.std.specs.Str.{IsCharBoundary};
+ghost use Rattle.mdscan.specs.Spans.{IsEndAfter, EndsAfterMark};
+ghost use Rattle.mdscan.specs.Gaps.{past_gap};
+ghost use Rattle.mdscan.specs.InlineTail.{inline_tail_at, tail_inside, tail_to, titled_tail};
+
 use crate::gaps::gap;
 use crate::links::{Dest, quoted, target};
 use crate::runs::begins;
 use crate::spans::Span;
-
-ghost use Rattle.std.specs.Prelude.{◌≡◌, ◌≤◌, Some, None, length};
-ghost use Rattle.std.specs.Str.{IsCharBoundary};
-ghost use Rattle.mdscan.specs.Gaps.{past_gap};
-ghost use Rattle.mdscan.specs.InlineTail.{inline_tail_at, tail_inside, tail_to, titled_tail};
 
 /// What follows an inline link's text: its destination and its title, where it has them, and the end, after
 /// the closing parenthesis.
@@ -25,6 +26,7 @@ pub struct Tail {
 pub fn inline_tail(text: &str, at: usize) -> Option<Tail>
     requires { IsCharBoundary text.now at }
     ensures value { result ≡ inline_tail_at text.now at }
+    ensures end { IfSome result (λ tail. IsEndAfter text.now at tail.end) }
 {
     parentheses(text.as_bytes(), at)
 }
@@ -33,6 +35,7 @@ pub fn inline_tail(text: &str, at: usize) -> Option<Tail>
 fn parentheses(text: &[u8], at: usize) -> Option<Tail>
     requires { at ≤ length text.now }
     ensures value { result ≡ inline_tail_at text.now at }
+    ensures end { IfSome result (λ tail. EndsAfterMark text.now at tail.end) }
 {
     if begins(&text[at..], b'(') {
         inside(text, after_gap(text, at + 1))
@@ -56,6 +59,7 @@ pub(crate) fn after_gap(text: &[u8], at: usize) -> usize
 fn inside(text: &[u8], at: usize) -> Option<Tail>
     requires { at ≤ length text.now }
     ensures value { result ≡ tail_inside text.now at }
+    ensures end { IfSome result (λ tail. EndsAfterMark text.now at tail.end) }
 {
     if begins(&text[at..], b')') {
         return close(text, at, None, None);
@@ -68,7 +72,8 @@ fn inside(text: &[u8], at: usize) -> Option<Tail>
 
 fn without_title(text: &[u8], dest: Dest) -> Option<Tail>
     requires { dest.end ≤ length text.now }
-    ensures { result ≡ tail_to text.now (past_gap text.now dest.end) (Some dest.span) None }
+    ensures value { result ≡ tail_to text.now (past_gap text.now dest.end) (Some dest.span) None }
+    ensures end { IfSome result (λ tail. EndsAfterMark text.now dest.end tail.end) }
 {
     close(text, after_gap(text, dest.end), Some(dest.span), None)
 }
@@ -77,14 +82,20 @@ fn without_title(text: &[u8], dest: Dest) -> Option<Tail>
 #[tactic(auto, unfolding(crate::specs::InlineTail::titled_tail))]
 fn with_title(text: &[u8], dest: Dest) -> Option<Tail>
     requires { dest.end ≤ length text.now }
-    ensures { result ≡ titled_tail text.now dest }
+    ensures value { result ≡ titled_tail text.now dest }
+    ensures end { IfSome result (λ tail. EndsAfterMark text.now dest.end tail.end) }
 {
     let next = after_gap(text, dest.end);
     if next <= dest.end {
         return None;
     }
     match quoted(text, next) {
-        Some(title) => close(text, after_gap(text, title.end), Some(dest.span), Some(title.span)),
+        Some(title) => close(
+            text,
+            after_gap(text, title.end),
+            Some(dest.span),
+            Some(title.span),
+        ),
         None => None,
     }
 }
@@ -93,7 +104,8 @@ fn with_title(text: &[u8], dest: Dest) -> Option<Tail>
 #[tactic(auto, unfolding(crate::specs::InlineTail::tail_to))]
 fn close(text: &[u8], at: usize, destination: Option<Span>, title: Option<Span>) -> Option<Tail>
     requires { at ≤ length text.now }
-    ensures { result ≡ tail_to text.now at destination title }
+    ensures value { result ≡ tail_to text.now at destination title }
+    ensures end { IfSome result (λ tail. EndsAfterMark text.now at tail.end) }
 {
     if begins(&text[at..], b')') {
         Some(Tail {

@@ -7,8 +7,8 @@
 mod atx_headings;
 mod autolinks;
 mod block_quotes;
-mod delimiter_rows;
 mod definitions;
+mod delimiter_rows;
 mod escapes;
 mod fences;
 mod gaps;
@@ -37,9 +37,12 @@ pub use inline_tails::{Tail, inline_tail};
 pub use link_labels::link_label;
 pub use links::{Dest, destination, title};
 pub use list_markers::{Marker, list_marker};
-pub use raw_html::html_tag;
+pub use raw_html::{find_from, html_tag, none_later};
 pub use setext_headings::setext;
 pub use spans::Span;
 pub use tables::cells;
 pub use tasks::{TaskMark, task};
 pub use thematic_breaks::thematic;
+
+#[cfg(test)]
+mod tests;

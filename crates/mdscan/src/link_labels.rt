@@ -1,13 +1,14 @@
 //! Link labels.
 
-use crate::escapes::before;
-use crate::runs::begins;
-use crate::spans::Span;
-
 ghost use Rattle.std.specs.Prelude.{◌≡◌, ◌<◌, ◌≤◌, IfSome, count_by, length};
 ghost use Rattle.std.specs.List.{list_any};
 ghost use Rattle.std.specs.Str.{IsCharBoundary};
+ghost use Rattle.mdscan.specs.Spans.{IsEnclosed, IsSpanOf};
 ghost use Rattle.mdscan.specs.LinkLabel.{begins_character, is_visible, is_label_text, label_at};
+
+use crate::escapes::before;
+use crate::runs::begins;
+use crate::spans::Span;
 
 /// The inside of the link label whose brackets stand at a place of a text (CommonMark 6.3): 1 to 999
 /// characters, not all of them spaces, tabs and line endings, and no bracket that is not escaped.
@@ -16,6 +17,8 @@ ghost use Rattle.mdscan.specs.LinkLabel.{begins_character, is_visible, is_label_
 pub fn link_label(text: &str, at: usize) -> Option<Span>
     requires { IsCharBoundary text.now at }
     ensures value { result ≡ label_at text.now at }
+    ensures enclosed { IfSome result (λ span. IsEnclosed text.now at span) }
+    ensures span { IfSome result (λ span. IsSpanOf text.now span) }
 {
     brackets(text.as_bytes(), at)
 }
@@ -24,7 +27,7 @@ pub fn link_label(text: &str, at: usize) -> Option<Span>
 pub(crate) fn brackets(text: &[u8], at: usize) -> Option<Span>
     requires { at ≤ length text.now }
     ensures value { result ≡ label_at text.now at }
-    ensures within { IfSome result (λ span. span.end < length text.now) }
+    ensures enclosed { IfSome result (λ span. IsEnclosed text.now at span) }
 {
     if !begins(&text[at..], b'[') {
         return None;

@@ -1,13 +1,14 @@
 //! Destinations and titles of links.
 
+ghost use Rattle.std.specs.Prelude.{◌≡◌, ◌+◌, ◌<◌, ◌≤◌, IfSome, length, slice_index};
+ghost use Rattle.std.specs.Str.{IsUtf8, IsCharBoundary};
+ghost use Rattle.mdscan.specs.Spans.{IsEnclosed, IsEndAfter, IsSpanOf};
+ghost use Rattle.mdscan.specs.LinkDestination.{angle_destination, bare_end, bare_dest, destination_at, ends_bare};
+ghost use Rattle.mdscan.specs.LinkTitle.{begins_blank_line, holds_blank_line, title_at, title_to};
+
 use crate::escapes::{before, escape};
 use crate::runs::{begins, leading_blanks};
 use crate::spans::Span;
-
-ghost use Rattle.std.specs.Prelude.{◌≡◌, ◌<◌, ◌≤◌, IfSome, length};
-ghost use Rattle.std.specs.Str.{IsCharBoundary};
-ghost use Rattle.mdscan.specs.LinkDestination.{angle_destination, bare_end, bare_dest, destination_at, ends_bare};
-ghost use Rattle.mdscan.specs.LinkTitle.{begins_blank_line, holds_blank_line, title_at, title_to};
 
 /// A destination or a title: what stands between its marks, and where it ends, after them.
 #[derive(Clone, Copy, Debug, PartialEq, Eq)]
@@ -23,6 +24,8 @@ pub struct Dest {
 pub fn destination(text: &str, at: usize) -> Option<Dest>
     requires { IsCharBoundary text.now at }
     ensures value { result ≡ destination_at text.now at }
+    ensures span { IfSome result (λ dest. IsSpanOf text.now dest.span) }
+    ensures end { IfSome result (λ dest. IsEndAfter text.now at dest.end) }
 {
     target(text.as_bytes(), at)
 }
@@ -33,6 +36,8 @@ pub fn destination(text: &str, at: usize) -> Option<Dest>
 pub fn title(text: &str, at: usize) -> Option<Dest>
     requires { IsCharBoundary text.now at }
     ensures value { result ≡ title_at text.now at }
+    ensures span { IfSome result (λ dest. IsSpanOf text.now dest.span) }
+    ensures end { IfSome result (λ dest. IsEndAfter text.now at dest.end) }
 {
     quoted(text.as_bytes(), at)
 }
@@ -41,7 +46,10 @@ pub fn title(text: &str, at: usize) -> Option<Dest>
 pub(crate) fn target(text: &[u8], at: usize) -> Option<Dest>
     requires { at ≤ length text.now }
     ensures value { result ≡ destination_at text.now at }
+    ensures later { IfSome result (λ dest. at < dest.end) }
     ensures within { IfSome result (λ dest. dest.end ≤ length text.now) }
+    ensures span { IsUtf8 text.now → IsCharBoundary text.now at → IfSome result (λ dest. IsSpanOf text.now dest.span) }
+    ensures end { IsUtf8 text.now → IfSome result (λ dest. IsEndAfter text.now at dest.end) }
 {
     if begins(&text[at..], b'<') {
         return angle(text, at);
@@ -58,9 +66,11 @@ pub(crate) fn target(text: &[u8], at: usize) -> Option<Dest>
 /// A destination whose `<` stands at a place.
 #[tactic(auto, unfolding(crate::specs::LinkDestination::angle_destination))]
 fn angle(text: &[u8], at: usize) -> Option<Dest>
-    requires { at < length text.now }
+    requires inside { at < length text.now }
+    requires mark { slice_index text.now at < 128 }
     ensures value { result ≡ angle_destination text.now at }
-    ensures within { IfSome result (λ dest. dest.end ≤ length text.now) }
+    ensures enclosed { IfSome result (λ dest. IsEnclosed text.now at dest.span) }
+    ensures end { IfSome result (λ dest. dest.end ≡ dest.span.end + 1) }
 {
     let start = at + 1;
     let end = start + before(&text[start..], b"\n<>");
@@ -79,7 +89,7 @@ fn angle(text: &[u8], at: usize) -> Option<Dest>
 fn bare(text: &[u8], at: usize) -> Option<usize>
     requires { at ≤ length text.now }
     ensures value { result ≡ bare_end text.now at }
-    ensures within { IfSome result (λ n. n ≤ length text.now) }
+    ensures boundary { IfSome result (λ end. IsCharBoundary text.now end) }
 {
     let mut depth: usize = 0;
     let mut escaped = false;
@@ -117,7 +127,8 @@ fn bare_ends(byte: u8) -> bool
 pub(crate) fn quoted(text: &[u8], at: usize) -> Option<Dest>
     requires { at ≤ length text.now }
     ensures value { result ≡ title_at text.now at }
-    ensures within { IfSome result (λ dest. dest.end ≤ length text.now) }
+    ensures enclosed { IfSome result (λ dest. IsEnclosed text.now at dest.span) }
+    ensures end { IfSome result (λ dest. dest.end ≡ dest.span.end + 1) }
 {
     let rest = &text[at..];
     if begins(rest, b'"') {
@@ -134,9 +145,12 @@ pub(crate) fn quoted(text: &[u8], at: usize) -> Option<Dest>
 /// A title whose opening mark stands at a place, up to the first of the stops that is not escaped.
 #[tactic(auto, unfolding(crate::specs::LinkTitle::title_to))]
 fn title_up_to(text: &[u8], at: usize, stops: &[u8], closing: u8) -> Option<Dest>
-    requires { at < length text.now }
+    requires inside { at < length text.now }
+    requires mark { slice_index text.now at < 128 }
+    requires ascii { closing < 128 }
     ensures value { result ≡ title_to text.now at stops.now closing }
-    ensures within { IfSome result (λ dest. dest.end ≤ length text.now) }
+    ensures enclosed { IfSome result (λ dest. IsEnclosed text.now at dest.span) }
+    ensures end { IfSome result (λ dest. dest.end ≡ dest.span.end + 1) }
 {
     let start = at + 1;
     let end = start + before(&text[start..], stops);

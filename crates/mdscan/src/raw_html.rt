@@ -1,11 +1,13 @@
 //! Raw HTML in a text.
 
-use crate::html_tags::{closing, opening};
-
-ghost use Rattle.std.specs.Prelude.{◌≡◌, ◌+◌, ◌<◌, ◌≤◌, IfSome, length, drop, Option};
+ghost use Rattle.std.specs.Prelude.{◌≡◌, ◌+◌, ◌-◌, ◌<◌, ◌≤◌, true, nat_eq, ℕ, List, None, IfSome, length, drop, slice_index};
+ghost use Rattle.std.specs.List.{starts_with};
 ghost use Rattle.std.specs.Option.{option_map};
 ghost use Rattle.std.specs.Str.{IsCharBoundary};
+ghost use Rattle.mdscan.specs.Spans.{IsEndAfter, EndsAfterMark};
 ghost use Rattle.mdscan.specs.RawHtml.{comment, declaration, delimited, place_of, raw_html};
+
+use crate::html_tags::{closing, opening};
 
 /// Where the raw HTML ends that stands at a place of a text (CommonMark 6.6).
 ///
@@ -13,13 +15,34 @@ ghost use Rattle.mdscan.specs.RawHtml.{comment, declaration, delimited, place_of
 pub fn html_tag(text: &str, at: usize) -> Option<usize>
     requires { IsCharBoundary text.now at }
     ensures value { result ≡ option_map (λ n. at + n) (raw_html (drop at text.now)) }
+    ensures end { IfSome result (λ end. IsEndAfter text.now at end) }
 {
     html_at(text.as_bytes(), at)
 }
 
+/// The first place from `at` on at which `needle` stands. Where there is none, there is none from any later
+/// place on (`none_later`): so who looks for the ends of many comments need not look again.
+///
+/// The place is a character's beginning or the text's end.
+pub fn find_from(text: &str, at: usize, needle: &str) -> Option<usize>
+    requires { IsCharBoundary text.now at }
+    ensures { result ≡ option_map (λ n. at + n) (place_of needle.now (drop at text.now)) }
+{
+    match find(&text.as_bytes()[at..], needle.as_bytes()) {
+        Some(place) => Some(at + place),
+        None => None,
+    }
+}
+
+/// A needle that stands nowhere from a place on stands nowhere from a later one on.
+pub fn none_later()
+    ensures { (needle text : List ℕ) (i j : ℕ) → i ≤ j → place_of needle (drop i text) ≡ None → place_of needle (drop j text) ≡ None }
+{}
+
 fn html_at(text: &[u8], at: usize) -> Option<usize>
     requires { at ≤ length text.now }
     ensures value { result ≡ option_map (λ n. at + n) (raw_html (drop at text.now)) }
+    ensures end { IfSome result (λ end. EndsAfterMark text.now at end) }
 {
     match front(&text[at..]) {
         Some(length) => Some(at + length),
@@ -31,19 +54,22 @@ fn html_at(text: &[u8], at: usize) -> Option<usize>
 #[tactic(auto, unfolding(crate::specs::RawHtml::raw_html))]
 fn front(text: &[u8]) -> Option<usize>
     ensures value { result ≡ raw_html text.now }
-    ensures within { IfSome result (λ n. n ≤ length text.now) }
+    ensures end { IfSome result (λ end. EndsAfterMark text.now 0 end) }
 {
     let tag = opening(text).or(closing(text));
     let section = closed(text, b"<![CDATA[", b"]]>");
     let processing = closed(text, b"<?", b"?>");
-    tag.or(commented(text)).or(processing).or(declared(text)).or(section)
+    tag.or(commented(text))
+        .or(processing)
+        .or(declared(text))
+        .or(section)
 }
 
 /// The length of the comment that a text begins with.
 #[tactic(auto, unfolding(crate::specs::RawHtml::comment))]
 fn commented(text: &[u8]) -> Option<usize>
     ensures value { result ≡ comment text.now }
-    ensures within { IfSome result (λ n. n ≤ length text.now) }
+    ensures end { IfSome result (λ end. EndsAfterMark text.now 0 end) }
 {
     if text.starts_with(b"<!-->") {
         Some(5)
@@ -58,7 +84,7 @@ fn commented(text: &[u8]) -> Option<usize>
 #[tactic(auto, unfolding(crate::specs::RawHtml::declaration))]
 fn declared(text: &[u8]) -> Option<usize>
     ensures value { result ≡ declaration text.now }
-    ensures within { IfSome result (λ n. n ≤ length text.now) }
+    ensures end { IfSome result (λ end. EndsAfterMark text.now 0 end) }
 {
     match text {
         [_, _, letter, ..] if letter.is_ascii_alphabetic() => closed(text, b"<!", b">"),
@@ -69,8 +95,10 @@ fn declared(text: &[u8]) -> Option<usize>
 /// The length of the front, anything up to the next close, and that close.
 #[tactic(auto, unfolding(crate::specs::RawHtml::delimited))]
 fn closed(text: &[u8], front: &[u8], close: &[u8]) -> Option<usize>
+    requires some { 0 < length close.now }
+    requires mark { slice_index close.now (length close.now - 1) < 128 }
     ensures value { result ≡ delimited front.now close.now text.now }
-    ensures within { IfSome result (λ n. n ≤ length text.now) }
+    ensures end { IfSome result (λ end. EndsAfterMark text.now 0 end) }
 {
     if !text.starts_with(front) {
         return None;
@@ -86,6 +114,7 @@ fn closed(text: &[u8], front: &[u8], close: &[u8]) -> Option<usize>
 pub(crate) fn find(text: &[u8], needle: &[u8]) -> Option<usize>
     ensures value { result ≡ place_of needle.now text.now }
     ensures within { IfSome result (λ n. n + length needle.now ≤ length text.now) }
+    ensures there { IfSome result (λ n. starts_with nat_eq (drop n text.now) needle.now ≡ true) }
 {
     for at in 0..text.len() {
         if text[at..].starts_with(needle) {

@@ -1,6 +1,6 @@
 //! Runs of one byte, or of spaces and tabs, at the ends of a text.
 
-ghost use Rattle.std.specs.Prelude.{◌≡◌, ◌==◌, ◌<◌, ◌≤◌, IsTrue, length};
+ghost use Rattle.std.specs.Prelude.{◌≡◌, ◌==◌, ◌<◌, ◌≤◌, IsTrue, length, slice_index};
 ghost use Rattle.std.specs.Char.{is_ascii_alphanumeric, is_ascii_digit};
 ghost use Rattle.std.specs.List.{list_any, prefix_len, suffix_len};
 ghost use Rattle.mdscan.specs.Blanks.{is_blank, is_blank_text, begins_with, ends_or_blank};
@@ -47,6 +47,7 @@ pub(crate) fn trailing_blanks(text: &[u8]) -> usize
 pub(crate) fn begins(text: &[u8], mark: u8) -> bool
     ensures value { result ≡ begins_with mark text.now }
     ensures some { IsTrue result → 0 < length text.now }
+    ensures first { IsTrue result → slice_index text.now 0 ≡ mark }
 {
     match text {
         [first, ..] => *first == mark,
@@ -92,5 +93,7 @@ pub(crate) fn leading_name(text: &[u8]) -> usize
     ensures count { result ≡ prefix_len is_ascii_alphanumeric text.now }
     ensures within { result ≤ length text.now }
 {
-    text.iter().take_while(|byte| byte.is_ascii_alphanumeric()).count()
+    text.iter()
+        .take_while(|byte| byte.is_ascii_alphanumeric())
+        .count()
 }

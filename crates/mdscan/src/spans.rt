@@ -1,10 +1,10 @@
 //! Parts of a text, by their places in it.
 
-use crate::runs::{leading_blanks, trailing_blanks};
-
 ghost use Rattle.std.specs.Prelude.{◌≡◌, ◌≤◌, length};
 ghost use Rattle.std.specs.Str.{IsCharBoundary};
 ghost use Rattle.mdscan.specs.Spans.{IsSpanOf, trimmed_from};
+
+use crate::runs::{leading_blanks, trailing_blanks};
 
 /// The bytes from `start` up to `end`.
 #[derive(Clone, Copy, Debug, PartialEq, Eq)]

@@ -1,10 +1,10 @@
 //! Rows of tables.
 
-use crate::spans::{Span, trimmed_bytes};
-use std::alloc::{AllocError, Global};
-
 ghost use Rattle.std.specs.Prelude.{◌≡◌, ◌<◌, ◌≤◌, IfOk, length};
 ghost use Rattle.mdscan.specs.TableRow.{inside, splits, cell, row_cells};
+
+use crate::spans::{Span, trimmed_bytes};
+use std::alloc::{AllocError, Global};
 
 /// The cells of a table's row, without the spaces and tabs at their ends (GFM 4.10). A backslash before a bar
 /// is still there.

@@ -1,10 +1,10 @@
 //! Markers of task list items.
 
-use crate::runs::{blank, leading_blanks};
-
 ghost use Rattle.std.specs.Prelude.{◌≡◌, ◌<◌, ◌≤◌, IfSome, IsTrue, length};
 ghost use Rattle.std.specs.Str.{IsCharBoundary};
 ghost use Rattle.mdscan.specs.TaskMarker.{begins_box, begins_text, is_tick, task_marker};
+
+use crate::runs::{blank, leading_blanks};
 
 /// A task marker: whether it is ticked, and where the text goes on after it and the spaces and tabs behind it.
 #[derive(Clone, Copy, Debug, PartialEq, Eq)]

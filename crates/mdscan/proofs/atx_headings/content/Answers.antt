@@ -1,4 +1,4 @@
-use Rattle.std.proofs.Common.{◌≡◌, ◌+◌, sym, subst, rules, arith}
+use Rattle.std.proofs.Common.{◌≡◌, ◌+◌, sym, subst, arith}
 use Rattle.std.proofs.lemmas.Grind.{common_steps}
 use Rattle.mdscan.specs.declared.spans.Span.{Span}
 use Rattle.mdscan.specs.AtxHeading.{heading_content}

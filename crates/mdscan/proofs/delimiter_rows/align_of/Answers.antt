@@ -1,4 +1,4 @@
-use Rattle.std.proofs.Common.{◌≡◌, ℕ, ◌+◌, List, ◌∷◌, [], slice_get, arith, ap, sym, subst, ◌∙◌}
+use Rattle.std.proofs.Common.{ℕ, List, ◌∷◌, [], slice_get, arith, ap, sym, ◌∙◌}
 use Rattle.mdscan.specs.declared.spans.Span.{Span}
 use Rattle.mdscan.specs.TableRow.{cell}
 use Rattle.mdscan.specs.DelimiterRow.{align_of, column_align}
@@ -25,12 +25,13 @@ loop-at-preserved c =
     let at = c.loop-at.at in
     let end = c.inner-inner.result.end in
     elim c.if-is_split.branch [
-        then-is_split+else-left-eq0 w ↦
-            let f = sym (aligned_later row c.loop-at.start at end c.loop-at.left (omega arith) (sym c.is_split.ensures ∙ w.if-is_split.true) (omega arith)) ∙ c.loop-at.invariant.1 in
-            (omega arith, rw (w.start-is, w.left-is) f)
+      | then-is_split+else-left-eq0 w ↦
+          let f = sym (aligned_later row c.loop-at.start at end c.loop-at.left (omega arith) (sym c.is_split.ensures ∙ w.if-is_split.true) (omega arith)) ∙ c.loop-at.invariant.1 in
+          (omega arith, rw (w.start-is, w.left-is) f)
       | else-is_split w ↦
-            let f = sym (aligned_on row c.loop-at.start at end c.loop-at.left (omega arith) (sym c.is_split.ensures ∙ w.if-is_split.false)) ∙ c.loop-at.invariant.1 in
-            (omega arith, rw (w.start-is, w.left-is) f) ]
+          let f = sym (aligned_on row c.loop-at.start at end c.loop-at.left (omega arith) (sym c.is_split.ensures ∙ w.if-is_split.false)) ∙ c.loop-at.invariant.1 in
+          (omega arith, rw (w.start-is, w.left-is) f)
+    ]
 
 pub returns-then-left-eq0-2 : goal.returns-then-left-eq0-2
 returns-then-left-eq0-2 c =

@@ -1,8 +1,8 @@
-use Rattle.std.proofs.Common.{◌≡◌, ℕ, ◌+◌, List, length, true, false, arith, ap, sym, subst, ◌∙◌}
+use Rattle.std.proofs.Common.{◌+◌, List, length, true, false, arith, ap, sym, ◌∙◌}
 use Rattle.std.specs.List.{list_all}
 use Rattle.mdscan.specs.declared.spans.Span.{Span}
-use Rattle.mdscan.specs.TableRow.{cell, row_cells}
-use Rattle.mdscan.proofs.Rows.{rest_cells, no_cut, last_cell}
+use Rattle.mdscan.specs.TableRow.{row_cells}
+use Rattle.mdscan.proofs.Rows.{no_cut, last_cell}
 use Rattle.mdscan.proofs.Delimiters.{all_left, delimits, passed, counted, refused, at_last, none_delimits, all_delimit}
 use Rattle.mdscan.proofs.delimiter_rows.columns.Goals as goal
 use Rattle.mdscan.proofs.delimiter_rows.columns.Goals.{then-is_split+else-not-delimits, else-is_split}
@@ -25,16 +25,17 @@ loop-at-preserved c =
     let end = c.inner-inner.result.end in
     let all = list_all (delimits row) (row_cells row) in
     elim c.if-is_split.branch [
-        then-is_split+else-not-delimits w ↦
-            let cut = sym c.is_split.ensures ∙ w.if-is_split.true in
-            let f = passed row c.loop-at.start at end all (omega arith) cut (sym w.delimits.ensures ∙ w.if-not-delimits.false) c.loop-at.invariant.2 in
-            let n = counted row c.loop-at.start at end c.loop-at.columns (length (row_cells row)) (omega arith) cut c.loop-at.invariant.3 in
-            (omega arith, omega arith, rw w.start-is f, rw (w.start-is, w.columns-is) n)
+      | then-is_split+else-not-delimits w ↦
+          let cut = sym c.is_split.ensures ∙ w.if-is_split.true in
+          let f = passed row c.loop-at.start at end all (omega arith) cut (sym w.delimits.ensures ∙ w.if-not-delimits.false) c.loop-at.invariant.2 in
+          let n = counted row c.loop-at.start at end c.loop-at.columns (length (row_cells row)) (omega arith) cut c.loop-at.invariant.3 in
+          (omega arith, omega arith, rw w.start-is f, rw (w.start-is, w.columns-is) n)
       | else-is_split w ↦
-            let e = no_cut row c.loop-at.start at end (omega arith) (sym c.is_split.ensures ∙ w.if-is_split.false) in
-            let f = ap (λ (xs : List Span). list_all (delimits row) xs) (sym e) ∙ c.loop-at.invariant.2 in
-            let n = ap (λ (xs : List Span). c.loop-at.columns + length xs) (sym e) ∙ c.loop-at.invariant.3 in
-            (omega arith, omega arith, rw w.start-is f, rw (w.start-is, w.columns-is) n) ]
+          let e = no_cut row c.loop-at.start at end (omega arith) (sym c.is_split.ensures ∙ w.if-is_split.false) in
+          let f = ap (λ (xs : List Span). list_all (delimits row) xs) (sym e) ∙ c.loop-at.invariant.2 in
+          let n = ap (λ (xs : List Span). c.loop-at.columns + length xs) (sym e) ∙ c.loop-at.invariant.3 in
+          (omega arith, omega arith, rw w.start-is f, rw (w.start-is, w.columns-is) n)
+    ]
 
 pub returns-then-delimits : goal.returns-then-delimits
 returns-then-delimits c =

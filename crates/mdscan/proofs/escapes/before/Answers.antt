@@ -1,4 +1,4 @@
-use Rattle.std.proofs.Common.{◌≡◌, ◌+◌, ℕ, Bool, drop, true, false, arith, sym, subst, ◌∙◌}
+use Rattle.std.proofs.Common.{ℕ, false, arith, sym, ◌∙◌}
 use Rattle.mdscan.specs.Escapes.{run_after}
 use Rattle.mdscan.proofs.Stops.{past_escaped, past_escape, past_other}
 use Rattle.mdscan.proofs.escapes.before.Goals as goal
@@ -12,12 +12,13 @@ loop-at-preserved c =
     let all : ℕ = run_after false stops text in
     let inv = c.loop-at.invariant in
     elim c.if-escaped.branch [
-        then-escaped w ↦
-            let was = rw w.if-escaped.true at inv in
-            rw w.escaped-is (past_escaped stops text at all (omega arith) was)
+      | then-escaped w ↦
+          let was = rw w.if-escaped.true at inv in
+          rw w.escaped-is (past_escaped stops text at all (omega arith) was)
       | else-escaped+then-escape w ↦
-            let was = rw w.if-escaped.false at inv in
-            rw w.escaped-is (past_escape stops text at all (omega arith) (sym w.escape.ensures ∙ w.if-escape.true) was)
+          let was = rw w.if-escaped.false at inv in
+          rw w.escaped-is (past_escape stops text at all (omega arith) (sym w.escape.ensures ∙ w.if-escape.true) was)
       | else-escaped+else-escape+else-holds w ↦
-            let was = rw w.if-escaped.false at inv in
-            rw (w.escaped-is, w.if-escaped.false) (past_other stops text at all (omega arith) (sym w.escape.ensures ∙ w.if-escape.false) (sym w.holds.ensures ∙ w.if-holds.false) was) ]
+          let was = rw w.if-escaped.false at inv in
+          rw (w.escaped-is, w.if-escaped.false) (past_other stops text at all (omega arith) (sym w.escape.ensures ∙ w.if-escape.false) (sym w.holds.ensures ∙ w.if-holds.false) was)
+    ]

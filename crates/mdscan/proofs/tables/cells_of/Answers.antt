@@ -12,14 +12,15 @@ loop-at-preserved c =
     let was = c.loop-at.cells.items in
     let now = c.if-is_split.cells.items in
     elim c.if-is_split.branch [
-        then-is_split+in_ok-push w ↦
-            let e : now ≡ was ++ w.cell_at.result ∷ [] = cc (w.in_ok-push.ensures.items) in
-            let f = cell_more row was now (row_cells row) c.loop-at.start at end w.cell_at.result (omega arith) (sym c.is_split.ensures ∙ w.if-is_split.true) w.cell_at.ensures.value e c.loop-at.invariant.1 in
-            (omega arith, subst (λ (s : ℕ). now ++ rest_cells row s (at + 1) end ≡ row_cells row) (sym w.start-is) f)
+      | then-is_split+in_ok-push w ↦
+          let e : now ≡ was ++ w.cell_at.result ∷ [] = cc (w.in_ok-push.ensures.items) in
+          let f = cell_more row was now (row_cells row) c.loop-at.start at end w.cell_at.result (omega arith) (sym c.is_split.ensures ∙ w.if-is_split.true) w.cell_at.ensures.value e c.loop-at.invariant.1 in
+          (omega arith, subst (λ (s : ℕ). now ++ rest_cells row s (at + 1) end ≡ row_cells row) (sym w.start-is) f)
       | else-is_split w ↦
-            let f = cell_goes_on row was (row_cells row) c.loop-at.start at end (omega arith) (sym c.is_split.ensures ∙ w.if-is_split.false) c.loop-at.invariant.1 in
-            let e : now ≡ was = cc in
-            (omega arith, rw (e, w.start-is) f) ]
+          let f = cell_goes_on row was (row_cells row) c.loop-at.start at end (omega arith) (sym c.is_split.ensures ∙ w.if-is_split.false) c.loop-at.invariant.1 in
+          let e : now ≡ was = cc in
+          (omega arith, rw (e, w.start-is) f)
+    ]
 
 pub returns : goal.returns
 returns c =

@@ -1,0 +1,4 @@
+//! Tables of borders for each recogniser.
+
+mod blocks;
+mod inlines;
