@@ -1,12 +1,11 @@
 -- The pieces that a patch brings, one by one.
-use Rattle.std.proofs.Common.{◌≡◌, ℕ, ◌+◌, ◌<◌, Bool, true, false, List, [], ◌∷◌, ◌++◌, drop, length, get_or, suc, Option, Some, None, refl, ap, sym, ◌∙◌, append_assoc, arith, add-one, drop-cons, slice_get}
+use Rattle.std.proofs.Common.{◌≡◌, ℕ, ◌+◌, ◌<◌, Bool, true, false, List, [], ◌∷◌, ◌++◌, drop, length, get_or, Some, None, refl, ap, sym, ◌∙◌, append_assoc, add-one, drop-cons, slice_get}
 use Rattle.std.specs.Prelude.{codes, decimal}
 use Rattle.std.specs.Prelude.{if◌then◌else◌}
 use Rattle.std.proofs.lemmas.Option.{slice_get-get_or}
 use Rattle.mdtool.specs.Stretch.{Stretch}
 use Rattle.mdtool.specs.Patch.{brings}
 use Rattle.mdtool.specs.Replies.{brought, piece_reply, patch_line}
-
 
 at_front : (pieces : List (List ℕ)) (i : ℕ) → i < length pieces → drop i pieces ≡ get_or pieces i [] ∷ drop (i + 1) pieces
 at_front pieces i below = rw add-one (drop-cons pieces i [] below)

@@ -1,17 +1,13 @@
 -- A command that was read, or where the script stops before one.
-use Rattle.std.proofs.Common.{◌≡◌, ℕ, ◌+◌, ◌<◌, ◌≤◌, Bool, true, false, leb, List, [], ◌∷◌, ◌++◌, take, drop, length, Option, Some, None, Result, Ok, Err, refl, ap, sym, ◌∙◌, subst, append-nil, append_assoc, length-append, arith, Vec, String, Global, map, string_bytes}
-use Rattle.std.proofs.lemmas.List.{take_all}
+use Rattle.std.proofs.Common.{◌≡◌, ℕ, ◌+◌, Bool, true, false, leb, List, [], ◌∷◌, ◌++◌, take, length, Option, Some, None, Err, refl, ap, sym, ◌∙◌, subst, append-nil, length-append, arith, Vec, String, Global, map, string_bytes}
 use Rattle.std.proofs.Math.Seq.{take-append_seam}
 use Rattle.std.proofs.lemmas.Bool.Decides.{nat_tests}
-use Rattle.std.specs.Str.Lossy.{utf8_lossy}
 use Rattle.mdtool.specs.declared.fault.ToolFault.{ToolFault}
 use Rattle.mdtool.specs.declared.fault.ToolFault.TheVariants.{Read, Write, Refused, BadCommand, Truncated, Table, NoMemory}
-use Rattle.mdtool.specs.Edit.{Call}
-use Rattle.mdtool.specs.Commands.{Command, Html, Edit, Head, HtmlHead, EditHead, Stop, Done, Open, Bad, Short, head_of, first_command, stop_of, stop_at, script_lines, capped}
+use Rattle.mdtool.specs.Commands.{Command, Html, Edit, HtmlHead, EditHead, Stop, Open, Bad, head_of, first_command, stop_of, stop_at, script_lines, capped}
 use Rattle.mdtool.specs.Pending.{Pending, MayFollow, Reads, Draws, HasLine, IsOver, used}
 use Rattle.mdtool.specs.Steps.{Steps, StopsAt, ReadsCommand, FewLines, ReadsTexts, NextCommand}
 use Rattle.mdtool.proofs.Readings.{reads_on, reads_line}
-use Rattle.mdtool.proofs.Texts.{reads_also}
 
 stop_cons : (ended : Bool) (n : ℕ) (line : List ℕ) (lines : List (List ℕ)) → stop_at ended n (line ∷ lines) ≡ stop_of (head_of line) ended n
 stop_cons true n line lines = refl
@@ -64,7 +60,7 @@ pub bad_stops : (a c : Option (List ℕ)) (o n : Pending) (line : List ℕ) (num
 bad_stops a c o n line number read none is =
     let rest = script_lines n.is_ended n.bytes in
     stops a c o n (line ∷ []) (line ∷ rest) (Bad number) read refl (rw none refl)
-        (ap Bad is ∙ sym (stop_cons n.is_ended (capped (o.lines + 1)) line rest ∙ ap (λ h. stop_of h n.is_ended (capped (o.lines + 1))) none))
+    (ap Bad is ∙ sym (stop_cons n.is_ended (capped (o.lines + 1)) line rest ∙ ap (λ h. stop_of h n.is_ended (capped (o.lines + 1))) none))
 
 pub few_stops : (a b c : Option (List ℕ)) (o p n : Pending) (line : List ℕ) (at del add : ℕ) (ended : Bool) → Reads a o (line ∷ []) b p
     → head_of line ≡ Some (EditHead at del add) → FewLines b p c n ended add → StopsAt a o c (stop_of (Some (EditHead at del add)) ended (capped (o.lines + 1)))
@@ -72,9 +68,9 @@ few_stops a b c o p n line at del add ended read head few =
     let not_all : leb add (length few.lines) ≡ false = grind (arith, nat_tests, few.few) in
     let rest : script_lines n.is_ended n.bytes ≡ [] = ap (λ e. script_lines e n.bytes) few.over.is_ended ∙ few.over.no_line in
     stops a c o n (line ∷ few.lines) (line ∷ few.lines) _ (reads_on a b c o p n (line ∷ []) few.lines read few.reads)
-        (ap (λ ls. line ∷ (few.lines ++ ls)) rest ∙ ap (λ ls. line ∷ ls) (append-nil few.lines))
-        (rw (head, not_all) refl)
-        (sym (stop_cons n.is_ended (capped (o.lines + 1)) line few.lines ∙ ap (λ h. stop_of h n.is_ended (capped (o.lines + 1))) head ∙ ap (λ e. stop_of (Some (EditHead at del add)) e (capped (o.lines + 1))) few.over.is_ended))
+    (ap (λ ls. line ∷ (few.lines ++ ls)) rest ∙ ap (λ ls. line ∷ ls) (append-nil few.lines))
+    (rw (head, not_all) refl)
+    (sym (stop_cons n.is_ended (capped (o.lines + 1)) line few.lines ∙ ap (λ h. stop_of h n.is_ended (capped (o.lines + 1))) head ∙ ap (λ e. stop_of (Some (EditHead at del add)) e (capped (o.lines + 1))) few.over.is_ended))
 
 pub html_read : (a c : Option (List ℕ)) (o n : Pending) (line : List ℕ) → Reads a o (line ∷ []) c n → head_of line ≡ Some HtmlHead → ReadsCommand a o c n Html
 html_read a c o n line read head = record { lines = line ∷ []; reads = read; first = λ rest. rw head refl }

@@ -1,7 +1,6 @@
 -- Lines read off the front of what is pending.
-use Rattle.std.proofs.Common.{◌≡◌, ℕ, ◌+◌, ◌<◌, Bool, true, false, List, [], ◌∷◌, ◌++◌, take, drop, length, get_or, Option, refl, ap, sym, ◌∙◌, append_assoc, append-nil, length-append, arith, inl, inr}
+use Rattle.std.proofs.Common.{◌≡◌, ℕ, ◌+◌, Bool, List, [], ◌∷◌, ◌++◌, take, drop, Option, refl, ap, sym, ◌∙◌, append_assoc, append-nil, length-append, arith, inl, inr}
 use Rattle.std.proofs.lemmas.List.{take_all, drop_all}
-use Rattle.mdtool.specs.Bytes.{Takes, AtEnd}
 use Rattle.mdtool.specs.Commands.{script_lines, capped}
 use Rattle.mdtool.specs.Pending.{Pending, MayFollow, Reads, Draws, HasLine}
 use Rattle.mdtool.proofs.Devices.{takes_nothing, takes_more}
@@ -23,7 +22,7 @@ reads_on a b c o p n x y first second = record {
   takes = takes_more a b c first.taken second.taken first.takes second.takes;
   reads = λ future ended may.
       let between : MayFollow p (second.taken ++ future) ended = record {
-        follows = λ e. let q = second.stays e in let r = may.follows q.1 in (rw (q.0, r.0) refl, r.1)
+        follows = λ e. let q = second.stays e in let r = may.follows q.1 in (rw (q.0, r.0) refl, r.1);
       } in
       ap (λ xs. script_lines ended (o.bytes ++ xs)) (append_assoc first.taken second.taken future)
       ∙ first.reads (second.taken ++ future) ended between
@@ -51,15 +50,15 @@ draws_on a b c o p x first second = record {
 pub front_line : (len : ℕ) (p : Pending) → HasLine len p → (future : List ℕ) (ended : Bool) → MayFollow p future ended
     → script_lines ended (p.bytes ++ future) ≡ take len p.bytes ∷ script_lines ended (drop (len + 1) p.bytes ++ future)
 front_line len p has future ended may = elim has.ends [
-    inl cut ↦
-        ap (λ bytes. script_lines ended (bytes ++ future)) (cut_at p.bytes len cut.0 cut.1)
-        ∙ ap (script_lines ended) (append_assoc (take len p.bytes) (10 ∷ drop (len + 1) p.bytes) future)
-        ∙ lines_cut ended (take len p.bytes) (drop (len + 1) p.bytes ++ future) has.unbroken
+  | inl cut ↦
+      ap (λ bytes. script_lines ended (bytes ++ future)) (cut_at p.bytes len cut.0 cut.1)
+      ∙ ap (script_lines ended) (append_assoc (take len p.bytes) (10 ∷ drop (len + 1) p.bytes) future)
+      ∙ lines_cut ended (take len p.bytes) (drop (len + 1) p.bytes ++ future) has.unbroken
   | inr end ↦
-        let q = may.follows end.2 in
-        let all : take len p.bytes ≡ p.bytes = take_all len p.bytes (omega (arith, end.0)) in
-        let none : drop (len + 1) p.bytes ≡ [] = drop_all (len + 1) p.bytes (omega (arith, end.0)) in
-        rw (q.0, q.1, all, none, append-nil, lines_done) (lines_lone p.bytes (rw all at has.unbroken) (omega (arith, end.0, end.1)))
+      let q = may.follows end.2 in
+      let all : take len p.bytes ≡ p.bytes = take_all len p.bytes (omega (arith, end.0)) in
+      let none : drop (len + 1) p.bytes ≡ [] = drop_all (len + 1) p.bytes (omega (arith, end.0)) in
+      rw (q.0, q.1, all, none, append-nil, lines_done) (lines_lone p.bytes (rw all at has.unbroken) (omega (arith, end.0, end.1)))
 ]
 
 -- a line is used

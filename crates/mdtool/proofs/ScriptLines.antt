@@ -1,7 +1,7 @@
 -- The lines of a script, cut off its front.
-use Rattle.std.proofs.Common.{◌≡◌, ℕ, ◌+◌, ◌<◌, Bool, true, false, eqb, List, [], ◌∷◌, ◌++◌, take, drop, length, get_or, suc, refl, ap, sym, ◌∙◌, append_assoc, append-nil, arith, add-one, drop-cons, inl, inr}
+use Rattle.std.proofs.Common.{◌≡◌, ℕ, ◌+◌, ◌<◌, Bool, true, false, eqb, List, [], ◌∷◌, ◌++◌, take, drop, length, get_or, suc, refl, ap, sym, ◌∙◌, arith, add-one, drop-cons}
 use Rattle.std.specs.Prelude.{◌||◌}
-use Rattle.std.proofs.lemmas.List.{take-append-drop, take_all, drop_all}
+use Rattle.std.proofs.lemmas.List.{take-append-drop}
 use Rattle.mdtool.specs.Commands.{whole_lines, last_line, has_break, script_lines}
 
 or_false : (x y : Bool) → (x || y) ≡ false → (x ≡ false) × (y ≡ false)

@@ -1,5 +1,5 @@
 -- The search for an LF, carried on from where it had come.
-use Rattle.std.proofs.Common.{◌≡◌, ℕ, ◌+◌, ◌-◌, ◌<◌, ◌≤◌, Bool, true, false, List, [], ◌∷◌, ◌++◌, take, drop, length, get_or, refl, ap, sym, ◌∙◌, arith, length-drop, inl, inr}
+use Rattle.std.proofs.Common.{◌≡◌, ℕ, ◌+◌, ◌-◌, ◌<◌, ◌≤◌, Bool, true, false, List, ◌++◌, take, drop, length, get_or, ap, sym, ◌∙◌, arith, length-drop}
 use Rattle.std.specs.Prelude.{◌||◌, ◌==◌}
 use Rattle.std.proofs.Math.Seq.{take-add}
 use Rattle.std.proofs.lemmas.List.{drop-drop, take_all, take-append-drop, get_or-drop}
@@ -30,10 +30,11 @@ found bytes taken start searched at same order within before facts =
     let there : get_or (drop searched taken) at 0 ≡ 10 = rw rest at facts.1 in
     let after : has_break (take at (drop (searched - start) (drop start taken))) ≡ false = rw (← rest_from taken start searched order, ← rest) facts.2 in
     let front : searched + at - start ≡ searched - start + at = omega arith in
-    let place : start + (searched + at - start) ≡ searched + at = omega arith in
-    (omega (arith, length-drop searched taken),
-     get_or-drop start taken (searched + at - start) 0 ∙ ap (λ n. get_or taken n 0) place ∙ sym (get_or-drop searched taken at 0) ∙ there,
-     rw (front, take-add (searched - start) at (drop start taken)) (break_append (take (searched - start) (drop start taken)) (take at (drop (searched - start) (drop start taken))) before after))
+    let place : start + (searched + at - start) ≡ searched + at = omega arith in (
+      omega (arith, length-drop searched taken),
+      get_or-drop start taken (searched + at - start) 0 ∙ ap (λ n. get_or taken n 0) place ∙ sym (get_or-drop searched taken at 0) ∙ there,
+      rw (front, take-add (searched - start) at (drop start taken)) (break_append (take (searched - start) (drop start taken)) (take at (drop (searched - start) (drop start taken))) before after),
+    )
 
 -- where none was found, there is none
 pub not_found : (bytes taken : List ℕ) (start searched : ℕ) → bytes ≡ taken → start ≤ searched → has_break (take (searched - start) (drop start taken)) ≡ false

@@ -1,11 +1,10 @@
 -- Commands that were answered, one after the other.
-use Rattle.std.proofs.Common.{◌≡◌, ℕ, ◌+◌, Bool, true, false, List, [], ◌∷◌, ◌++◌, take, drop, length, Option, Some, None, refl, ap, sym, ◌∙◌, subst, append-nil, append_assoc, arith}
-use Rattle.std.specs.Prelude.{map}
+use Rattle.std.proofs.Common.{◌≡◌, ℕ, ◌+◌, Bool, true, false, List, [], ◌∷◌, ◌++◌, drop, length, Option, Some, None, refl, ap, sym, ◌∙◌, subst, append-nil, append_assoc, arith}
 use Rattle.std.proofs.lemmas.List.{map-append}
 use Rattle.std.proofs.Math.Seq.{drop-append_seam}
 use Rattle.mdtool.specs.Bytes.{Takes, AtEnd, Gains, GainsFront}
 use Rattle.mdtool.specs.Document.{Document}
-use Rattle.mdtool.specs.Commands.{Command, Stop, Leads, Script, first_command, stop_at, script_lines, capped}
+use Rattle.mdtool.specs.Commands.{Command, Stop, Leads, first_command, script_lines, capped}
 use Rattle.mdtool.specs.Replies.{ScriptTurn, replies, reply, held_behind}
 use Rattle.mdtool.specs.Pending.{Pending, MayFollow, Reads, Draws, fresh}
 use Rattle.mdtool.specs.Steps.{StopsAt, ReadsCommand}
@@ -122,7 +121,7 @@ run_stops old a b c script w w' held stop run stops =
     let lines = all_lines old a b script run.turns run.progress stops.taken stops.ended may in
     let rest = script_lines stops.ended (script.bytes ++ stops.taken) in
     let leads : Leads 1 (script_lines stops.ended (run.progress.reads.taken ++ stops.taken)) (commands_of run.turns) (capped (script.lines + 1)) rest =
-        subst (λ (ls : List (List ℕ)). Leads 1 ls (commands_of run.turns) (capped (script.lines + 1)) rest) (sym lines) (run.progress.leads rest) in
+    subst (λ (ls : List (List ℕ)). Leads 1 ls (commands_of run.turns) (capped (script.lines + 1)) rest) (sym lines) (run.progress.leads rest) in
     record {
       bytes = run.progress.reads.taken ++ stops.taken;
       ended = stops.ended;
@@ -175,7 +174,9 @@ run_breaks old a b c script script' w w' w'' held held' command bytes run read r
     let part : bytes ≡ front.0 ++ front.1 = front.2 in
     let all = next_reply old held run.turns command replied.starved bytes run.holds replied.bytes_are in
     breaks old a c c script' (run.turns ++ turn ∷ []) w w'' (progress_more old a b c script script' run.turns turn run.progress read)
-        (draws_nothing c script'.is_ended)
-        (replies old run.turns ++ front.0, front.1,
-         all ∙ ap (λ bs. replies old run.turns ++ bs) part ∙ sym (append_assoc (replies old run.turns) front.0 front.1),
-         gains_more w w' w'' (replies old run.turns) front.0 run.replied front.3)
+    (draws_nothing c script'.is_ended) (
+      replies old run.turns ++ front.0,
+      front.1,
+      all ∙ ap (λ bs. replies old run.turns ++ bs) part ∙ sym (append_assoc (replies old run.turns) front.0 front.1),
+      gains_more w w' w'' (replies old run.turns) front.0 run.replied front.3,
+    )

@@ -1,5 +1,5 @@
 -- A step that fails as the step before it failed.
-use Rattle.std.proofs.Common.{Result, Ok, Err, ◌≡◌, refl}
+use Rattle.std.proofs.Common.{Err}
 use Rattle.mdtool.specs.declared.fault.ToolFault.{ToolFault}
 use Rattle.mdtool.specs.declared.fault.ToolFault.TheVariants.{Read, Write, Refused, BadCommand, Truncated, Table, NoMemory}
 use Rattle.mdtool.specs.Steps.{Steps}

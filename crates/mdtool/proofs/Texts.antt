@@ -1,11 +1,10 @@
 -- The texts of an edit, read line by line.
-use Rattle.std.proofs.Common.{◌≡◌, ℕ, ◌+◌, ◌<◌, Bool, List, [], ◌∷◌, ◌++◌, take, drop, length, Option, refl, ap, sym, ◌∙◌, subst, append-nil, length-append, arith, Vec, String, Global, map, string_bytes}
+use Rattle.std.proofs.Common.{◌≡◌, ℕ, ◌+◌, ◌<◌, Bool, List, [], ◌∷◌, ◌++◌, take, Option, refl, ap, sym, ◌∙◌, subst, append-nil, length-append, arith, Vec, String, Global, map, string_bytes}
 use Rattle.std.proofs.lemmas.List.{map-append}
 use Rattle.std.specs.Str.Lossy.{utf8_lossy}
-use Rattle.mdtool.specs.Commands.{capped}
 use Rattle.mdtool.specs.Pending.{Pending, Reads, Draws, HasLine, IsOver, used}
 use Rattle.mdtool.specs.Steps.{ReadsTexts, FewLines}
-use Rattle.mdtool.proofs.Readings.{reads_nothing, reads_on, reads_line, draws_of, draws_on}
+use Rattle.mdtool.proofs.Readings.{reads_nothing, reads_on, reads_line, draws_of}
 
 -- bytes that were taken and gave no line
 pub reads_also : (a b c : Option (List ℕ)) (o p n : Pending) (x : List (List ℕ)) → Reads a o x b p → Reads b p [] c n → Reads a o x c n

@@ -3,9 +3,9 @@ use Rattle.std.specs.Prelude.{ℕ, List, [], ◌∷◌, ◌++◌, codes, decimal
 use Rattle.mdtool.specs.declared.view.fault.EditFault.{EditFault}
 use Rattle.mdtool.specs.declared.view.fault.EditFault.TheVariants.{OutOfRange, BreakInLine, TooManyLines, TooLarge}
 use Rattle.mdtool.specs.declared.view.fault.EditFault.TheVariants.{NoMemory as EditNoMemory}
-use Rattle.mdtool.specs.declared.fault.TableFault.{TableFault}
-use Rattle.mdtool.specs.declared.fault.TableFault.TheVariants.{NotJson, BadEntry}
-use Rattle.mdtool.specs.declared.fault.TableFault.TheVariants.{NoMemory as TableNoMemory}
+use Rattle.mdtext.specs.declared.entity_file.TableFault.{TableFault}
+use Rattle.mdtext.specs.declared.entity_file.TableFault.TheVariants.{NotJson, BadEntry}
+use Rattle.mdtext.specs.declared.entity_file.TableFault.TheVariants.{NoMemory as TableNoMemory}
 use Rattle.mdtool.specs.declared.fault.ToolFault.{ToolFault}
 use Rattle.mdtool.specs.declared.fault.ToolFault.TheVariants.{Read, Write, Refused, BadCommand, Truncated, Table}
 use Rattle.mdtool.specs.declared.fault.ToolFault.TheVariants.{NoMemory as ToolNoMemory}

@@ -1,5 +1,5 @@
 -- What a script has taken from its feed and not read yet, and how lines are read off it.
-use Rattle.std.specs.Prelude.{◌≡◌, ℕ, ◌+◌, ◌<◌, Bool, true, false, List, [], ◌∷◌, ◌++◌, Option, ◌⊎◌, length, take, drop, get_or}
+use Rattle.std.specs.Prelude.{◌≡◌, ℕ, ◌+◌, ◌<◌, Bool, true, false, List, [], ◌++◌, Option, ◌⊎◌, length, take, drop, get_or}
 use Rattle.mdtool.specs.Bytes.{Takes, AtEnd}
 use Rattle.mdtool.specs.Commands.{has_break, script_lines, capped}
 
@@ -19,7 +19,7 @@ pub record Reads (left : Option (List ℕ)) (old : Pending) (lines : List (List 
   pub taken : List ℕ
   pub takes : Takes left taken left'
   pub reads : (future : List ℕ) (ended : Bool) → MayFollow new future ended
-    → script_lines ended (old.bytes ++ (taken ++ future)) ≡ lines ++ script_lines ended (new.bytes ++ future)
+      → script_lines ended (old.bytes ++ (taken ++ future)) ≡ lines ++ script_lines ended (new.bytes ++ future)
   pub count : capped new.lines ≡ capped (old.lines + length lines)
   pub stays : old.is_ended ≡ true → (taken ≡ []) × (new.is_ended ≡ true)
   pub at_end : (old.is_ended ≡ true → AtEnd left) → new.is_ended ≡ true → AtEnd left'

@@ -1,5 +1,5 @@
 -- What each end of a step says that reads a script.
-use Rattle.std.specs.Prelude.{◌≡◌, ℕ, ◌+◌, ◌<◌, Bool, true, List, [], ◌∷◌, ◌++◌, Option, Some, None, Result, Ok, Err, length, map, string_bytes, Vec, String}
+use Rattle.std.specs.Prelude.{◌≡◌, ℕ, ◌+◌, ◌<◌, Bool, true, List, [], ◌++◌, Option, Some, None, Result, Ok, Err, length, map, string_bytes, Vec, String}
 use Rattle.std.specs.Global.{Global}
 use Rattle.std.specs.Str.Lossy.{utf8_lossy}
 use Rattle.mdtool.specs.declared.fault.ToolFault.{ToolFault}

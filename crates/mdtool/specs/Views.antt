@@ -1,5 +1,5 @@
 -- The commands of the code, as the definitions see them.
-use Rattle.std.specs.Prelude.{ℕ, ◌∷◌, map, string_bytes}
+use Rattle.std.specs.Prelude.{map, string_bytes}
 use Rattle.mdtool.specs.declared.command.Header.{Header}
 use Rattle.mdtool.specs.declared.command.Header.TheVariants.{Html as HtmlHeader, Edit as EditHeader}
 use Rattle.mdtool.specs.declared.command.Command.{Command as TheCommand}

@@ -6,9 +6,10 @@ ghost use Rattle.mdtool.specs.Endings.{text_of, line_of, reason_of, tool_reason_
 ghost use Rattle.mdtool.specs.FaultNames.{refused_text};
 
 use crate::device::{DeviceFault, Out, put_all};
-use crate::fault::{Stop, TableFault, ToolFault, WordFault};
+use crate::fault::{Stop, ToolFault, WordFault};
 use crate::view::fault::EditFault;
 use itoa::Buffer;
+use mdtext::TableFault;
 
 /// Writes why the program of this name stopped, as one line, or the help that was asked for, and answers the exit
 /// status. A fault of `err` ends the writing alone. Takes no memory.

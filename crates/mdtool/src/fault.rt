@@ -2,6 +2,7 @@ ghost use Rattle.std.specs.Prelude.{◌≡◌};
 ghost use Rattle.mdtool.specs.declared.fault.ToolFault.TheVariants.{NoMemory};
 
 use crate::view::fault::EditFault;
+use mdtext::TableFault;
 use std::alloc::{AllocError, AllocFailed};
 use thiserror::Error;
 
@@ -45,17 +46,6 @@ impl<T: Drop> From<AllocFailed<T>> for ToolFault {
     fn from(_error: AllocFailed<T>) -> ToolFault {
         ToolFault::NoMemory
     }
-}
-
-/// Why an entity file was refused.
-#[derive(Clone, Copy, Debug, PartialEq, Eq)]
-pub enum TableFault {
-    /// It is not JSON, or no object.
-    NotJson,
-    /// A member is no entity with its characters.
-    BadEntry,
-    /// A growth was refused.
-    NoMemory,
 }
 
 /// Why a program's words were not followed.

@@ -19,7 +19,8 @@ mod view;
 
 pub use device::{DeviceFault, Feed, Out};
 pub use endings::ending;
-pub use fault::{Stop, TableFault, ToolFault, WordFault};
+pub use fault::{Stop, ToolFault, WordFault};
+pub use mdtext::TableFault;
 pub use memory::{MemoryFeed, MemoryOut};
 pub use options::{Breaks, Options};
 pub use serving::serve;

@@ -1,8 +1,7 @@
 //! The lines and the commands of a script, as they come from a feed.
 //!
 //! Bytes are taken in chunks, and each is searched once for the end of its line.
-ghost use Rattle.std.specs.Prelude.{◌≡◌, ◌≢◌, ℕ, ◌+◌, ◌-◌, ◌*◌, ◌^◌, ◌<◌, ◌≤◌, true, false, List, [], MatchOption, length, take, drop, map, get_or, string_bytes, OnOk, IfOk, IfSome, IfNone, OnSome, if◌then◌else◌};
-ghost use Rattle.std.specs.Str.Lossy.{utf8_lossy};
+ghost use Rattle.std.specs.Prelude.{◌≡◌, ◌+◌, ◌*◌, ◌-◌, ◌^◌, ◌<◌, ◌≤◌, true, false, [], MatchOption, length, take, drop, get_or, OnOk, IfOk, IfSome, IfNone, OnSome, if◌then◌else◌};
 ghost use Rattle.mdtool.specs.Commands.{has_break};
 ghost use Rattle.mdtool.specs.Pending.{Reads, Draws, HasLine, IsOver, used, fresh};
 ghost use Rattle.mdtool.specs.Steps.{Steps, failures_after, FewLines, ReadsTexts, NextCommand};

@@ -1,4 +1,4 @@
-use Rattle.std.proofs.Common.{◌≡◌, ◌<◌, ◌≤◌, take, length, ◌∙◌, sym, ap, Option, Some, arith}
+use Rattle.std.proofs.Common.{◌<◌, length, ◌∙◌, sym, ap, Some, arith}
 use Rattle.std.proofs.lemmas.Bool.Decides.{nat_tests}
 use Rattle.std.proofs.lemmas.List.{take_all}
 use Rattle.mdtool.proofs.Numbers.{number_empty, number_long, number_other, number_value}
@@ -7,7 +7,7 @@ use Rattle.mdtool.proofs.header.number.Goals as goal
 
 pub returns-then-is_empty : goal.returns-then-is_empty
 returns-then-is_empty c = sym (elim c.then-is_empty.branch [
-    then-is_empty-via-then-is_empty w ↦ number_empty c.args.word.now (grind (arith, nat_tests, c.is_empty.ensures, w.if-is_empty))
+  | then-is_empty-via-then-is_empty w ↦ number_empty c.args.word.now (grind (arith, nat_tests, c.is_empty.ensures, w.if-is_empty))
   | then-is_empty-via-else-is_empty+then-word-gt-MAX_DIGITS w ↦ number_long c.args.word.now (omega (arith, w.if-word-gt-MAX_DIGITS))
 ])
 

@@ -1,9 +1,9 @@
-use Rattle.std.proofs.Common.{◌≡◌, [], refl, sym, ap, ◌∙◌, Bool, true, false, Result, Ok, Err}
+use Rattle.std.proofs.Common.{◌≡◌, refl, ap, ◌∙◌, true, false}
 use Rattle.std.specs.Prelude.{not}
 use Rattle.std.specs.Result.{is_ok}
 use Rattle.std.proofs.lemmas.Result.{err_from_is_err_and}
 use Rattle.mdtool.proofs.Readings.{draws_of}
-use Rattle.mdtool.proofs.ServeRuns.{run_start, run_more, run_stops, run_starves, run_breaks}
+use Rattle.mdtool.proofs.ServeRuns.{run_start, run_more, run_starves, run_breaks}
 use Rattle.mdtool.proofs.ServeEnds.{ends_so}
 use Rattle.mdtool.proofs.serving.serve.Goals as goal
 

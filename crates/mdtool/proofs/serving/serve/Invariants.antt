@@ -1,4 +1,4 @@
-use Rattle.std.proofs.Common.{◌≡◌, ℕ, ◌+◌, ◌*◌, [], length}
+use Rattle.std.proofs.Common.{◌≡◌, ◌+◌, ◌*◌, [], length}
 use Rattle.mdtool.specs.Document.{document}
 use Rattle.mdtool.proofs.ServeRuns.{Run}
 use Rattle.mdtool.proofs.serving.serve.Given as goal

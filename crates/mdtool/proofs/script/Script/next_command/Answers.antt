@@ -1,6 +1,6 @@
-use Rattle.std.proofs.Common.{◌≡◌, ◌+◌, ◌<◌, [], ◌∷◌, sym, ap, ◌∙◌, Some, None, true, false}
+use Rattle.std.proofs.Common.{◌≡◌, sym, ap, ◌∙◌, Some, true, false}
 use Rattle.std.proofs.lemmas.Result.{err_from_is_err_and}
-use Rattle.mdtool.specs.Commands.{Short, Bad, head_of, Head, EditHead, HtmlHead}
+use Rattle.mdtool.specs.Commands.{head_of, EditHead, HtmlHead}
 use Rattle.mdtool.specs.declared.command.Header.{Header}
 use Rattle.mdtool.specs.Views.{head_view}
 use Rattle.mdtool.proofs.Readings.{draws_on}
@@ -30,9 +30,9 @@ returns-in_err-add-in-Edit-clause-next g c =
     let head : head_of c.front.result.now ≡ Some (EditHead c.in-Edit.at c.in-Edit.del c.in-Edit.add) = sym c.in-Some-head.ensures ∙ ap (λ (h : Header). Some (head_view h)) c.in-Edit.is in
     let p = err_from_is_err_and c.from_residual-in_err-add-in-Edit.result c.from_residual-in_err-add-in-Edit.ensures.1 in
     rw (p.1, p.2) (fails_first c.in_err-add-in-Edit.field-0.0 _ _ _ _ _ _ _
-        (λ few. few_stops _ _ _ _ _ _ _ c.in-Edit.at c.in-Edit.del _ false read head few)
-        (λ d. draws_on _ _ _ _ _ _ read d)
-        c.in_err-add-in-Edit.ensures.steps)
+    (λ few. few_stops _ _ _ _ _ _ _ c.in-Edit.at c.in-Edit.del _ false read head few)
+    (λ d. draws_on _ _ _ _ _ _ read d)
+    c.in_err-add-in-Edit.ensures.steps)
 
 pub returns-in_default-2-clause-next : goal.returns-in_default-2-clause-next
 returns-in_default-2-clause-next g c =

@@ -1,4 +1,4 @@
-use Rattle.std.proofs.Common.{◌≡◌, ◌+◌, ◌<◌, length, drop, refl, sym, ap, ◌∙◌, arith, rules, length-drop}
+use Rattle.std.proofs.Common.{◌≡◌, ◌+◌, length, drop, refl, ap, ◌∙◌, arith, length-drop}
 use Rattle.std.proofs.lemmas.Result.{err_from_is_err_and}
 use Rattle.std.specs.Str.Lossy.{utf8_lossy}
 use Rattle.mdtool.specs.Pending.{Pending}
@@ -31,9 +31,9 @@ pub returns-in_err-len-clause-steps : goal.returns-in_err-len-clause-steps
 returns-in_err-len-clause-steps g c =
     let p = err_from_is_err_and c.from_residual.result c.from_residual.ensures.1 in
     rw (p.1, p.2) (fails_so c.in_err-len.field-0.0 _ _ _ _ _ _
-        (λ r. few_lines _ _ _ _ _ _ _ _ _ _ c.loop-alloc.invariant.read r.0 r.1 (omega (arith, c.len.ensures, c.loop-alloc-test.true)))
-        (λ d. draws_on _ _ _ _ _ _ c.loop-alloc.invariant.read.reads d)
-        c.in_err-len.ensures.steps)
+    (λ r. few_lines _ _ _ _ _ _ _ _ _ _ c.loop-alloc.invariant.read r.0 r.1 (omega (arith, c.len.ensures, c.loop-alloc-test.true)))
+    (λ d. draws_on _ _ _ _ _ _ c.loop-alloc.invariant.read.reads d)
+    c.in_err-len.ensures.steps)
 
 pub returns-in_default-clause-steps : goal.returns-in_default-clause-steps
 returns-in_default-clause-steps g c =

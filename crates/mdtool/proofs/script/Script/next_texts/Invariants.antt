@@ -1,5 +1,4 @@
-use Rattle.std.proofs.Common.{◌≡◌, ◌+◌, ◌-◌, ◌*◌, ◌≤◌, List, ℕ, map, string_bytes, length, vec_len}
-use Rattle.std.specs.Str.Lossy.{utf8_lossy}
+use Rattle.std.proofs.Common.{◌≡◌, ◌+◌, ◌-◌, ◌*◌, ◌≤◌, length, vec_len}
 use Rattle.mdtool.specs.Steps.{ReadsTexts}
 use Rattle.mdtool.proofs.script.Script.next_texts.Given as goal
 
