@@ -25,6 +25,7 @@ fn append_escaped(text: &str, out: &mut String) -> Result<(), NoMemory>
     ensures ok { OnOk result (string_bytes out.new ≡ string_bytes out.old ++ escaped text.now) }
     ensures keeps { take (string_len out.old) (string_bytes out.new) ≡ string_bytes out.old }
 {
+    out.reserve(text.len())?;
     let specials = Class::of(b"&<>\"");
     let mut rest = text;
     loop {

@@ -31,3 +31,6 @@ mod urls;
 
 /// A growth was refused.
 pub type NoMemory = AllocError;
+
+#[cfg(test)]
+mod tests;

@@ -30,6 +30,7 @@ fn append_unescaped(text: &str, entities: &Entities, out: &mut String) -> Result
     ensures ok { OnOk result (string_bytes out.new ≡ string_bytes out.old ++ unescaped entities.now text.now) }
     ensures keeps { take (string_len out.old) (string_bytes out.new) ≡ string_bytes out.old }
 {
+    out.reserve(text.len())?;
     let specials = Class::of(b"\\&");
     let mut rest = text;
     loop {

@@ -53,6 +53,7 @@ fn append_url(text: &str, out: &mut String) -> Result<(), NoMemory>
     ensures ok { OnOk result (string_bytes out.new ≡ string_bytes out.old ++ escaped_url text.now) }
     ensures keeps { take (string_len out.old) (string_bytes out.new) ≡ string_bytes out.old }
 {
+    out.reserve(text.len())?;
     let specials = Class::of(b"&'");
     let mut rest = text;
     loop {

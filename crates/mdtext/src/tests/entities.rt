@@ -1,0 +1,80 @@
+use crate::{Entities, TableFault};
+use std::test::Fail;
+
+fn refusal(rt: &HostRuntime, bytes: &[u8]) -> Option<TableFault> {
+    match Entities::from_json(rt.alloc(), bytes) {
+        Ok(_) => None,
+        Err(fault) => Some(fault),
+    }
+}
+
+#[test]
+fn entities_of_a_file(rt: HostRuntime) -> Result<(), Fail> {
+    let bytes =
+        "{\"&a;\":{\"characters\":\"\\u00e4\",\"codepoints\":[228]},\"&b1;\":{\"characters\":\"\"},\"&amp\":{\"characters\":\"&\"},\"x\":0,\"&a;\":{\"characters\":\"A\u{1F600}\"}}";
+    let entities = Entities::from_json(rt.alloc(), bytes.as_bytes())?;
+    for (name, want) in [
+        ("a", Some("A\u{1F600}")),
+        ("b1", Some("")),
+        ("amp", None),
+        ("x", None),
+        ("", None),
+    ] {
+        assert_eq!(rt; entities.get(name), want, "{name:?}");
+    }
+    Ok(())
+}
+
+#[test]
+fn files_without_entities(rt: HostRuntime) -> Result<(), Fail> {
+    for bytes in ["{\"&a\":5}", "{}", " {\"\":null}\n", "{\"&a;b\":1}"] {
+        let entities = Entities::from_json(rt.alloc(), bytes.as_bytes())?;
+        assert_eq!(rt; entities.get("a"), None, "{bytes:?}");
+        assert_eq!(rt; entities.get("amp"), None, "{bytes:?}");
+    }
+    Ok(())
+}
+
+#[test]
+fn files_that_are_refused(rt: HostRuntime) {
+    for bytes in [
+        "",
+        "[]",
+        "null",
+        "5",
+        "\"&a;\"",
+        "{",
+        "{\"&a;\":{\"characters\":\"x\"}",
+        "{} {}",
+        "{\"&a;\":{\"characters\":\"\\ud800\"}}",
+        "\u{FEFF}{}",
+    ] {
+        assert_eq!(rt;
+            refusal(&rt, bytes.as_bytes()),
+            Some(TableFault::NotJson),
+            "{bytes:?}"
+        );
+    }
+    assert_eq!(rt; refusal(&rt, b"{\"\xFF\":1}"), Some(TableFault::NotJson));
+    for bytes in [
+        "{\"&;\":{\"characters\":\"x\"}}",
+        "{\";\":{\"characters\":\"x\"}}",
+        "{\"a;\":{\"characters\":\"x\"}}",
+        "{\"&a b;\":{\"characters\":\"x\"}}",
+        "{\"&&a;\":{\"characters\":\"x\"}}",
+        "{\"&\u{E4};\":{\"characters\":\"x\"}}",
+        "{\"&a;;\":{\"characters\":\"x\"}}",
+        "{\"&a;\":5}",
+        "{\"&a;\":\"characters\"}",
+        "{\"&a;\":{}}",
+        "{\"&a;\":{\"characters\":5}}",
+        "{\"&a;\":{\"characters\":[\"x\"]}}",
+        "{\"&a;\":{\"characters\":\"x\"},\"&b;\":null}",
+    ] {
+        assert_eq!(rt;
+            refusal(&rt, bytes.as_bytes()),
+            Some(TableFault::BadEntry),
+            "{bytes:?}"
+        );
+    }
+}
