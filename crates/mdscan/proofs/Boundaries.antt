@@ -1,13 +1,14 @@
 -- Where a text may be cut: round runs of ASCII bytes.
-use Rattle.std.proofs.Common.{◌≡◌, ℕ, nat_eq, zero, suc, ◌+◌, ◌-◌, ◌<◌, ◌≤◌, Bool, true, List, length, take, drop, get_or, get_or-take, get_or-drop, inl, inr, refl, sym, subst, arith, add-one, reverse, length-drop, length-take, lit<, cond, false}
+use Rattle.std.proofs.Common.{◌∷◌, [], ◌≡◌, ℕ, nat_eq, zero, suc, ◌+◌, ◌-◌, ◌<◌, ◌≤◌, Bool, true, List, length, take, drop, get_or, get_or-take, get_or-drop, inl, inr, refl, sym, subst, arith, add-one, reverse, length-drop, length-take, lit<, cond, false}
 use Rattle.std.specs.Str.{IsUtf8, IsCharBoundary}
 use Rattle.std.specs.List.{prefix_len, suffix_len}
 use Rattle.std.proofs.lemmas.Str.{IsCharBoundary-start, IsCharBoundary-end, IsCharBoundary-before_ascii, IsCharBoundary-after_ascii, IsCharBoundary-from_rest, IsUtf8-drop}
-use Rattle.std.proofs.lemmas.List.{get_or-reverse}
+use Rattle.std.proofs.lemmas.List.{get_or-reverse, take_rest}
 use Rattle.std.proofs.lemmas.List.Sums.{prefix_len-le-length, prefix_len_passes, suffix_len-le-length}
 use Rattle.std.proofs.Math.Nat.{eq-or-lt_of_le}
 use Rattle.std.proofs.lemmas.Bool.Decides.{nat_tests}
-use Rattle.mdscan.specs.Blanks.{is_blank}
+use Rattle.mdscan.specs.Blanks.{begins_with, is_blank}
+use Rattle.mdscan.specs.Gaps.{gap_length, past_gap}
 use Rattle.mdscan.specs.Spans.{IsSpanOf, part, trimmed_from}
 use Rattle.mdscan.specs.AtxHeading.{before_hashes, is_closed, content_length, heading_content}
 
@@ -127,3 +128,33 @@ content_is_span line level u b =
     let last : inner.start + n ≡ inner.end = omega (arith, whole.ordered) in
     let ends = inner_boundary line inner.start n (content_length (part line inner)) first (subst (λ (i : ℕ). IsCharBoundary line i) (sym last) whole.ends_whole) (content_boundary (part line inner)) in
     record { ordered = omega arith; within = ends.0; starts_whole = whole.starts_whole; ends_whole = ends }
+
+-- a line ending that stands at a place
+first_byte : (rest : List ℕ) (n : ℕ) → begins_with 10 (drop n rest) ≡ true → (n < length rest) × (get_or rest n 0 ≡ 10)
+first_byte [] zero h = cc
+first_byte [] (suc n) h = cc
+first_byte (b ∷ bs) zero h = (omega arith, grind (arith, nat_tests))
+first_byte (b ∷ bs) (suc n) h = let f = first_byte bs n h in (omega (arith, f.0), f.1)
+
+gap_end : (rest : List ℕ) → IsUtf8 rest → IsCharBoundary rest (gap_length rest)
+unfolding gap_length
+gap_end rest u =
+    let first = run_boundary is_blank rest ascii_blank u in
+    by (prefix_len is_blank rest) (begins_with 10 (drop (prefix_len is_blank rest) rest)) refl first
+  where
+    by : (n : ℕ) (b : Bool) → begins_with 10 (drop n rest) ≡ b → IsCharBoundary rest n → IsCharBoundary rest (cond b (n + 1 + prefix_len is_blank (drop (n + 1) rest)) n)
+    by n true h first =
+        let there = first_byte rest n h in
+        let next = IsCharBoundary-after_ascii rest n u there.0 (omega (arith, there.1)) in
+        IsCharBoundary-from_rest rest (n + 1) (prefix_len is_blank (drop (n + 1) rest)) next.0 (run_boundary is_blank (drop (n + 1) rest) ascii_blank (IsUtf8-drop rest (n + 1) u next))
+    by n false h first = first
+
+-- after a gap
+pub past_gap_boundary : (text : List ℕ) (at : ℕ) → IsUtf8 text → IsCharBoundary text at → IsCharBoundary text (past_gap text at)
+past_gap_boundary text at u b = IsCharBoundary-from_rest text at (gap_length (drop at text)) b.0 (gap_end (drop at text) (IsUtf8-drop text at u b))
+
+-- after spaces and tabs
+pub blanks_boundary : (text : List ℕ) (at n : ℕ) → n ≡ prefix_len is_blank (take (length text - at) (drop at text)) → IsUtf8 text → IsCharBoundary text at → IsCharBoundary text (at + n)
+blanks_boundary text at n e u b =
+    let f = subst (λ (t : List ℕ). n ≡ prefix_len is_blank t) (take_rest text at) e in
+    subst (λ (k : ℕ). IsCharBoundary text (at + k)) (sym f) (IsCharBoundary-from_rest text at (prefix_len is_blank (drop at text)) b.0 (run_boundary is_blank (drop at text) ascii_blank (IsUtf8-drop text at u b)))

@@ -2,6 +2,10 @@
 use Rattle.std.proofs.Common.{◌≡◌, ℕ, ◌+◌, ◌-◌, ◌<◌, List, length, Option, Some, None, IfSome, arith, subst, sym}
 use Rattle.std.specs.Str.{IsUtf8, IsCharBoundary}
 use Rattle.std.proofs.lemmas.Str.{IsCharBoundary-before_ascii, IsCharBoundary-after_ascii}
+use Rattle.std.specs.Option.{option_or}
+use Rattle.mdscan.specs.LinkDefinition.{AreDefSpans}
+use Rattle.mdscan.specs.declared.definitions.Def.{Def}
+use Rattle.mdscan.specs.declared.links.Dest.{Dest}
 use Rattle.mdscan.specs.declared.spans.Span.{Span}
 use Rattle.mdscan.specs.Spans.{IsSpanOf, IsEndAfter, EndsAfterMark, IsEnclosed}
 
@@ -54,3 +58,18 @@ after_enclosed text line at span end same u h e =
 pub if_both : {X : Type 0} (r : Option X) (P Q R : X → Type 0) → ((x : X) → P x → Q x → R x) → IfSome r P → IfSome r Q → IfSome r R
 if_both None P Q R f h k = h
 if_both (Some x) P Q R f h k = f x h k
+
+-- a fact on either of two, if there is one
+pub or_some : {X : Type 0} (a b : Option X) (P : X → Type 0) → IfSome a P → IfSome b P → IfSome (option_or a b) P
+or_some None b P h k = k
+or_some (Some x) b P h k = h
+
+-- the parts of a definition
+pub def_spans : (text : List ℕ) (label : Span) (dest : Dest) (title : Option Span) (end : Option ℕ) (r : Option Def) → IfSome r (λ def. Some def.end ≡ end) → IfSome r (λ def. def.label ≡ label) → IfSome r (λ def. def.destination ≡ dest.span) → IfSome r (λ def. def.title ≡ title) → IsSpanOf text label → IsSpanOf text dest.span → IfSome title (λ span. IsSpanOf text span) → IfSome end (λ n. IsCharBoundary text n) → IfSome r (λ def. AreDefSpans text def)
+def_spans text label dest title end None e l d t hl hd ht he = e
+def_spans text label dest title end (Some def) e l d t hl hd ht he = record {
+  label = subst (λ (s : Span). IsSpanOf text s) (sym l) hl;
+  destination = subst (λ (s : Span). IsSpanOf text s) (sym d) hd;
+  title = subst (λ (s : Option Span). IfSome s (λ span. IsSpanOf text span)) (sym t) ht;
+  whole = subst (λ (n : Option ℕ). IfSome n (λ n. IsCharBoundary text n)) (sym e) he;
+}

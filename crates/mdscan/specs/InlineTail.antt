@@ -1,14 +1,20 @@
 -- What follows an inline link's text (CommonMark 6.3): `(`, a gap or none, perhaps a destination and, after a
 -- gap, perhaps a title, a gap or none, and `)`.
-use Rattle.std.specs.Prelude.{ℕ, ◌+◌, nat_lt, List, drop, Option, Some, None, if◌then◌else◌}
+use Rattle.std.specs.Prelude.{ℕ, ◌+◌, nat_lt, List, drop, Option, Some, None, IfSome, if◌then◌else◌}
 use Rattle.std.specs.Option.{option_or}
 use Rattle.mdscan.specs.declared.spans.Span.{Span}
 use Rattle.mdscan.specs.declared.links.Dest.{Dest}
 use Rattle.mdscan.specs.declared.inline_tails.Tail.{Tail}
 use Rattle.mdscan.specs.Blanks.{begins_with}
 use Rattle.mdscan.specs.Gaps.{past_gap}
+use Rattle.mdscan.specs.Spans.{IsSpanOf}
 use Rattle.mdscan.specs.LinkDestination.{destination_at}
 use Rattle.mdscan.specs.LinkTitle.{title_at}
+
+-- the parts of a tail are spans of the text
+pub record AreTailSpans (text : List ℕ) (tail : Tail) : Type 0 where
+  pub destination : IfSome tail.destination (λ span. IsSpanOf text span)
+  pub title : IfSome tail.title (λ span. IsSpanOf text span)
 
 -- a tail with these parts, where `)` stands at a place
 unfoldable pub tail_to : List ℕ → ℕ → Option Span → Option Span → Option Tail

@@ -1,7 +1,7 @@
 -- Link reference definition (CommonMark 4.7): a label, `:`, a gap or none, a destination, and perhaps a title
 -- after a gap. Only spaces and tabs follow on the line. Where something else follows the title, and the title
 -- stands on a line of its own, the definition has none.
-use Rattle.std.specs.Prelude.{ℕ, ◌+◌, ◌==◌, nat_lt, List, length, drop, Option, Some, None, if◌then◌else◌}
+use Rattle.std.specs.Prelude.{ℕ, ◌+◌, ◌==◌, nat_lt, List, length, drop, Option, Some, None, IfSome, if◌then◌else◌}
 use Rattle.std.specs.List.{prefix_len}
 use Rattle.std.specs.Option.{option_or}
 use Rattle.mdscan.specs.declared.spans.Span.{Span}
@@ -9,9 +9,18 @@ use Rattle.mdscan.specs.declared.links.Dest.{Dest}
 use Rattle.mdscan.specs.declared.definitions.Def.{Def}
 use Rattle.mdscan.specs.Blanks.{is_blank, begins_with}
 use Rattle.mdscan.specs.Gaps.{past_gap}
+use Rattle.std.specs.Str.{IsCharBoundary}
+use Rattle.mdscan.specs.Spans.{IsSpanOf}
 use Rattle.mdscan.specs.LinkDestination.{destination_at}
 use Rattle.mdscan.specs.LinkLabel.{label_at}
 use Rattle.mdscan.specs.LinkTitle.{title_at}
+
+-- the parts of a definition are spans of the text, and its end cuts no character
+pub record AreDefSpans (text : List ℕ) (def : Def) : Type 0 where
+  pub label : IsSpanOf text def.label
+  pub destination : IsSpanOf text def.destination
+  pub title : IfSome def.title (λ span. IsSpanOf text span)
+  pub whole : IsCharBoundary text def.end
 
 -- after spaces and tabs at a place, where the text ends there or after a line ending
 unfoldable pub line_end : List ℕ → ℕ → Option ℕ

@@ -1,7 +1,9 @@
 //! Link reference definitions.
 
 ghost use Rattle.std.specs.Prelude.{◌≡◌, ◌<◌, ◌≤◌, IfSome, Some, None, length};
-ghost use Rattle.mdscan.specs.LinkDefinition.{definition_of, labelled_def, titled_def, def_to, line_end};
+ghost use Rattle.std.specs.Str.{IsUtf8, IsCharBoundary};
+ghost use Rattle.mdscan.specs.Spans.{IsSpanOf};
+ghost use Rattle.mdscan.specs.LinkDefinition.{AreDefSpans, definition_of, labelled_def, titled_def, def_to, line_end};
 
 use crate::inline_tails::after_gap;
 use crate::link_labels::brackets;
@@ -23,6 +25,7 @@ pub struct Def {
 pub fn definition(text: &str) -> Option<Def>
     ensures value { result ≡ definition_of text.now }
     ensures within { IfSome result (λ def. def.end ≤ length text.now) }
+    ensures spans { IfSome result (λ def. AreDefSpans text.now def) }
 {
     defined(text.as_bytes())
 }
@@ -31,6 +34,7 @@ pub fn definition(text: &str) -> Option<Def>
 fn defined(text: &[u8]) -> Option<Def>
     ensures value { result ≡ definition_of text.now }
     ensures within { IfSome result (λ def. def.end ≤ length text.now) }
+    ensures spans { IsUtf8 text.now → IfSome result (λ def. AreDefSpans text.now def) }
 {
     match brackets(text, 0) {
         Some(label) => labelled(text, label),
@@ -44,6 +48,7 @@ fn labelled(text: &[u8], label: Span) -> Option<Def>
     requires { label.end < length text.now }
     ensures value { result ≡ labelled_def text.now label }
     ensures within { IfSome result (λ def. def.end ≤ length text.now) }
+    ensures spans { IsUtf8 text.now → IsSpanOf text.now label → IfSome result (λ def. AreDefSpans text.now def) }
 {
     if !begins(&text[label.end + 1..], b':') {
         return None;
@@ -58,6 +63,7 @@ fn without_title(text: &[u8], label: Span, dest: Dest) -> Option<Def>
     requires { dest.end ≤ length text.now }
     ensures value { result ≡ def_to label dest None (line_end text.now dest.end) }
     ensures within { IfSome result (λ def. def.end ≤ length text.now) }
+    ensures spans { IsUtf8 text.now → IsSpanOf text.now label → IsSpanOf text.now dest.span → IsCharBoundary text.now dest.end → IfSome result (λ def. AreDefSpans text.now def) }
 {
     up_to(label, dest, None, rest_of_line(text, dest.end))
 }
@@ -68,6 +74,7 @@ fn with_title(text: &[u8], label: Span, dest: Dest) -> Option<Def>
     requires { dest.end ≤ length text.now }
     ensures value { result ≡ titled_def text.now label dest }
     ensures within { IfSome result (λ def. def.end ≤ length text.now) }
+    ensures spans { IsUtf8 text.now → IsSpanOf text.now label → IsSpanOf text.now dest.span → IfSome result (λ def. AreDefSpans text.now def) }
 {
     let next = after_gap(text, dest.end);
     if next <= dest.end {
@@ -83,6 +90,9 @@ fn with_title(text: &[u8], label: Span, dest: Dest) -> Option<Def>
 fn up_to(label: Span, dest: Dest, title: Option<Span>, end: Option<usize>) -> Option<Def>
     ensures value { result ≡ def_to label dest title end }
     ensures end { IfSome result (λ def. Some def.end ≡ end) }
+    ensures label { IfSome result (λ def. def.label ≡ label) }
+    ensures destination { IfSome result (λ def. def.destination ≡ dest.span) }
+    ensures title { IfSome result (λ def. def.title ≡ title) }
 {
     match end {
         Some(end) => Some(Def {
@@ -101,6 +111,7 @@ fn rest_of_line(text: &[u8], at: usize) -> Option<usize>
     requires { at ≤ length text.now }
     ensures value { result ≡ line_end text.now at }
     ensures within { IfSome result (λ n. n ≤ length text.now) }
+    ensures boundary { IsUtf8 text.now → IsCharBoundary text.now at → IfSome result (λ n. IsCharBoundary text.now n) }
 {
     let next = at + leading_blanks(&text[at..]);
     if next == text.len() {

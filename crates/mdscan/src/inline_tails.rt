@@ -1,10 +1,10 @@
 //! What follows an inline link's text.
 
 ghost use Rattle.std.specs.Prelude.{◌≡◌, ◌≤◌, Some, None, IfSome, length};
-ghost use Rattle.std.specs.Str.{IsCharBoundary};
-ghost use Rattle.mdscan.specs.Spans.{IsEndAfter, EndsAfterMark};
+ghost use Rattle.std.specs.Str.{IsUtf8, IsCharBoundary};
+ghost use Rattle.mdscan.specs.Spans.{IsEndAfter, IsSpanOf, EndsAfterMark};
 ghost use Rattle.mdscan.specs.Gaps.{past_gap};
-ghost use Rattle.mdscan.specs.InlineTail.{inline_tail_at, tail_inside, tail_to, titled_tail};
+ghost use Rattle.mdscan.specs.InlineTail.{AreTailSpans, inline_tail_at, tail_inside, tail_to, titled_tail};
 
 use crate::gaps::gap;
 use crate::links::{Dest, quoted, target};
@@ -27,6 +27,7 @@ pub fn inline_tail(text: &str, at: usize) -> Option<Tail>
     requires { IsCharBoundary text.now at }
     ensures value { result ≡ inline_tail_at text.now at }
     ensures end { IfSome result (λ tail. IsEndAfter text.now at tail.end) }
+    ensures spans { IfSome result (λ tail. AreTailSpans text.now tail) }
 {
     parentheses(text.as_bytes(), at)
 }
@@ -36,6 +37,7 @@ fn parentheses(text: &[u8], at: usize) -> Option<Tail>
     requires { at ≤ length text.now }
     ensures value { result ≡ inline_tail_at text.now at }
     ensures end { IfSome result (λ tail. EndsAfterMark text.now at tail.end) }
+    ensures spans { IsUtf8 text.now → IfSome result (λ tail. AreTailSpans text.now tail) }
 {
     if begins(&text[at..], b'(') {
         inside(text, after_gap(text, at + 1))
@@ -50,6 +52,7 @@ pub(crate) fn after_gap(text: &[u8], at: usize) -> usize
     ensures value { result ≡ past_gap text.now at }
     ensures from { at ≤ result }
     ensures within { result ≤ length text.now }
+    ensures boundary { IsUtf8 text.now → IsCharBoundary text.now at → IsCharBoundary text.now result }
 {
     at + gap(&text[at..])
 }
@@ -60,6 +63,7 @@ fn inside(text: &[u8], at: usize) -> Option<Tail>
     requires { at ≤ length text.now }
     ensures value { result ≡ tail_inside text.now at }
     ensures end { IfSome result (λ tail. EndsAfterMark text.now at tail.end) }
+    ensures spans { IsUtf8 text.now → IsCharBoundary text.now at → IfSome result (λ tail. AreTailSpans text.now tail) }
 {
     if begins(&text[at..], b')') {
         return close(text, at, None, None);
@@ -74,6 +78,7 @@ fn without_title(text: &[u8], dest: Dest) -> Option<Tail>
     requires { dest.end ≤ length text.now }
     ensures value { result ≡ tail_to text.now (past_gap text.now dest.end) (Some dest.span) None }
     ensures end { IfSome result (λ tail. EndsAfterMark text.now dest.end tail.end) }
+    ensures spans { IsSpanOf text.now dest.span → IfSome result (λ tail. AreTailSpans text.now tail) }
 {
     close(text, after_gap(text, dest.end), Some(dest.span), None)
 }
@@ -84,6 +89,7 @@ fn with_title(text: &[u8], dest: Dest) -> Option<Tail>
     requires { dest.end ≤ length text.now }
     ensures value { result ≡ titled_tail text.now dest }
     ensures end { IfSome result (λ tail. EndsAfterMark text.now dest.end tail.end) }
+    ensures spans { IsUtf8 text.now → IsSpanOf text.now dest.span → IfSome result (λ tail. AreTailSpans text.now tail) }
 {
     let next = after_gap(text, dest.end);
     if next <= dest.end {
@@ -106,6 +112,7 @@ fn close(text: &[u8], at: usize, destination: Option<Span>, title: Option<Span>)
     requires { at ≤ length text.now }
     ensures value { result ≡ tail_to text.now at destination title }
     ensures end { IfSome result (λ tail. EndsAfterMark text.now at tail.end) }
+    ensures spans { IfSome destination (λ span. IsSpanOf text.now span) → IfSome title (λ span. IsSpanOf text.now span) → IfSome result (λ tail. AreTailSpans text.now tail) }
 {
     if begins(&text[at..], b')') {
         Some(Tail {

@@ -1,6 +1,7 @@
 //! Rows of tables.
 
-ghost use Rattle.std.specs.Prelude.{◌≡◌, ◌<◌, ◌≤◌, IfOk, length};
+ghost use Rattle.std.specs.Prelude.{◌≡◌, ◌<◌, ◌≤◌, All, IfOk, length};
+ghost use Rattle.mdscan.specs.Spans.{IsSpanOf};
 ghost use Rattle.mdscan.specs.TableRow.{inside, splits, cell, row_cells};
 
 use crate::spans::{Span, trimmed_bytes};
@@ -9,7 +10,8 @@ use std::alloc::{AllocError, Global};
 /// The cells of a table's row, without the spaces and tabs at their ends (GFM 4.10). A backslash before a bar
 /// is still there.
 pub fn cells(alloc: Global, row: &str) -> Result<Vec<Span>, AllocError>
-    ensures { IfOk result (λ cells. cells.items ≡ row_cells row.now) }
+    ensures items { IfOk result (λ cells. cells.items ≡ row_cells row.now) }
+    ensures spans { IfOk result (λ cells. All (IsSpanOf row.now) cells.items) }
 {
     cells_of(alloc, row.as_bytes())
 }
