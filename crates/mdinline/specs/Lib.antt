@@ -1,0 +1,5 @@
+pub mod InlineTree
+pub mod LabelMap
+pub mod ParsedText
+pub mod StoredTree
+pub mod TreeView
