@@ -27,6 +27,13 @@ impl Model for Parsed {
 }
 
 impl Parsed {
+    pub(crate) fn new(tree: Vec<Inline>, asked: Asked) -> Parsed
+        ensures tree { result.tree ≡ inlines_view tree.items }
+        ensures asked { result.asked ≡ asked }
+    {
+        Parsed { tree, asked }
+    }
+
     /// The tree of the text. Takes no memory.
     pub fn tree(&self) -> &[Inline]
         ensures { inlines_view result.now ≡ self.now.tree }

@@ -1,7 +1,7 @@
-//! Maps of labels.
+//! Maps of labels, and the lines of a text.
 
-use crate::{Inline, LabelTable, Labels};
-use mdtext::{Label, Target, fold_label};
+use crate::{Inline, LabelTable, Labels, read};
+use mdtext::{Entities, Label, Tally, Target, fold_label};
 use std::alloc::{AllocError, Global};
 use std::test::Fail;
 
@@ -54,5 +54,32 @@ fn trees_are_compared(rt: HostRuntime) -> Result<(), Fail> {
     let emph = Inline::Emph(inner);
     assert!(rt; emph == emph);
     assert!(rt; emph != Inline::Hard);
+    Ok(())
+}
+
+#[test]
+fn lines_are_read(rt: HostRuntime) -> Result<(), Fail> {
+    let alloc = rt.alloc();
+    let labels = LabelTable::new(alloc);
+    let entities = Entities::builtin(alloc)?;
+    let mut tally = Tally::new();
+    let rows = [
+        ("", "[]"),
+        ("a", "[Text(\"a\")]"),
+        ("a\nb", "[Text(\"a\"), Soft, Text(\"b\")]"),
+        ("a  \nb\\\nc", "[Text(\"a\"), Hard, Text(\"b\"), Hard, Text(\"c\")]"),
+        ("a \n   b  ", "[Text(\"a\"), Soft, Text(\"b  \")]"),
+        ("a\n   \nb", "[Text(\"a\"), Soft, Soft, Text(\"b\")]"),
+        ("a\t\nb \\\n", "[Text(\"a\\t\"), Soft, Text(\"b \"), Hard]"),
+        ("*a* [b]", "[Text(\"*a* [b]\")]"),
+    ];
+    for (text, want) in rows {
+        let parsed = read(alloc, text, &labels, &entities, &mut tally)?;
+        let shown = format!(in alloc; "{:?}", parsed.tree())?;
+        assert_eq!(rt; shown.as_str(), want);
+        assert!(rt; parsed.asked().is_empty());
+    }
+    assert_eq!(rt; tally.inlines(), 8);
+    assert_eq!(rt; tally.lines(), 0);
     Ok(())
 }
