@@ -1,0 +1,146 @@
+//! Units: what is handed out of a document.
+
+ghost use Rattle.std.specs.Prelude.{◌≡◌, length, map, string_bytes};
+ghost use Rattle.mdleaf.specs.LinkDefinition.{definition_of};
+ghost use Rattle.mdblock.specs.BlockView.{blocks_view};
+ghost use Rattle.mdblock.specs.Positions.{BlocksIn};
+
+use crate::blocks::Block;
+use mdleaf::Definition;
+use std::marker::Model;
+
+/// A top-level block with all that comes of its lines: a whole list, or all of one paragraph's stretch of lines (its definitions, then a paragraph
+/// or a heading, or a paragraph and a table). A unit of definitions alone has no block. Only this crate makes one.
+#[derive(Debug, Drop)]
+pub struct Unit {
+    blocks: Vec<Block>,
+    definitions: Vec<Definition>,
+    texts: Vec<String>,
+}
+
+impl Model for Unit {
+    ghost use Rattle.mdblock.specs.UnitTree.{UnitTree, unit_code};
+
+    ghost Value = { UnitTree };
+
+    ghost coded = { unit_code };
+
+    ghost use Rattle.mdblock.specs.BlockView.{blocks_view};
+    ghost use Rattle.mdblock.specs.Positions.{BlocksIn};
+    ghost use Rattle.mdleaf.specs.LinkDefinition.{definition_of};
+    ghost use Rattle.std.specs.Prelude.{map, length, string_bytes};
+
+    ghost view = { λ u. record { blocks = blocks_view u.blocks.items; definitions = map definition_of u.definitions.items; texts = map string_bytes u.texts.items } };
+
+    ghost invariant = { λ u. BlocksIn (length u.texts.items) (blocks_view u.blocks.items) };
+}
+
+impl Unit {
+    /// The blocks; each text and cell in them is the position of one of the unit's texts. Takes no memory.
+    pub fn blocks(&self) -> &[Block]
+        ensures value { blocks_view result.now ≡ self.now.blocks }
+        ensures within { BlocksIn (length self.now.texts) self.now.blocks }
+    {
+        &self.blocks
+    }
+
+    /// The link reference definitions, in document order. Takes no memory.
+    pub fn definitions(&self) -> &[Definition]
+        ensures { map definition_of result.now ≡ self.now.definitions }
+    {
+        &self.definitions
+    }
+
+    /// The inline texts, in document order. Takes no memory.
+    pub fn texts(&self) -> &[String]
+        ensures { map string_bytes result.now ≡ self.now.texts }
+    {
+        &self.texts
+    }
+}
+
+/// A unit where it was found. Only this crate makes one.
+#[derive(Debug, Drop)]
+pub struct Found {
+    begin: usize,
+    lines: usize,
+    unit: Unit,
+}
+
+impl Model for Found {
+    ghost use Rattle.mdblock.specs.UnitTree.{FoundUnit, found_code};
+
+    ghost Value = { FoundUnit };
+
+    ghost coded = { found_code };
+
+    ghost view = { λ f. record { begin = f.begin; lines = f.lines; unit = f.unit } };
+}
+
+impl Found {
+    /// How many lines were fed before the unit's first line. Takes no memory.
+    pub fn begin(&self) -> usize
+        ensures { result ≡ self.now.begin }
+    {
+        self.begin
+    }
+
+    /// How many lines there are from the unit's first line to the next unit's, or to the end. Takes no memory.
+    pub fn lines(&self) -> usize
+        ensures { result ≡ self.now.lines }
+    {
+        self.lines
+    }
+
+    /// The unit. Takes no memory.
+    pub fn unit(&self) -> &Unit
+        ensures { result.now ≡ self.now.unit }
+    {
+        &self.unit
+    }
+}
+
+#[cfg(test)]
+mod tests {
+    use super::*;
+    use mdtext::{Target, fold_label};
+    use std::test::Fail;
+
+    #[test]
+    fn parts_are_read(rt: HostRuntime) -> Result<(), Fail> {
+        let alloc = rt.alloc();
+        let mut blocks = Vec::new(alloc);
+        blocks.push(Block::Break)?;
+        blocks.push(Block::Paragraph {
+            text: 0,
+            task: None,
+        })?;
+        let mut definitions = Vec::new(alloc);
+        definitions.push(Definition {
+            label: fold_label(alloc, "A")?.ok_or("no label")?,
+            target: Target {
+                url: String::from_str(alloc, "/u")?,
+                title: String::new(alloc),
+            },
+        })?;
+        let mut texts = Vec::new(alloc);
+        texts.push(String::from_str(alloc, "t")?)?;
+        let found = Found {
+            begin: 3,
+            lines: 2,
+            unit: Unit {
+                blocks,
+                definitions,
+                texts,
+            },
+        };
+        assert_eq!(rt; found.begin(), 3);
+        assert_eq!(rt; found.lines(), 2);
+        assert_eq!(rt; found.unit().blocks().len(), 2);
+        assert_eq!(rt; found.unit().definitions().len(), 1);
+        assert_eq!(rt; found.unit().definitions()[0].label.as_str(), "a");
+        assert_eq!(rt; found.unit().texts().len(), 1);
+        assert_eq!(rt; found.unit().texts()[0].as_str(), "t");
+        Ok(())
+    }
+}

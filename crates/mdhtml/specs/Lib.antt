@@ -1,0 +1,4 @@
+pub mod Attributes
+pub mod BlockHtml
+pub mod InlineHtml
+pub mod TableHtml

@@ -1,0 +1,48 @@
+//! HTML of code blocks and HTML blocks.
+
+ghost use Rattle.std.specs.Prelude.{◌≡◌, ◌++◌, OnOk, string_bytes};
+ghost use Rattle.mdhtml.specs.BlockHtml.{fresh, code_html, code_open, raw_block_html};
+
+use crate::options::Options;
+use crate::pieces::write_fresh;
+use mdtext::{NoMemory, escape_text};
+
+pub(crate) fn write_code(lang: &str, body: &str, out: &mut String) -> Result<(), NoMemory>
+    ensures { OnOk result (string_bytes out.new
+        ≡ fresh (string_bytes out.old) ++ code_html lang.now body.now) }
+{
+    write_fresh(out)?;
+    open_code(lang, out)?;
+    escape_text(body, out)?;
+    out.push_str("</code></pre>\n")?;
+    Ok(())
+}
+
+fn open_code(lang: &str, out: &mut String) -> Result<(), NoMemory>
+    ensures { OnOk result (string_bytes out.new ≡ string_bytes out.old ++ code_open lang.now) }
+{
+    if lang.is_empty() {
+        out.push_str("<pre><code>")?;
+    } else {
+        out.push_str("<pre><code class=\"language-")?;
+        escape_text(lang, out)?;
+        out.push_str("\">")?;
+    }
+    Ok(())
+}
+
+/// An HTML block, which is left out without `unsafe_html`.
+pub(crate) fn write_html(text: &str, options: &Options, out: &mut String) -> Result<(), NoMemory>
+    ensures { OnOk result (string_bytes out.new
+        ≡ fresh (string_bytes out.old) ++ raw_block_html options.now text.now) }
+{
+    write_fresh(out)?;
+    let shown = if options.unsafe_html {
+        text
+    } else {
+        "<!-- raw HTML omitted -->"
+    };
+    out.push_str(shown)?;
+    out.push_str("\n")?;
+    Ok(())
+}

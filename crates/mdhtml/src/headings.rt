@@ -1,0 +1,45 @@
+//! HTML of headings.
+
+ghost use Rattle.std.specs.Prelude.{◌≡◌, ◌++◌, ◌<◌, OnOk, length, string_bytes};
+ghost use Rattle.mdhtml.specs.BlockHtml.{fresh, heading_html, heading_tag, text_html, trees_of};
+
+use crate::options::Options;
+use crate::pieces::{write_fresh, write_text};
+use mdinline::Parsed;
+use mdtext::NoMemory;
+
+pub(crate) fn write_heading(
+    level: u8,
+    text: usize,
+    texts: &[Parsed],
+    options: &Options,
+    out: &mut String,
+) -> Result<(), NoMemory>
+    requires { text < length texts.now }
+    ensures { OnOk result (string_bytes out.new ≡ fresh (string_bytes out.old)
+        ++ heading_html level (text_html options.now (trees_of texts.now) text)) }
+{
+    let tag = heading_tag(level);
+    write_fresh(out)?;
+    out.push_str("<")?;
+    out.push_str(tag)?;
+    out.push_str(">")?;
+    write_text(text, texts, options, out)?;
+    out.push_str("</")?;
+    out.push_str(tag)?;
+    out.push_str(">\n")?;
+    Ok(())
+}
+
+fn heading_tag(level: u8) -> &'static str
+    ensures { result.now ≡ heading_tag level }
+{
+    match level {
+        1 => "h1",
+        2 => "h2",
+        3 => "h3",
+        4 => "h4",
+        5 => "h5",
+        _ => "h6",
+    }
+}

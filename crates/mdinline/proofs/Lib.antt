@@ -1,0 +1,2 @@
+pub mod FirstTargets
+pub mod Lines

@@ -1,0 +1,71 @@
+//! The labels that were looked up for a text.
+
+ghost use Rattle.std.specs.Prelude.{◌≡◌, ◌==◌, ◌↔◌, IsTrue, Contains, length, slice_get, option_copied};
+
+use mdtext::Label;
+use std::alloc::Global;
+use std::marker::Model;
+
+/// The labels that were looked up for a text, found or not: each once, in ascending order.
+#[derive(Debug, Drop)]
+pub struct Asked {
+    labels: Vec<Label>,
+}
+
+impl Model for Asked {
+    ghost use Rattle.std.specs.Prelude.{List, ℕ};
+
+    ghost Value = { List (List ℕ) };
+
+    ghost use Rattle.std.specs.List.Sorted.{IsStrictlySortedBy};
+    ghost use Rattle.std.specs.Cmp.Lexicographic.{slice_cmp};
+    ghost use Rattle.std.specs.Ordering.{nat_cmp};
+
+    ghost view = { λ asked. asked.labels.items };
+
+    ghost invariant = { λ asked. IsStrictlySortedBy (slice_cmp nat_cmp) asked.labels.items };
+}
+
+impl Asked {
+    ghost use Rattle.std.specs.List.Sorted.{IsStrictlySortedBy};
+    ghost use Rattle.std.specs.Cmp.Lexicographic.{slice_cmp};
+    ghost use Rattle.std.specs.Ordering.{nat_cmp};
+    ghost use Rattle.std.specs.Prelude.{[]};
+
+    /// No label.
+    pub(crate) fn new(alloc: Global) -> Asked
+        ensures { result ≡ [] }
+    {
+        Asked {
+            labels: Vec::new(alloc),
+        }
+    }
+
+    /// How many labels were looked up. Takes no memory.
+    pub fn len(&self) -> usize
+        ensures { result ≡ length self.now }
+    {
+        self.labels.len()
+    }
+
+    pub fn is_empty(&self) -> bool
+        ensures { result ≡ (length self.now == 0) }
+    {
+        self.labels.is_empty()
+    }
+
+    /// The label at a place of the ascending order. Takes no memory.
+    pub fn get(&self, i: usize) -> Option<&Label>
+        ensures value { option_copied result ≡ slice_get self.now i }
+        ensures ascending { IsStrictlySortedBy (slice_cmp nat_cmp) self.now }
+    {
+        self.labels.get(i)
+    }
+
+    /// Whether a label was looked up. Takes no memory.
+    pub fn has(&self, label: &Label) -> bool
+        ensures { IsTrue result ↔ Contains self.now label.now }
+    {
+        self.labels.contains(label)
+    }
+}
