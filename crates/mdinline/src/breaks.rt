@@ -43,7 +43,11 @@ pub(crate) fn content_and_break(line: &str) -> (&str, Inline)
         return (&line[..bytes.len() - 1], Inline::Hard);
     }
     let end = end_of(bytes);
-    let kind = if bytes.len() - end > 1 { Inline::Hard } else { Inline::Soft };
+    let kind = if bytes.len() - end > 1 {
+        Inline::Hard
+    } else {
+        Inline::Soft
+    };
     (&line[..end], kind)
 }
 

@@ -67,7 +67,10 @@ fn lines_are_read(rt: HostRuntime) -> Result<(), Fail> {
         ("", "[]"),
         ("a", "[Text(\"a\")]"),
         ("a\nb", "[Text(\"a\"), Soft, Text(\"b\")]"),
-        ("a  \nb\\\nc", "[Text(\"a\"), Hard, Text(\"b\"), Hard, Text(\"c\")]"),
+        (
+            "a  \nb\\\nc",
+            "[Text(\"a\"), Hard, Text(\"b\"), Hard, Text(\"c\")]",
+        ),
         ("a \n   b  ", "[Text(\"a\"), Soft, Text(\"b  \")]"),
         ("a\n   \nb", "[Text(\"a\"), Soft, Soft, Text(\"b\")]"),
         ("a\t\nb \\\n", "[Text(\"a\\t\"), Soft, Text(\"b \"), Hard]"),

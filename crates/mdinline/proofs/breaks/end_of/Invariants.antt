@@ -8,7 +8,7 @@ abbrev pub invariant-loop-end : goal.invariant-loop-end
 invariant-loop-end l = record {
   within : l.end ≤ length l.line;
   counted : trailing l.line + l.end ≡ trailing (take l.end l.line) + length l.line;
-  space : l.end < length l.line → slice_index l.line l.end ≡ 32
+  space : l.end < length l.line → slice_index l.line l.end ≡ 32;
 }
 
 abbrev pub decreases-loop-end : goal.decreases-loop-end

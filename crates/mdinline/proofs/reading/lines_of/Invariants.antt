@@ -9,7 +9,7 @@ use Rattle.mdinline.proofs.reading.lines_of.Given as goal
 abbrev pub invariant-loop-rest : goal.invariant-loop-rest
 invariant-loop-rest l = record {
   whole : map inline_view l.tree.items ++ of_lines (l.line ∷ rest_lines l.rest) ≡ of_lines (unindented (split_lines l.text));
-  text : shadow (Utf8 l.line)
+  text : shadow (Utf8 l.line);
 }
 
 abbrev pub decreases-loop-rest : goal.decreases-loop-rest
