@@ -15,3 +15,6 @@ mod tables;
 
 pub use options::{Breaks, Options};
 pub use pieces::unit_html;
+
+#[cfg(test)]
+mod tests;

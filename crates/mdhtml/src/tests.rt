@@ -1,0 +1,222 @@
+//! Each kind of node with its bytes, by the examples of CommonMark 0.31.2 and GFM 0.29.
+
+use crate::inlines::write_inlines;
+use crate::{Breaks, Options, unit_html};
+use mdblock::{Align, Block};
+use mdinline::{Inline, LabelTable, Parsed, read};
+use mdtext::{Entities, Tally, Target};
+use std::alloc::{AllocError, Global};
+use std::process::Abort;
+use std::test::Fail;
+
+const SAFE: Options = Options {
+    unsafe_html: false,
+    breaks: Breaks::Soft,
+};
+
+const UNSAFE: Options = Options {
+    unsafe_html: true,
+    breaks: Breaks::Soft,
+};
+
+fn text(alloc: Global, s: &str) -> Result<Vec<Inline>, AllocError> {
+    let mut inlines = Vec::new(alloc);
+    inlines.push(Inline::Text(String::from_str(alloc, s)?))?;
+    Ok(inlines)
+}
+
+fn target(alloc: Global, url: &str, title: &str) -> Result<Target, AllocError> {
+    Ok(Target {
+        url: String::from_str(alloc, url)?,
+        title: String::from_str(alloc, title)?,
+    })
+}
+
+fn html_of(alloc: Global, inline: Inline, options: &Options) -> Result<String, AllocError> {
+    let mut inlines = Vec::new(alloc);
+    inlines.push(inline)?;
+    let mut out = String::new(alloc);
+    write_inlines(&inlines, options, &mut out)?;
+    Ok(out)
+}
+
+fn check(
+    rt: &impl Abort,
+    alloc: Global,
+    inline: Inline,
+    options: &Options,
+    want: &str,
+) -> Result<(), AllocError> {
+    let out = html_of(alloc, inline, options)?;
+    assert_eq!(rt; out.as_str(), want);
+    Ok(())
+}
+
+#[test]
+fn inlines_are_written(rt: HostRuntime) -> Result<(), Fail> {
+    let a = rt.alloc();
+    let code = String::from_str(a, "<a>")?;
+    let raw = String::from_str(a, "<b>")?;
+    let same = String::from_str(a, "<b>")?;
+    let hard = Options {
+        breaks: Breaks::Hard,
+        ..SAFE
+    };
+    let space = Options {
+        breaks: Breaks::Space,
+        ..SAFE
+    };
+    check(
+        &rt,
+        a,
+        Inline::Text(String::from_str(a, "&<>\"'")?),
+        &SAFE,
+        "&amp;&lt;&gt;&quot;'",
+    )?;
+    check(&rt, a, Inline::Code(code), &SAFE, "<code>&lt;a&gt;</code>")?;
+    check(
+        &rt,
+        a,
+        Inline::Html(raw),
+        &SAFE,
+        "<!-- raw HTML omitted -->",
+    )?;
+    check(&rt, a, Inline::Html(same), &UNSAFE, "<b>")?;
+    check(&rt, a, Inline::Soft, &SAFE, "\n")?;
+    check(&rt, a, Inline::Soft, &hard, "<br />\n")?;
+    check(&rt, a, Inline::Soft, &space, " ")?;
+    check(&rt, a, Inline::Hard, &SAFE, "<br />\n")?;
+    check(&rt, a, Inline::Emph(text(a, "e")?), &SAFE, "<em>e</em>")?;
+    check(
+        &rt,
+        a,
+        Inline::Strong(text(a, "s")?),
+        &SAFE,
+        "<strong>s</strong>",
+    )?;
+    check(&rt, a, Inline::Strike(text(a, "d")?), &SAFE, "<del>d</del>")?;
+    let link = Inline::Link(target(a, "/\u{E4}", "t\"")?, text(a, "a")?);
+    check(
+        &rt,
+        a,
+        link,
+        &SAFE,
+        "<a href=\"/%C3%A4\" title=\"t&quot;\">a</a>",
+    )?;
+    let mut alt = Vec::new(a);
+    alt.push(Inline::Text(String::from_str(a, "foo ")?))?;
+    alt.push(Inline::Emph(text(a, "bar")?))?;
+    alt.push(Inline::Soft)?;
+    let image = Inline::Image(target(a, "/u", "t")?, alt);
+    check(
+        &rt,
+        a,
+        image,
+        &SAFE,
+        "<img src=\"/u\" alt=\"foo bar \" title=\"t\" />",
+    )?;
+    Ok(())
+}
+
+#[test]
+fn harmful_destinations_are_left_out(rt: HostRuntime) -> Result<(), Fail> {
+    let a = rt.alloc();
+    let rows = [
+        ("JavaScript:x", ""),
+        ("vbscript:x", ""),
+        ("file:///x", ""),
+        ("data:text/html,x", ""),
+        ("data:image/png,x", "data:image/png,x"),
+        ("DATA:IMAGE/WEBP,x", "DATA:IMAGE/WEBP,x"),
+        ("data:image/svg,x", ""),
+        ("java", "java"),
+        ("/javascript:x", "/javascript:x"),
+    ];
+    for (url, want) in rows {
+        let link = Inline::Link(target(a, url, "")?, text(a, "a")?);
+        let shown = html_of(a, link, &SAFE)?;
+        let whole = format!(in a; "<a href=\"{want}\">a</a>")?;
+        assert_eq!(rt; shown.as_str(), whole.as_str());
+        let link = Inline::Link(target(a, url, "")?, text(a, "a")?);
+        let shown = html_of(a, link, &UNSAFE)?;
+        let whole = format!(in a; "<a href=\"{url}\">a</a>")?;
+        assert_eq!(rt; shown.as_str(), whole.as_str());
+    }
+    Ok(())
+}
+
+/// The readings of these texts.
+fn texts(alloc: Global, of: &[&str]) -> Result<Vec<Parsed>, Fail> {
+    let labels = LabelTable::new(alloc);
+    let entities = Entities::builtin(alloc)?;
+    let mut tally = Tally::new();
+    let mut texts = Vec::new(alloc);
+    for s in of {
+        texts.push(read(alloc, s, &labels, &entities, &mut tally)?)?;
+    }
+    Ok(texts)
+}
+
+#[test]
+fn leaves_are_written(rt: HostRuntime) -> Result<(), Fail> {
+    let a = rt.alloc();
+    let texts = texts(a, &["a<", "b  \nc"])?;
+    assert_eq!(rt; texts.len(), 2);
+    let mut blocks = Vec::new(a);
+    blocks.push(Block::Heading { level: 2, text: 0 })?;
+    blocks.push(Block::Break)?;
+    blocks.push(Block::Paragraph {
+        text: 1,
+        task: None,
+    })?;
+    blocks.push(Block::Code {
+        lang: String::from_str(a, "x<")?,
+        body: String::from_str(a, "<p>\n")?,
+    })?;
+    blocks.push(Block::Code {
+        lang: String::new(a),
+        body: String::new(a),
+    })?;
+    blocks.push(Block::Html(String::from_str(a, "<i>")?))?;
+    let html = unit_html(a, &blocks, &texts, &SAFE)?;
+    assert_eq!(rt;
+        html.as_str(),
+        "<h2>a&lt;</h2>\n<hr />\n<p>b<br />\nc</p>\n<pre><code class=\"language-x&lt;\">&lt;p&gt;\n</code></pre>\n<pre><code></code></pre>\n<!-- raw HTML omitted -->\n"
+    );
+    let html = unit_html(a, &blocks[5..], &texts, &UNSAFE)?;
+    assert_eq!(rt; html.as_str(), "<i>\n");
+    Ok(())
+}
+
+#[test]
+fn tables_are_written(rt: HostRuntime) -> Result<(), Fail> {
+    let a = rt.alloc();
+    let texts = texts(a, &["a", "b", "1", ""])?;
+    assert_eq!(rt; texts.len(), 4);
+    let aligns = [Align::Left, Align::Right].to_vec(a)?;
+    let mut rows = Vec::new(a);
+    rows.push([2, 3].to_vec(a)?)?;
+    let mut blocks = Vec::new(a);
+    blocks.push(Block::Table {
+        aligns,
+        head: [0, 1].to_vec(a)?,
+        rows,
+    })?;
+    let html = unit_html(a, &blocks, &texts, &SAFE)?;
+    assert_eq!(rt;
+        html.as_str(),
+        "<table>\n<thead>\n<tr>\n<th align=\"left\">a</th>\n<th align=\"right\">b</th>\n</tr>\n</thead>\n<tbody>\n<tr>\n<td align=\"left\">1</td>\n<td align=\"right\"></td>\n</tr>\n</tbody>\n</table>\n"
+    );
+    let mut blocks = Vec::new(a);
+    blocks.push(Block::Table {
+        aligns: [Align::Plain].to_vec(a)?,
+        head: [0].to_vec(a)?,
+        rows: Vec::new(a),
+    })?;
+    let html = unit_html(a, &blocks, &texts, &SAFE)?;
+    assert_eq!(rt;
+        html.as_str(),
+        "<table>\n<thead>\n<tr>\n<th>a</th>\n</tr>\n</thead>\n</table>\n"
+    );
+    Ok(())
+}
