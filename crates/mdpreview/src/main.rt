@@ -4,6 +4,7 @@
 use mdtext::Entities;
 use mdtool::{Breaks, Options, ReadFeed, Stop, ToolFault, WordFault, WriteOut, ending, serve};
 use std::env;
+use std::io::ErrorKind;
 use std::process::ExitCode;
 
 fn main(rt: HostRuntime) -> ExitCode {
@@ -29,6 +30,9 @@ fn run(rt: &HostRuntime) -> Result<(), Stop> {
 fn no_words(rt: &HostRuntime) -> Result<(), Stop> {
     match env::args(rt) {
         Ok(words) if words.len() <= 1 => Ok(()),
+        Err(error) if error.kind() == ErrorKind::OutOfMemory => {
+            Err(Stop::Words(WordFault::NoMemory))
+        }
         _ => Err(Stop::Words(WordFault::NotUnderstood)),
     }
 }
