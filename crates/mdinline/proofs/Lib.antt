@@ -1,2 +1,3 @@
+pub mod Autolinks
 pub mod FirstTargets
-pub mod Lines
+pub mod Marks

@@ -1,6 +1,7 @@
+pub mod Brackets
 pub mod InlineTree
 pub mod LabelMap
-pub mod LineBreaks
 pub mod ParsedText
 pub mod StoredTree
+pub mod Ticks
 pub mod TreeView

@@ -1,9 +1,10 @@
 //! The labels that were looked up for a text.
 
-ghost use Rattle.std.specs.Prelude.{◌≡◌, ◌==◌, ◌↔◌, IsTrue, Contains, length, slice_get, option_copied};
+ghost use Rattle.std.specs.Prelude.{◌≡◌, ◌==◌, ◌↔◌, IsTrue, IfOk, Contains, length, slice_get, option_copied};
 
 use mdtext::Label;
-use std::alloc::Global;
+use std::alloc::{AllocError, Global};
+use std::collections::BTreeSet;
 use std::marker::Model;
 
 /// The labels that were looked up for a text, found or not: each once, in ascending order.
@@ -30,15 +31,14 @@ impl Asked {
     ghost use Rattle.std.specs.List.Sorted.{IsStrictlySortedBy};
     ghost use Rattle.std.specs.Cmp.Lexicographic.{slice_cmp};
     ghost use Rattle.std.specs.Ordering.{nat_cmp};
-    ghost use Rattle.std.specs.Prelude.{[]};
 
-    /// No label.
-    pub(crate) fn new(alloc: Global) -> Asked
-        ensures { result ≡ [] }
+    /// The labels of a set.
+    pub(crate) fn of(alloc: Global, set: BTreeSet<Label, Global>) -> Result<Asked, AllocError>
+        ensures { IfOk result (λ asked. asked ≡ set.keys) }
     {
-        Asked {
-            labels: Vec::new(alloc),
-        }
+        Ok(Asked {
+            labels: set.into_iter().collect(alloc)?,
+        })
     }
 
     /// How many labels were looked up. Takes no memory.

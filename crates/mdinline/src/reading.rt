@@ -1,61 +1,208 @@
-//! The reading of a text.
+//! The reading of a text (CommonMark 6; GFM, Strikethrough).
 
-ghost use Rattle.std.specs.Prelude.{◌≡◌, [], IfOk, OnOk, ◌++◌, map};
+ghost use Rattle.std.specs.Prelude.{◌≡◌, ◌-◌, ◌<◌, ℕ, List, [], IfOk, OnOk, length};
+ghost use Rattle.std.specs.Str.{IsCharBoundary};
+ghost use Rattle.mdscan.specs.Spans.{IsEndAfter};
 ghost use Rattle.mdtext.specs.Counted.{counted};
-ghost use Rattle.mdinline.specs.LineBreaks.{text_tree, text_then};
-ghost use Rattle.mdinline.specs.TreeView.{inline_view, inlines_view};
+ghost use Rattle.mdinline.specs.Brackets.{AreBracketsOf, IsLinkEnd};
 
 use crate::asked::Asked;
-use crate::breaks::{content_and_break, split_line, unindent};
+use crate::brackets::reference_of;
 use crate::faults::InlineFault;
 use crate::inlines::Inline;
 use crate::labels::Labels;
+use crate::openings::{Bracket, BracketKind, Opening, Openings, bracket_at};
 use crate::parsed::Parsed;
-use mdtext::{Count, Entities};
+use crate::pieces::Piece;
+use crate::scanner::Scanner;
+use crate::settling::settle;
+use crate::trees::MOST_SPANS;
+use mdpair::delimiter_run;
+use mdtext::{Count, Entities, Label, Target};
 use std::alloc::{AllocError, Global};
+use std::collections::BTreeSet;
+
+/// What was read of a text up to a place.
+#[derive(Drop)]
+struct Reading {
+    pieces: Vec<Piece>,
+    openings: Openings,
+    asked: BTreeSet<Label, Global>,
+}
 
 /// Reads an inline text, and counts it.
+///
+/// Labels that are looked up are asked for, found or not. `TooDeep` where more than 64 spans (emphasis, strong emphasis, strikethrough, links, images) lie in
+/// one another. After a fault nothing is left but the count.
 pub fn read<L: Labels, C: Count>(
     alloc: Global,
     text: &str,
-    _labels: &L,
-    _entities: &Entities,
+    labels: &L,
+    entities: &Entities,
     count: &mut C,
 ) -> Result<Parsed, InlineFault>
-    ensures tree { IfOk result (λ parsed. parsed.tree ≡ text_tree text.now) }
-    ensures asked { IfOk result (λ parsed. parsed.asked ≡ []) }
     ensures inlines { C.inlines count.new ≡ counted (C.inlines count.old) }
     ensures lines { C.lines count.new ≡ C.lines count.old }
 {
     count.inline();
-    let tree = lines_of(alloc, text)?;
-    Ok(Parsed::new(tree, Asked::new(alloc)))
+    let mut scanner = Scanner::of(alloc, text)?;
+    let mut reading = Reading::new(alloc);
+    let mut at = 0;
+    while at < text.len() {
+        at = reading.step(alloc, text, at, &mut scanner, labels, entities)?;
+    }
+    let Reading { pieces, asked, .. } = reading;
+    let tree = settle(alloc, pieces)?;
+    Ok(Parsed::new(tree.inlines, Asked::of(alloc, asked)?))
 }
 
-/// The lines of a text with the breaks between them.
-fn lines_of(alloc: Global, text: &str) -> Result<Vec<Inline>, AllocError>
-    ensures { IfOk result (λ tree. inlines_view tree.items ≡ text_tree text.now) }
-{
-    let mut tree = Vec::new(alloc);
-    let (mut line, mut rest) = split_line(text);
-    while let Some(after) = rest {
-        let (content, kind) = content_and_break(line);
-        push_text(alloc, &mut tree, content)?;
-        tree.push(kind)?;
-        let (next, more) = split_line(after);
-        line = unindent(next);
-        rest = more;
+impl Reading {
+    fn new(alloc: Global) -> Reading
+        ensures { result.openings.unused.items ≡ [] }
+    {
+        Reading {
+            pieces: Vec::new(alloc),
+            openings: Openings::new(alloc),
+            asked: BTreeSet::new(alloc),
+        }
     }
-    push_text(alloc, &mut tree, line)?;
-    Ok(tree)
-}
 
-/// Appends a text, unless it is empty.
-fn push_text(alloc: Global, tree: &mut Vec<Inline>, text: &str) -> Result<(), AllocError>
-    ensures { OnOk result (map inline_view tree.new.items ≡ map inline_view tree.old.items ++ text_then text.now []) }
-{
-    if !text.is_empty() {
-        tree.push(Inline::Text(String::from_str(alloc, text)?))?;
+    /// Reads what stands at a place, and answers where that ends.
+    fn step<L: Labels>(
+        &mut self,
+        alloc: Global,
+        text: &str,
+        at: usize,
+        scanner: &mut Scanner,
+        labels: &L,
+        entities: &Entities,
+    ) -> Result<usize, InlineFault>
+        requires whole { IsCharBoundary text.now at }
+        requires inside { at < length text.now }
+        requires brackets { AreBracketsOf text.now self.old.openings.unused.items }
+        ensures end { IfOk result (λ end. IsEndAfter text.now at end) }
+        ensures brackets { IfOk result (λ _. AreBracketsOf text.now self.new.openings.unused.items) }
+    {
+        if let Some(run) = delimiter_run(text, at) {
+            self.pieces.push(Piece::Run(run))?;
+            return Ok(at + run.length);
+        }
+        if let Some(bracket) = bracket_at(text.as_bytes(), at) {
+            return self.bracket(alloc, text, bracket, labels, entities);
+        }
+        let found = scanner.inline(alloc, text, at, entities)?;
+        let end = found.end;
+        self.pieces.push(Piece::Made {
+            inline: found.inline,
+            depth: found.depth,
+        })?;
+        Ok(end)
     }
-    Ok(())
+
+    /// Reads a bracket.
+    fn bracket<L: Labels>(
+        &mut self,
+        alloc: Global,
+        text: &str,
+        bracket: Bracket,
+        labels: &L,
+        entities: &Entities,
+    ) -> Result<usize, InlineFault>
+        requires ends { IsCharBoundary text.now bracket.end }
+        requires some { 0 < bracket.end }
+        requires begins { IsCharBoundary text.now (bracket.end - 1) }
+        requires brackets { AreBracketsOf text.now self.old.openings.unused.items }
+        ensures end { IfOk result (λ end. IsLinkEnd text.now bracket.end end) }
+        ensures brackets { IfOk result (λ _. AreBracketsOf text.now self.new.openings.unused.items) }
+    {
+        match bracket.kind {
+            BracketKind::Link => self.open(false, bracket.end - 1)?,
+            BracketKind::Image => self.open(true, bracket.end - 1)?,
+            BracketKind::Closing => return self.close(alloc, text, bracket.end, labels, entities),
+        }
+        Ok(bracket.end)
+    }
+
+    fn open(&mut self, is_image: bool, bracket: usize) -> Result<(), AllocError>
+        ensures { OnOk result ((text : List ℕ) → IsCharBoundary text bracket → AreBracketsOf text self.old.openings.unused.items
+            → AreBracketsOf text self.new.openings.unused.items) }
+    {
+        self.openings.push(Opening {
+            piece: self.pieces.len(),
+            bracket,
+            is_image,
+        })?;
+        self.pieces.push(Piece::Bracket { is_image })?;
+        Ok(())
+    }
+
+    /// A `]` uses up the nearest unused bracket, and answers where the link or the image ends that it makes. If it makes none, it is text.
+    fn close<L: Labels>(
+        &mut self,
+        alloc: Global,
+        text: &str,
+        after: usize,
+        labels: &L,
+        entities: &Entities,
+    ) -> Result<usize, InlineFault>
+        requires after { IsCharBoundary text.now after }
+        requires brackets { AreBracketsOf text.now self.old.openings.unused.items }
+        ensures end { IfOk result (λ end. IsLinkEnd text.now after end) }
+        ensures brackets { IfOk result (λ _. AreBracketsOf text.now self.new.openings.unused.items) }
+    {
+        if let Some((opening, true)) = self.openings.take()
+            && let Some(reference) = reference_of(
+                alloc,
+                text,
+                opening.bracket,
+                after,
+                labels,
+                entities,
+                &mut self.asked,
+            )?
+        {
+            self.link(alloc, opening, reference.target)?;
+            return Ok(reference.end);
+        }
+        let inline = Inline::Text(String::from_str(alloc, "]")?);
+        self.pieces.push(Piece::Made { inline, depth: 0 })?;
+        Ok(after)
+    }
+
+    /// Makes a link or an image of the pieces from a bracket on.
+    fn link(&mut self, alloc: Global, opening: Opening, target: Target) -> Result<(), InlineFault>
+        ensures { OnOk result (self.new.openings.unused.items ≡ self.old.openings.unused.items) }
+    {
+        let inside = self.take_inside(alloc, opening.piece)?;
+        let tree = settle(alloc, inside)?;
+        if tree.depth >= MOST_SPANS {
+            return Err(InlineFault::TooDeep);
+        }
+        let inline = if opening.is_image {
+            Inline::Image(target, tree.inlines)
+        } else {
+            self.openings.link_made();
+            Inline::Link(target, tree.inlines)
+        };
+        self.pieces.push(Piece::Made {
+            inline,
+            depth: tree.depth + 1,
+        })?;
+        Ok(())
+    }
+
+    /// Takes away the pieces from a bracket on, and answers those behind it.
+    fn take_inside(&mut self, alloc: Global, bracket: usize) -> Result<Vec<Piece>, AllocError>
+        ensures { OnOk result (self.new.openings ≡ self.old.openings) }
+    {
+        let mut inside = Vec::new(alloc);
+        while self.pieces.len() > bracket
+            && let Some(piece) = self.pieces.pop()
+        {
+            inside.push(piece)?;
+        }
+        inside.pop();
+        inside.reverse();
+        Ok(inside)
+    }
 }

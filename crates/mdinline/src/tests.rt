@@ -1,6 +1,15 @@
-//! Maps of labels, and the lines of a text.
+//! Maps of labels, and the reading of texts.
 
-use crate::{Inline, LabelTable, Labels, read};
+mod borders;
+mod emphasis;
+mod links;
+mod nested_emphasis;
+mod others;
+mod references;
+mod rows;
+
+use self::rows::read_text;
+use crate::{Inline, InlineFault, LabelTable, Labels, read};
 use mdtext::{Entities, Label, Tally, Target, fold_label};
 use std::alloc::{AllocError, Global};
 use std::test::Fail;
@@ -57,32 +66,90 @@ fn trees_are_compared(rt: HostRuntime) -> Result<(), Fail> {
     Ok(())
 }
 
+/// A text of so many openers, a letter and so many closers.
+fn nested(
+    alloc: Global,
+    count: usize,
+    opener: &str,
+    inside: &str,
+    closer: &str,
+) -> Result<String, AllocError> {
+    let mut text = String::new(alloc);
+    for _ in 0..count {
+        text.push_str(opener)?;
+    }
+    text.push_str(inside)?;
+    for _ in 0..count {
+        text.push_str(closer)?;
+    }
+    Ok(text)
+}
+
+/// Whether a text that is nested so often is refused as too deep.
+fn is_too_deep(
+    alloc: Global,
+    count: usize,
+    opener: &str,
+    inside: &str,
+    closer: &str,
+) -> Result<bool, AllocError> {
+    let text = nested(alloc, count, opener, inside, closer)?;
+    let read = read_text(alloc, text.as_str(), &[("k", "/u", "")])?;
+    Ok(matches!(read, Err(InlineFault::TooDeep)))
+}
+
 #[test]
-fn lines_are_read(rt: HostRuntime) -> Result<(), Fail> {
+fn spans_nest_up_to_64(rt: HostRuntime) -> Result<(), Fail> {
+    let alloc = rt.alloc();
+    let rows = [
+        (64, "*a ", "b", " a*", false),
+        (65, "*a ", "b", " a*", true),
+        (63, "*a ", "[k]", " a*", false),
+        (64, "*a ", "[k]", " a*", true),
+        (64, "*a ", "[m]", " a*", false),
+        (64, "![", "a", "](/u)", false),
+        (65, "![", "a", "](/u)", true),
+        (128, "*", "a", "*", false),
+        (129, "*", "a", "*", true),
+        (64, "~~a ", "b", " a~~", false),
+        (65, "~~a ", "b", " a~~", true),
+        (63, "*a ", "<ab:c>", " a*", false),
+        (64, "*a ", "<ab:c>", " a*", true),
+        (1000, "[", "a", "](/u)", false),
+        (20000, "*", "a", "*", true),
+    ];
+    for (count, opener, inside, closer, want) in rows {
+        let refused = is_too_deep(alloc, count, opener, inside, closer)?;
+        assert_eq!(rt; refused, want, "at {count} {opener} {inside}");
+    }
+    Ok(())
+}
+
+#[test]
+fn each_text_is_counted_once(rt: HostRuntime) -> Result<(), Fail> {
     let alloc = rt.alloc();
     let labels = LabelTable::new(alloc);
     let entities = Entities::builtin(alloc)?;
     let mut tally = Tally::new();
-    let rows = [
-        ("", "[]"),
-        ("a", "[Text(\"a\")]"),
-        ("a\nb", "[Text(\"a\"), Soft, Text(\"b\")]"),
-        (
-            "a  \nb\\\nc",
-            "[Text(\"a\"), Hard, Text(\"b\"), Hard, Text(\"c\")]",
-        ),
-        ("a \n   b  ", "[Text(\"a\"), Soft, Text(\"b  \")]"),
-        ("a\n   \nb", "[Text(\"a\"), Soft, Soft, Text(\"b\")]"),
-        ("a\t\nb \\\n", "[Text(\"a\\t\"), Soft, Text(\"b \"), Hard]"),
-        ("*a* [b]", "[Text(\"*a* [b]\")]"),
-    ];
-    for (text, want) in rows {
-        let parsed = read(alloc, text, &labels, &entities, &mut tally)?;
-        let shown = format!(in alloc; "{:?}", parsed.tree())?;
-        assert_eq!(rt; shown.as_str(), want);
-        assert!(rt; parsed.asked().is_empty());
+    let deep = nested(alloc, 129, "*", "a", "*")?;
+    for text in ["", "*a* [b](/u)", deep.as_str()] {
+        let _ = read(alloc, text, &labels, &entities, &mut tally);
     }
-    assert_eq!(rt; tally.inlines(), 8);
+    assert_eq!(rt; tally.inlines(), 3);
     assert_eq!(rt; tally.lines(), 0);
+    Ok(())
+}
+
+/// A run of backticks that nothing closes is text, however many there are.
+#[test]
+fn unclosed_runs_are_text(rt: HostRuntime) -> Result<(), Fail> {
+    let alloc = rt.alloc();
+    for mark in [
+        "*", "_", "~", "[", "![", "](", "`", "<", "<!--", "<?", "&", "\\\\",
+    ] {
+        let text = nested(alloc, 500, mark, "", "")?;
+        let parsed = read_text(alloc, text.as_str(), &[])?.map_err(|_| "refused")?;
+        assert_eq!(rt; parsed.tree().len(), 1, "at {mark}");
+    }
     Ok(())
 }

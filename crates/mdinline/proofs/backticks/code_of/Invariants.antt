@@ -1,0 +1,12 @@
+use Rattle.std.proofs.Common.{length}
+use denote.Shadow.{shadow}
+use denote.Text.{Utf8}
+use Rattle.mdinline.proofs.backticks.code_of.Given as goal
+
+abbrev pub invariant-loop-line : goal.invariant-loop-line
+invariant-loop-line l = record {
+  text : shadow (Utf8 l.rest);
+}
+
+abbrev pub decreases-loop-line : goal.decreases-loop-line
+decreases-loop-line l = length l.rest

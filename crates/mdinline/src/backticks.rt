@@ -1,0 +1,143 @@
+//! Code spans (CommonMark 6.1).
+
+ghost use Rattle.std.specs.Prelude.{◌≡◌, ◌-◌, ◌<◌, ◌≤◌, true, IfOk, IfSome, length, slice_index};
+ghost use Rattle.mdscan.specs.Spans.{IsEndAfter};
+ghost use Rattle.mdinline.specs.Ticks.{AreTicksFrom};
+
+use crate::inlines::Inline;
+use crate::plain::{past_marks, text_of};
+use crate::scanner::{Found, simple};
+use std::alloc::{AllocError, Global};
+use std::collections::BTreeMap;
+
+/// A run of backticks.
+#[derive(Clone, Copy, Drop)]
+pub(crate) struct Ticks {
+    start: usize,
+    end: usize,
+}
+
+/// The last run of backticks of each length in a text, so that a run that has none of its length behind it is not searched for.
+#[derive(Drop)]
+pub(crate) struct Backticks {
+    last: BTreeMap<usize, usize, Global>,
+}
+
+impl Backticks {
+    pub(crate) fn of(alloc: Global, text: &[u8]) -> Result<Backticks, AllocError> {
+        let mut last = BTreeMap::new(alloc);
+        let mut at = 0;
+        while let Some(run) = next_run(text, at) {
+            last.insert(run.end - run.start, run.start)?;
+            at = run.end;
+        }
+        Ok(Backticks { last })
+    }
+
+    /// The code span whose run of backticks stands at a place, or the run as text where no run of its length closes it.
+    pub(crate) fn code_or_run(
+        &self,
+        alloc: Global,
+        text: &str,
+        at: usize,
+    ) -> Result<Option<Found>, AllocError>
+        requires inside { at < length text.now }
+        requires mark { slice_index text.now at < 128 }
+        ensures { IfOk result (λ found. IfSome found (λ found. IsEndAfter text.now at found.end)) }
+    {
+        let bytes = text.as_bytes();
+        let start = past_marks(bytes, at, b'`');
+        match self.closing(bytes, start, start - at) {
+            Some(run) => {
+                let code = code_of(alloc, &text[start..run.start])?;
+                Ok(Some(simple(Inline::Code(code), run.end)))
+            }
+            None => Ok(Some(simple(text_of(alloc, &text[at..start])?, start))),
+        }
+    }
+
+    /// The first run of this length from a place on.
+    fn closing(&self, text: &[u8], from: usize, size: usize) -> Option<Ticks>
+        requires { from ≤ length text.now }
+        ensures { IfSome result (λ run. AreTicksFrom text.now from run) }
+    {
+        match self.last.get(&size) {
+            Some(last) if from <= *last => find_run(text, from, size),
+            _ => None,
+        }
+    }
+}
+
+fn find_run(text: &[u8], from: usize, size: usize) -> Option<Ticks>
+    requires { from ≤ length text.now }
+    ensures { IfSome result (λ run. AreTicksFrom text.now from run) }
+{
+    let mut at = from;
+    while let Some(run) = next_run(text, at) {
+        if run.end - run.start == size {
+            return Some(run);
+        }
+        at = run.end;
+    }
+    None
+}
+
+/// The first run from a place on.
+fn next_run(text: &[u8], from: usize) -> Option<Ticks>
+    requires { from ≤ length text.now }
+    ensures { IfSome result (λ run. AreTicksFrom text.now from run) }
+{
+    for start in from..text.len() {
+        if text[start] == b'`' {
+            return Some(Ticks {
+                start,
+                end: past_marks(text, start, b'`'),
+            });
+        }
+    }
+    None
+}
+
+/// The code of a code span: line endings become spaces, and a space goes from each end where both have one and not all is spaces.
+fn code_of(alloc: Global, inside: &str) -> Result<String, AllocError> {
+    let mut code = String::with_capacity(alloc, inside.len())?;
+    let mut rest = without_padding(inside);
+    while let Some((line, after)) = rest.split_once('\n') {
+        code.push_str(line)?;
+        code.push_str(" ")?;
+        rest = after;
+    }
+    code.push_str(rest)?;
+    Ok(code)
+}
+
+fn without_padding(inside: &str) -> &str {
+    if is_padded(inside.as_bytes()) {
+        &inside[1..inside.len() - 1]
+    } else {
+        inside
+    }
+}
+
+/// Whether a space stands at both ends, and something else between.
+fn is_padded(inside: &[u8]) -> bool
+    ensures two { result ≡ true → 1 < length inside.now }
+    ensures first { result ≡ true → slice_index inside.now 0 < 128 }
+    ensures last { result ≡ true → slice_index inside.now (length inside.now - 1) < 128 }
+{
+    inside.len() > 1
+        && is_space(inside[0])
+        && is_space(inside[inside.len() - 1])
+        && holds_code(inside)
+}
+
+fn holds_code(inside: &[u8]) -> bool {
+    inside.iter().any(|byte| !is_space(*byte))
+}
+
+/// Whether a byte is a space in a code span, where line endings are spaces too.
+fn is_space(byte: u8) -> bool
+    ensures { result ≡ true → byte < 128 }
+{
+    byte == b' ' || byte == b'\n'
+}

@@ -1,0 +1,97 @@
+//! Brackets, and those of a text that no `]` has used up (CommonMark 6.3, 6.4).
+
+ghost use Rattle.std.specs.Prelude.{◌≡◌, ◌<◌, [], ◌∷◌, ◌++◌, IfSome, OnOk, MatchOption, length};
+ghost use Rattle.mdscan.specs.Spans.{EndsAfterMark};
+
+use std::alloc::{AllocError, Global};
+
+/// What a bracket does.
+#[derive(Clone, Copy, Drop)]
+pub(crate) enum BracketKind {
+    /// `[`
+    Link,
+    /// `![`
+    Image,
+    /// `]`
+    Closing,
+}
+
+/// A bracket, and where it ends.
+#[derive(Clone, Copy, Drop)]
+pub(crate) struct Bracket {
+    pub kind: BracketKind,
+    pub end: usize,
+}
+
+/// The bracket at a place.
+pub(crate) fn bracket_at(text: &[u8], at: usize) -> Option<Bracket>
+    requires { at < length text.now }
+    ensures { IfSome result (λ bracket. EndsAfterMark text.now at bracket.end) }
+{
+    let next = at + 1;
+    match text[at] {
+        b'[' => Some(make_bracket(BracketKind::Link, next)),
+        b']' => Some(make_bracket(BracketKind::Closing, next)),
+        b'!' if next < text.len() && text[next] == b'[' => {
+            Some(make_bracket(BracketKind::Image, next + 1))
+        }
+        _ => None,
+    }
+}
+
+fn make_bracket(kind: BracketKind, end: usize) -> Bracket
+    ensures { result.end ≡ end }
+{
+    Bracket { kind, end }
+}
+
+/// An opening bracket: its place among the pieces, and that of its `[` in the text.
+#[derive(Clone, Copy, Drop)]
+pub(crate) struct Opening {
+    pub piece: usize,
+    pub bracket: usize,
+    pub is_image: bool,
+}
+
+/// The opening brackets that are unused, the nearest last. Those before a link are dead (CommonMark 6.3: links hold no links), save of images.
+#[derive(Drop)]
+pub(crate) struct Openings {
+    unused: Vec<Opening>,
+    /// How many of them stand before a link.
+    before_link: usize,
+}
+
+impl Openings {
+    pub(crate) fn new(alloc: Global) -> Openings
+        ensures { result.unused.items ≡ [] }
+    {
+        Openings {
+            unused: Vec::new(alloc),
+            before_link: 0,
+        }
+    }
+
+    pub(crate) fn push(&mut self, opening: Opening) -> Result<(), AllocError>
+        ensures { OnOk result (self.new.unused.items ≡ self.old.unused.items ++ opening ∷ []) }
+    {
+        self.unused.push(opening)?;
+        Ok(())
+    }
+
+    /// Uses up the nearest one, and answers it with whether it is live.
+    pub(crate) fn take(&mut self) -> Option<(Opening, bool)>
+        ensures { MatchOption result (self.new.unused.items ≡ self.old.unused.items) (λ taken. self.old.unused.items ≡ self.new.unused.items ++ taken.0 ∷ []) }
+    {
+        let opening = self.unused.pop()?;
+        let is_live = opening.is_image || self.before_link <= self.unused.len();
+        self.before_link = self.before_link.min(self.unused.len());
+        Some((opening, is_live))
+    }
+
+    /// A link was made: all that are unused stand before it.
+    pub(crate) fn link_made(&mut self)
+        ensures { self.new.unused.items ≡ self.old.unused.items }
+    {
+        self.before_link = self.unused.len();
+    }
+}

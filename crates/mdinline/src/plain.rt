@@ -1,0 +1,150 @@
+//! Text, backslash escapes and line breaks (CommonMark 2.4, 6.7, 6.8).
+
+ghost use Rattle.std.specs.Prelude.{◌≡◌, ◌<◌, ◌≤◌, IfOk, IfSome, length, slice_index};
+ghost use Rattle.std.specs.Str.{IsCharBoundary};
+ghost use Rattle.mdscan.specs.Spans.{IsEndAfter, EndsAfterMark};
+
+use crate::inlines::Inline;
+use crate::scanner::{Found, simple};
+use mdtext::{Class, first_special};
+use std::alloc::{AllocError, Global};
+
+/// A part of a text as it is written.
+pub(crate) fn text_of(alloc: Global, text: &str) -> Result<Inline, AllocError> {
+    Ok(Inline::Text(String::from_str(alloc, text)?))
+}
+
+/// The text at a place: a character, and what follows it up to the next that may begin something else, without the spaces before a line ending.
+pub(crate) fn plain(alloc: Global, text: &str, at: usize) -> Result<Found, AllocError>
+    requires whole { IsCharBoundary text.now at }
+    requires inside { at < length text.now }
+    ensures { IfOk result (λ found. IsEndAfter text.now at found.end) }
+{
+    let end = text_end(text.as_bytes(), at);
+    Ok(simple(text_of(alloc, &text[at..end])?, end))
+}
+
+fn text_end(text: &[u8], at: usize) -> usize
+    requires { at < length text.now }
+    ensures later { at < result }
+    ensures within { result ≤ length text.now }
+    ensures mark { result < length text.now → slice_index text.now result < 128 }
+{
+    let first = at + 1;
+    let stop = stop_from(text, first);
+    if stop < text.len() && text[stop] == b'\n' {
+        without_spaces(text, first, stop)
+    } else {
+        stop
+    }
+}
+
+/// The first place from `start` on at which something may begin that is not text.
+fn stop_from(text: &[u8], start: usize) -> usize
+    requires { start ≤ length text.now }
+    ensures from { start ≤ result }
+    ensures within { result ≤ length text.now }
+    ensures mark { result < length text.now → slice_index text.now result < 128 }
+{
+    start + first_stop(&text[start..])
+}
+
+fn first_stop(text: &[u8]) -> usize
+    ensures within { result ≤ length text.now }
+    ensures mark { result < length text.now → slice_index text.now result < 128 }
+{
+    first_special(text, &Class::of(b"\n!&*<[\\]_`~"))
+}
+
+/// Where the spaces begin that stand before `end`, and not before `start`.
+fn without_spaces(text: &[u8], start: usize, end: usize) -> usize
+    requires ordered { start ≤ end }
+    requires inside { end < length text.now }
+    requires mark { slice_index text.now end < 128 }
+    ensures from { start ≤ result }
+    ensures within { result ≤ end }
+    ensures mark { slice_index text.now result < 128 }
+{
+    let mut first = end;
+    while first > start && text[first - 1] == b' ' {
+        first -= 1;
+    }
+    first
+}
+
+/// The backslash at a place, with what it escapes. Before a line ending it makes a hard line break.
+pub(crate) fn escape(alloc: Global, text: &str, at: usize) -> Result<Option<Found>, AllocError>
+    requires inside { at < length text.now }
+    requires mark { slice_index text.now at < 128 }
+    ensures { IfOk result (λ found. IfSome found (λ found. IsEndAfter text.now at found.end)) }
+{
+    let bytes = text.as_bytes();
+    let next = at + 1;
+    if next >= bytes.len() {
+        return Ok(None);
+    }
+    let byte = bytes[next];
+    if byte == b'\n' {
+        return Ok(Some(simple(Inline::Hard, past_break(text, at, next))));
+    }
+    if byte.is_ascii_punctuation() {
+        let escaped = text_of(alloc, &text[next..next + 1])?;
+        return Ok(Some(simple(escaped, next + 1)));
+    }
+    Ok(None)
+}
+
+/// The line break at a place, from the spaces before it to those after it. Two or more spaces before it make it a hard one.
+pub(crate) fn line_break(text: &str, at: usize) -> Option<Found>
+    requires inside { at < length text.now }
+    ensures { IfSome result (λ found. IsEndAfter text.now at found.end) }
+{
+    let bytes = text.as_bytes();
+    let feed = past_spaces(bytes, at);
+    if feed >= bytes.len() || bytes[feed] != b'\n' {
+        return None;
+    }
+    let end = past_break(text, at, feed);
+    if feed - at > 1 {
+        Some(simple(Inline::Hard, end))
+    } else {
+        Some(simple(Inline::Soft, end))
+    }
+}
+
+/// The place after the line feed at `feed` and the spaces behind it.
+fn past_break(text: &str, at: usize, feed: usize) -> usize
+    requires from { at ≤ feed }
+    requires inside { feed < length text.now }
+    requires mark { slice_index text.now feed < 128 }
+    ensures { IsEndAfter text.now at result }
+{
+    past_marks(text.as_bytes(), feed, b' ')
+}
+
+/// The place after an ASCII byte and the marks behind it.
+pub(crate) fn past_marks(text: &[u8], at: usize, mark: u8) -> usize
+    requires inside { at < length text.now }
+    requires first { slice_index text.now at < 128 }
+    requires ascii { mark < 128 }
+    ensures { EndsAfterMark text.now at result }
+{
+    let mut end = at + 1;
+    while end < text.len() && text[end] == mark {
+        end += 1;
+    }
+    end
+}
+
+/// The place after the spaces at a place.
+fn past_spaces(text: &[u8], at: usize) -> usize
+    requires { at ≤ length text.now }
+    ensures from { at ≤ result }
+    ensures within { result ≤ length text.now }
+{
+    let mut end = at;
+    while end < text.len() && text[end] == b' ' {
+        end += 1;
+    }
+    end
+}

@@ -1,0 +1,90 @@
+//! How tables of texts are read and compared.
+
+use crate::{InlineFault, LabelTable, Parsed, read};
+use mdtext::{Entities, Tally, Target, fold_label};
+use std::alloc::{AllocError, Global};
+use std::process::Abort;
+use std::test::Fail;
+
+/// A definition: label, destination and title.
+pub(crate) type Definition = (&'static str, &'static str, &'static str);
+
+/// A text, its definitions, and its tree.
+pub(crate) type Defined = (&'static str, &'static [Definition], &'static str);
+
+pub(crate) fn table_of(
+    alloc: Global,
+    definitions: &[Definition],
+) -> Result<LabelTable, AllocError> {
+    let mut table = LabelTable::new(alloc);
+    for (name, url, title) in definitions {
+        if let Some(label) = fold_label(alloc, name)? {
+            let target = Target {
+                url: String::from_str(alloc, url)?,
+                title: String::from_str(alloc, title)?,
+            };
+            table.add(label, target)?;
+        }
+    }
+    Ok(table)
+}
+
+/// Reads a text with the built-in entities.
+pub(crate) fn read_text(
+    alloc: Global,
+    text: &str,
+    definitions: &[Definition],
+) -> Result<Result<Parsed, InlineFault>, AllocError> {
+    let table = table_of(alloc, definitions)?;
+    let entities = Entities::builtin(alloc)?;
+    let mut tally = Tally::new();
+    Ok(read(alloc, text, &table, &entities, &mut tally))
+}
+
+fn check_tree(
+    rt: &impl Abort,
+    alloc: Global,
+    text: &str,
+    definitions: &[Definition],
+    tree: &str,
+) -> Result<(), Fail> {
+    let parsed = read_text(alloc, text, definitions)?.map_err(|_| "refused")?;
+    let shown = format!(in alloc; "{:?}", parsed.tree())?;
+    assert_eq!(rt; shown.as_str(), tree, "in {text:?}");
+    Ok(())
+}
+
+pub(crate) fn check_texts(
+    rt: &impl Abort,
+    alloc: Global,
+    rows: &[(&str, &str)],
+) -> Result<(), Fail> {
+    for (text, tree) in rows {
+        check_tree(rt, alloc, text, &[], tree)?;
+    }
+    Ok(())
+}
+
+pub(crate) fn check_defined(rt: &impl Abort, alloc: Global, rows: &[Defined]) -> Result<(), Fail> {
+    for (text, definitions, tree) in rows {
+        check_tree(rt, alloc, text, definitions, tree)?;
+    }
+    Ok(())
+}
+
+pub(crate) fn check_asked(
+    rt: &impl Abort,
+    alloc: Global,
+    rows: &[(&str, &[Definition], &[&str])],
+) -> Result<(), Fail> {
+    for (text, definitions, labels) in rows {
+        let parsed = read_text(alloc, text, definitions)?.map_err(|_| "refused")?;
+        let asked = parsed.asked();
+        assert_eq!(rt; asked.len(), labels.len(), "in {text:?}");
+        for i in 0..asked.len() {
+            let label = asked.get(i).ok_or("no label")?;
+            assert_eq!(rt; label.as_str(), labels[i], "in {text:?}");
+        }
+    }
+    Ok(())
+}
