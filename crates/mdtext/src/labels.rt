@@ -36,6 +36,15 @@ impl Label {
     {
         self.folded.as_str()
     }
+
+    /// An equal label.
+    pub fn copy(&self, alloc: Global) -> Result<Label, NoMemory>
+        ensures { IfOk result (λ label. label ≡ self.now) }
+    {
+        Ok(Label {
+            folded: String::from_str(alloc, &self.folded)?,
+        })
+    }
 }
 
 impl PartialEq for Label {
