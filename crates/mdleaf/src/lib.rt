@@ -12,3 +12,6 @@ pub use definitions::Definition;
 pub use leading::{Leading, is_only_definitions, leading_definitions};
 pub use rows::{Header, begins_table, data_row, table_header};
 pub use task_marks::task_mark;
+
+#[cfg(test)]
+mod tests;
