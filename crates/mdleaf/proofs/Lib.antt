@@ -1,0 +1,4 @@
+pub mod Fronts
+pub mod LabelText
+pub mod Characters
+pub mod CellTexts
