@@ -1,5 +1,4 @@
-use Rattle.std.proofs.Common.{◌≡◌, ◌+◌, ◌≤◌, length, arith, sym, ◌∙◌}
-use Rattle.mdscan.specs.TableRow.{bars, row_cells}
+use Rattle.std.proofs.Common.{arith, sym, ◌∙◌}
 use Rattle.mdscan.proofs.Rows.{all_cells, bar_here, no_bar, no_bars}
 use Rattle.mdscan.proofs.tables.count_cells.Goals as goal
 use Rattle.mdscan.proofs.tables.count_cells.Goals.{then-is_split, else-is_split}
