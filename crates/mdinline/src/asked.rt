@@ -1,8 +1,8 @@
 //! The labels that were looked up for a text.
 
-ghost use Rattle.std.specs.Prelude.{◌≡◌, ◌==◌, ◌↔◌, IsTrue, Contains, length, slice_get, option_copied};
+ghost use Rattle.std.specs.Prelude.{◌≡◌, ◌==◌, ◌↔◌, IsTrue, IfOk, Contains, length, slice_get, option_copied};
 
-use mdtext::Label;
+use mdtext::{Label, NoMemory};
 use std::alloc::Global;
 use std::marker::Model;
 
@@ -68,4 +68,23 @@ impl Asked {
     {
         self.labels.contains(label)
     }
+
+    /// An equal set.
+    pub(crate) fn copy(&self, alloc: Global) -> Result<Asked, NoMemory>
+        ensures { IfOk result (λ copy. copy ≡ self.now) }
+    {
+        Ok(Asked {
+            labels: copy_labels(alloc, &self.labels)?,
+        })
+    }
+}
+
+fn copy_labels(alloc: Global, labels: &[Label]) -> Result<Vec<Label>, NoMemory>
+    ensures { IfOk result (λ copy. copy.items ≡ labels.now) }
+{
+    let mut copy = Vec::with_capacity(alloc, labels.len())?;
+    for label in labels {
+        copy.push(label.copy(alloc)?)?;
+    }
+    Ok(copy)
 }

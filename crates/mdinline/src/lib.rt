@@ -3,6 +3,7 @@
 
 mod asked;
 mod breaks;
+mod copies;
 mod faults;
 mod inlines;
 mod labels;

@@ -95,6 +95,19 @@ pub struct Target {
     pub title: String,
 }
 
+impl Target {
+    /// An equal target.
+    pub fn copy(&self, alloc: Global) -> Result<Target, NoMemory>
+        ensures url { IfOk result (λ target. string_bytes target.url ≡ string_bytes self.now.url) }
+        ensures title { IfOk result (λ target. string_bytes target.title ≡ string_bytes self.now.title) }
+    {
+        Ok(Target {
+            url: String::from_str(alloc, &self.url)?,
+            title: String::from_str(alloc, &self.title)?,
+        })
+    }
+}
+
 /// The label that stands in brackets, from what stands between them (CommonMark 4.7).
 ///
 /// `None` where it has no character but spaces, tabs and line endings, more than 999 characters, or a bracket that no
