@@ -1,6 +1,10 @@
 pub mod BlockTree
 pub mod BlockView
+pub mod Indentation
+pub mod Openings
+pub mod OpenPositions
 pub mod Positions
+pub mod Reading
 pub mod StoredBlocks
 pub mod UnitTree
 pub use Rattle.mdleaf.specs.LinkDefinition

@@ -78,6 +78,27 @@ impl Model for Found {
 }
 
 impl Found {
+    /// A unit, with where its first line stands and how many lines it has.
+    pub(crate) fn new(
+        begin: usize,
+        lines: usize,
+        blocks: Vec<Block>,
+        definitions: Vec<Definition>,
+        texts: Vec<String>,
+    ) -> Found
+        requires { BlocksIn (length texts.items) (blocks_view blocks.items) }
+    {
+        Found {
+            begin,
+            lines,
+            unit: Unit {
+                blocks,
+                definitions,
+                texts,
+            },
+        }
+    }
+
     /// How many lines were fed before the unit's first line. Takes no memory.
     pub fn begin(&self) -> usize
         ensures { result ≡ self.now.begin }

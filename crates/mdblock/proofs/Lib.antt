@@ -1,0 +1,3 @@
+pub mod Markers
+pub mod Skips
+pub mod Within

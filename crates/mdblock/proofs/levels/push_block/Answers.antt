@@ -1,0 +1,6 @@
+use Rattle.std.proofs.Common.{◌≡◌, ℕ, List, [], ◌∷◌, ◌++◌, sym, subst}
+use Rattle.mdblock.proofs.Within.{blocks_push}
+use Rattle.mdblock.proofs.levels.push_block.Goals as goal
+
+pub returns : goal.returns
+returns c = λ n h within. let e = c.in_ok-push.ensures.items in rw e (blocks_push n c.args.over.now.items _ h within)

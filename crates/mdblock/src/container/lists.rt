@@ -1,0 +1,136 @@
+//! Lists and their items (CommonMark 5.2, 5.3).
+
+ghost use Rattle.std.specs.Prelude.{◌≡◌, ℕ, IfSome, OnOk};
+ghost use Rattle.mdtext.specs.Columns.{AreMarks};
+ghost use Rattle.mdblock.specs.BlockView.{block_view, blocks_view, items_view};
+ghost use Rattle.mdblock.specs.Positions.{BlockIn, BlocksIn, ItemsIn};
+
+use crate::blocks::{Block, Item, ListKind};
+use crate::lines::Line;
+use crate::starts::{Mode, Opening, start};
+use mdscan::Marker;
+use std::alloc::{AllocError, Global};
+
+/// An open list: the items that are over, and whether the last one is still open, with the columns that its lines need.
+#[derive(Drop)]
+pub(crate) struct OpenList {
+    kind: ListKind,
+    loose: bool,
+    items: Vec<Item>,
+    open: bool,
+    needed: usize,
+}
+
+impl OpenList {
+    /// The list that an item begins, with the columns that the item's later lines need.
+    pub(crate) fn new(alloc: Global, marker: Marker, needed: usize) -> OpenList
+        ensures { (n : ℕ) → ItemsIn n (items_view result.items.items) }
+    {
+        OpenList {
+            kind: kind_of(marker),
+            loose: false,
+            items: Vec::new(alloc),
+            open: true,
+            needed,
+        }
+    }
+
+    /// Whether its last item is open.
+    pub(crate) fn is_open(&self) -> bool {
+        self.open
+    }
+
+    /// Whether a line that is not blank has the columns that the open item needs.
+    pub(crate) fn matches(&self, line: &Line) -> bool {
+        self.open && line.indent() >= self.needed
+    }
+
+    /// Takes the columns off a line of the open item.
+    pub(crate) fn enter(&self, line: &mut Line) {
+        line.take_columns(self.needed);
+    }
+
+    /// The marker of the list's next item, where a line begins one.
+    pub(crate) fn next(&self, line: &Line) -> Option<Marker>
+        ensures { IfSome result (λ marker. AreMarks marker.width line.now.text.now) }
+    {
+        match start(line, Mode::Free) {
+            Some(Opening::Item(marker)) => {
+                if is_same_list(self.kind, kind_of(marker)) {
+                    return Some(marker);
+                }
+                None
+            }
+            _ => None,
+        }
+    }
+
+    /// Begins the next item; a gap before it makes the list loose.
+    pub(crate) fn begin(&mut self, needed: usize, gap: bool)
+        ensures { self.new.items ≡ self.old.items }
+    {
+        self.open = true;
+        self.needed = needed;
+        self.loose = self.loose || gap;
+    }
+
+    /// Ends the open item, which holds these blocks; a gap between two of them makes the list loose.
+    pub(crate) fn push(&mut self, blocks: Vec<Block>, gap: bool) -> Result<(), AllocError>
+        ensures { OnOk result ((n : ℕ) → ItemsIn n (items_view self.old.items.items) → BlocksIn n (blocks_view blocks.items) → ItemsIn n (items_view self.new.items.items)) }
+    {
+        self.items.push(Item { blocks })?;
+        self.loose = self.loose || gap;
+        self.open = false;
+        Ok(())
+    }
+
+    /// What the list is at its end.
+    pub(crate) fn end(self) -> Block
+        ensures { (n : ℕ) → ItemsIn n (items_view self.items.items) → BlockIn n (block_view result) }
+    {
+        Block::List {
+            kind: self.kind,
+            tight: !self.loose,
+            items: self.items,
+        }
+    }
+}
+
+/// Takes an item's marker and the columns after it off its first line, and answers the columns that its other lines need.
+pub(crate) fn take_marker(line: &mut Line, marker: Marker) -> usize
+    requires { AreMarks marker.width line.old.text.now }
+{
+    let before = line.indent().saturating_add(marker.width);
+    line.take_mark(marker.width);
+    let after = columns_after_marker(line);
+    line.take_columns(after);
+    before.saturating_add(after)
+}
+
+/// How many columns after a marker belong to it: with five or more, or with nothing behind them, one counts.
+fn columns_after_marker(line: &Line) -> usize {
+    if line.is_blank() || line.indent() > 4 {
+        1
+    } else {
+        line.indent()
+    }
+}
+
+fn kind_of(marker: Marker) -> ListKind {
+    match marker.start {
+        Some(start) => ListKind::Ordered {
+            delim: marker.mark,
+            start,
+        },
+        None => ListKind::Bullet(marker.mark),
+    }
+}
+
+/// Whether items of these kinds stand in one list: the numbers don't matter.
+fn is_same_list(kind: ListKind, other: ListKind) -> bool {
+    match (kind, other) {
+        (ListKind::Bullet(mark), ListKind::Bullet(other)) => mark == other,
+        (ListKind::Ordered { delim, .. }, ListKind::Ordered { delim: other, .. }) => delim == other,
+        _ => false,
+    }
+}

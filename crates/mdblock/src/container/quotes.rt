@@ -1,0 +1,32 @@
+//! Block quotes (CommonMark 5.1).
+
+ghost use Rattle.std.specs.Prelude.{◌≡◌, IsTrue};
+ghost use Rattle.mdtext.specs.Columns.{AreMarks};
+
+use crate::lines::Line;
+use mdscan::quote_marker;
+
+/// Whether a line has the marker of a block quote, which no lazy line has.
+#[tactic(auto, using(crate::proofs::Markers::quote_mark))]
+pub(crate) fn matches(line: &Line) -> bool
+    ensures { IsTrue result → AreMarks 1 line.now.text.now }
+{
+    !line.is_lazy() && line.is_near_margin() && quote_marker(line.text())
+}
+
+/// Takes the marker off, and one column of space or tab after it.
+pub(crate) fn take_marker(line: &mut Line)
+    requires { AreMarks 1 line.old.text.now }
+{
+    line.take_mark(1);
+    line.take_columns(1);
+}
+
+/// Takes the marker off a later line of the quote; one without it is lazy.
+pub(crate) fn enter(line: &mut Line) {
+    if matches(line) {
+        take_marker(line);
+    } else {
+        line.make_lazy();
+    }
+}

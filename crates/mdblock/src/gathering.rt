@@ -1,0 +1,74 @@
+//! What the leaves of a unit hand in as they close.
+
+ghost use Rattle.std.specs.Prelude.{◌≡◌, ◌<◌, ◌≤◌, IfOk, OnOk, length};
+ghost use Rattle.mdblock.specs.Positions.{CellsIn};
+
+use mdleaf::{Definition, leading_definitions};
+use mdtext::Entities;
+use std::alloc::{AllocError, Global};
+
+/// The definitions and the inline texts of a unit, in document order.
+#[derive(Drop)]
+pub(crate) struct Gathering<'e> {
+    alloc: Global,
+    entities: &'e Entities,
+    definitions: Vec<Definition>,
+    texts: Vec<String>,
+}
+
+impl<'e> Gathering<'e> {
+    pub(crate) fn new(alloc: Global, entities: &'e Entities) -> Gathering<'e> {
+        Gathering {
+            alloc,
+            entities,
+            definitions: Vec::new(alloc),
+            texts: Vec::new(alloc),
+        }
+    }
+
+    pub(crate) fn alloc(&self) -> Global {
+        self.alloc
+    }
+
+    pub(crate) fn entities(&self) -> &'e Entities {
+        self.entities
+    }
+
+    /// Takes a text in, and answers its position.
+    pub(crate) fn text(&mut self, text: String) -> Result<usize, AllocError>
+        ensures within { IfOk result (λ position. position < length self.new.texts.items) }
+        ensures grows { length self.old.texts.items ≤ length self.new.texts.items }
+    {
+        let position = self.texts.len();
+        self.texts.push(text)?;
+        Ok(position)
+    }
+
+    /// Takes the cells of a row in, and answers their positions.
+    pub(crate) fn row(&mut self, cells: Vec<String>) -> Result<Vec<usize>, AllocError>
+        ensures within { IfOk result (λ positions. CellsIn (length self.new.texts.items) positions.items) }
+        ensures grows { length self.old.texts.items ≤ length self.new.texts.items }
+    {
+        let mut positions = Vec::with_capacity(self.alloc, cells.len())?;
+        for cell in cells {
+            positions.push(self.text(cell)?)?;
+        }
+        Ok(positions)
+    }
+
+    /// Takes the definitions at the front of a paragraph's text in, and leaves the text behind them.
+    pub(crate) fn definitions(&mut self, text: &mut String) -> Result<(), AllocError>
+        ensures { self.new.texts ≡ self.old.texts }
+    {
+        let mut leading = leading_definitions(self.alloc, text.as_str(), self.entities)?;
+        self.definitions.append(&mut leading.definitions)?;
+        text.replace_range(..leading.rest, "")
+    }
+
+    /// The definitions and the texts.
+    pub(crate) fn parts(self) -> (Vec<Definition>, Vec<String>)
+        ensures { result.1 ≡ self.entry.texts }
+    {
+        (self.definitions, self.texts)
+    }
+}

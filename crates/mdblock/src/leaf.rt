@@ -1,0 +1,140 @@
+//! Blocks that hold no other blocks: what begins each, which lines it takes, what it keeps, and what it is at its end.
+
+ghost use Rattle.std.specs.Prelude.{◌≡◌, ◌≤◌, ℕ, IfOk, IfSome, None, Some, length};
+ghost use Rattle.mdblock.specs.BlockView.{block_view};
+ghost use Rattle.mdblock.specs.Positions.{BlockIn};
+ghost use Rattle.mdblock.specs.OpenPositions.{LeafIn, StepIn};
+ghost use Rattle.mdblock.specs.Openings.{IsOpeningOf};
+
+pub(crate) mod fences;
+pub(crate) mod headings;
+pub(crate) mod html_blocks;
+pub(crate) mod indented_code;
+pub(crate) mod paragraphs;
+pub(crate) mod tables;
+
+use crate::blocks::Block;
+use crate::gathering::Gathering;
+use crate::lines::Line;
+use crate::starts::Opening;
+use fences::Fence;
+use html_blocks::HtmlBlock;
+use indented_code::IndentedCode;
+use paragraphs::Paragraph;
+use std::alloc::AllocError;
+use tables::Table;
+
+/// An open leaf.
+#[derive(Drop)]
+pub(crate) enum Leaf {
+    Paragraph(Paragraph),
+    Fence(Fence),
+    Html(HtmlBlock),
+    Code(IndentedCode),
+    Table(Table),
+}
+
+/// What a line leaves of a leaf: a block that is over, and a leaf that is open behind it.
+#[derive(Drop)]
+pub(crate) struct Step {
+    pub(crate) over: Option<Block>,
+    pub(crate) going: Option<Leaf>,
+}
+
+impl Leaf {
+    /// The leaf that a line begins.
+    pub(crate) fn begin(
+        opening: Option<Opening>,
+        line: Line,
+        gathering: &mut Gathering,
+    ) -> Result<Step, AllocError>
+        requires { IfSome opening (λ o. IsOpeningOf line.text.now o) }
+        ensures within { IfOk result (λ step. StepIn (length gathering.new.texts.items) step) }
+        ensures grows { length gathering.old.texts.items ≤ length gathering.new.texts.items }
+    {
+        match opening {
+            Some(Opening::Heading(heading)) => {
+                headings::atx_heading(heading, line.text(), gathering)
+            }
+            Some(Opening::Fence(fence)) => fences::begin(fence, &line, gathering),
+            Some(Opening::Html(kind)) => html_blocks::begin(kind, &line, gathering.alloc()),
+            Some(Opening::Break) => Ok(over(Block::Break)),
+            Some(Opening::Code) => indented_code::begin(line, gathering.alloc()),
+            Some(Opening::Quote) | Some(Opening::Item(_)) | None => {
+                paragraphs::begin(&line, gathering.alloc())
+            }
+        }
+    }
+
+    /// Whether the leaf takes a line, all of whose containers match it.
+    pub(crate) fn takes(&self, line: &Line) -> bool {
+        match self {
+            Leaf::Paragraph(paragraph) => paragraph.takes(line),
+            Leaf::Fence(_) => true,
+            Leaf::Html(html) => html.takes(line),
+            Leaf::Code(_) => indented_code::takes(line),
+            Leaf::Table(_) => tables::takes(line),
+        }
+    }
+
+    /// Reads a line that the leaf takes. `first`: whether it may be the first block of a list item.
+    pub(crate) fn add(
+        self,
+        line: Line,
+        first: bool,
+        gathering: &mut Gathering,
+    ) -> Result<Step, AllocError>
+        requires { LeafIn (length gathering.old.texts.items) self }
+        ensures within { IfOk result (λ step. StepIn (length gathering.new.texts.items) step) }
+        ensures grows { length gathering.old.texts.items ≤ length gathering.new.texts.items }
+    {
+        match self {
+            Leaf::Paragraph(paragraph) => paragraph.add(&line, first, gathering),
+            Leaf::Fence(fence) => fence.add(line),
+            Leaf::Html(html) => html.add(&line),
+            Leaf::Code(code) => code.add(line),
+            Leaf::Table(table) => table.add(&line, gathering),
+        }
+    }
+
+    /// What the leaf is at its end. `first`: whether it may be the first block of a list item.
+    pub(crate) fn end(
+        self,
+        first: bool,
+        gathering: &mut Gathering,
+    ) -> Result<Option<Block>, AllocError>
+        requires { LeafIn (length gathering.old.texts.items) self }
+        ensures within { IfOk result (λ found. IfSome found (λ block. BlockIn (length gathering.new.texts.items) (block_view block))) }
+        ensures grows { length gathering.old.texts.items ≤ length gathering.new.texts.items }
+    {
+        match self {
+            Leaf::Paragraph(paragraph) => paragraph.end(first, gathering),
+            Leaf::Fence(fence) => Ok(Some(fence.end())),
+            Leaf::Html(html) => Ok(Some(html.end())),
+            Leaf::Code(code) => Ok(Some(code.end(gathering.alloc()))),
+            Leaf::Table(table) => Ok(Some(table.end())),
+        }
+    }
+}
+
+/// A block that is over with its line.
+pub(crate) fn over(block: Block) -> Step
+    ensures value { result ≡ record { over = Some block; going = None } }
+    ensures within { (n : ℕ) → BlockIn n (block_view block) → StepIn n result }
+{
+    Step {
+        over: Some(block),
+        going: None,
+    }
+}
+
+/// A leaf that stays open.
+pub(crate) fn going(leaf: Leaf) -> Step
+    ensures value { result ≡ record { over = None; going = Some leaf } }
+    ensures within { (n : ℕ) → LeafIn n leaf → StepIn n result }
+{
+    Step {
+        over: None,
+        going: Some(leaf),
+    }
+}

@@ -1,0 +1,42 @@
+//! Headings, by their own mark or by an underline.
+
+ghost use Rattle.std.specs.Prelude.{◌≤◌, IfOk, length};
+ghost use Rattle.mdscan.specs.Spans.{IsSpanOf};
+ghost use Rattle.mdblock.specs.OpenPositions.{StepIn};
+
+use crate::blocks::Block;
+use crate::gathering::Gathering;
+use crate::leaf::{Step, over};
+use mdscan::AtxLine;
+use std::alloc::AllocError;
+
+/// The heading that a line is (CommonMark 4.2).
+pub(crate) fn atx_heading(
+    heading: AtxLine,
+    line: &str,
+    gathering: &mut Gathering,
+) -> Result<Step, AllocError>
+    requires { IsSpanOf line.now heading.content }
+    ensures within { IfOk result (λ step. StepIn (length gathering.new.texts.items) step) }
+    ensures grows { length gathering.old.texts.items ≤ length gathering.new.texts.items }
+{
+    let content = &line[heading.content.start..heading.content.end];
+    let text = gathering.text(String::from_str(gathering.alloc(), content)?)?;
+    Ok(over(Block::Heading {
+        level: heading.level,
+        text,
+    }))
+}
+
+/// The heading that an underlined paragraph is (CommonMark 4.3).
+pub(crate) fn setext_heading(
+    level: u8,
+    text: String,
+    gathering: &mut Gathering,
+) -> Result<Step, AllocError>
+    ensures within { IfOk result (λ step. StepIn (length gathering.new.texts.items) step) }
+    ensures grows { length gathering.old.texts.items ≤ length gathering.new.texts.items }
+{
+    let text = gathering.text(text)?;
+    Ok(over(Block::Heading { level, text }))
+}

@@ -1,0 +1,82 @@
+//! Tables (GFM 4.10).
+
+ghost use Rattle.std.specs.Prelude.{◌≤◌, ℕ, IfOk, IfSome, OnOk, length};
+ghost use Rattle.mdblock.specs.BlockView.{block_view};
+ghost use Rattle.mdblock.specs.OpenPositions.{StepIn, TableIn};
+ghost use Rattle.mdblock.specs.Positions.{BlockIn, CellsIn};
+
+use crate::blocks::Block;
+use crate::gathering::Gathering;
+use crate::leaf::{Leaf, Step, going};
+use crate::lines::Line;
+use crate::starts::{Mode, start};
+use mdleaf::{Header, data_row};
+use mdscan::Align;
+use std::alloc::AllocError;
+
+/// An open table: the alignments of its columns, and the positions of its cells.
+#[derive(Drop)]
+pub(crate) struct Table {
+    aligns: Vec<Align>,
+    head: Vec<usize>,
+    rows: Vec<Vec<usize>>,
+}
+
+/// Whether a line is a row of an open table: it is not blank, and begins no block.
+pub(crate) fn takes(line: &Line) -> bool {
+    !line.is_blank() && start(line, Mode::Free).is_none()
+}
+
+impl Table {
+    /// The table with this header row, which is handed in.
+    pub(crate) fn new(header: Header, gathering: &mut Gathering) -> Result<Table, AllocError>
+        ensures within { IfOk result (λ table. TableIn (length gathering.new.texts.items) table) }
+        ensures grows { length gathering.old.texts.items ≤ length gathering.new.texts.items }
+    {
+        Ok(Table {
+            aligns: header.aligns,
+            head: gathering.row(header.cells)?,
+            rows: Vec::new(gathering.alloc()),
+        })
+    }
+
+    /// Reads a data row.
+    pub(crate) fn add(mut self, line: &Line, gathering: &mut Gathering) -> Result<Step, AllocError>
+        requires { TableIn (length gathering.old.texts.items) self }
+        ensures within { IfOk result (λ step. StepIn (length gathering.new.texts.items) step) }
+        ensures grows { length gathering.old.texts.items ≤ length gathering.new.texts.items }
+    {
+        let cells = data_row(gathering.alloc(), line.text(), self.aligns.len())?;
+        let row = gathering.row(cells)?;
+        self.push(row)?;
+        Ok(going(Leaf::Table(self)))
+    }
+
+    fn push(&mut self, row: Vec<usize>) -> Result<(), AllocError>
+        ensures { OnOk result ((n : ℕ) → TableIn n self.old → CellsIn n row.items → TableIn n self.new) }
+    {
+        self.rows.push(row)?;
+        Ok(())
+    }
+
+    /// The open table behind a paragraph that is over.
+    pub(crate) fn behind(self, over: Option<Block>) -> Step
+        ensures { (n : ℕ) → IfSome over (λ block. BlockIn n (block_view block)) → TableIn n self → StepIn n result }
+    {
+        Step {
+            over,
+            going: Some(Leaf::Table(self)),
+        }
+    }
+
+    /// What the table is at its end.
+    pub(crate) fn end(self) -> Block
+        ensures { (n : ℕ) → TableIn n self → BlockIn n (block_view result) }
+    {
+        Block::Table {
+            aligns: self.aligns,
+            head: self.head,
+            rows: self.rows,
+        }
+    }
+}

@@ -1,0 +1,482 @@
+//! The open blocks: each level holds the blocks that are over in it, and the one that is still open.
+
+ghost use Rattle.std.specs.Prelude.{◌≡◌, ◌+◌, ◌≤◌, ℕ, IfOk, IfSome, OnOk, length};
+ghost use Rattle.mdtext.specs.Columns.{AreMarks};
+ghost use Rattle.mdblock.specs.BlockView.{block_view, blocks_view, items_view};
+ghost use Rattle.mdblock.specs.OpenPositions.{LevelIn, StepIn, IsPlaceOf};
+ghost use Rattle.mdblock.specs.Openings.{IsOpeningOf};
+ghost use Rattle.mdblock.specs.Positions.{BlockIn, BlocksIn, ItemsIn};
+
+use crate::blocks::Block;
+use crate::container::lists::{self, OpenList};
+use crate::container::quotes;
+use crate::faults::BlockFault;
+use crate::gathering::Gathering;
+use crate::leaf::{Leaf, Step};
+use crate::lines::Line;
+use crate::starts::{Mode, Opening, start};
+use mdscan::Marker;
+use std::alloc::{AllocError, Global};
+use std::mem;
+
+/// The blocks of a list of lines, the last of which may go on.
+#[cycle(level)]
+#[derive(Drop)]
+pub(crate) struct Level {
+    over: Vec<Block>,
+    last: Spine,
+    /// Whether these are the blocks of a list item.
+    in_item: bool,
+    /// Whether a block has begun here, or a paragraph of definitions alone.
+    begun: bool,
+    /// Whether the last line was blank, and no content of fenced code or an HTML block.
+    blank: bool,
+    /// Whether such a line parts two of the blocks.
+    spaced: bool,
+}
+
+/// The block that may go on.
+#[cycle(level)]
+#[derive(Drop)]
+enum Spine {
+    Shut,
+    Leaf(Leaf),
+    Quote(Box<Level>),
+    List(Box<Level>, OpenList),
+}
+
+/// What a line is to an open list.
+#[derive(Clone, Copy, Debug, PartialEq, Eq)]
+enum Place {
+    /// A line of the open item.
+    Matched,
+    /// A line of the paragraph that is open in the item, which does not match it.
+    Lazy,
+    /// A blank line outside of items. An item that began with one ends there.
+    Between,
+    /// The first line of the next item.
+    Next(Marker),
+    /// No line of the list.
+    Outside,
+}
+
+impl Level {
+    /// No blocks yet.
+    pub(crate) fn new(alloc: Global, in_item: bool) -> Level
+        ensures { (n : ℕ) → LevelIn n result }
+    {
+        Level {
+            over: Vec::new(alloc),
+            last: Spine::Shut,
+            in_item,
+            begun: false,
+            blank: false,
+            spaced: false,
+        }
+    }
+
+    /// Whether the last block is an open paragraph, or holds one at its end.
+    fn ends_in_text(&self) -> bool {
+        match &self.last {
+            Spine::Shut => false,
+            Spine::Leaf(Leaf::Paragraph(_)) => true,
+            Spine::Leaf(_) => false,
+            Spine::Quote(inner) => inner.ends_in_text(),
+            Spine::List(inner, list) => list.is_open() && inner.ends_in_text(),
+        }
+    }
+
+    /// Whether the open block takes the line.
+    pub(crate) fn takes(&self, line: &Line) -> bool {
+        if line.is_lazy() {
+            return true;
+        }
+        match &self.last {
+            Spine::Shut => false,
+            Spine::Leaf(leaf) => leaf.takes(line),
+            Spine::Quote(inner) => quotes::matches(line) || inner.goes_on_lazily(line),
+            Spine::List(inner, list) => inner.place(list, line) != Place::Outside,
+        }
+    }
+
+    /// Whether a line that a container around does not match continues the paragraph that is open here.
+    fn goes_on_lazily(&self, line: &Line) -> bool {
+        !line.is_blank() && self.ends_in_text() && start(line, Mode::Lazy).is_none()
+    }
+
+    /// What a line is to the list whose last item holds these blocks.
+    fn place(&self, list: &OpenList, line: &Line) -> Place
+        ensures { IsPlaceOf line.now.text.now result }
+    {
+        if line.is_lazy() {
+            return Place::Lazy;
+        }
+        if line.is_blank() {
+            if list.is_open() && self.begun {
+                return Place::Matched;
+            }
+            return Place::Between;
+        }
+        if list.matches(line) {
+            return Place::Matched;
+        }
+        if list.is_open() && self.goes_on_lazily(line) {
+            return Place::Lazy;
+        }
+        match list.next(line) {
+            Some(marker) => Place::Next(marker),
+            None => Place::Outside,
+        }
+    }
+
+    /// Whether the line begins a block of its own here.
+    pub(crate) fn is_left_by(&self, line: &Line) -> bool {
+        !line.is_blank() && !self.takes(line)
+    }
+
+    /// Whether the next block is the first one of a list item.
+    fn is_at_front(&self) -> bool {
+        self.in_item && self.over.is_empty()
+    }
+
+    #[tactic(auto, using(crate::proofs::Within::growing))]
+    /// The blocks, the open one included.
+    pub(crate) fn close(self, gathering: &mut Gathering) -> Result<Vec<Block>, AllocError>
+        requires { LevelIn (length gathering.old.texts.items) self }
+        ensures within { IfOk result (λ blocks. BlocksIn (length gathering.new.texts.items) (blocks_view blocks.items)) }
+        ensures grows { length gathering.old.texts.items ≤ length gathering.new.texts.items }
+    {
+        let first = self.is_at_front();
+        let Level { over, last, .. } = self;
+        match last {
+            Spine::Shut => Ok(over),
+            Spine::Leaf(leaf) => {
+                let found = leaf.end(first, gathering)?;
+                with_found(over, found)
+            }
+            Spine::Quote(inner) => {
+                let blocks = Box::into_inner(inner).close(gathering)?;
+                with_quote(over, blocks)
+            }
+            Spine::List(inner, list) => {
+                if !list.is_open() {
+                    return with_list(over, list);
+                }
+                let inner = Box::into_inner(inner);
+                let gap = inner.spaced;
+                let blocks = inner.close(gathering)?;
+                with_item(over, list, blocks, gap)
+            }
+        }
+    }
+
+    /// Takes all the blocks out, and leaves none.
+    fn take(&mut self, alloc: Global) -> Level
+        ensures taken { result ≡ self.old }
+        ensures left { (n : ℕ) → LevelIn n self.new }
+    {
+        mem::replace(self, Level::new(alloc, false))
+    }
+
+    #[tactic(auto, using(crate::proofs::Within::growing))]
+    /// Puts the open block among those that are over.
+    fn shut(&mut self, gathering: &mut Gathering) -> Result<(), AllocError>
+        requires { LevelIn (length gathering.old.texts.items) self.old }
+        ensures within { OnOk result (LevelIn (length gathering.new.texts.items) self.new) }
+        ensures grows { length gathering.old.texts.items ≤ length gathering.new.texts.items }
+    {
+        let alloc = gathering.alloc();
+        let (in_item, begun) = (self.in_item, self.begun);
+        let (blank, spaced) = (self.blank, self.spaced);
+        let over = self.take(alloc).close(gathering)?;
+        *self = Level {
+            over,
+            last: Spine::Shut,
+            in_item,
+            begun,
+            blank,
+            spaced,
+        };
+        Ok(())
+    }
+
+    /// Reads one line more, where at most `room` containers may be open inside one another.
+    #[cycle(reading)]
+    pub(crate) fn add(
+        &mut self,
+        line: Line,
+        room: usize,
+        gathering: &mut Gathering,
+    ) -> Result<(), BlockFault>
+        requires { LevelIn (length gathering.old.texts.items) self.old }
+        ensures within { OnOk result (LevelIn (length gathering.new.texts.items) self.new) }
+        ensures grows { length gathering.old.texts.items ≤ length gathering.new.texts.items }
+    {
+        if !self.takes(&line) {
+            self.shut(gathering)?;
+            return self.begin(line, room, gathering);
+        }
+        let blank = line.is_blank();
+        self.go_on(line, room, gathering)?;
+        self.blank = blank && !self.is_verbatim();
+        Ok(())
+    }
+
+    /// Reads a line that the open block takes.
+    #[cycle(reading)]
+    #[tactic(auto, using(crate::proofs::Within::growing))]
+    fn go_on(
+        &mut self,
+        mut line: Line,
+        room: usize,
+        gathering: &mut Gathering,
+    ) -> Result<(), BlockFault>
+        requires { LevelIn (length gathering.old.texts.items) self.old }
+        ensures within { OnOk result (LevelIn (length gathering.new.texts.items) self.new) }
+        ensures grows { length gathering.old.texts.items ≤ length gathering.new.texts.items }
+    {
+        match &mut self.last {
+            Spine::Shut => Ok(()),
+            Spine::Leaf(_) => Ok(self.add_to_leaf(line, gathering)?),
+            Spine::Quote(inner) => {
+                quotes::enter(&mut line);
+                inner.add(line, deeper(room)?, gathering)
+            }
+            Spine::List(inner, list) => {
+                let room = deeper(room)?;
+                match enter_item(inner, list, self.blank, &mut line, gathering)? {
+                    Entry::Goes => inner.add(line, room, gathering),
+                    Entry::Begins => inner.begin(line, room, gathering),
+                    Entry::Stays => Ok(()),
+                }
+            }
+        }
+    }
+
+    /// Whether a blank line that was read last is content of fenced code or an HTML block.
+    fn is_verbatim(&self) -> bool {
+        match &self.last {
+            Spine::Shut => false,
+            Spine::Leaf(Leaf::Fence(_)) | Spine::Leaf(Leaf::Html(_)) => true,
+            Spine::Leaf(_) => false,
+            Spine::Quote(_) => false,
+            Spine::List(inner, list) => list.is_open() && !inner.blank,
+        }
+    }
+
+    #[tactic(auto, using(crate::proofs::Within::growing))]
+    /// Reads a line that the open leaf takes.
+    fn add_to_leaf(&mut self, line: Line, gathering: &mut Gathering) -> Result<(), AllocError>
+        requires { LevelIn (length gathering.old.texts.items) self.old }
+        ensures within { OnOk result (LevelIn (length gathering.new.texts.items) self.new) }
+        ensures grows { length gathering.old.texts.items ≤ length gathering.new.texts.items }
+    {
+        let first = self.is_at_front();
+        match mem::replace(&mut self.last, Spine::Shut) {
+            Spine::Leaf(leaf) => {
+                let step = leaf.add(line, first, gathering)?;
+                self.put(step)
+            }
+            last => {
+                self.last = last;
+                Ok(())
+            }
+        }
+    }
+
+    /// Puts what a line leaves of a leaf in place.
+    fn put(&mut self, step: Step) -> Result<(), AllocError>
+        ensures { OnOk result ((n : ℕ) → BlocksIn n (blocks_view self.old.over.items) → StepIn n step → LevelIn n self.new) }
+    {
+        push_found(&mut self.over, step.over)?;
+        self.last = match step.going {
+            Some(leaf) => Spine::Leaf(leaf),
+            None => Spine::Shut,
+        };
+        Ok(())
+    }
+
+    /// Reads a line that no open block takes.
+    #[tactic(auto, using(crate::proofs::Within::growing))]
+    fn begin(
+        &mut self,
+        mut line: Line,
+        room: usize,
+        gathering: &mut Gathering,
+    ) -> Result<(), BlockFault>
+        requires { LevelIn (length gathering.old.texts.items) self.old }
+        ensures within { OnOk result (LevelIn (length gathering.new.texts.items) self.new) }
+        ensures grows { length gathering.old.texts.items ≤ length gathering.new.texts.items }
+    {
+        let gap = self.begun && self.blank;
+        self.blank = line.is_blank();
+        if line.is_blank() {
+            return Ok(());
+        }
+        self.begun = true;
+        self.spaced = self.spaced || gap;
+        let alloc = gathering.alloc();
+        match start(&line, Mode::Free) {
+            Some(Opening::Quote) => {
+                quotes::take_marker(&mut line);
+                let mut inner = Level::new(alloc, false);
+                inner.begin(line, deeper(room)?, gathering)?;
+                Ok(self.hold_quote(alloc, inner)?)
+            }
+            Some(Opening::Item(marker)) => {
+                let needed = lists::take_marker(&mut line, marker);
+                let list = OpenList::new(alloc, marker, needed);
+                let mut inner = Level::new(alloc, true);
+                inner.begin(line, deeper(room)?, gathering)?;
+                Ok(self.hold_list(alloc, inner, list)?)
+            }
+            opening => {
+                let step = Leaf::begin(opening, line, gathering)?;
+                Ok(self.put(step)?)
+            }
+        }
+    }
+
+    /// Holds an open block quote of these blocks.
+    fn hold_quote(&mut self, alloc: Global, inner: Level) -> Result<(), AllocError>
+        ensures { OnOk result ((n : ℕ) → BlocksIn n (blocks_view self.old.over.items) → LevelIn n inner → LevelIn n self.new) }
+    {
+        self.last = Spine::Quote(Box::new(alloc, inner)?);
+        Ok(())
+    }
+
+    /// Holds an open list whose last item has these blocks.
+    fn hold_list(&mut self, alloc: Global, inner: Level, list: OpenList) -> Result<(), AllocError>
+        ensures { OnOk result ((n : ℕ) → BlocksIn n (blocks_view self.old.over.items) → LevelIn n inner → ItemsIn n (items_view list.items.items) → LevelIn n self.new) }
+    {
+        self.last = Spine::List(Box::new(alloc, inner)?, list);
+        Ok(())
+    }
+}
+
+/// What a line of an open list does inside its last item.
+enum Entry {
+    /// It is read there.
+    Goes,
+    /// It begins the item.
+    Begins,
+    /// Nothing.
+    Stays,
+}
+
+#[tactic(auto, using(crate::proofs::Within::growing))]
+/// Takes from a line what is the list's, and ends the item where the line does.
+fn enter_item(
+    inner: &mut Level,
+    list: &mut OpenList,
+    gap: bool,
+    line: &mut Line,
+    gathering: &mut Gathering,
+) -> Result<Entry, AllocError>
+    requires inner { LevelIn (length gathering.old.texts.items) inner.old }
+    requires list { ItemsIn (length gathering.old.texts.items) (items_view list.old.items.items) }
+    ensures inner { IfOk result (λ _. LevelIn (length gathering.new.texts.items) inner.new) }
+    ensures list { IfOk result (λ _. ItemsIn (length gathering.new.texts.items) (items_view list.new.items.items)) }
+    ensures grows { length gathering.old.texts.items ≤ length gathering.new.texts.items }
+{
+    match inner.place(list, line) {
+        Place::Matched => {
+            list.enter(line);
+            Ok(Entry::Goes)
+        }
+        Place::Lazy => {
+            line.make_lazy();
+            Ok(Entry::Goes)
+        }
+        Place::Between => {
+            end_item(inner, list, gathering)?;
+            Ok(Entry::Stays)
+        }
+        Place::Next(marker) => {
+            end_item(inner, list, gathering)?;
+            list.begin(lists::take_marker(line, marker), gap);
+            Ok(Entry::Begins)
+        }
+        Place::Outside => Ok(Entry::Stays),
+    }
+}
+
+#[tactic(auto, using(crate::proofs::Within::growing))]
+/// Ends the item that is open in a list.
+fn end_item(
+    inner: &mut Level,
+    list: &mut OpenList,
+    gathering: &mut Gathering,
+) -> Result<(), AllocError>
+    requires inner { LevelIn (length gathering.old.texts.items) inner.old }
+    requires list { ItemsIn (length gathering.old.texts.items) (items_view list.old.items.items) }
+    ensures inner { OnOk result (LevelIn (length gathering.new.texts.items) inner.new) }
+    ensures list { OnOk result (ItemsIn (length gathering.new.texts.items) (items_view list.new.items.items)) }
+    ensures grows { length gathering.old.texts.items ≤ length gathering.new.texts.items }
+{
+    if list.is_open() {
+        let item = mem::replace(inner, Level::new(gathering.alloc(), true));
+        let spaced = item.spaced;
+        list.push(item.close(gathering)?, spaced)?;
+    }
+    Ok(())
+}
+
+/// One container less may be opened inside.
+fn deeper(room: usize) -> Result<usize, BlockFault>
+    ensures { IfOk result (λ less. less + 1 ≡ room) }
+{
+    if room == 0 {
+        return Err(BlockFault::NestedTooDeep);
+    }
+    Ok(room - 1)
+}
+
+fn push_block(over: &mut Vec<Block>, block: Block) -> Result<(), AllocError>
+    ensures { OnOk result ((n : ℕ) → BlocksIn n (blocks_view over.old.items) → BlockIn n (block_view block) → BlocksIn n (blocks_view over.new.items)) }
+{
+    over.push(block)?;
+    Ok(())
+}
+
+fn push_found(over: &mut Vec<Block>, found: Option<Block>) -> Result<(), AllocError>
+    ensures { OnOk result ((n : ℕ) → BlocksIn n (blocks_view over.old.items) → IfSome found (λ block. BlockIn n (block_view block)) → BlocksIn n (blocks_view over.new.items)) }
+{
+    match found {
+        Some(block) => push_block(over, block),
+        None => Ok(()),
+    }
+}
+
+fn with_found(mut over: Vec<Block>, found: Option<Block>) -> Result<Vec<Block>, AllocError>
+    ensures { IfOk result (λ blocks. (n : ℕ) → BlocksIn n (blocks_view over.items) → IfSome found (λ block. BlockIn n (block_view block)) → BlocksIn n (blocks_view blocks.items)) }
+{
+    push_found(&mut over, found)?;
+    Ok(over)
+}
+
+fn with_quote(mut over: Vec<Block>, blocks: Vec<Block>) -> Result<Vec<Block>, AllocError>
+    ensures { IfOk result (λ all. (n : ℕ) → BlocksIn n (blocks_view over.items) → BlocksIn n (blocks_view blocks.items) → BlocksIn n (blocks_view all.items)) }
+{
+    push_block(&mut over, Block::Quote(blocks))?;
+    Ok(over)
+}
+
+fn with_list(mut over: Vec<Block>, list: OpenList) -> Result<Vec<Block>, AllocError>
+    ensures { IfOk result (λ all. (n : ℕ) → BlocksIn n (blocks_view over.items) → ItemsIn n (items_view list.items.items) → BlocksIn n (blocks_view all.items)) }
+{
+    push_block(&mut over, list.end())?;
+    Ok(over)
+}
+
+fn with_item(
+    over: Vec<Block>,
+    mut list: OpenList,
+    blocks: Vec<Block>,
+    gap: bool,
+) -> Result<Vec<Block>, AllocError>
+    ensures { IfOk result (λ all. (n : ℕ) → BlocksIn n (blocks_view over.items) → ItemsIn n (items_view list.items.items) → BlocksIn n (blocks_view blocks.items) → BlocksIn n (blocks_view all.items)) }
+{
+    list.push(blocks, gap)?;
+    Ok(with_list(over, list)?)
+}

@@ -1,0 +1,170 @@
+//! The reading of a text line by line, and the handing out of its units.
+
+ghost use Rattle.std.specs.Prelude.{◌≡◌, ◌+◌, ◌*◌, ◌^◌, ◌<◌, ◌≤◌, false, true, None, Some, IfOk, OnOk, OnErr, IsErrOf, length};
+ghost use Rattle.mdtext.specs.Counted.{counted};
+ghost use Rattle.mdblock.specs.declared.faults.BlockFault.TheVariants.{Failed};
+ghost use Rattle.mdblock.specs.Reading.{AreKept};
+
+use crate::faults::BlockFault;
+use crate::gathering::Gathering;
+use crate::levels::Level;
+use crate::lines::Line;
+use crate::units::Found;
+use mdtext::{Count, Entities};
+use std::alloc::{AllocError, Global};
+use std::marker::Model;
+use std::mem;
+
+/// How many containers may be open inside one another; a list counts nothing.
+const LIMIT: usize = 64;
+
+/// What is read and not handed out yet.
+#[derive(Drop)]
+struct Held<'e> {
+    level: Level,
+    gathering: Gathering<'e>,
+    begin: Option<usize>,
+}
+
+/// Reads a text line by line, and hands out each unit when the line has come that begins the next one.
+#[derive(Drop)]
+pub struct Reader<'e> {
+    alloc: Global,
+    entities: &'e Entities,
+    fed: usize,
+    held: Option<Held<'e>>,
+}
+
+impl<'e> Model for Reader<'e> {
+    ghost use Rattle.std.specs.Prelude.{IfSome};
+    ghost use Rattle.mdblock.specs.Reading.{Reading, begin_of, is_failed, AreKept};
+
+    ghost Value = { Reading };
+
+    ghost view = { λ r. record { fed = r.fed; failed = is_failed r.held; open_at = begin_of r.held } };
+
+    ghost invariant = { λ r. IfSome r.held AreKept };
+}
+
+impl<'e> Reader<'e> {
+    /// A reader that has read nothing. References are read by these entities. Takes no memory.
+    pub fn new(alloc: Global, entities: &'e Entities) -> Reader<'e>
+        ensures { result ≡ record { fed = 0; failed = false; open_at = None } }
+    {
+        Reader {
+            alloc,
+            entities,
+            fed: 0,
+            held: Some(Held::new(alloc, entities, None)),
+        }
+    }
+
+    /// Counts the next line, which has no line ending, and reads it. Answers the unit before the one that the line begins.
+    ///
+    /// A fault stays: from then on the answer is `Failed`, and nothing is handed out.
+    pub fn line<C: Count>(&mut self, text: &str, count: &mut C) -> Result<Option<Found>, BlockFault>
+        requires short { 4 * length text.now < 2 ^ 64 }
+        requires few { self.old.fed < usize.MAX }
+        ensures read { OnOk result (self.new.fed ≡ self.old.fed + 1) }
+        ensures goes_on { OnOk result (self.new.failed ≡ false) }
+        ensures fault { OnErr result (self.new ≡ record { fed = self.old.fed; failed = true; open_at = None }) }
+        ensures failed { self.old.failed ≡ true → IsErrOf result Failed }
+        ensures lines { C.lines count.new ≡ counted (C.lines count.old) }
+        ensures inlines { C.inlines count.new ≡ C.inlines count.old }
+    {
+        count.line();
+        let Some(mut held) = self.held.take() else {
+            return Err(BlockFault::Failed);
+        };
+        let found = held.read(text, self.fed)?;
+        self.fed += 1;
+        self.held = Some(held);
+        Ok(found)
+    }
+
+    /// The last unit. After a fault the answer is `Failed`.
+    pub fn finish(self) -> Result<Option<Found>, BlockFault>
+        ensures { self.entry.failed ≡ true → IsErrOf result Failed }
+    {
+        let fed = self.fed;
+        match self.held {
+            Some(held) => Ok(held.into_unit(fed)?),
+            None => Err(BlockFault::Failed),
+        }
+    }
+
+    /// How many lines were read before any fault. Takes no memory.
+    pub fn fed(&self) -> usize
+        ensures { result ≡ self.now.fed }
+    {
+        self.fed
+    }
+
+    /// How many lines were read before the first line of the unit that is not handed out yet; none where there is no such unit, and after a fault.
+    /// Takes no memory.
+    pub fn open_at(&self) -> Option<usize>
+        ensures { result ≡ self.now.open_at }
+    {
+        match &self.held {
+            Some(held) => held.begin,
+            None => None,
+        }
+    }
+}
+
+impl<'e> Held<'e> {
+    fn new(alloc: Global, entities: &'e Entities, begin: Option<usize>) -> Held<'e>
+        ensures kept { AreKept result }
+        ensures begin { result.begin ≡ begin }
+    {
+        Held {
+            level: Level::new(alloc, false),
+            gathering: Gathering::new(alloc, entities),
+            begin,
+        }
+    }
+
+    /// Reads a line before which `fed` lines were read.
+    fn read(&mut self, text: &str, fed: usize) -> Result<Option<Found>, BlockFault>
+        requires short { 4 * length text.now < 2 ^ 64 }
+        requires kept { AreKept self.old }
+        ensures { OnOk result (AreKept self.new) }
+    {
+        let line = Line::new(text);
+        let found = if self.level.is_left_by(&line) {
+            self.begin_unit(fed)?
+        } else {
+            None
+        };
+        self.level.add(line, LIMIT, &mut self.gathering)?;
+        Ok(found)
+    }
+
+    /// Takes the unit that is held; the next one begins after `fed` lines.
+    fn begin_unit(&mut self, fed: usize) -> Result<Option<Found>, AllocError>
+        requires { AreKept self.old }
+        ensures { OnOk result (AreKept self.new) }
+    {
+        let next = Held::new(self.gathering.alloc(), self.gathering.entities(), Some(fed));
+        mem::replace(self, next).into_unit(fed)
+    }
+
+    /// The unit that is held, which ends after `fed` lines.
+    fn into_unit(self, fed: usize) -> Result<Option<Found>, AllocError>
+        requires { AreKept self }
+    {
+        let mut gathering = self.gathering;
+        let blocks = self.level.close(&mut gathering)?;
+        let (definitions, texts) = gathering.parts();
+        match self.begin {
+            None => Ok(None),
+            Some(begin) => Ok(Some(Found::new(
+                begin,
+                fed.saturating_sub(begin),
+                blocks,
+                definitions,
+                texts,
+            ))),
+        }
+    }
+}
