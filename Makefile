@@ -2,7 +2,7 @@
 RT ?= rt
 PROGRAMS := mdpreview
 # The grammar that stands, as the comparison with an oracle names it.
-LEVEL := small
+LEVEL := tables
 SCRIPTS ?= 600
 
 .PHONY: help run test build check fmt compare

@@ -3,9 +3,8 @@ pub mod Sizes
 pub mod Due
 pub mod Patches
 pub mod Devices
-pub mod Boundaries
-pub mod UnitRuns
-pub mod UnitFronts
+pub mod EditReplies
+pub mod Refusals
 pub mod Runs
 pub mod Outcomes
 pub mod ScriptLines

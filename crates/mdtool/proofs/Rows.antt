@@ -2,14 +2,13 @@
 use Rattle.std.proofs.Common.{◌≡◌, ℕ, List, [], ◌∷◌, Option, Some, None, refl, codes, false}
 use Rattle.std.specs.Fmt.{digits}
 use Rattle.mdtext.specs.Escaped.{escaped_byte}
+use Rattle.mdinline.specs.InlineTree.{Inlines, no_inlines, inline, text, hard}
+use Rattle.mdblock.specs.BlockTree.{Block, block, no_blocks, heading, paragraph}
 use Rattle.mdhtml.specs.declared.options.Options.{Options}
-use Rattle.mdhtml.specs.declared.options.Breaks.TheVariants.{Soft, Space}
-use Rattle.mdtool.specs.Trims.{trim_start, trim_end, is_blank}
-use Rattle.mdtool.specs.AtxHeading.{heading_of, without_closing_run}
-use Rattle.mdtool.specs.Units.{units}
-use Rattle.mdinline.specs.LineBreaks.{text_tree, content_of, break_of}
+use Rattle.mdhtml.specs.declared.options.Breaks.TheVariants.{Soft}
 use Rattle.mdhtml.specs.BlockHtml.{fresh}
-use Rattle.mdtool.specs.Html.{pieces_of}
+use Rattle.mdtool.specs.UnitHtml.{ReadUnit, unit_piece}
+use Rattle.mdtool.specs.Reading.{read, nested, starved}
 use Rattle.mdtool.specs.Document.{Document, document}
 use Rattle.mdtool.specs.Edit.{Call}
 use Rattle.mdtool.specs.Commands.{Command, Html, Edit, Head, HtmlHead, EditHead, number, split_number, head_of}
@@ -18,23 +17,27 @@ use Rattle.mdtool.specs.Replies.{ScriptTurn, replies}
 plain : Options
 plain = record { unsafe_html = false; breaks = Soft }
 
-joined : Options
-joined = record { unsafe_html = false; breaks = Space }
+-- a unit of one block with one text
+unit_of : ℕ → Block → List ℕ → Inlines → ReadUnit
+unit_of begin b bytes tree = record {
+  found = record { begin = begin; lines = 1; unit = record { blocks = block b no_blocks; definitions = []; texts = bytes ∷ [] } };
+  readings = record { tree = tree; asked = [] } ∷ [];
+}
 
--- a heading, and a hard line break
-first_text : pieces_of plain (codes "# a" ∷ codes "b  " ∷ codes "c" ∷ []) ≡ codes "<h1>a</h1>\n" ∷ codes "<p>b<br />\nc</p>\n" ∷ []
-unfolding plain units is_blank heading_of without_closing_run trim_start trim_end text_tree content_of break_of fresh escaped_byte digits
-first_text = refl
+-- a heading, and a paragraph with a hard line break that begins in this line
+title : ReadUnit
+title = unit_of 0 (heading 1 0) (codes "a") (inline (text (codes "a")) no_inlines)
 
--- blank lines part paragraphs; a heading interrupts one; content is trimmed, and escaped
-parted : pieces_of joined (codes " a" ∷ codes "b \\" ∷ codes "" ∷ codes "c <" ∷ codes "   ## d ## " ∷ codes "#e#" ∷ []) ≡ codes "<p>a b \\</p>\n" ∷ codes "<p>c &lt;</p>\n" ∷ codes "<h2>d</h2>\n" ∷ codes "<p>#e#</p>\n" ∷ []
-unfolding joined units is_blank heading_of without_closing_run trim_start trim_end text_tree content_of break_of fresh escaped_byte digits
-parted = refl
+broken : ℕ → ReadUnit
+broken begin = unit_of begin (paragraph 0 None) (codes "b  \nc") (inline (text (codes "b")) (inline hard (inline (text (codes "c")) no_inlines)))
 
--- four spaces, seven marks and a missing space make no heading; an empty one is one
-headings : pieces_of plain (codes "    # a" ∷ codes "####### b" ∷ codes "###" ∷ codes "# #" ∷ []) ≡ codes "<p># a\n####### b</p>\n" ∷ codes "<h3></h3>\n" ∷ codes "<h1></h1>\n" ∷ []
-unfolding plain units is_blank heading_of without_closing_run trim_start trim_end text_tree content_of break_of fresh escaped_byte digits
-headings = refl
+title_piece : unit_piece plain title ≡ codes "<h1>a</h1>\n"
+unfolding plain title unit_of fresh escaped_byte
+title_piece = refl
+
+broken_piece : unit_piece plain (broken 1) ≡ codes "<p>b<br />\nc</p>\n"
+unfolding plain broken unit_of fresh escaped_byte
+broken_piece = refl
 
 -- what a command's first line says
 head_html : head_of (codes "html") ≡ Some HtmlHead
@@ -57,11 +60,14 @@ head_html_space : head_of (codes "html ") ≡ None
 unfolding head_of
 head_html_space = refl
 
--- the first script's replies
+-- a script's replies, where its texts read so
 edits : List ScriptTurn
-edits = record { command = Edit (record { at = 0; del = 0; add = codes "# a" ∷ codes "b  " ∷ codes "c" ∷ [] }); starved = false }
-    ∷ record { command = Edit (record { at = 0; del = 1; add = [] }); starved = false } ∷ record { command = Html; starved = false } ∷ []
+edits = record { command = Edit (record { at = 0; del = 0; add = codes "# a" ∷ codes "b  " ∷ codes "c" ∷ [] }); reading = read (title ∷ broken 1 ∷ []) }
+    ∷ record { command = Edit (record { at = 0; del = 1; add = [] }); reading = read (broken 0 ∷ []) }
+    ∷ record { command = Edit (record { at = 0; del = 0; add = codes ">" ∷ [] }); reading = nested 0 }
+    ∷ record { command = Edit (record { at = 9; del = 0; add = [] }); reading = starved }
+    ∷ record { command = Html; reading = starved } ∷ []
 
-first_replies : replies (document [] plain []) edits ≡ codes "ok 0 0 2 0\npiece 0 11\n<h1>a</h1>\npiece 1 17\n<p>b<br />\nc</p>\nok 0 2 1 0\npiece 0 17\n<p>b<br />\nc</p>\nhtml 17\n<p>b<br />\nc</p>\n"
-unfolding edits plain replies units is_blank heading_of without_closing_run trim_start trim_end text_tree content_of break_of fresh escaped_byte digits
+first_replies : replies (document [] plain [] []) edits ≡ codes "ok 0 0 2 0\npiece 0 11\n<h1>a</h1>\npiece 1 17\n<p>b<br />\nc</p>\nok 0 2 1 0\npiece 0 17\n<p>b<br />\nc</p>\nrefused NestedTooDeep 0\nrefused OutOfRange 2\nhtml 17\n<p>b<br />\nc</p>\n"
+unfolding edits plain title broken unit_of replies fresh escaped_byte digits
 first_replies = refl

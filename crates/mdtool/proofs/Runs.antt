@@ -1,20 +1,25 @@
--- Lists of edits leave a document made from nothing.
-use Rattle.std.proofs.Common.{◌≡◌, ℕ, Bool, true, false, cond, List, [], ◌∷◌, Option, Some, None, refl, ap, sym, ◌∙◌}
+-- What is held after a list of edits.
+use Rattle.std.proofs.Common.{◌≡◌, ℕ, List, [], ◌∷◌, Option, Some, None, refl, ap, ◌∙◌}
 use Rattle.mdhtml.specs.declared.options.Options.{Options}
 use Rattle.mdtool.specs.declared.view.fault.EditFault.{EditFault}
 use Rattle.mdtool.specs.Document.{Document, document}
 use Rattle.mdtool.specs.Edit.{Call, put, due}
 use Rattle.mdtool.specs.Outcome.{outcome, outcome_due}
-use Rattle.mdtool.specs.Run.{Turn, held_after, after, is_accepted}
+use Rattle.mdtool.specs.Reading.{Reading, read, nested, too_deep, starved}
+use Rattle.mdtool.specs.Run.{Turn, held_after, after, read_last, lines_after, units_after}
+use Rattle.mdtool.specs.UnitHtml.{ReadUnit}
 
-step : (entities : List (List ℕ × List ℕ)) (options : Options) (lines : List (List ℕ)) (call : Call) (due' : Option EditFault) (starved : Bool)
-    → (outcome_due due' (document entities options lines) call starved).1 ≡ document entities options (cond (is_accepted due' starved) (put lines call) lines)
-step entities options lines call (Some fault) starved = refl
-step entities options lines call None true = refl
-step entities options lines call None false = refl
+step : (entities : List (List ℕ × List ℕ)) (options : Options) (lines : List (List ℕ)) (units : List ReadUnit) (call : Call) (due' : Option EditFault) (reading : Reading)
+    → (outcome_due due' (document entities options lines units) call reading).1 ≡ document entities options (lines_after due' reading lines (put lines call)) (units_after due' reading units)
+step entities options lines units call (Some fault) reading = refl
+step entities options lines units call None (nested line) = refl
+step entities options lines units call None (too_deep line) = refl
+step entities options lines units call None starved = refl
+step entities options lines units call None (read found) = refl
 
-pub run_is_fresh : (entities : List (List ℕ × List ℕ)) (options : Options) (turns : List Turn) (lines : List (List ℕ)) → held_after (document entities options lines) turns ≡ document entities options (after lines turns)
-run_is_fresh entities options [] lines = refl
-run_is_fresh entities options (turn ∷ turns) lines =
-    ap (λ d. held_after d turns) (step entities options lines turn.call (due lines turn.call) turn.starved)
-    ∙ run_is_fresh entities options turns (cond (is_accepted (due lines turn.call) turn.starved) (put lines turn.call) lines)
+pub run_is_document : (entities : List (List ℕ × List ℕ)) (options : Options) (turns : List Turn) (lines : List (List ℕ)) (units : List ReadUnit)
+    → held_after (document entities options lines units) turns ≡ document entities options (after lines turns) (read_last lines units turns)
+run_is_document entities options [] lines units = refl
+run_is_document entities options (turn ∷ turns) lines units =
+    ap (λ d. held_after d turns) (step entities options lines units turn.call (due lines turn.call) turn.reading)
+    ∙ run_is_document entities options turns (lines_after (due lines turn.call) turn.reading lines (put lines turn.call)) (units_after (due lines turn.call) turn.reading units)

@@ -1,8 +1,8 @@
 -- Lengths and sizes of lines where some are replaced.
-use Rattle.std.proofs.Common.{◌≡◌, ℕ, ◌+◌, ◌-◌, ◌≤◌, List, ◌++◌, length, take, drop, map, refl, ap, sym, ◌∙◌, arith, length-append, length-drop, string_bytes}
+use Rattle.std.proofs.Common.{◌≡◌, ℕ, ◌+◌, ◌-◌, ◌≤◌, ◌<◌, List, [], ◌∷◌, ◌++◌, Bor, get_or, zero, suc, length, take, drop, map, refl, ap, sym, ◌∙◌, arith, length-append, length-drop, string_bytes}
 use Rattle.std.proofs.lemmas.List.{drop-drop, length-take-le, map-append}
 use Rattle.std.specs.List.{take-map, drop-map}
-use Rattle.std.proofs.lemmas.List.Sums.{sum_by-append, sum_by-take-drop}
+use Rattle.std.proofs.lemmas.List.Sums.{sum_by-cons, sum_by-append, sum_by-take-drop}
 use Rattle.mdtool.specs.Lists.{replaced}
 use Rattle.mdtool.specs.Document.{size_of}
 
@@ -32,3 +32,16 @@ length_replaced ls add at del within =
 
 pub map_replaced : {A B : Type 0} (f : A → B) (xs add : List A) (at del : ℕ) → map f (replaced xs at del add) ≡ replaced (map f xs) at del (map f add)
 map_replaced f xs add at del = rw (map-append f (take at xs ++ add) (drop (at + del) xs), map-append f (take at xs) add, take-map f at xs, drop-map f (at + del) xs) refl
+
+-- a line is no longer than its text
+pub line_is_small : (lines : List (Bor (List ℕ))) (i : ℕ) (d : Bor (List ℕ)) → i < length lines → length (get_or lines i d).now ≤ size_of (map (λ line. line.now) lines)
+line_is_small [] i d below = absurd (omega arith)
+line_is_small (line ∷ lines) zero d below =
+    let all : size_of (map (λ line. line.now) (line ∷ lines)) ≡ length line.now + 1 + size_of (map (λ line. line.now) lines) = sum_by-cons (λ (line : List ℕ). length line + 1) line.now (map (λ line. line.now) lines) in
+    let here : length (get_or (line ∷ lines) 0 d).now ≡ length line.now = refl in
+    omega (arith, all, here)
+line_is_small (line ∷ lines) (suc i) d below =
+    let all : size_of (map (λ line. line.now) (line ∷ lines)) ≡ length line.now + 1 + size_of (map (λ line. line.now) lines) = sum_by-cons (λ (line : List ℕ). length line + 1) line.now (map (λ line. line.now) lines) in
+    let here : length (get_or (line ∷ lines) (suc i) d).now ≡ length (get_or lines i d).now = refl in
+    let rest = line_is_small lines i d (omega (arith, below)) in
+    omega (arith, all, here, rest)

@@ -1,18 +1,19 @@
 -- What a preview holds.
-use Rattle.std.specs.Prelude.{ℕ, List, [], ◌∷◌, ◌+◌, length, sum_by}
+use Rattle.std.specs.Prelude.{ℕ, List, [], ◌∷◌, ◌+◌, length, map, sum_by}
 use Rattle.mdhtml.specs.declared.options.Options.{Options}
-use Rattle.mdtool.specs.Html.{pieces_of}
+use Rattle.mdtool.specs.UnitHtml.{ReadUnit, unit_piece}
 
--- the entities and options that it was made with, its lines, and the HTML of each unit
+-- the entities and options that it was made with, its lines, its units, and the HTML of each unit
 pub record Document : Type 0 where
   pub entities : List (List ℕ × List ℕ)
   pub options : Options
   pub lines : List (List ℕ)
+  pub units : List ReadUnit
   pub pieces : List (List ℕ)
 
--- what a preview of these lines holds that is made from nothing
-abbrev pub document : List (List ℕ × List ℕ) → Options → List (List ℕ) → Document
-document entities options lines = record { entities = entities; options = options; lines = lines; pieces = pieces_of options lines }
+-- what a preview of these lines holds whose units were read so
+abbrev pub document : List (List ℕ × List ℕ) → Options → List (List ℕ) → List ReadUnit → Document
+document entities options lines units = record { entities = entities; options = options; lines = lines; units = units; pieces = map (unit_piece options) units }
 
 -- the bytes of a text, with one for each line
 abbrev pub size_of : List (List ℕ) → ℕ

@@ -1,7 +1,7 @@
 -- What a program says when it stops, and its status.
 use Rattle.std.specs.Prelude.{ℕ, List, [], ◌∷◌, ◌++◌, codes, decimal, string_bytes}
 use Rattle.mdtool.specs.declared.view.fault.EditFault.{EditFault}
-use Rattle.mdtool.specs.declared.view.fault.EditFault.TheVariants.{OutOfRange, BreakInLine, TooManyLines, TooLarge}
+use Rattle.mdtool.specs.declared.view.fault.EditFault.TheVariants.{OutOfRange, BreakInLine, TooManyLines, TooLarge, NestedTooDeep, InlineTooDeep}
 use Rattle.mdtool.specs.declared.view.fault.EditFault.TheVariants.{NoMemory as EditNoMemory}
 use Rattle.mdtext.specs.declared.entity_file.TableFault.{TableFault}
 use Rattle.mdtext.specs.declared.entity_file.TableFault.TheVariants.{NotJson, BadEntry}
@@ -26,6 +26,8 @@ refusal_reason_of (OutOfRange lines) = refused_text (OutOfRange lines)
 refusal_reason_of (BreakInLine index) = refused_text (BreakInLine index)
 refusal_reason_of TooManyLines = refused_text TooManyLines
 refusal_reason_of TooLarge = refused_text TooLarge
+refusal_reason_of (NestedTooDeep line) = refused_text (NestedTooDeep line)
+refusal_reason_of (InlineTooDeep line) = refused_text (InlineTooDeep line)
 
 abbrev pub tool_reason_of : ToolFault → List ℕ
 tool_reason_of Read = codes "read failed"

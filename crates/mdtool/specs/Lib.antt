@@ -1,7 +1,5 @@
-pub mod Trims
-pub mod AtxHeading
-pub mod Units
-pub mod Html
+pub mod UnitHtml
+pub mod Reading
 pub mod Lists
 pub mod Document
 pub mod Edit
@@ -15,7 +13,6 @@ pub mod FaultNames
 pub mod Replies
 pub mod Endings
 pub mod Views
-pub mod UnitViews
 pub mod Pending
 pub mod Steps
 pub mod Serve

@@ -1,5 +1,5 @@
 -- The replies to the commands of a script.
-use Rattle.std.specs.Prelude.{ℕ, ◌+◌, Bool, List, [], ◌∷◌, ◌++◌, length, codes, decimal, Result, Ok, Err, if◌then◌else◌}
+use Rattle.std.specs.Prelude.{ℕ, ◌+◌, List, [], ◌∷◌, ◌++◌, length, codes, decimal, Result, Ok, Err, if◌then◌else◌}
 use Rattle.std.specs.List.{concat}
 use Rattle.mdtool.specs.declared.view.fault.EditFault.{EditFault}
 use Rattle.mdtool.specs.FaultNames.{refused_text}
@@ -7,6 +7,7 @@ use Rattle.mdtool.specs.Stretch.{Stretch}
 use Rattle.mdtool.specs.Patch.{brings}
 use Rattle.mdtool.specs.Document.{Document}
 use Rattle.mdtool.specs.Outcome.{outcome}
+use Rattle.mdtool.specs.Reading.{Reading}
 use Rattle.mdtool.specs.Commands.{Command, Html, Edit}
 
 -- a piece with its number and its length
@@ -33,21 +34,21 @@ edit_reply (Err fault) pieces = refused_reply fault
 abbrev pub html_reply : List (List ℕ) → List ℕ
 html_reply pieces = codes "html " ++ decimal (length (concat pieces)) ++ 10 ∷ concat pieces
 
--- a command, and whether memory refuses the edit that it is
+-- a command, and how the reading of the text ends that the edit would leave which it is
 pub record ScriptTurn : Type 0 where
   pub command : Command
-  pub starved : Bool
+  pub reading : Reading
 
 -- what is held behind a command
-abbrev pub held_behind : Document → Command → Bool → Document
-held_behind old Html starved = old
-held_behind old (Edit call) starved = (outcome old call starved).1
+abbrev pub held_behind : Document → Command → Reading → Document
+held_behind old Html reading = old
+held_behind old (Edit call) reading = (outcome old call reading).1
 
-abbrev pub reply : Document → Command → Bool → List ℕ
-reply old Html starved = html_reply old.pieces
-reply old (Edit call) starved = edit_reply ((outcome old call starved).0) ((outcome old call starved).1.pieces)
+abbrev pub reply : Document → Command → Reading → List ℕ
+reply old Html reading = html_reply old.pieces
+reply old (Edit call) reading = edit_reply ((outcome old call reading).0) ((outcome old call reading).1.pieces)
 
 -- the replies to the commands, one after the other
 unfoldable pub replies : Document → List ScriptTurn → List ℕ
 replies old [] = []
-replies old (turn ∷ turns) = reply old turn.command turn.starved ++ replies (held_behind old turn.command turn.starved) turns
+replies old (turn ∷ turns) = reply old turn.command turn.reading ++ replies (held_behind old turn.command turn.reading) turns

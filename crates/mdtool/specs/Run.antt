@@ -1,27 +1,45 @@
 -- Lists of edits.
-use Rattle.std.specs.Prelude.{ℕ, Bool, true, false, List, [], ◌∷◌, Option, Some, None, if◌then◌else◌}
+use Rattle.std.specs.Prelude.{ℕ, List, [], ◌∷◌, Option, Some, None}
 use Rattle.mdtool.specs.declared.view.fault.EditFault.{EditFault}
 use Rattle.mdtool.specs.Document.{Document}
 use Rattle.mdtool.specs.Edit.{Call, put, due}
 use Rattle.mdtool.specs.Outcome.{outcome}
+use Rattle.mdtool.specs.Reading.{Reading, read, nested, too_deep, starved}
+use Rattle.mdtool.specs.UnitHtml.{ReadUnit}
 
--- a call of `edit`, and whether memory refuses it
+-- a call of `edit`, and how the reading of its text ends
 pub record Turn : Type 0 where
   pub call : Call
-  pub starved : Bool
+  pub reading : Reading
 
 -- what a preview holds after these calls, in order
 abbrev pub held_after : Document → List Turn → Document
 held_after old [] = old
-held_after old (turn ∷ turns) = held_after ((outcome old turn.call turn.starved).1) turns
+held_after old (turn ∷ turns) = held_after ((outcome old turn.call turn.reading).1) turns
 
--- whether an edit is accepted
-abbrev pub is_accepted : Option EditFault → Bool → Bool
-is_accepted (Some fault) starved = false
-is_accepted None true = false
-is_accepted None false = true
+-- the lines after a call: those that it puts, where it is accepted
+abbrev pub lines_after : Option EditFault → Reading → List (List ℕ) → List (List ℕ) → List (List ℕ)
+lines_after (Some fault) reading old new = old
+lines_after None (nested line) old new = old
+lines_after None (too_deep line) old new = old
+lines_after None starved old new = old
+lines_after None (read units) old new = new
+
+-- the units after a call: those that were read, where it is accepted
+abbrev pub units_after : Option EditFault → Reading → List ReadUnit → List ReadUnit
+units_after (Some fault) reading old = old
+units_after None (nested line) old = old
+units_after None (too_deep line) old = old
+units_after None starved old = old
+units_after None (read units) old = units
 
 -- the lines after the accepted calls, in order
 abbrev pub after : List (List ℕ) → List Turn → List (List ℕ)
 after lines [] = lines
-after lines (turn ∷ turns) = after (if is_accepted (due lines turn.call) turn.starved then put lines turn.call else lines) turns
+after lines (turn ∷ turns) = after (lines_after (due lines turn.call) turn.reading lines (put lines turn.call)) turns
+
+-- the units that were read at the last accepted call
+abbrev pub read_last : List (List ℕ) → List ReadUnit → List Turn → List ReadUnit
+read_last lines units [] = units
+read_last lines units (turn ∷ turns) =
+    read_last (lines_after (due lines turn.call) turn.reading lines (put lines turn.call)) (units_after (due lines turn.call) turn.reading units) turns

@@ -5,6 +5,7 @@ use Rattle.mdtool.specs.declared.fault.ToolFault.TheVariants.{Read, Write, Refus
 use Rattle.mdtool.specs.Bytes.{Takes, AtEnd, Gains, GainsFront}
 use Rattle.mdtool.specs.Document.{Document}
 use Rattle.mdtool.specs.Commands.{Command, Stop, Done, Open, Bad, Short, Script, Leads, script_lines}
+use Rattle.mdtool.specs.Reading.{Reading}
 use Rattle.mdtool.specs.Replies.{ScriptTurn, replies, reply, held_behind}
 
 abbrev pub commands_of : List ScriptTurn → List Command
@@ -54,8 +55,8 @@ out_failures_after (Err (Truncated line)) failures = failures
 out_failures_after (Err (Table fault)) failures = failures
 out_failures_after (Err NoMemory) failures = failures
 
--- a command was answered so, with memory or starved of it
+-- a command was answered so, however the reading of its text ended
 pub record Replied (old : Document) (command : Command) (bytes : List ℕ) (new : Document) : Type 0 where
-  pub starved : Bool
-  pub bytes_are : bytes ≡ reply old command starved
-  pub holds : new ≡ held_behind old command starved
+  pub reading : Reading
+  pub bytes_are : bytes ≡ reply old command reading
+  pub holds : new ≡ held_behind old command reading

@@ -25,4 +25,4 @@ pub use memory::{MemoryFeed, MemoryOut};
 pub use serving::serve;
 pub use standard::{ReadFeed, WriteOut};
 pub use view::fault::EditFault;
-pub use view::laws::edits_are_made_from_nothing;
+pub use view::laws::edits_leave_the_present_text;

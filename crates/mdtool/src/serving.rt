@@ -65,7 +65,7 @@ pub fn serve<R: Feed, W: Out>(
 ) -> Result<(), ToolFault>
     requires feed { R.failures feed.old < 2 ^ 64 - 1 }
     requires out { W.failures out.old < 2 ^ 64 - 1 }
-    ensures served { Served result (document entities options []) (R.left feed.old) (R.left feed.new) (W.written out.old) (W.written out.new) }
+    ensures served { Served result (document entities options [] []) (R.left feed.old) (R.left feed.new) (W.written out.old) (W.written out.new) }
     // `Read` is answered where the feed failed, and `Write` where the out did.
     ensures feed { R.failures feed.new ≡ failures_after result (R.failures feed.old) }
     ensures out { W.failures out.new ≡ out_failures_after result (W.failures out.old) }

@@ -15,6 +15,11 @@ pub enum EditFault {
     TooManyLines,
     /// The text would have more than 16,777,216 bytes, with one counted for each line's end.
     TooLarge,
+    /// The line of this number, counted from 0 in the text that the edit would leave, begins a container that lies in 64
+    /// others; it is the first such.
+    NestedTooDeep { line: usize },
+    /// A text of the unit that begins in this line has a span that lies in 64 others; it is the first such unit.
+    InlineTooDeep { line: usize },
     /// A growth was refused.
     NoMemory,
 }
@@ -29,17 +34,20 @@ impl EditFault {
             EditFault::BreakInLine { .. } => "BreakInLine",
             EditFault::TooManyLines => "TooManyLines",
             EditFault::TooLarge => "TooLarge",
+            EditFault::NestedTooDeep { .. } => "NestedTooDeep",
+            EditFault::InlineTooDeep { .. } => "InlineTooDeep",
             EditFault::NoMemory => "NoMemory",
         }
     }
 
-    /// Its number: of lines, or of a line's index; 0 where it has none.
+    /// Its number: of lines, of an added line, or of a line of the text; 0 where it has none.
     pub fn number(&self) -> usize
         ensures { result ≡ number_of self.now }
     {
         match self {
             EditFault::OutOfRange { lines } => *lines,
             EditFault::BreakInLine { index } => *index,
+            EditFault::NestedTooDeep { line } | EditFault::InlineTooDeep { line } => *line,
             EditFault::TooManyLines | EditFault::TooLarge | EditFault::NoMemory => 0,
         }
     }

@@ -1,21 +1,20 @@
 ghost use Rattle.std.specs.Prelude.{◌≡◌, ◌≤◌, ◌+◌, IfOk, IfErr, OnOk, List, [], map, length, slice_get, get_or, IsSome, option_map, string_bytes};
-ghost use Rattle.std.specs.Result.{is_err};
 ghost use Rattle.mdtool.specs.Document.{document, size_of};
 ghost use Rattle.mdtool.specs.Edit.{Call, due, put};
 ghost use Rattle.mdtool.specs.Outcome.{outcome};
 ghost use Rattle.mdtool.specs.Lists.{replaced};
-ghost use Rattle.mdtool.specs.Html.{pieces_of};
+ghost use Rattle.mdtool.specs.Reading.{OfReading, reading_of};
+ghost use Rattle.mdtool.specs.UnitHtml.{unit_view, texts_of};
 ghost use Rattle.mdtool.specs.Patch.{apply, IsWhole};
 
 use super::clean::{clean_lines, edited};
-use super::counts::count_lines;
 use super::exchange::replace;
 use super::fault::EditFault;
-use super::html::render;
 use super::limits::{clean_size, first_line_break, size};
 use super::patch::Patch;
 use super::pieces::Pieces;
-use super::units::units_of;
+use super::read_units::ReadUnit;
+use super::units::{blocks_of, pieces_of, read_texts};
 use mdhtml::Options;
 use mdtext::{Count, Entities};
 use std::alloc::{AllocError, Global};
@@ -33,16 +32,23 @@ pub struct Preview {
     options: Options,
     lines: Vec<String>,
     size: usize,
+    units: Vec<ReadUnit>,
     pieces: Vec<String>,
 }
 
 impl Model for Preview {
     ghost use Rattle.std.specs.Prelude.{◌≡◌, ◌≤◌, map, length, string_bytes};
     ghost use Rattle.mdtool.specs.Document.{Document, size_of};
+    ghost use Rattle.mdtool.specs.UnitHtml.{unit_view};
+
+    ghost use Rattle.mdtool.specs.UnitHtml.{read_unit_code};
+    ghost use Rattle.std.specs.Coded.{codes};
 
     ghost Value = { Document };
 
-    ghost view = { λ p. record { entities = p.entities; options = p.options; lines = map string_bytes p.lines.items; pieces = map string_bytes p.pieces.items } };
+    ghost coded = { Prim.hlevel (codes, read_unit_code) };
+
+    ghost view = { λ p. record { entities = p.entities; options = p.options; lines = map string_bytes p.lines.items; units = map unit_view p.units.items; pieces = map string_bytes p.pieces.items } };
 
     ghost invariant = { λ p. (p.size ≡ size_of (map string_bytes p.lines.items)) × (p.size ≤ 16777216) × (length p.lines.items ≤ 1000000) };
 }
@@ -50,7 +56,7 @@ impl Model for Preview {
 impl Preview {
     /// The empty text. Takes no memory.
     pub fn new(alloc: Global, entities: Entities, options: Options) -> Preview
-        ensures { result ≡ document entities options [] }
+        ensures { result ≡ document entities options [] [] }
     {
         Preview {
             alloc,
@@ -58,6 +64,7 @@ impl Preview {
             options,
             lines: Vec::new(alloc),
             size: 0,
+            units: Vec::new(alloc),
             pieces: Vec::new(alloc),
         }
     }
@@ -132,29 +139,30 @@ impl Preview {
         Ok(kept + added)
     }
 
-    /// The pieces of the text that the edit would leave. Each line and each inline text that is read is counted.
-    fn rendered<C: Count>(
+    /// The units of the text that the edit would leave. Each line and each inline text that is read is counted.
+    fn read<C: Count>(
         &self,
         at: usize,
         del: usize,
         add: &[String],
         count: &mut C,
-    ) -> Result<Vec<String>, AllocError>
-        requires { at + del ≤ length self.now.lines }
-        ensures pieces { IfOk result (λ pieces. map string_bytes pieces.items ≡ pieces_of self.now.options (replaced self.now.lines at del (map string_bytes add.now))) }
+    ) -> Result<Vec<ReadUnit>, EditFault>
+        requires within { at + del ≤ length self.now.lines }
+        requires small { size_of (replaced self.now.lines at del (map string_bytes add.now)) ≤ 16777216 }
+        ensures fault { IfErr result OfReading }
         ensures lines { C.lines count.new ≤ C.lines count.old + length (replaced self.now.lines at del (map string_bytes add.now)) }
-        ensures inlines { C.inlines count.new ≤ C.inlines count.old + length (pieces_of self.now.options (replaced self.now.lines at del (map string_bytes add.now))) }
+        ensures inlines { IfOk result (λ units. C.inlines count.new ≤ C.inlines count.old + texts_of (map unit_view units.items)) }
     {
         let text = edited(self.alloc, &self.lines, at, del, add)?;
-        count_lines(count, text.len());
-        let units = units_of(self.alloc, &text)?;
-        render(self.alloc, &self.options, &self.entities, &units, count)
+        let found = blocks_of(self.alloc, &self.entities, &text, count)?;
+        read_texts(self.alloc, &self.entities, found, count)
     }
 
     /// Replaces `del` lines at line `at` by others, and says which pieces changed.
     ///
-    /// Refused, in this order: `OutOfRange`, `BreakInLine`, `TooManyLines`, `TooLarge`, whatever the memory; `NoMemory` at
-    /// any point. After each the preview is as before, and after the first four the counter too. U+0000 in an added line is
+    /// Refused, in this order: `OutOfRange`, `BreakInLine`, `TooManyLines`, `TooLarge`, whatever the memory; then
+    /// `NestedTooDeep`, `InlineTooDeep`; `NoMemory` at any point. After each the preview is as before, and after the first
+    /// four the counter too. U+0000 in an added line is
     /// replaced by U+FFFD before its size is counted (CommonMark 2.3).
     pub fn edit<C: Count>(
         &mut self,
@@ -163,22 +171,24 @@ impl Preview {
         add: &[&str],
         count: &mut C,
     ) -> Result<Patch, EditFault>
-        ensures outcome { (result, self.new) ≡ outcome self.old (record { at = at; del = del; add = map (λ line. line.now) add.now }) (is_err result) }
+        ensures outcome { (result, self.new) ≡ outcome self.old (record { at = at; del = del; add = map (λ line. line.now) add.now }) (reading_of result self.new.units) }
         // The patch takes the old pieces to the new ones.
         ensures patch { IfOk result (λ patch. apply patch self.old.pieces (λ i. get_or self.new.pieces i []) ≡ self.new.pieces) }
         // What was read is counted, and nothing is read where a refusal is due.
         ensures lines { C.lines count.new ≤ C.lines count.old + length (put self.old.lines (record { at = at; del = del; add = map (λ line. line.now) add.now })) }
-        ensures inlines { C.inlines count.new ≤ C.inlines count.old + length (pieces_of self.old.options (put self.old.lines (record { at = at; del = del; add = map (λ line. line.now) add.now }))) }
+        ensures inlines { OnOk result (C.inlines count.new ≤ C.inlines count.old + texts_of self.new.units) }
         ensures uncounted { IsSome (due self.old.lines (record { at = at; del = del; add = map (λ line. line.now) add.now })) → count.new ≡ count.old }
     {
         let size = self.accept(at, del, add)?;
         let mut new_lines = clean_lines(self.alloc, add)?;
-        let pieces = self.rendered(at, del, &new_lines, count)?;
+        let units = self.read(at, del, &new_lines, count)?;
+        let pieces = pieces_of(self.alloc, &self.options, &units)?;
         let patch = Patch::whole(self.alloc, self.pieces.len(), pieces.len());
         self.lines.reserve(new_lines.len())?;
         // From here on nothing fails.
         replace(&mut self.lines, at, del, &mut new_lines);
         self.size = size;
+        self.units = units;
         self.pieces = pieces;
         Ok(patch)
     }

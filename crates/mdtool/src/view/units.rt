@@ -1,89 +1,142 @@
-//! The units of a text: its headings and its paragraphs.
+//! The units of a text, each with what its inline texts read as.
 
-ghost use Rattle.std.specs.Prelude.{◌≡◌, ◌<◌, ◌≤◌, ◌++◌, ◌∷◌, [], IfOk, OnOk, length, map, drop, string_bytes};
-ghost use Rattle.std.specs.List.{prefix_len};
-ghost use Rattle.mdtool.specs.Units.{units, is_text, trimmed, joined};
-ghost use Rattle.mdtool.specs.UnitViews.{unit_view};
+ghost use Rattle.std.specs.Prelude.{◌≡◌, ◌+◌, ◌≤◌, IfOk, IfErr, OnOk, length, map, string_bytes};
+ghost use Rattle.mdtool.specs.Document.{size_of};
+ghost use Rattle.mdtool.specs.Reading.{OfReading};
+ghost use Rattle.mdtool.specs.UnitHtml.{unit_view, unit_piece, texts_of};
 
-use super::headings::{Heading, atx_heading};
-use super::trims::{BLANKS, is_blank, trim_end, trim_start};
+use super::fault::EditFault;
+use super::read_units::ReadUnit;
+use mdblock::{BlockFault, Found, Reader, Unit};
+use mdhtml::{Options, unit_html};
+use mdinline::{InlineFault, LabelTable, Parsed, read};
+use mdtext::{Count, Entities};
 use std::alloc::{AllocError, Global};
 
-/// A unit of a text, lent from its lines.
-#[derive(Clone, Copy, Debug)]
-pub enum Unit<'a> {
-    Heading(Heading<'a>),
-    /// The lines of a paragraph.
-    Paragraph(&'a [&'a str]),
-}
-
-/// The units of a text, in order.
-pub fn units_of<'a>(alloc: Global, lines: &'a [&'a str]) -> Result<Vec<Unit<'a>>, AllocError>
-    ensures { IfOk result (λ found. map unit_view found.items ≡ units (map (λ line. line.now) lines.now)) }
+/// Reads the blocks of a text. Each line that is read is counted.
+#[tactic(auto, using(crate::proofs::Sizes::line_is_small))]
+pub fn blocks_of<C: Count>(
+    alloc: Global,
+    entities: &Entities,
+    lines: &[&str],
+    count: &mut C,
+) -> Result<Vec<Found>, EditFault>
+    requires { size_of (map (λ line. line.now) lines.now) ≤ 16777216 }
+    ensures fault { IfErr result OfReading }
+    ensures lines { C.lines count.new ≤ C.lines count.old + length lines.now }
+    ensures inlines { C.inlines count.new ≡ C.inlines count.old }
 {
     let mut found = Vec::new(alloc);
-    let mut at = 0;
-    while at < lines.len() {
-        at += push_unit(&lines[at..], &mut found)?;
+    let mut reader = Reader::new(alloc, entities);
+    for i in 0..lines.len() {
+        match reader.line(lines[i], count) {
+            Ok(unit) => push_some(&mut found, unit)?,
+            Err(fault) => return Err(fault_in_line(fault, i)),
+        }
+    }
+    // Behind the last line no container begins any more.
+    match reader.finish() {
+        Ok(unit) => push_some(&mut found, unit)?,
+        Err(_) => return Err(EditFault::NoMemory),
     }
     Ok(found)
 }
 
-/// Adds the unit that begins in the first line, if one does, and says how many lines this took.
-fn push_unit<'a>(lines: &'a [&'a str], found: &mut Vec<Unit<'a>>) -> Result<usize, AllocError>
-    requires { 0 < length lines.now }
-    ensures took { IfOk result (λ n. (0 < n) × (n ≤ length lines.now)) }
-    ensures unit { IfOk result (λ n. map unit_view found.new.items ++ units (drop n (map (λ line. line.now) lines.now)) ≡ map unit_view found.old.items ++ units (map (λ line. line.now) lines.now)) }
-{
-    if is_blank(lines[0]) {
-        return Ok(1);
+fn push_some(found: &mut Vec<Found>, unit: Option<Found>) -> Result<(), AllocError> {
+    if let Some(unit) = unit {
+        found.push(unit)?;
     }
-    if let Some(heading) = atx_heading(lines[0]) {
-        found.push(Unit::Heading(heading))?;
-        return Ok(1);
-    }
-    let len = paragraph_len(lines);
-    found.push(Unit::Paragraph(&lines[..len]))?;
-    Ok(len)
-}
-
-/// How many lines at the front are paragraph text.
-fn paragraph_len(lines: &[&str]) -> usize
-    ensures { result ≡ prefix_len is_text (map (λ line. line.now) lines.now) }
-{
-    for i in 0..lines.len() {
-        if !is_text(lines[i]) {
-            return i;
-        }
-    }
-    lines.len()
-}
-
-/// Whether the line is paragraph text: neither blank nor a heading.
-fn is_text(line: &str) -> bool
-    ensures { result ≡ is_text line.now }
-{
-    !is_blank(line) && atx_heading(line).is_none()
-}
-
-/// The inline text of a paragraph: its lines, trimmed, with a line feed between two.
-pub fn paragraph_text(alloc: Global, lines: &[&str]) -> Result<String, AllocError>
-    ensures { IfOk result (λ text. string_bytes text ≡ joined (trimmed (map (λ line. line.now) lines.now))) }
-{
-    let mut text = String::new(alloc);
-    if let Some((last, before)) = lines.split_last() {
-        for line in before {
-            push_line(trim_start(line, BLANKS), &mut text)?;
-        }
-        text.push_str(trim_end(trim_start(last, BLANKS), BLANKS))?;
-    }
-    Ok(text)
-}
-
-fn push_line(line: &str, text: &mut String) -> Result<(), AllocError>
-    ensures { OnOk result (string_bytes text.new ≡ string_bytes text.old ++ line.now ++ 10 ∷ []) }
-{
-    text.push_str(line)?;
-    text.push_str("\n")?;
     Ok(())
+}
+
+/// No line is fed after a fault, so none is answered `Failed`.
+fn fault_in_line(fault: BlockFault, line: usize) -> EditFault
+    ensures { OfReading result }
+{
+    match fault {
+        BlockFault::NestedTooDeep => EditFault::NestedTooDeep { line },
+        BlockFault::NoMemory | BlockFault::Failed => EditFault::NoMemory,
+    }
+}
+
+/// Reads the inline texts of the units under the first definition of each label. Each text that is read is counted.
+pub fn read_texts<C: Count>(
+    alloc: Global,
+    entities: &Entities,
+    found: Vec<Found>,
+    count: &mut C,
+) -> Result<Vec<ReadUnit>, EditFault>
+    ensures fault { IfErr result OfReading }
+    ensures lines { C.lines count.new ≡ C.lines count.old }
+    ensures inlines { IfOk result (λ units. C.inlines count.new ≤ C.inlines count.old + texts_of (map unit_view units.items)) }
+{
+    let labels = label_table(alloc, &found)?;
+    let mut units = Vec::with_capacity(alloc, found.len())?;
+    for one in found {
+        match inlines_of(alloc, entities, &labels, one.unit(), count) {
+            Ok(inlines) => units.push(ReadUnit { found: one, inlines })?,
+            Err(fault) => return Err(fault_in_unit(fault, one.begin())),
+        }
+    }
+    Ok(units)
+}
+
+fn fault_in_unit(fault: InlineFault, begin: usize) -> EditFault
+    ensures { OfReading result }
+{
+    match fault {
+        InlineFault::TooDeep => EditFault::InlineTooDeep { line: begin },
+        InlineFault::NoMemory => EditFault::NoMemory,
+    }
+}
+
+/// The first definition of each label counts (CommonMark 4.7).
+fn label_table(alloc: Global, found: &[Found]) -> Result<LabelTable, AllocError> {
+    let mut labels = LabelTable::new(alloc);
+    for one in found {
+        for definition in one.unit().definitions() {
+            labels.add(definition.label.copy(alloc)?, definition.target.copy(alloc)?)?;
+        }
+    }
+    Ok(labels)
+}
+
+fn inlines_of<C: Count>(
+    alloc: Global,
+    entities: &Entities,
+    labels: &LabelTable,
+    unit: &Unit,
+    count: &mut C,
+) -> Result<Vec<Parsed>, InlineFault>
+    ensures all { IfOk result (λ inlines. length inlines.items ≡ length unit.now.texts) }
+    ensures lines { C.lines count.new ≡ C.lines count.old }
+    ensures inlines { C.inlines count.new ≤ C.inlines count.old + length unit.now.texts }
+{
+    let texts = unit.texts();
+    let mut inlines = Vec::with_capacity(alloc, texts.len())?;
+    for text in texts {
+        inlines.push(read(alloc, text, labels, entities, count)?)?;
+    }
+    Ok(inlines)
+}
+
+/// The pieces of the units, in order.
+pub fn pieces_of(
+    alloc: Global,
+    options: &Options,
+    units: &[ReadUnit],
+) -> Result<Vec<String>, AllocError>
+    ensures { IfOk result (λ pieces. map string_bytes pieces.items ≡ map (unit_piece options.now) (map unit_view units.now)) }
+{
+    let mut pieces = Vec::with_capacity(alloc, units.len())?;
+    for unit in units {
+        pieces.push(piece_of(alloc, options, unit)?)?;
+    }
+    Ok(pieces)
+}
+
+fn piece_of(alloc: Global, options: &Options, unit: &ReadUnit) -> Result<String, AllocError>
+    ensures { IfOk result (λ piece. string_bytes piece ≡ unit_piece options.now (unit_view unit.now)) }
+{
+    unit_html(alloc, unit.found.unit().blocks(), &unit.inlines, options)
 }

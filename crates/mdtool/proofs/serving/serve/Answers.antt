@@ -3,8 +3,9 @@ use Rattle.std.specs.Prelude.{not}
 use Rattle.std.specs.Result.{is_ok}
 use Rattle.std.proofs.lemmas.Result.{err_from_is_err_and}
 use Rattle.mdtool.proofs.Readings.{draws_of}
-use Rattle.mdtool.proofs.ServeRuns.{run_start, run_more, run_starves, run_breaks}
+use Rattle.mdtool.proofs.ServeRuns.{run_start, run_more, run_stops, run_starves, run_breaks}
 use Rattle.mdtool.proofs.ServeEnds.{ends_so}
+use Rattle.mdtool.specs.Commands.{Done}
 use Rattle.mdtool.proofs.serving.serve.Goals as goal
 
 pub loop-script-init : goal.loop-script-init
@@ -49,3 +50,6 @@ loop-script-preserved g c =
       feed = c.in_ok-command.ensures.failures ∙ c.loop-script.invariant.feed;
       out = gained.1 ∙ c.loop-script.invariant.out;
     }
+
+pub returns-clause-served : goal.returns-clause-served
+returns-clause-served g c = run_stops _ _ _ _ _ _ _ _ Done c.loop-script.invariant.run (rw c.in_default.is at c.in_ok-command.ensures.next)

@@ -1,0 +1,22 @@
+-- An edit that was answered so is replied to so.
+use Rattle.std.proofs.Common.{◌≡◌, List, ℕ, map, ap, ◌∙◌, Result, Ok, Err, IfOk, String, Global, string_bytes}
+use Rattle.std.specs.declared.alloc.AllocError.{AllocError}
+use Rattle.mdtool.specs.declared.view.fault.EditFault.{EditFault}
+use Rattle.mdtool.specs.Stretch.{Stretch}
+use Rattle.mdtool.specs.Document.{Document}
+use Rattle.mdtool.specs.Edit.{Call}
+use Rattle.mdtool.specs.Outcome.{outcome}
+use Rattle.mdtool.specs.Reading.{reading_of}
+use Rattle.mdtool.specs.Commands.{Edit}
+use Rattle.mdtool.specs.Replies.{edit_reply}
+use Rattle.mdtool.specs.Serve.{Replied}
+
+pub edit_replied : (r : Result (String Global) AllocError) (old new : Document) (call : Call) (answer : Result Stretch EditFault)
+    → ◌≡◌ {A = Result Stretch EditFault × Document} (answer, new) (outcome old call (reading_of answer new.units))
+    → IfOk r (λ reply. string_bytes reply ≡ edit_reply answer new.pieces) → IfOk r (λ reply. Replied old (Edit call) (string_bytes reply) new)
+edit_replied (Ok reply) old new call answer is text = record {
+  reading = reading_of answer new.units;
+  bytes_are = text ∙ ap (λ p. edit_reply p.0 p.1.pieces) is;
+  holds = ap (λ p. p.1) is;
+}
+edit_replied (Err fault) old new call answer is text = text

@@ -1,0 +1,16 @@
+-- What a refusal is written as.
+use Rattle.std.proofs.Common.{◌≡◌, refl}
+use Rattle.mdtool.specs.declared.view.fault.EditFault.{EditFault}
+use Rattle.mdtool.specs.declared.view.fault.EditFault.TheVariants.{OutOfRange, BreakInLine, TooManyLines, TooLarge, NestedTooDeep, InlineTooDeep, NoMemory}
+use Rattle.mdtool.specs.FaultNames.{refused_text}
+use Rattle.mdtool.specs.Endings.{refusal_reason_of}
+
+-- each but want of memory by its name and number
+pub refusal_is : (fault : EditFault) → (fault ≡ NoMemory → ⊥) → refusal_reason_of fault ≡ refused_text fault
+refusal_is NoMemory other = absurd (other refl)
+refusal_is (OutOfRange lines) other = refl
+refusal_is (BreakInLine index) other = refl
+refusal_is TooManyLines other = refl
+refusal_is TooLarge other = refl
+refusal_is (NestedTooDeep line) other = refl
+refusal_is (InlineTooDeep line) other = refl
