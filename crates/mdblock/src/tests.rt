@@ -173,8 +173,18 @@ fn leaves_are_read(rt: HostRuntime) -> Result<(), Fail> {
         "[foo /url ]p(\"title\" ok);\n",
     )?;
     check(&rt, a, "foo  \nbar\n---\n", "h2(foo  \nbar);\n")?;
-    check(&rt, a, "``` a&amp;b c\nd\n```\ne", "code:a&b(d\n);\np(e);\n")?;
-    check(&rt, a, "<!-- a\n\nb -->\nc", "html(<!-- a\n\nb -->);\np(c);\n")?;
+    check(
+        &rt,
+        a,
+        "``` a&amp;b c\nd\n```\ne",
+        "code:a&b(d\n);\np(e);\n",
+    )?;
+    check(
+        &rt,
+        a,
+        "<!-- a\n\nb -->\nc",
+        "html(<!-- a\n\nb -->);\np(c);\n",
+    )?;
     check(&rt, a, "<div>\na\n\nb", "html(<div>\na);\np(b);\n")?;
     Ok(())
 }
@@ -185,12 +195,7 @@ fn containers_are_read(rt: HostRuntime) -> Result<(), Fail> {
     check(&rt, a, ">\t\tfoo\n", "quote{code:(  foo\n);};\n")?;
     check(&rt, a, "- foo\n\n\tbar\n", "loose{-p(foo);p(bar);};\n")?;
     check(&rt, a, "- foo\n-\n- bar\n", "tight{-p(foo);--p(bar);};\n")?;
-    check(
-        &rt,
-        a,
-        "> bar\nbaz\n> foo\n",
-        "quote{p(bar\nbaz\nfoo);};\n",
-    )?;
+    check(&rt, a, "> bar\nbaz\n> foo\n", "quote{p(bar\nbaz\nfoo);};\n")?;
     check(
         &rt,
         a,
@@ -199,12 +204,7 @@ fn containers_are_read(rt: HostRuntime) -> Result<(), Fail> {
     )?;
     check(&rt, a, "3. a\n4. b\n", "tight{-p(a);-p(b);};\n")?;
     check(&rt, a, "> foo\n---\n", "quote{p(foo);};\nhr;\n")?;
-    check(
-        &rt,
-        a,
-        "> foo\nbar\n===\n",
-        "quote{p(foo\nbar\n===);};\n",
-    )?;
+    check(&rt, a, "> foo\nbar\n===\n", "quote{p(foo\nbar\n===);};\n")?;
     check(
         &rt,
         a,
@@ -291,7 +291,12 @@ fn a_fault_stays(rt: HostRuntime) -> Result<(), Fail> {
     assert!(rt; matches!(reader.line("a", &mut count), Ok(None)));
     assert_eq!(rt; reader.open_at(), Some(1));
     assert!(rt; line.len() == 66);
-    assert!(rt; matches!(reader.line(line.as_str(), &mut count), Err(BlockFault::NestedTooDeep)));
+    assert!(rt;
+        matches!(
+            reader.line(line.as_str(), &mut count),
+            Err(BlockFault::NestedTooDeep)
+        )
+    );
     assert!(rt; reader.fed() == 2 && reader.open_at().is_none());
     assert!(rt; matches!(reader.line("b", &mut count), Err(BlockFault::Failed)));
     assert_eq!(rt; count.lines(), 4);
