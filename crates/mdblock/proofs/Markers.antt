@@ -1,10 +1,10 @@
 -- The marks of containers are ASCII characters.
-use Rattle.std.proofs.Common.{◌≡◌, ℕ, zero, suc, ◌+◌, ◌-◌, ◌<◌, ◌≤◌, Bool, true, false, List, [], ◌∷◌, length, drop, get_or, get_or-drop, length-drop, refl, sym, ap, subst, arith, add-one, ◌⊎◌, inl, inr, Option, Some, None, cond, ◌∙◌}
-use Rattle.std.specs.Prelude.{slice_index, ◌||◌, ◌&&◌, ◌==◌, nat_lt, nat_le}
+use Rattle.std.proofs.Common.{◌≡◌, ℕ, ◌+◌, ◌<◌, ◌≤◌, Bool, true, false, List, [], ◌∷◌, length, drop, get_or, get_or-drop, length-drop, refl, ap, subst, arith, ◌⊎◌, inl, inr, Option, Some, None, cond, ◌∙◌}
+use Rattle.std.specs.Prelude.{◌||◌, ◌&&◌, nat_le}
 use Rattle.std.specs.Char.{is_ascii_digit}
 use Rattle.std.specs.List.{prefix_len}
 use Rattle.std.proofs.lemmas.Bool.Decides.{nat_tests}
-use Rattle.std.proofs.lemmas.List.Sums.{prefix_len-le-length, prefix_len_passes}
+use Rattle.std.proofs.lemmas.List.Sums.{prefix_len_passes}
 use Rattle.mdtext.specs.Columns.{AreMarks, is_space_or_tab}
 use Rattle.mdscan.specs.Blanks.{begins_with, ends_or_blank}
 use Rattle.mdscan.specs.BlockQuote.{is_quote_marker}

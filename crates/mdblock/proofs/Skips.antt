@@ -1,12 +1,12 @@
 -- Columns that are skipped leave the text behind the indentation as it is.
-use Rattle.std.proofs.Common.{◌≡◌, ℕ, zero, suc, ◌+◌, ◌-◌, ◌*◌, ◌^◌, ◌<◌, ◌≤◌, Bool, true, false, List, [], ◌∷◌, length, drop, get_or, refl, ap, sym, ◌∙◌, arith, add-one, subst, ◌⊎◌, inl, inr, nat_le, min}
+use Rattle.std.proofs.Common.{◌≡◌, ℕ, zero, suc, ◌+◌, ◌-◌, ◌<◌, ◌≤◌, Bool, true, false, List, [], ◌∷◌, length, drop, refl, ap, sym, ◌∙◌, arith, add-one, subst, ◌⊎◌, inl, inr, nat_le}
 use Rattle.std.proofs.lemmas.Bool.Decides.{nat_tests}
 use Rattle.std.proofs.lemmas.Str.{IsCharBoundary-start, IsCharBoundary-after_ascii}
 use Rattle.std.proofs.lemmas.List.Sums.{prefix_len-le-length, prefix_len_passes}
 use Rattle.std.specs.List.{prefix_len}
 use Rattle.std.specs.Str.{IsUtf8, IsCharBoundary}
 use Rattle.mdtext.specs.Columns.{Place, is_space_or_tab, width, indent_at, indent, line_at, skip_from, skip}
-use Rattle.mdtext.proofs.Indents.{Steps, steps, lands, indent_nil, indent_spaces, width_bounds}
+use Rattle.mdtext.proofs.Indents.{steps, lands, indent_nil, indent_spaces, width_bounds}
 use Rattle.mdblock.specs.Indentation.{unindented}
 
 at_most_or_more : (m n : ℕ) → (m ≤ n) ⊎ (n < m)

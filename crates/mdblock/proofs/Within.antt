@@ -1,7 +1,6 @@
 -- Positions below a number lie below each greater one, and lists of blocks grow at their ends.
-use Rattle.std.proofs.Common.{◌≡◌, ℕ, Vec, Global, Option, Some, None, IfSome, ◌<◌, ◌≤◌, List, [], ◌∷◌, ◌++◌, map, arith}
+use Rattle.std.proofs.Common.{ℕ, Vec, Global, Option, Some, None, IfSome, ◌<◌, ◌≤◌, List, [], ◌∷◌, ◌++◌, map, arith}
 use Rattle.std.specs.List.{AllByRecursion}
-use Rattle.mdblock.specs.BlockTree as t
 use Rattle.mdblock.specs.BlockTree.{Block, paragraph, heading, thematic_break, code_block, html_block, block_quote, list, table, Blocks, no_blocks, block, Items, no_items, item}
 use Rattle.mdblock.specs.BlockView.{block_view, blocks_view, item_view, items_view}
 use Rattle.mdblock.specs.declared.blocks.Block as b

@@ -18,3 +18,6 @@ pub use mdleaf::Definition;
 pub use mdscan::Align;
 pub use readers::Reader;
 pub use units::{Found, Unit};
+
+#[cfg(test)]
+mod tests;

@@ -1,4 +1,3 @@
-use Rattle.std.proofs.Common.{◌≡◌, ℕ, List, [], ◌∷◌, ◌++◌, sym, subst}
 use Rattle.mdblock.proofs.Within.{blocks_push}
 use Rattle.mdblock.proofs.levels.push_block.Goals as goal
 

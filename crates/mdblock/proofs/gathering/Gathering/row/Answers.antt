@@ -1,4 +1,4 @@
-use Rattle.std.proofs.Common.{◌≡◌, ℕ, List, [], ◌∷◌, ◌++◌, arith}
+use Rattle.std.proofs.Common.{arith}
 use Rattle.mdblock.proofs.Within.{cells_next}
 use Rattle.mdblock.proofs.gathering.Gathering.row.Goals as goal
 

@@ -1,4 +1,4 @@
-use Rattle.std.proofs.Common.{◌≡◌, ◌<◌, ◌≤◌, IfOk, OnOk, length, ℕ, ◌+◌, ◌-◌, ◌*◌}
+use Rattle.std.proofs.Common.{◌≤◌, length}
 use Rattle.mdblock.specs.Positions.{CellsIn}
 use Rattle.mdblock.proofs.gathering.Gathering.row.Given as goal
 

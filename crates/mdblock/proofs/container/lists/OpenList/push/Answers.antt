@@ -1,8 +1,8 @@
-use Rattle.std.proofs.Common.{◌≡◌, ℕ, List, [], ◌∷◌, ◌++◌, sym, subst, ap, ◌∙◌}
+use Rattle.std.proofs.Common.{sym, subst}
 use Rattle.mdblock.specs.BlockTree.{Block, Blocks}
-use Rattle.mdblock.specs.BlockView.{blocks_view, items_view, block_step, item_step, item_view}
-use Rattle.mdblock.specs.Positions.{BlocksIn, ItemsIn}
-use Rattle.mdblock.specs.declared.blocks.Block.TheFolds.{fold-Item, fold-roll-Item}
+use Rattle.mdblock.specs.BlockView.{block_step, item_step}
+use Rattle.mdblock.specs.Positions.{BlocksIn}
+use Rattle.mdblock.specs.declared.blocks.Block.TheFolds.{fold-roll-Item}
 use Rattle.mdblock.proofs.Within.{items_push}
 use Rattle.mdblock.proofs.container.lists.OpenList.push.Goals as goal
 

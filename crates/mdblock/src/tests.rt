@@ -1,0 +1,326 @@
+//! Texts with the units that they are, by the examples and rules of CommonMark 0.31.2 and GFM 0.29.
+
+use crate::{Block, BlockFault, Found, Reader, Unit};
+use mdtext::{Entities, Tally};
+use std::alloc::{AllocError, Global};
+use std::process::Abort;
+use std::test::Fail;
+
+fn show_text(texts: &[String], position: usize, out: &mut String) -> Result<(), AllocError> {
+    out.push_str("(")?;
+    match texts.get(position) {
+        Some(text) => out.push_str(text.as_str())?,
+        None => out.push_str("?")?,
+    }
+    out.push_str(")")
+}
+
+fn show_cells(texts: &[String], cells: &[usize], out: &mut String) -> Result<(), AllocError> {
+    for cell in cells {
+        show_text(texts, *cell, out)?;
+    }
+    Ok(())
+}
+
+fn show_task(task: Option<bool>) -> &'static str {
+    match task {
+        Some(true) => "done",
+        Some(false) => "task",
+        None => "p",
+    }
+}
+
+fn show_heading(level: u8) -> &'static str {
+    match level {
+        1 => "h1",
+        2 => "h2",
+        _ => "h",
+    }
+}
+
+fn show_list(tight: bool) -> &'static str {
+    if tight { "tight{" } else { "loose{" }
+}
+
+fn show_blocks(blocks: &[Block], texts: &[String], out: &mut String) -> Result<(), AllocError> {
+    for block in blocks {
+        match block {
+            Block::Paragraph { text, task } => {
+                out.push_str(show_task(*task))?;
+                show_text(texts, *text, out)?;
+            }
+            Block::Heading { level, text } => {
+                out.push_str(show_heading(*level))?;
+                show_text(texts, *text, out)?;
+            }
+            Block::Break => out.push_str("hr")?,
+            Block::Code { lang, body } => {
+                out.push_str("code:")?;
+                out.push_str(lang.as_str())?;
+                out.push_str("(")?;
+                out.push_str(body.as_str())?;
+                out.push_str(")")?;
+            }
+            Block::Html(lines) => {
+                out.push_str("html(")?;
+                out.push_str(lines.as_str())?;
+                out.push_str(")")?;
+            }
+            Block::Quote(inner) => {
+                out.push_str("quote{")?;
+                show_blocks(inner.as_slice(), texts, out)?;
+                out.push_str("}")?;
+            }
+            Block::List { tight, items, .. } => {
+                out.push_str(show_list(*tight))?;
+                for item in items {
+                    out.push_str("-")?;
+                    show_blocks(item.blocks.as_slice(), texts, out)?;
+                }
+                out.push_str("}")?;
+            }
+            Block::Table { head, rows, .. } => {
+                out.push_str("table")?;
+                show_cells(texts, head.as_slice(), out)?;
+                for row in rows {
+                    out.push_str("/")?;
+                    show_cells(texts, row.as_slice(), out)?;
+                }
+            }
+        }
+        out.push_str(";")?;
+    }
+    Ok(())
+}
+
+fn show_unit(unit: &Unit, out: &mut String) -> Result<(), AllocError> {
+    for definition in unit.definitions() {
+        out.push_str("[")?;
+        out.push_str(definition.label.as_str())?;
+        out.push_str(" ")?;
+        out.push_str(definition.target.url.as_str())?;
+        out.push_str(" ")?;
+        out.push_str(definition.target.title.as_str())?;
+        out.push_str("]")?;
+    }
+    let texts = unit.texts();
+    show_blocks(unit.blocks(), texts, out)
+}
+
+fn show(found: Option<Found>, out: &mut String) -> Result<(), AllocError> {
+    if let Some(found) = found {
+        show_unit(found.unit(), out)?;
+        out.push_str("\n")?;
+    }
+    Ok(())
+}
+
+fn name(fault: BlockFault) -> &'static str {
+    match fault {
+        BlockFault::NestedTooDeep => "NestedTooDeep",
+        BlockFault::NoMemory => "NoMemory",
+        BlockFault::Failed => "Failed",
+    }
+}
+
+/// The units of a text whose lines end at LF, or the name of its fault.
+fn units(alloc: Global, text: &str) -> Result<String, AllocError> {
+    let entities = Entities::builtin(alloc)?;
+    let mut reader = Reader::new(alloc, &entities);
+    let mut count = Tally::new();
+    let mut out = String::new(alloc);
+    for line in text.lines() {
+        if reader.fed() == usize::MAX || line.len() > usize::MAX / 4 {
+            return Ok(out);
+        }
+        match reader.line(line, &mut count) {
+            Ok(found) => show(found, &mut out)?,
+            Err(fault) => {
+                out.push_str(name(fault))?;
+                return Ok(out);
+            }
+        }
+    }
+    match reader.finish() {
+        Ok(found) => show(found, &mut out)?,
+        Err(fault) => out.push_str(name(fault))?,
+    }
+    Ok(out)
+}
+
+fn check(rt: &impl Abort, alloc: Global, text: &str, want: &str) -> Result<(), AllocError> {
+    let out = units(alloc, text)?;
+    assert_eq!(rt; out.as_str(), want);
+    Ok(())
+}
+
+#[test]
+fn leaves_are_read(rt: HostRuntime) -> Result<(), Fail> {
+    let a = rt.alloc();
+    check(&rt, a, "", "")?;
+    check(&rt, a, "\tfoo\tbaz\t\tbim\n", "code:(foo\tbaz\t\tbim\n);\n")?;
+    check(&rt, a, "[foo]: /url\n---\n", "[foo /url ]\nhr;\n")?;
+    check(
+        &rt,
+        a,
+        "[foo]: /url\n===\n[foo]\n",
+        "[foo /url ]p(===\n[foo]);\n",
+    )?;
+    check(
+        &rt,
+        a,
+        "[foo]: /url\n\"title\" ok\n",
+        "[foo /url ]p(\"title\" ok);\n",
+    )?;
+    check(&rt, a, "foo  \nbar\n---\n", "h2(foo  \nbar);\n")?;
+    check(
+        &rt,
+        a,
+        "``` a&amp;b c\nd\n```\ne",
+        "code:a&b(d\n);\np(e);\n",
+    )?;
+    check(
+        &rt,
+        a,
+        "<!-- a\n\nb -->\nc",
+        "html(<!-- a\n\nb -->);\np(c);\n",
+    )?;
+    check(&rt, a, "<div>\na\n\nb", "html(<div>\na);\np(b);\n")?;
+    Ok(())
+}
+
+#[test]
+fn containers_are_read(rt: HostRuntime) -> Result<(), Fail> {
+    let a = rt.alloc();
+    check(&rt, a, ">\t\tfoo\n", "quote{code:(  foo\n);};\n")?;
+    check(&rt, a, "- foo\n\n\tbar\n", "loose{-p(foo);p(bar);};\n")?;
+    check(&rt, a, "- foo\n-\n- bar\n", "tight{-p(foo);--p(bar);};\n")?;
+    check(&rt, a, "> bar\nbaz\n> foo\n", "quote{p(bar\nbaz\nfoo);};\n")?;
+    check(
+        &rt,
+        a,
+        "* a\n  > b\n  >\n* c\n",
+        "tight{-p(a);quote{p(b);};-p(c);};\n",
+    )?;
+    check(&rt, a, "3. a\n4. b\n", "tight{-p(a);-p(b);};\n")?;
+    check(&rt, a, "> foo\n---\n", "quote{p(foo);};\nhr;\n")?;
+    check(&rt, a, "> foo\nbar\n===\n", "quote{p(foo\nbar\n===);};\n")?;
+    check(
+        &rt,
+        a,
+        "> - foo\n    ===\n",
+        "quote{tight{-p(foo\n===);};};\n",
+    )?;
+    check(
+        &rt,
+        a,
+        "- a\n- ```\n  b\n\n\n  ```\n- c\n",
+        "tight{-p(a);-code:(b\n\n\n);-p(c);};\n",
+    )?;
+    Ok(())
+}
+
+#[test]
+fn tables_and_tasks_are_read(rt: HostRuntime) -> Result<(), Fail> {
+    let a = rt.alloc();
+    check(
+        &rt,
+        a,
+        "| f\\|oo  |\n| ------ |\n| b `\\|` az |\n",
+        "table(f|oo)/(b `|` az);\n",
+    )?;
+    check(
+        &rt,
+        a,
+        "| abc | def |\n| --- |\n",
+        "p(| abc | def |\n| --- |);\n",
+    )?;
+    check(
+        &rt,
+        a,
+        "| a | b |\n| :-- | --: |\n| 1 |\n| 2 | 3 | 4 |\n",
+        "table(a)(b)/(1)()/(2)(3);\n",
+    )?;
+    check(
+        &rt,
+        a,
+        "foo\n| a |\n| - |\n| b |\n",
+        "p(foo);table(a)/(b);\n",
+    )?;
+    check(&rt, a, "- | a |\n  | - |\n", "tight{-table(a);};\n")?;
+    check(
+        &rt,
+        a,
+        "- [ ] foo\n- [x] bar\n",
+        "tight{-task(foo);-done(bar);};\n",
+    )?;
+    Ok(())
+}
+
+/// A line of so many markers of block quotes.
+fn quoted(alloc: Global, quotes: usize) -> Result<String, AllocError> {
+    let mut line = String::new(alloc);
+    for _ in 0..quotes {
+        line.push_str(">")?;
+    }
+    line.push_str("x")?;
+    Ok(line)
+}
+
+#[test]
+fn containers_are_limited(rt: HostRuntime) -> Result<(), Fail> {
+    let a = rt.alloc();
+    let deepest = quoted(a, 64)?;
+    assert!(rt; units(a, deepest.as_str())?.contains("p(x)"));
+    let line = quoted(a, 65)?;
+    check(&rt, a, line.as_str(), "NestedTooDeep")?;
+    let line = quoted(a, 1000)?;
+    check(&rt, a, line.as_str(), "NestedTooDeep")?;
+    Ok(())
+}
+
+#[test]
+fn a_fault_stays(rt: HostRuntime) -> Result<(), Fail> {
+    let a = rt.alloc();
+    let entities = Entities::builtin(a)?;
+    let mut count = Tally::new();
+    let line = quoted(a, 65)?;
+    let mut reader = Reader::new(a, &entities);
+    assert!(rt; reader.fed() == 0 && reader.open_at().is_none());
+    assert!(rt; matches!(reader.line("", &mut count), Ok(None)));
+    assert!(rt; matches!(reader.line("a", &mut count), Ok(None)));
+    assert_eq!(rt; reader.open_at(), Some(1));
+    assert!(rt; line.len() == 66);
+    assert!(rt;
+        matches!(
+            reader.line(line.as_str(), &mut count),
+            Err(BlockFault::NestedTooDeep)
+        )
+    );
+    assert!(rt; reader.fed() == 2 && reader.open_at().is_none());
+    assert!(rt; matches!(reader.line("b", &mut count), Err(BlockFault::Failed)));
+    assert_eq!(rt; count.lines(), 4);
+    assert!(rt; matches!(reader.finish(), Err(BlockFault::Failed)));
+    Ok(())
+}
+
+#[test]
+fn units_say_where_they_begin(rt: HostRuntime) -> Result<(), Fail> {
+    let a = rt.alloc();
+    let entities = Entities::builtin(a)?;
+    let mut count = Tally::new();
+    let mut reader = Reader::new(a, &entities);
+    assert!(rt; matches!(reader.line("", &mut count), Ok(None)));
+    assert!(rt; matches!(reader.line("- a", &mut count), Ok(None)));
+    assert!(rt; matches!(reader.line("", &mut count), Ok(None)));
+    let Ok(Some(found)) = reader.line("b", &mut count) else {
+        return Err("no unit".into());
+    };
+    assert!(rt; found.begin() == 1 && found.lines() == 2);
+    assert_eq!(rt; reader.open_at(), Some(3));
+    let Ok(Some(found)) = reader.finish() else {
+        return Err("no unit".into());
+    };
+    assert!(rt; found.begin() == 3 && found.lines() == 1);
+    Ok(())
+}
