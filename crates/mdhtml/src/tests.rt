@@ -2,7 +2,7 @@
 
 use crate::inlines::write_inlines;
 use crate::{Breaks, Options, unit_html};
-use mdblock::{Align, Block};
+use mdblock::{Align, Block, Item, ListKind};
 use mdinline::{Inline, LabelTable, Parsed, read};
 use mdtext::{Entities, Tally, Target};
 use std::alloc::{AllocError, Global};
@@ -217,6 +217,91 @@ fn tables_are_written(rt: HostRuntime) -> Result<(), Fail> {
     assert_eq!(rt;
         html.as_str(),
         "<table>\n<thead>\n<tr>\n<th>a</th>\n</tr>\n</thead>\n</table>\n"
+    );
+    Ok(())
+}
+
+#[test]
+fn quotes_are_written(rt: HostRuntime) -> Result<(), Fail> {
+    let a = rt.alloc();
+    let texts = texts(a, &["a"])?;
+    assert_eq!(rt; texts.len(), 1);
+    let mut inner = Vec::new(a);
+    inner.push(Block::Paragraph {
+        text: 0,
+        task: None,
+    })?;
+    inner.push(Block::Quote(Vec::new(a)))?;
+    let mut blocks = Vec::new(a);
+    blocks.push(Block::Quote(inner))?;
+    let html = unit_html(a, &blocks, &texts, &SAFE)?;
+    assert_eq!(rt;
+        html.as_str(),
+        "<blockquote>\n<p>a</p>\n<blockquote>\n</blockquote>\n</blockquote>\n"
+    );
+    Ok(())
+}
+
+#[test]
+fn task_items_are_written(rt: HostRuntime) -> Result<(), Fail> {
+    let a = rt.alloc();
+    let texts = texts(a, &["foo", "bar"])?;
+    assert_eq!(rt; texts.len(), 2);
+    let mut first = Vec::new(a);
+    first.push(Block::Paragraph {
+        text: 0,
+        task: Some(false),
+    })?;
+    let mut second = Vec::new(a);
+    second.push(Block::Paragraph {
+        text: 1,
+        task: Some(true),
+    })?;
+    let mut items = Vec::new(a);
+    items.push(Item { blocks: first })?;
+    items.push(Item { blocks: second })?;
+    let mut blocks = Vec::new(a);
+    blocks.push(Block::List {
+        kind: ListKind::Bullet(b'-'),
+        tight: true,
+        items,
+    })?;
+    let html = unit_html(a, &blocks, &texts, &SAFE)?;
+    assert_eq!(rt;
+        html.as_str(),
+        "<ul>\n<li><input disabled=\"\" type=\"checkbox\"> foo</li>\n<li><input checked=\"\" disabled=\"\" type=\"checkbox\"> bar</li>\n</ul>\n"
+    );
+    Ok(())
+}
+
+#[test]
+fn loose_lists_are_written(rt: HostRuntime) -> Result<(), Fail> {
+    let a = rt.alloc();
+    let texts = texts(a, &["a"])?;
+    assert_eq!(rt; texts.len(), 1);
+    let mut first = Vec::new(a);
+    first.push(Block::Paragraph {
+        text: 0,
+        task: None,
+    })?;
+    let mut items = Vec::new(a);
+    items.push(Item { blocks: first })?;
+    items.push(Item {
+        blocks: Vec::new(a),
+    })?;
+    let mut blocks = Vec::new(a);
+    blocks.push(Block::List {
+        kind: ListKind::Ordered {
+            delim: b'.',
+            start: 3,
+        },
+        tight: false,
+        items,
+    })?;
+    let html = unit_html(a, &blocks, &texts, &SAFE)?;
+    assert_eq!(rt;
+        html.as_str(),
+        "<ol start=\"3\">\n<li>\n<p>a</p>\n</li>\n<li></li>\n</ol>\n"
     );
     Ok(())
 }

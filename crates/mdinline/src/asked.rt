@@ -2,8 +2,8 @@
 
 ghost use Rattle.std.specs.Prelude.{◌≡◌, ◌==◌, ◌↔◌, IsTrue, IfOk, Contains, length, slice_get, option_copied};
 
-use mdtext::Label;
-use std::alloc::{AllocError, Global};
+use mdtext::{Label, NoMemory};
+use std::alloc::Global;
 use std::collections::BTreeSet;
 use std::marker::Model;
 
@@ -33,7 +33,7 @@ impl Asked {
     ghost use Rattle.std.specs.Ordering.{nat_cmp};
 
     /// The labels of a set.
-    pub(crate) fn of(alloc: Global, set: BTreeSet<Label, Global>) -> Result<Asked, AllocError>
+    pub(crate) fn of(alloc: Global, set: BTreeSet<Label, Global>) -> Result<Asked, NoMemory>
         ensures { IfOk result (λ asked. asked ≡ set.keys) }
     {
         Ok(Asked {
@@ -68,4 +68,23 @@ impl Asked {
     {
         self.labels.contains(label)
     }
+
+    /// An equal set.
+    pub(crate) fn copy(&self, alloc: Global) -> Result<Asked, NoMemory>
+        ensures { IfOk result (λ copy. copy ≡ self.now) }
+    {
+        Ok(Asked {
+            labels: copy_labels(alloc, &self.labels)?,
+        })
+    }
+}
+
+fn copy_labels(alloc: Global, labels: &[Label]) -> Result<Vec<Label>, NoMemory>
+    ensures { IfOk result (λ copy. copy.items ≡ labels.now) }
+{
+    let mut copy = Vec::with_capacity(alloc, labels.len())?;
+    for label in labels {
+        copy.push(label.copy(alloc)?)?;
+    }
+    Ok(copy)
 }

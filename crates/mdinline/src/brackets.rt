@@ -121,18 +121,11 @@ fn look_up<L: Labels>(
     };
     let found = match labels.find(&label) {
         Some(target) => Some(Reference {
-            target: copy_target(alloc, target)?,
+            target: target.copy(alloc)?,
             end,
         }),
         None => None,
     };
     asked.insert(label)?;
     Ok(found)
-}
-
-fn copy_target(alloc: Global, target: &Target) -> Result<Target, AllocError> {
-    Ok(Target {
-        url: String::from_str(alloc, target.url.as_str())?,
-        title: String::from_str(alloc, target.title.as_str())?,
-    })
 }

@@ -5,6 +5,7 @@ mod angles;
 mod asked;
 mod backticks;
 mod brackets;
+mod copies;
 mod faults;
 mod inlines;
 mod labels;

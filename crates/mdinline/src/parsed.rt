@@ -1,10 +1,13 @@
 //! What a text reads as.
 
-ghost use Rattle.std.specs.Prelude.{◌≡◌};
+ghost use Rattle.std.specs.Prelude.{◌≡◌, IfOk};
 ghost use Rattle.mdinline.specs.TreeView.{inlines_view};
 
 use crate::asked::Asked;
+use crate::copies::copy_inlines;
 use crate::inlines::Inline;
+use mdtext::NoMemory;
+use std::alloc::Global;
 use std::marker::Model;
 
 /// The reading of one inline text: its tree, and the labels that were looked up for it. Only this crate makes one.
@@ -46,5 +49,15 @@ impl Parsed {
         ensures { result.now ≡ self.now.asked }
     {
         &self.asked
+    }
+
+    /// An equal reading.
+    pub fn copy(&self, alloc: Global) -> Result<Parsed, NoMemory>
+        ensures { IfOk result (λ copy. copy ≡ self.now) }
+    {
+        Ok(Parsed::new(
+            copy_inlines(alloc, &self.tree)?,
+            self.asked.copy(alloc)?,
+        ))
     }
 }

@@ -1,1 +1,3 @@
 pub mod LinkDefinition
+pub mod LeadingDefinitions
+pub mod TableRows

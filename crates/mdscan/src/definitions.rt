@@ -4,6 +4,7 @@ ghost use Rattle.std.specs.Prelude.{◌≡◌, ◌<◌, ◌≤◌, IfSome, Some,
 ghost use Rattle.std.specs.Str.{IsUtf8, IsCharBoundary};
 ghost use Rattle.mdscan.specs.Spans.{IsSpanOf};
 ghost use Rattle.mdscan.specs.LinkDefinition.{AreDefSpans, definition_of, labelled_def, titled_def, def_to, line_end};
+ghost use Rattle.mdscan.specs.LinkLabel.{label_at};
 
 use crate::inline_tails::after_gap;
 use crate::link_labels::brackets;
@@ -24,6 +25,8 @@ pub struct Def {
 /// The link reference definition that a text begins with (CommonMark 4.7).
 pub fn definition(text: &str) -> Option<Def>
     ensures value { result ≡ definition_of text.now }
+    ensures label { IfSome result (λ def. label_at text.now 0 ≡ Some def.label) }
+    ensures later { IfSome result (λ def. 0 < def.end) }
     ensures within { IfSome result (λ def. def.end ≤ length text.now) }
     ensures spans { IfSome result (λ def. AreDefSpans text.now def) }
 {
@@ -33,6 +36,8 @@ pub fn definition(text: &str) -> Option<Def>
 #[tactic(auto, unfolding(crate::specs::LinkDefinition::definition_of))]
 fn defined(text: &[u8]) -> Option<Def>
     ensures value { result ≡ definition_of text.now }
+    ensures label { IfSome result (λ def. label_at text.now 0 ≡ Some def.label) }
+    ensures later { IfSome result (λ def. 0 < def.end) }
     ensures within { IfSome result (λ def. def.end ≤ length text.now) }
     ensures spans { IsUtf8 text.now → IfSome result (λ def. AreDefSpans text.now def) }
 {
@@ -47,6 +52,8 @@ fn defined(text: &[u8]) -> Option<Def>
 fn labelled(text: &[u8], label: Span) -> Option<Def>
     requires { label.end < length text.now }
     ensures value { result ≡ labelled_def text.now label }
+    ensures label { IfSome result (λ def. def.label ≡ label) }
+    ensures later { IfSome result (λ def. 0 < def.end) }
     ensures within { IfSome result (λ def. def.end ≤ length text.now) }
     ensures spans { IsUtf8 text.now → IsSpanOf text.now label → IfSome result (λ def. AreDefSpans text.now def) }
 {
@@ -62,6 +69,8 @@ fn labelled(text: &[u8], label: Span) -> Option<Def>
 fn without_title(text: &[u8], label: Span, dest: Dest) -> Option<Def>
     requires { dest.end ≤ length text.now }
     ensures value { result ≡ def_to label dest None (line_end text.now dest.end) }
+    ensures label { IfSome result (λ def. def.label ≡ label) }
+    ensures later { IfSome result (λ def. dest.end ≤ def.end) }
     ensures within { IfSome result (λ def. def.end ≤ length text.now) }
     ensures spans { IsUtf8 text.now → IsSpanOf text.now label → IsSpanOf text.now dest.span → IsCharBoundary text.now dest.end → IfSome result (λ def. AreDefSpans text.now def) }
 {
@@ -73,6 +82,8 @@ fn without_title(text: &[u8], label: Span, dest: Dest) -> Option<Def>
 fn with_title(text: &[u8], label: Span, dest: Dest) -> Option<Def>
     requires { dest.end ≤ length text.now }
     ensures value { result ≡ titled_def text.now label dest }
+    ensures label { IfSome result (λ def. def.label ≡ label) }
+    ensures later { IfSome result (λ def. 0 < def.end) }
     ensures within { IfSome result (λ def. def.end ≤ length text.now) }
     ensures spans { IsUtf8 text.now → IsSpanOf text.now label → IsSpanOf text.now dest.span → IfSome result (λ def. AreDefSpans text.now def) }
 {
@@ -110,6 +121,7 @@ fn up_to(label: Span, dest: Dest, title: Option<Span>, end: Option<usize>) -> Op
 fn rest_of_line(text: &[u8], at: usize) -> Option<usize>
     requires { at ≤ length text.now }
     ensures value { result ≡ line_end text.now at }
+    ensures later { IfSome result (λ n. at ≤ n) }
     ensures within { IfSome result (λ n. n ≤ length text.now) }
     ensures boundary { IsUtf8 text.now → IsCharBoundary text.now at → IfSome result (λ n. IsCharBoundary text.now n) }
 {

@@ -33,6 +33,13 @@ pub fn align_at(rest: &str, column: usize) -> Align
     align_of(rest.as_bytes(), column)
 }
 
+/// The alignment that one cell of a delimiter row stands for, by the colons at its ends (GFM 4.10).
+pub fn align_by_colons(cell: &str) -> Align
+    ensures { result ≡ delimiter_align cell.now }
+{
+    colons(cell.as_bytes())
+}
+
 #[tactic(auto, unfolding(crate::specs::DelimiterRow::delimiter_columns))]
 fn columns(row: &[u8]) -> Option<usize>
     ensures { result ≡ delimiter_columns row.now }

@@ -30,7 +30,7 @@ pub use atx_headings::{AtxLine, atx};
 pub use autolinks::{Auto, autolink};
 pub use block_quotes::quote_marker;
 pub use definitions::{Def, definition};
-pub use delimiter_rows::{Align, align_at, delimiter_row};
+pub use delimiter_rows::{Align, align_at, align_by_colons, delimiter_row};
 pub use fences::{FenceLine, fence, fence_end};
 pub use html_blocks::{html_end, html_start};
 pub use inline_tails::{Tail, inline_tail};
@@ -40,7 +40,7 @@ pub use list_markers::{Marker, list_marker};
 pub use raw_html::{find_from, html_tag, none_later};
 pub use setext_headings::setext;
 pub use spans::Span;
-pub use tables::cells;
+pub use tables::{cell_count, cells};
 pub use tasks::{TaskMark, task};
 pub use thematic_breaks::thematic;
 

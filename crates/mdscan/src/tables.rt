@@ -16,6 +16,26 @@ pub fn cells(alloc: Global, row: &str) -> Result<Vec<Span>, AllocError>
     cells_of(alloc, row.as_bytes())
 }
 
+/// How many cells a table's row has (GFM 4.10). Takes no memory.
+pub fn cell_count(row: &str) -> usize
+    ensures { result ≡ length (row_cells row.now) }
+{
+    count_cells(row.as_bytes())
+}
+
+fn count_cells(row: &[u8]) -> usize
+    ensures { result ≡ length (row_cells row.now) }
+{
+    let inner = inner(row);
+    let mut count = 1;
+    for at in inner.start..inner.end {
+        if is_split(row, at) {
+            count += 1;
+        }
+    }
+    count
+}
+
 #[tactic(auto, unfolding(crate::specs::TableRow::row_cells))]
 fn cells_of(alloc: Global, row: &[u8]) -> Result<Vec<Span>, AllocError>
     ensures { IfOk result (λ cells. cells.items ≡ row_cells row.now) }

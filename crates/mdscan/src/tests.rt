@@ -1,4 +1,10 @@
-//! Tables of borders for each recogniser.
+//! Tables of borders for each recogniser, and of the standard's examples.
 
+mod angle_examples;
 mod blocks;
+mod definition_examples;
+mod destination_examples;
 mod inlines;
+mod label_examples;
+mod tail_examples;
+mod title_examples;

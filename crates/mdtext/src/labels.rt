@@ -36,6 +36,15 @@ impl Label {
     {
         self.folded.as_str()
     }
+
+    /// An equal label.
+    pub fn copy(&self, alloc: Global) -> Result<Label, NoMemory>
+        ensures { IfOk result (λ label. label ≡ self.now) }
+    {
+        Ok(Label {
+            folded: String::from_str(alloc, &self.folded)?,
+        })
+    }
 }
 
 impl PartialEq for Label {
@@ -84,6 +93,19 @@ pub struct Target {
     pub url: String,
     /// The title.
     pub title: String,
+}
+
+impl Target {
+    /// An equal target.
+    pub fn copy(&self, alloc: Global) -> Result<Target, NoMemory>
+        ensures url { IfOk result (λ target. string_bytes target.url ≡ string_bytes self.now.url) }
+        ensures title { IfOk result (λ target. string_bytes target.title ≡ string_bytes self.now.title) }
+    {
+        Ok(Target {
+            url: String::from_str(alloc, &self.url)?,
+            title: String::from_str(alloc, &self.title)?,
+        })
+    }
 }
 
 /// The label that stands in brackets, from what stands between them (CommonMark 4.7).

@@ -5,8 +5,7 @@ pub mod Patches
 pub mod Devices
 pub mod Boundaries
 pub mod UnitRuns
-pub mod InlineLines
-pub mod UnitPieces
+pub mod UnitFronts
 pub mod Runs
 pub mod Outcomes
 pub mod ScriptLines

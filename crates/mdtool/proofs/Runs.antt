@@ -1,6 +1,6 @@
 -- Lists of edits leave a document made from nothing.
 use Rattle.std.proofs.Common.{◌≡◌, ℕ, Bool, true, false, cond, List, [], ◌∷◌, Option, Some, None, refl, ap, sym, ◌∙◌}
-use Rattle.mdtool.specs.declared.options.Options.{Options}
+use Rattle.mdhtml.specs.declared.options.Options.{Options}
 use Rattle.mdtool.specs.declared.view.fault.EditFault.{EditFault}
 use Rattle.mdtool.specs.Document.{Document, document}
 use Rattle.mdtool.specs.Edit.{Call, put, due}

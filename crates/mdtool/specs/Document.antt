@@ -1,6 +1,6 @@
 -- What a preview holds.
 use Rattle.std.specs.Prelude.{ℕ, List, [], ◌∷◌, ◌+◌, length, sum_by}
-use Rattle.mdtool.specs.declared.options.Options.{Options}
+use Rattle.mdhtml.specs.declared.options.Options.{Options}
 use Rattle.mdtool.specs.Html.{pieces_of}
 
 -- the entities and options that it was made with, its lines, and the HTML of each unit

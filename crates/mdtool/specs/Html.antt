@@ -1,38 +1,20 @@
--- The HTML of a unit.
-use Rattle.std.specs.Prelude.{ℕ, List, [], ◌∷◌, ◌++◌, codes, map, decimal}
-use Rattle.std.specs.List.{flat_map}
-use Rattle.mdtext.specs.Escaped.{escaped}
-use Rattle.mdtool.specs.declared.options.Breaks.{Breaks}
-use Rattle.mdtool.specs.declared.options.Breaks.TheVariants.{Soft, Hard, Space}
-use Rattle.mdtool.specs.declared.options.Options.{Options}
-use Rattle.mdtool.specs.AtxHeading.{AtxHeading}
+-- The pieces of a text.
+use Rattle.std.specs.Prelude.{ℕ, List, [], ◌∷◌, None, false, map}
+use Rattle.mdblock.specs.BlockTree.{Block, heading as heading_block, paragraph as paragraph_block, block, no_blocks}
+use Rattle.mdinline.specs.LineBreaks.{text_tree}
+use Rattle.mdhtml.specs.declared.options.Options.{Options}
+use Rattle.mdhtml.specs.BlockHtml.{blocks_html}
 use Rattle.mdtool.specs.Units.{Unit, heading, paragraph, units, text_of}
-use Rattle.mdtool.specs.Inlines.{Inline, text, soft_break, hard_break, inlines}
 
-abbrev pub hard_break_html : List ℕ
-hard_break_html = codes "<br />" ++ 10 ∷ []
+-- the block that a unit is; its text is the only one
+abbrev pub block_of : Unit → Block
+block_of (heading h) = heading_block h.level 0
+block_of (paragraph lines) = paragraph_block 0 None
 
--- a soft line break, as the options have it
-abbrev pub soft_break_html : Breaks → List ℕ
-soft_break_html Soft = 10 ∷ []
-soft_break_html Hard = hard_break_html
-soft_break_html Space = 32 ∷ []
-
-abbrev pub inline_html : Breaks → Inline → List ℕ
-inline_html breaks (text t) = escaped t
-inline_html breaks soft_break = soft_break_html breaks
-inline_html breaks hard_break = hard_break_html
-
-abbrev pub inlines_html : Breaks → List (List ℕ) → List ℕ
-inlines_html breaks lines = flat_map (inline_html breaks) (inlines lines)
-
--- the tags round a unit's text, and a line feed behind it
-abbrev pub unit_html : Options → Unit → List ℕ
-unit_html options (heading h) =
-    codes "<h" ++ decimal h.level ++ codes ">" ++ inlines_html options.breaks (text_of (heading h)) ++ codes "</h" ++ decimal h.level ++ codes ">" ++ 10 ∷ []
-unit_html options (paragraph lines) =
-    codes "<p>" ++ inlines_html options.breaks (text_of (paragraph lines)) ++ codes "</p>" ++ 10 ∷ []
+-- the HTML of a unit's block with the tree of its text
+abbrev pub unit_piece : Options → Unit → List ℕ
+unit_piece options unit = blocks_html options (text_tree (text_of unit) ∷ []) false (block (block_of unit) no_blocks) []
 
 -- the pieces of a text: one for each unit
 abbrev pub pieces_of : Options → List (List ℕ) → List (List ℕ)
-pieces_of options lines = map (unit_html options) (units lines)
+pieces_of options lines = map (unit_piece options) (units lines)

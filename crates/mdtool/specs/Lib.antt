@@ -1,7 +1,6 @@
 pub mod Trims
 pub mod AtxHeading
 pub mod Units
-pub mod Inlines
 pub mod Html
 pub mod Lists
 pub mod Document
@@ -16,7 +15,7 @@ pub mod FaultNames
 pub mod Replies
 pub mod Endings
 pub mod Views
-pub mod InlineViews
+pub mod UnitViews
 pub mod Pending
 pub mod Steps
 pub mod Serve

@@ -1,5 +1,5 @@
 -- The units of a text: its headings and its paragraphs.
-use Rattle.std.specs.Prelude.{ℕ, Bool, true, false, ◌&&◌, not, List, [], ◌∷◌, Option, Some, None, is_some, map}
+use Rattle.std.specs.Prelude.{ℕ, Bool, true, false, ◌&&◌, not, List, [], ◌∷◌, ◌++◌, Option, Some, None, is_some, map}
 use Rattle.mdtool.specs.Trims.{blanks, trim_start, trim_end, is_blank}
 use Rattle.mdtool.specs.AtxHeading.{AtxHeading, heading_of}
 
@@ -41,10 +41,16 @@ trimmed [] = []
 trimmed (line ∷ []) = trim_end blanks (trim_start blanks line) ∷ []
 trimmed (line ∷ next ∷ lines) = trim_start blanks line ∷ trimmed (next ∷ lines)
 
--- the lines of a unit's inline text
-abbrev pub text_of : Unit → List (List ℕ)
-text_of (heading h) = h.content ∷ []
-text_of (paragraph lines) = trimmed lines
+-- the lines with a line feed between two
+abbrev pub joined : List (List ℕ) → List ℕ
+joined [] = []
+joined (line ∷ []) = line
+joined (line ∷ next ∷ lines) = line ++ 10 ∷ joined (next ∷ lines)
+
+-- a unit's inline text
+abbrev pub text_of : Unit → List ℕ
+text_of (heading h) = h.content
+text_of (paragraph lines) = joined (trimmed lines)
 
 abbrev pub heading_unit : ℕ → List ℕ → Unit
 heading_unit level content = heading (record { level = level; content = content })

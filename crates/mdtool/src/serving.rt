@@ -10,10 +10,10 @@ ghost use Rattle.mdtool.specs.Serve.{Served, Replied, out_failures_after};
 use crate::command::Command;
 use crate::device::{DeviceFault, Feed, Out, put_all};
 use crate::fault::ToolFault;
-use crate::options::Options;
 use crate::replies::{edit_reply, html_reply};
 use crate::script::Script;
 use crate::view::preview::Preview;
+use mdhtml::Options;
 use mdtext::{Entities, Tally};
 use std::alloc::{AllocError, Global};
 

@@ -308,6 +308,25 @@ fn alignments(rt: HostRuntime) {
     }
 }
 
+static DELIMITERS: [(&str, Align); 8] = [
+    ("-", Align::Plain),
+    ("---", Align::Plain),
+    (":-", Align::Left),
+    (":---", Align::Left),
+    ("-:", Align::Right),
+    ("--:", Align::Right),
+    (":-:", Align::Center),
+    (":--:", Align::Center),
+];
+
+/// One cell of a delimiter row by itself.
+#[test]
+fn delimiters(rt: HostRuntime) {
+    for &(cell, want) in &DELIMITERS {
+        assert_eq!(rt; align_by_colons(cell), want, "at {cell}");
+    }
+}
+
 static TASKS: [(&str, Option<(bool, usize)>); 15] = [
     ("[ ] foo", Some((false, 4))),
     ("[x] bar", Some((true, 4))),
@@ -362,6 +381,7 @@ fn row_cells(rt: HostRuntime) -> Result<(), AllocError> {
     for &(row, want) in &ROW_CELLS {
         let found = cells(rt.alloc(), row)?;
         assert_eq!(rt; found.len(), want.len(), "at {row}");
+        assert_eq!(rt; cell_count(row), want.len(), "at {row}");
         for (cell, part) in found.iter().zip(want) {
             assert_eq!(rt; (cell.start, cell.end), *part, "at {row}");
         }

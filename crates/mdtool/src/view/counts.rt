@@ -12,13 +12,3 @@ pub fn count_lines<C: Count>(count: &mut C, lines: usize)
         count.line();
     }
 }
-
-/// Counts this many inline texts.
-pub fn count_inlines<C: Count>(count: &mut C, texts: usize)
-    ensures lines { C.lines count.new ≡ C.lines count.old }
-    ensures inlines { C.inlines count.new ≤ C.inlines count.old + texts }
-{
-    for _ in 0..texts {
-        count.inline();
-    }
-}

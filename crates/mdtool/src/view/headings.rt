@@ -12,7 +12,7 @@ const MAX_LEVEL: usize = 6;
 /// A heading line: its level, 1 to 6, and its content without the spaces and tabs around it and without its closing run.
 #[derive(Clone, Copy, Debug, PartialEq, Eq)]
 pub struct Heading<'a> {
-    pub level: usize,
+    pub level: u8,
     pub content: &'a str,
 }
 
@@ -35,7 +35,7 @@ pub fn atx_heading(line: &str) -> Option<Heading<'_>>
         return None;
     }
     Some(Heading {
-        level,
+        level: level as u8,
         content: without_closing_run(trim_end(inner, BLANKS)),
     })
 }

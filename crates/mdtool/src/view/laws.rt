@@ -1,6 +1,6 @@
 //! What holds of any list of edits.
 ghost use Rattle.std.specs.Prelude.{◌≡◌, ℕ, List, []};
-ghost use Rattle.mdtool.specs.declared.options.Options.{Options};
+ghost use Rattle.mdhtml.specs.declared.options.Options.{Options};
 ghost use Rattle.mdtool.specs.Document.{document};
 ghost use Rattle.mdtool.specs.Run.{Turn, held_after, after};
 

@@ -8,14 +8,15 @@ ghost use Rattle.mdtool.specs.Html.{pieces_of};
 ghost use Rattle.mdtool.specs.Patch.{apply, IsWhole};
 
 use super::clean::{clean_lines, edited};
-use super::counts::{count_inlines, count_lines};
+use super::counts::count_lines;
 use super::exchange::replace;
 use super::fault::EditFault;
 use super::html::render;
 use super::limits::{clean_size, first_line_break, size};
 use super::patch::Patch;
 use super::pieces::Pieces;
-use crate::options::Options;
+use super::units::units_of;
+use mdhtml::Options;
 use mdtext::{Count, Entities};
 use std::alloc::{AllocError, Global};
 use std::marker::Model;
@@ -146,9 +147,8 @@ impl Preview {
     {
         let text = edited(self.alloc, &self.lines, at, del, add)?;
         count_lines(count, text.len());
-        let pieces = render(self.alloc, self.options, &text)?;
-        count_inlines(count, pieces.len());
-        Ok(pieces)
+        let units = units_of(self.alloc, &text)?;
+        render(self.alloc, &self.options, &self.entities, &units, count)
     }
 
     /// Replaces `del` lines at line `at` by others, and says which pieces changed.
