@@ -55,9 +55,6 @@ impl Parsed {
     pub fn copy(&self, alloc: Global) -> Result<Parsed, NoMemory>
         ensures { IfOk result (λ copy. copy ≡ self.now) }
     {
-        Ok(Parsed::new(
-            copy_inlines(alloc, &self.tree)?,
-            self.asked.copy(alloc)?,
-        ))
+        Ok(Parsed::new(copy_inlines(alloc, &self.tree)?, self.asked.copy(alloc)?))
     }
 }

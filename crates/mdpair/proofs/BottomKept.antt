@@ -1,15 +1,18 @@
 -- Why a search for an opener may stop at a bottom.
-use Rattle.std.proofs.Common.{◌≡◌, ℕ, ◌+◌, ◌-◌, ◌%◌, ◌<◌, ◌≤◌, Bool, true, false, cond, eqb, nat_lt, not, ◌&&◌, ◌||◌, List, [], ◌∷◌, ◌++◌, Some, None, refl, sym, ap, ◌∙◌, arith}
+use Rattle.std.proofs.Common.{zero, suc, All, subst, length, take, get_or, ◌≡◌, ℕ, ◌+◌, ◌-◌, ◌%◌, ◌<◌, ◌≤◌, Bool, true, false, cond, eqb, nat_lt, not, ◌&&◌, ◌||◌, List, [], ◌∷◌, ◌++◌, Some, None, refl, sym, ap, ◌∙◌, arith}
 use Rattle.std.proofs.Math.Nat.{add-mod}
 use Rattle.std.proofs.lemmas.Bool.Decides.{nat_tests}
+use Rattle.std.proofs.lemmas.List.Elements.{All-weaker}
 use Rattle.std.specs.List.{AllByRecursion}
 use Rattle.mdpair.specs.declared.runs.DelimiterChar.{DelimiterChar}
 use Rattle.mdpair.specs.declared.runs.DelimiterChar.TheVariants.{Asterisk, Underscore, Tilde}
 use Rattle.mdpair.specs.declared.runs.DelimiterRun.{DelimiterRun}
 use Rattle.mdpair.specs.declared.emphasis.Remaining.{Remaining}
 use Rattle.mdpair.specs.DelimiterRun.{same_delimiter, can_both, lengths_fit, lengths_match, is_admissible}
-use Rattle.mdpair.specs.Takings.{nearest, without, IsBelow}
-use Rattle.mdpair.specs.OpenersBottom.{IsSameKind, IsBottom, Descends, nearest_above}
+use Rattle.mdpair.specs.Takings.{nearest, without, left_of, stack, IsBelow}
+use Rattle.mdpair.specs.declared.searches.Bottom.{Bottom}
+use Rattle.mdpair.proofs.Sweep.{nearest-keeps, stack_at}
+use Rattle.mdpair.specs.OpenersBottom.{IsSameKind, IsBottom, IsBottomUpTo, Descends, nearest_above}
 
 lengths_same : (o c d : DelimiterRun) → c.length % 3 ≡ d.length % 3 → can_both c ≡ can_both d → lengths_fit o c ≡ lengths_fit o d
 lengths_same o c d rest opens =
@@ -65,3 +68,61 @@ kept bottom n c o below sound = at (eqb (o.left - n) 0)
 
 pub put_on : (bottom : ℕ) (c : DelimiterRun) (l : Remaining) (ls : List Remaining) → bottom ≤ l.place → IsBottom bottom c ls → IsBottom bottom c (l ∷ ls)
 put_on bottom c l ls le sound = (λ lt. absurd (omega arith), sound)
+
+-- below a run that stands below the bottom no run opens
+pub none_at_bottom : (bottom : ℕ) (c : DelimiterRun) (l : Remaining) (ls : List Remaining) → l.place < bottom → Descends (l ∷ ls) → IsBottom bottom c (l ∷ ls) → nearest c (l ∷ ls) ≡ None
+none_at_bottom bottom c l ls lt falls sound =
+    ap (λ b. cond b (Some (l, ls)) (nearest c ls)) (sound.0 lt) ∙ none_below bottom l.place c ls (omega arith) falls.0 sound.1
+
+pub nearest-falls : (c : DelimiterRun) (passed : List Remaining) (o : Remaining) (below : List Remaining) → nearest c passed ≡ Some (o, below) → Descends passed → Descends (o ∷ below)
+nearest-falls = nearest-keeps Descends (λ p ps q. q.1)
+
+pub nearest-bottom : (bottom : ℕ) (d c : DelimiterRun) (passed : List Remaining) (o : Remaining) (below : List Remaining) → nearest c passed ≡ Some (o, below) → IsBottom bottom d passed →
+    IsBottom bottom d (o ∷ below)
+nearest-bottom bottom d = nearest-keeps (IsBottom bottom d) (λ p ps q. q.1)
+
+pub left_of-falls : (n : ℕ) (run : DelimiterRun) (o : Remaining) (below : List Remaining) → Descends (o ∷ below) → Descends (left_of o.place n run ++ below)
+left_of-falls n run o below falls = at (eqb n 0)
+  where
+    at : (b : Bool) → Descends (cond b [] (record { place = o.place; left = n; run = run } ∷ []) ++ below)
+    at true = falls.1
+    at false = falls
+
+-- what is left of a run goes onto the stack
+pub pushed-falls : (place n : ℕ) (run : DelimiterRun) (ls : List Remaining) → AllByRecursion (IsBelow place) ls → Descends ls → Descends (left_of place n run ++ ls)
+pushed-falls place n run ls low falls = at (eqb n 0)
+  where
+    at : (b : Bool) → Descends (cond b [] (record { place = place; left = n; run = run } ∷ []) ++ ls)
+    at true = falls
+    at false = (low, falls)
+
+pub pushed-bottom : (bottom : ℕ) (c : DelimiterRun) (place n : ℕ) (run : DelimiterRun) (ls : List Remaining) → bottom ≤ place → IsBottom bottom c ls → IsBottom bottom c (left_of place n run ++ ls)
+pushed-bottom bottom c place n run ls le sound = at (eqb n 0)
+  where
+    at : (b : Bool) → IsBottom bottom c (cond b [] (record { place = place; left = n; run = run } ∷ []) ++ ls)
+    at true = sound
+    at false = put_on bottom c (record { place = place; left = n; run = run }) ls le sound
+
+pub pushed-bottoms : (place n : ℕ) (run : DelimiterRun) (ls new : List Remaining) (bs : List Bottom) → new ≡ left_of place n run ++ ls → All (IsBottomUpTo place ls) bs → All (IsBottomUpTo (place + 1) new) bs
+pushed-bottoms place n run ls new bs e h =
+    All-weaker (IsBottomUpTo place ls) (IsBottomUpTo (place + 1) new)
+    (λ b s. (omega (arith, s.0), subst (IsBottom b.place b.closer) (sym e) (pushed-bottom b.place b.closer place n run ls s.0 s.1))) bs h
+
+-- a bottom is one for each closer of the kind
+pub bottom_same : (p : ℕ) (c d : DelimiterRun) (ls : List Remaining) → IsSameKind c d → IsBottom p c ls → IsBottom p d ls
+bottom_same p c d [] k h = tt
+bottom_same p c d (l ∷ ls) k h = (λ lt. sym (same_kind l.run c d k) ∙ h.0 lt, bottom_same p c d ls k h.1)
+
+pub front_none : (bottom : ℕ) (c : DelimiterRun) (xs : List Remaining) (i : ℕ) (d : Remaining) → 0 < i → i ≤ length xs → (get_or xs (i - 1) d).place < bottom →
+    Descends (stack (take i xs)) → IsBottom bottom c (stack (take i xs)) → nearest c (stack (take i xs)) ≡ None
+front_none bottom c xs i d low le lt falls sound =
+    let here = stack_at xs i d low le in
+    ap (nearest c) here ∙ none_at_bottom bottom c (get_or xs (i - 1) d) (stack (take (i - 1) xs)) lt (subst Descends here falls) (subst (IsBottom bottom c) here sound)
+
+pub some_left : (n : ℕ) → (n ≡ 0 → ⊥) → 0 < n
+some_left zero h = absurd (h refl)
+some_left (suc n) h = omega arith
+
+-- a closer that found no opener
+pub missed_here : (place : ℕ) (c : DelimiterRun) (ls : List Remaining) → nearest c ls ≡ None → (place ≤ place) × IsBottom place c ls
+missed_here place c ls none = (omega arith, missed place c c ls none (record { delimiter = refl; thirds = refl; both = refl; tildes = λ _. refl }))

@@ -23,6 +23,17 @@ stack_push xs y = onto-push xs y []
 pub stack_take : (xs : List Remaining) (i : ℕ) (d : Remaining) → i < length xs → stack (take (i + 1) xs) ≡ get_or xs i d ∷ stack (take i xs)
 stack_take xs i d lt = ap stack (take_more xs i d lt) ∙ stack_push (take i xs) (get_or xs i d)
 
+pub stack_at : (xs : List Remaining) (i : ℕ) (d : Remaining) → 0 < i → i ≤ length xs → stack (take i xs) ≡ get_or xs (i - 1) d ∷ stack (take (i - 1) xs)
+stack_at xs i d low le =
+    let same : i - 1 + 1 ≡ i = omega arith in
+    ap (λ k. stack (take k xs)) (sym same) ∙ stack_take xs (i - 1) d (omega arith)
+
+-- what is below the last run of a front keeps what holds of all
+pub front_keeps : (Q : List Remaining → Type 0) → ((p : Remaining) (ps : List Remaining) → Q (p ∷ ps) → Q ps) → (xs : List Remaining) (i : ℕ) → 0 < i → i ≤ length xs →
+    Q (stack (take i xs)) → Q (stack (take (i - 1) xs))
+front_keeps Q tail [] i low le q = absurd (omega arith)
+front_keeps Q tail (x ∷ xs) i low le q = tail _ _ (subst Q (stack_at (x ∷ xs) i x low le) q)
+
 nearest_at : (c : DelimiterRun) (xs : List Remaining) (i : ℕ) (d : Remaining) → i < length xs →
     nearest c (stack (take (i + 1) xs)) ≡ cond (is_admissible (get_or xs i d).run c) (Some (get_or xs i d, stack (take i xs))) (nearest c (stack (take i xs)))
 nearest_at c xs i d lt = ap (nearest c) (stack_take xs i d lt)

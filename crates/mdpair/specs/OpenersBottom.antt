@@ -1,9 +1,10 @@
 -- The bottom of a search for an opener: a place below which no run opens what such a closer closes (CommonMark, appendix, process emphasis: openers_bottom).
-use Rattle.std.specs.Prelude.{◌≡◌, ℕ, ◌%◌, ◌<◌, false, cond, nat_lt, List, [], ◌∷◌, Option, Some, None}
+use Rattle.std.specs.Prelude.{◌≡◌, ℕ, ◌%◌, ◌<◌, ◌≤◌, false, cond, nat_lt, List, [], ◌∷◌, Option, Some, None}
 use Rattle.std.specs.List.{AllByRecursion}
 use Rattle.mdpair.specs.declared.runs.DelimiterChar.TheVariants.{Tilde}
 use Rattle.mdpair.specs.declared.runs.DelimiterRun.{DelimiterRun}
 use Rattle.mdpair.specs.declared.emphasis.Remaining.{Remaining}
+use Rattle.mdpair.specs.declared.searches.Bottom.{Bottom}
 use Rattle.mdpair.specs.DelimiterRun.{can_both, is_admissible}
 use Rattle.mdpair.specs.Takings.{IsBelow}
 
@@ -28,3 +29,7 @@ abbrev pub nearest_above : ℕ → DelimiterRun → List Remaining → Option (R
 nearest_above bottom c [] = None
 nearest_above bottom c (o ∷ below) =
     cond (nat_lt o.place bottom) None (cond (is_admissible o.run c) (Some (o, below)) (nearest_above bottom c below))
+
+-- a bottom for its closer's kind, and no higher than a place
+abbrev pub IsBottomUpTo : ℕ → List Remaining → Bottom → Type 0
+IsBottomUpTo k passed b = (b.place ≤ k) × IsBottom b.place b.closer passed

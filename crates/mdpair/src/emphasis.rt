@@ -4,9 +4,12 @@ ghost use Rattle.std.specs.Prelude.{◌≡◌, ℕ, ◌+◌, ◌-◌, ◌<◌, �
 ghost use Rattle.std.specs.List.{AllByRecursion};
 ghost use Rattle.mdpair.specs.declared.emphasis.Remaining.{Remaining as Left};
 ghost use Rattle.mdpair.specs.DelimiterRun.{is_admissible};
+ghost use Rattle.mdpair.specs.declared.runs.DelimiterRun.{DelimiterRun};
+ghost use Rattle.mdpair.specs.OpenersBottom.{IsBottom, IsBottomUpTo, Descends};
 ghost use Rattle.mdpair.specs.Takings.{nearest, onto, stack, width_of, left_of, Leads, IsClear, IsLeft, IsOrdered, IsBelow, IsProcessed, takings};
 
 use crate::runs::{DelimiterChar, DelimiterRun};
+use crate::searches::{Bottom, bottom_for, keep_bottom};
 use std::alloc::{AllocError, Global};
 
 /// An opener and a closer, by their places in the list of runs, and how many characters are taken of each.
@@ -38,8 +41,9 @@ pub fn pair(alloc: Global, runs: &[DelimiterRun]) -> Result<Vec<Taking>, AllocEr
 {
     let mut takings = Vec::new(alloc);
     let mut passed = Vec::new(alloc);
+    let mut bottoms = Vec::new(alloc);
     for (place, run) in runs.iter().enumerate() {
-        pass(&mut passed, &mut takings, place, *run)?;
+        pass(&mut passed, &mut takings, &mut bottoms, place, *run)?;
     }
     Ok(takings)
 }
@@ -49,10 +53,13 @@ pub fn pair(alloc: Global, runs: &[DelimiterRun]) -> Result<Vec<Taking>, AllocEr
 fn pass(
     passed: &mut Vec<Remaining>,
     takings: &mut Vec<Taking>,
+    bottoms: &mut Vec<Bottom>,
     place: usize,
     run: DelimiterRun,
 ) -> Result<(), AllocError>
     requires clear { IsClear (stack passed.old.items) }
+    requires falls { Descends (stack passed.old.items) }
+    requires bottoms { All (IsBottomUpTo place (stack passed.old.items)) bottoms.old.items }
     requires each { AllByRecursion IsLeft (stack passed.old.items) }
     requires low { AllByRecursion (IsBelow place) (stack passed.old.items) }
     ensures leads { IfOk result (λ _. (start rest : List Left) → Leads start takings.old.items (onto (stack passed.old.items) (left_of place run.length run ++ rest))
@@ -61,6 +68,8 @@ fn pass(
     ensures each { IfOk result (λ _. AllByRecursion IsLeft (stack passed.new.items)) }
     ensures low { IfOk result (λ _. AllByRecursion (IsBelow (place + 1)) (stack passed.new.items)) }
     ensures ordered { IfOk result (λ _. (k : ℕ) → place < k → All (IsOrdered k) takings.old.items → All (IsOrdered k) takings.new.items) }
+    ensures falls { IfOk result (λ _. Descends (stack passed.new.items)) }
+    ensures bottoms { IfOk result (λ _. All (IsBottomUpTo (place + 1) (stack passed.new.items)) bottoms.new.items) }
 {
     if !run.can_close || run.length == 0 {
         return push_left(passed, place, run.length, run);
@@ -70,7 +79,8 @@ fn pass(
         left: run.length,
         run,
     };
-    let left = close(passed, takings, closer)?;
+    let left = close(passed, takings, closer, bottom_for(bottoms, &run))?;
+    keep_bottom(bottoms, left, place, run)?;
     push_left(passed, place, left, run)
 }
 
@@ -79,7 +89,10 @@ fn close(
     passed: &mut Vec<Remaining>,
     takings: &mut Vec<Taking>,
     closer: Remaining,
+    bottom: usize,
 ) -> Result<usize, AllocError>
+    requires falls { Descends (stack passed.old.items) }
+    requires bottom { IsBottom bottom closer.run (stack passed.old.items) }
     requires closes { closer.run.can_close ≡ true }
     requires left { IsLeft closer }
     requires clear { IsClear (stack passed.old.items) }
@@ -93,10 +106,12 @@ fn close(
     ensures each { IfOk result (λ _. AllByRecursion IsLeft (stack passed.new.items)) }
     ensures low { IfOk result (λ _. AllByRecursion (IsBelow closer.place) (stack passed.new.items)) }
     ensures ordered { IfOk result (λ _. (k : ℕ) → closer.place < k → All (IsOrdered k) takings.old.items → All (IsOrdered k) takings.new.items) }
+    ensures falls { IfOk result (λ _. Descends (stack passed.new.items)) }
+    ensures bottoms { IfOk result (λ _. (b : ℕ) (c : DelimiterRun) → IsBottom b c (stack passed.old.items) → IsBottom b c (stack passed.new.items)) }
 {
     let mut left = closer.left;
     while left > 0 {
-        let Some(at) = opener(passed.as_slice(), &closer.run) else {
+        let Some(at) = opener(passed.as_slice(), &closer.run, bottom) else {
             break;
         };
         let open = passed[at];
@@ -113,11 +128,16 @@ fn close(
     Ok(left)
 }
 
-/// The place in the stack of the nearest admissible opener.
-fn opener(passed: &[Remaining], closer: &DelimiterRun) -> Option<usize>
+/// The place in the stack of the nearest admissible opener. Below the bottom there is none.
+fn opener(passed: &[Remaining], closer: &DelimiterRun, bottom: usize) -> Option<usize>
+    requires falls { Descends (stack passed.now) }
+    requires bottom { IsBottom bottom closer.now (stack passed.now) }
     ensures { MatchOption result (nearest closer.now (stack passed.now) ≡ None) (λ i. (i < length passed.now) × ((d : Left) → nearest closer.now (stack passed.now) ≡ Some (slice_index_or passed.now i d, stack (take i passed.now)))) }
 {
     for i in (0..passed.len()).rev() {
+        if passed[i].place < bottom {
+            return None;
+        }
         if passed[i].run.may_open(closer) {
             return Some(i);
         }

@@ -9,6 +9,7 @@ mod bottoms;
 mod emphasis;
 mod flanking;
 mod runs;
+mod searches;
 
 pub use bottoms::{
     failed_search_makes_bottom, push_keeps_bottom, search_stops_at_bottom, taking_keeps_bottom,

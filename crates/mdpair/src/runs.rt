@@ -1,6 +1,7 @@
 //! Delimiter runs, and which of them fit each other.
 
-ghost use Rattle.std.specs.Prelude.{◌≡◌};
+ghost use Rattle.std.specs.Prelude.{◌≡◌, true};
+ghost use Rattle.mdpair.specs.OpenersBottom.{IsSameKind};
 ghost use Rattle.mdpair.specs.DelimiterRun.{can_both, lengths_match, is_admissible};
 
 /// The character that a delimiter run is made of.
@@ -35,6 +36,19 @@ impl DelimiterRun {
         ensures { result ≡ is_admissible self.now closer.now }
     {
         self.can_open && self.delimiter == closer.delimiter && self.length_matches(closer)
+    }
+
+    /// Whether what may open for this closer may open for the other, and the other way round.
+    pub(crate) fn is_same_kind(&self, other: &DelimiterRun) -> bool
+        ensures { result ≡ true → IsSameKind self.now other.now }
+    {
+        if self.delimiter != other.delimiter || self.length % 3 != other.length % 3 {
+            return false;
+        }
+        if self.can_both() != other.can_both() {
+            return false;
+        }
+        self.delimiter != DelimiterChar::Tilde || self.length == other.length
     }
 
     /// The lengths are compared by their remainders, so that no sum can overflow.

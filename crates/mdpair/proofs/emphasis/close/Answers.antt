@@ -1,10 +1,16 @@
 use Rattle.std.proofs.Common.{arith, ◌++◌, ◌-◌, ap, ◌∙◌, subst, sym, take, All}
 use Rattle.std.proofs.lemmas.List.Elements.{All-push}
 use Rattle.std.specs.List.{AllByRecursion}
+use Rattle.mdpair.specs.OpenersBottom.{IsBottom, Descends}
+use Rattle.mdpair.proofs.BottomKept.{left_of-falls, nearest-falls, nearest-bottom, kept as kept_bottom}
 use Rattle.mdpair.specs.Takings.{stack, left_of, IsLeft, IsClear, IsBelow, IsOrdered}
 use Rattle.mdpair.proofs.Sweep.{found_item, nearest-below, left_of-below, nearest-left, nearest-clear, left_of-clear, nearest-admissible, turn_leads}
 use Rattle.mdpair.proofs.Widths.{opener_whole, closer_whole, pushed_left}
 use Rattle.mdpair.proofs.emphasis.close.Goals as goal
+
+pub opener-requires-clause-bottom : goal.opener-requires-clause-bottom
+opener-requires-clause-bottom c =
+    subst (λ s. IsBottom c.args.bottom c.args.closer.run (stack s)) (sym c.as_slice.ensures.value) (c.loop-left.invariant.bottoms c.args.bottom c.args.closer.run c.requires.bottom)
 
 pub width-width-requires-clause-opener : goal.width-width-requires-clause-opener
 width-width-requires-clause-opener c =
@@ -32,5 +38,7 @@ loop-left-preserved c =
       left = λ t some. absurd (omega (arith, closer_whole c.args.closer.run open_run.left c.loop-left.left (λ t. c.loop-left.invariant.left t c.loop-left-test.true) t, c.width-width.ensures.value));
       each = subst (AllByRecursion IsLeft) (sym kept) (pushed_left _ _ _ _ (λ t some. absurd (omega (arith, opener_whole open_run c.args.closer.run c.loop-left.left fits (nearest-left _ _ _ _ found c.loop-left.invariant.each).0 t, c.width-width.ensures.value))) (nearest-left _ _ _ _ found c.loop-left.invariant.each).1);
       low = subst (AllByRecursion (IsBelow c.args.closer.place)) (sym kept) (left_of-below _ _ _ _ _ low.0 low.1);
+      falls = subst Descends (sym kept) (left_of-falls (open_run.left - c.width-width.result) open_run.run open_run (stack (take c.in-Some.at items)) (nearest-falls c.args.closer.run (stack items) open_run (stack (take c.in-Some.at items)) found c.loop-left.invariant.falls));
+      bottoms = λ b d h. subst (IsBottom b d) (sym kept) (kept_bottom b c.width-width.result d open_run (stack (take c.in-Some.at items)) (nearest-bottom b d c.args.closer.run (stack items) open_run (stack (take c.in-Some.at items)) found (c.loop-left.invariant.bottoms b d h)));
       ordered = λ k lt h. subst (All (IsOrdered k)) (sym c.in_ok-push.ensures.items) (All-push (IsOrdered k) _ _ (c.loop-left.invariant.ordered k lt h) (low.0, lt, c.width-width.ensures.some));
     }

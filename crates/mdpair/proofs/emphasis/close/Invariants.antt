@@ -1,6 +1,8 @@
 use Rattle.std.proofs.Common.{◌≡◌, ℕ, ◌<◌, All, List, ◌∷◌, ◌++◌}
 use Rattle.std.specs.List.{AllByRecursion}
 use Rattle.mdpair.specs.declared.emphasis.Remaining.{Remaining}
+use Rattle.mdpair.specs.declared.runs.DelimiterRun.{DelimiterRun}
+use Rattle.mdpair.specs.OpenersBottom.{IsBottom, Descends}
 use Rattle.mdpair.specs.Takings.{onto, stack, left_of, Leads, IsClear, IsLeft, IsBelow, IsOrdered}
 use Rattle.mdpair.specs.declared.runs.DelimiterChar.TheVariants.{Tilde}
 use Rattle.mdpair.proofs.emphasis.close.Given as goal
@@ -13,6 +15,8 @@ invariant-loop-left l = record {
   clear : IsClear (stack l.passed.items);
   each : AllByRecursion IsLeft (stack l.passed.items);
   low : AllByRecursion (IsBelow l.fn.closer.place) (stack l.passed.items);
+  falls : Descends (stack l.passed.items);
+  bottoms : (b : ℕ) (c : DelimiterRun) → IsBottom b c (stack l.fn.passed.items) → IsBottom b c (stack l.passed.items);
   ordered : (k : ℕ) → l.fn.closer.place < k → All (IsOrdered k) l.fn.takings.items → All (IsOrdered k) l.takings.items;
 }
 

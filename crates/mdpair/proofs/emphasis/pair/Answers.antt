@@ -25,5 +25,7 @@ loop-place-preserved c = record {
   clear = c.in_ok-pass.ensures.clear;
   each = c.in_ok-pass.ensures.each;
   low = c.in_ok-pass.ensures.low;
+  falls = c.in_ok-pass.ensures.falls;
+  bottoms = c.in_ok-pass.ensures.bottoms;
   ordered = c.in_ok-pass.ensures.ordered _ (omega arith) c.loop-place.invariant.ordered;
 }

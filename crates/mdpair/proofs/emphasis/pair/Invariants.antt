@@ -1,5 +1,6 @@
 use Rattle.std.proofs.Common.{drop, length, All}
 use Rattle.std.specs.List.{AllByRecursion}
+use Rattle.mdpair.specs.OpenersBottom.{IsBottomUpTo, Descends}
 use Rattle.mdpair.specs.Takings.{whole, onto, stack, Leads, IsClear, IsLeft, IsBelow, IsOrdered}
 use Rattle.mdpair.proofs.emphasis.pair.Given as goal
 
@@ -9,5 +10,7 @@ invariant-loop-place l = record {
   clear : IsClear (stack l.passed.items);
   each : AllByRecursion IsLeft (stack l.passed.items);
   low : AllByRecursion (IsBelow l.place) (stack l.passed.items);
+  falls : Descends (stack l.passed.items);
+  bottoms : All (IsBottomUpTo l.place (stack l.passed.items)) l.bottoms.items;
   ordered : All (IsOrdered (length l.fn.runs)) l.takings.items;
 }
