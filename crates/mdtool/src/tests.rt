@@ -132,7 +132,7 @@ fn reads_lines(rt: HostRuntime) -> Result<(), Fail> {
         ("###### ######", "<h6></h6>\n"),
         ("#\tx", "<h1>x</h1>\n"),
         ("####### a", "<p>####### a</p>\n"),
-        ("    # a", "<p># a</p>\n"),
+        ("    # a", "<pre><code># a\n</code></pre>\n"),
         ("#a", "<p>#a</p>\n"),
         (
             " a < b & \"c\" \\",

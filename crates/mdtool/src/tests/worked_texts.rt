@@ -80,14 +80,8 @@ static INLINES: [(&str, &str); 20] = [
         "[foo]: /url\n===\n[foo]\n",
         "<p>===\n<a href=\"/url\">foo</a></p>\n",
     ),
-    (
-        "[foo]: /url\n---\n",
-        "<hr />\n",
-    ),
-    (
-        "*foo**bar*",
-        "<p><em>foo**bar</em></p>\n",
-    ),
+    ("[foo]: /url\n---\n", "<hr />\n"),
+    ("*foo**bar*", "<p><em>foo**bar</em></p>\n"),
     (
         "[foo][bar][baz]\n\n[baz]: /url1\n[foo]: /url2\n",
         "<p>[foo]<a href=\"/url1\">bar</a></p>\n",
@@ -112,22 +106,13 @@ static INLINES: [(&str, &str); 20] = [
         "<b>x</b>",
         "<p><!-- raw HTML omitted -->x<!-- raw HTML omitted --></p>\n",
     ),
-    (
-        "[a](javascript:x)",
-        "<p><a href=\"\">a</a></p>\n",
-    ),
+    ("[a](javascript:x)", "<p><a href=\"\">a</a></p>\n"),
     (
         "[a](/\u{E4} \"t\")",
         "<p><a href=\"/%C3%A4\" title=\"t\">a</a></p>\n",
     ),
-    (
-        "a  \nb\\\nc",
-        "<p>a<br />\nb<br />\nc</p>\n",
-    ),
-    (
-        "*a`*` ",
-        "<p>*a<code>*</code></p>\n",
-    ),
+    ("a  \nb\\\nc", "<p>a<br />\nb<br />\nc</p>\n"),
+    ("*a`*` ", "<p>*a<code>*</code></p>\n"),
     (
         "[foo]: /url \"title\" ok\n",
         "<p>[foo]: /url &quot;title&quot; ok</p>\n",
@@ -144,18 +129,9 @@ static INLINES: [(&str, &str); 20] = [
         "![foo *bar*](/u \"t\")",
         "<p><img src=\"/u\" alt=\"foo bar\" title=\"t\" /></p>\n",
     ),
-    (
-        "[a][b]",
-        "<p>[a][b]</p>\n",
-    ),
-    (
-        "a ~~~b~~~",
-        "<p>a ~~~b~~~</p>\n",
-    ),
-    (
-        "[a][ ]\n\n[a]: /u\n",
-        "<p><a href=\"/u\">a</a>[ ]</p>\n",
-    ),
+    ("[a][b]", "<p>[a][b]</p>\n"),
+    ("a ~~~b~~~", "<p>a ~~~b~~~</p>\n"),
+    ("[a][ ]\n\n[a]: /u\n", "<p><a href=\"/u\">a</a>[ ]</p>\n"),
 ];
 
 /// What `serve` answers to a first edit that adds this text, and to `html` after it.
@@ -242,7 +218,14 @@ fn repeated(
 fn nesting_has_a_limit(rt: HostRuntime) -> Result<(), Fail> {
     let alloc = rt.alloc();
     let fits = repeated(alloc, "", ">", "x", "", 64)?;
-    let html = repeated(alloc, "", "<blockquote>\n", "<p>x</p>\n", "</blockquote>\n", 64)?;
+    let html = repeated(
+        alloc,
+        "",
+        "<blockquote>\n",
+        "<p>x</p>\n",
+        "</blockquote>\n",
+        64,
+    )?;
     check(&rt, alloc, &fits, false, &html)?;
     let deep = repeated(alloc, "\n", ">", "x", "", 65)?;
     let answer = answered(alloc, &deep, false)?;
@@ -302,7 +285,13 @@ fn refused_depth_changes_nothing(rt: HostRuntime) -> Result<(), Fail> {
         unsafe_html: false,
         breaks: Breaks::Soft,
     };
-    let end = serve(alloc, &mut feed, &mut out, Entities::builtin(alloc)?, options);
+    let end = serve(
+        alloc,
+        &mut feed,
+        &mut out,
+        Entities::builtin(alloc)?,
+        options,
+    );
     assert!(rt; end.is_ok());
     let written = String::from_utf8_lossy(alloc, out.bytes())?;
     let html = repeated(alloc, "<p>", "<em>a ", "[k]", " a</em>", 64)?;

@@ -40,7 +40,6 @@ impl Model for Preview {
     ghost use Rattle.std.specs.Prelude.{◌≡◌, ◌≤◌, map, length, string_bytes};
     ghost use Rattle.mdtool.specs.Document.{Document, size_of};
     ghost use Rattle.mdtool.specs.UnitHtml.{unit_view};
-
     ghost use Rattle.mdtool.specs.UnitHtml.{read_unit_code};
     ghost use Rattle.std.specs.Coded.{codes};
 

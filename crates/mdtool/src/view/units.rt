@@ -74,7 +74,10 @@ pub fn read_texts<C: Count>(
     let mut units = Vec::with_capacity(alloc, found.len())?;
     for one in found {
         match inlines_of(alloc, entities, &labels, one.unit(), count) {
-            Ok(inlines) => units.push(ReadUnit { found: one, inlines })?,
+            Ok(inlines) => units.push(ReadUnit {
+                found: one,
+                inlines,
+            })?,
             Err(fault) => return Err(fault_in_unit(fault, one.begin())),
         }
     }
@@ -95,7 +98,10 @@ fn label_table(alloc: Global, found: &[Found]) -> Result<LabelTable, AllocError>
     let mut labels = LabelTable::new(alloc);
     for one in found {
         for definition in one.unit().definitions() {
-            labels.add(definition.label.copy(alloc)?, definition.target.copy(alloc)?)?;
+            labels.add(
+                definition.label.copy(alloc)?,
+                definition.target.copy(alloc)?,
+            )?;
         }
     }
     Ok(labels)
