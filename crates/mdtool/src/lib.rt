@@ -4,7 +4,9 @@
 
 mod command;
 mod device;
+mod draining;
 mod endings;
+mod entity_tables;
 mod fault;
 mod header;
 mod memory;
@@ -18,6 +20,7 @@ mod view;
 
 pub use device::{DeviceFault, Feed, Out};
 pub use endings::ending;
+pub use entity_tables::entities_from;
 pub use fault::{Stop, ToolFault, WordFault};
 pub use mdhtml::{Breaks, Options};
 pub use mdtext::TableFault;
