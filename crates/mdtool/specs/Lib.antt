@@ -18,3 +18,4 @@ pub mod Steps
 pub mod Serve
 pub mod Drained
 pub mod EntityTables
+pub mod Convert

@@ -3,6 +3,7 @@
 #![tactic(auto)]
 
 mod command;
+mod converting;
 mod device;
 mod draining;
 mod endings;
@@ -18,6 +19,7 @@ mod standard;
 mod tests;
 mod view;
 
+pub use converting::convert;
 pub use device::{DeviceFault, Feed, Out};
 pub use endings::ending;
 pub use entity_tables::entities_from;
