@@ -19,3 +19,4 @@ pub mod Serve
 pub mod Drained
 pub mod EntityTables
 pub mod Convert
+pub mod ToolWords

@@ -17,6 +17,7 @@ mod serving;
 mod standard;
 #[cfg(test)]
 mod tests;
+mod tool_words;
 mod view;
 
 pub use converting::convert;
@@ -29,5 +30,6 @@ pub use mdtext::TableFault;
 pub use memory::{MemoryFeed, MemoryOut};
 pub use serving::serve;
 pub use standard::{ReadFeed, WriteOut};
+pub use tool_words::{Words, read_words};
 pub use view::fault::EditFault;
 pub use view::laws::edits_leave_the_present_text;
