@@ -16,3 +16,7 @@ pub mod Views
 pub mod Pending
 pub mod Steps
 pub mod Serve
+pub mod Drained
+pub mod EntityTables
+pub mod Convert
+pub mod ToolWords

@@ -59,6 +59,17 @@ pub enum WordFault {
     NoMemory,
 }
 
+impl From<AllocError> for WordFault {
+    ghost use Rattle.mdtool.specs.declared.fault.WordFault.TheVariants.{NoMemory};
+    ghost use Rattle.std.specs.Prelude.{◌≡◌};
+
+    ghost from_gives = { λ _ e. e ≡ NoMemory };
+
+    fn from(_error: AllocError) -> WordFault {
+        WordFault::NoMemory
+    }
+}
+
 /// Why a program stopped before its end.
 #[derive(Debug, Drop)]
 pub enum Stop {

@@ -3,8 +3,11 @@
 #![tactic(auto)]
 
 mod command;
+mod converting;
 mod device;
+mod draining;
 mod endings;
+mod entity_tables;
 mod fault;
 mod header;
 mod memory;
@@ -14,15 +17,19 @@ mod serving;
 mod standard;
 #[cfg(test)]
 mod tests;
+mod tool_words;
 mod view;
 
+pub use converting::convert;
 pub use device::{DeviceFault, Feed, Out};
 pub use endings::ending;
+pub use entity_tables::entities_from;
 pub use fault::{Stop, ToolFault, WordFault};
 pub use mdhtml::{Breaks, Options};
 pub use mdtext::TableFault;
 pub use memory::{MemoryFeed, MemoryOut};
 pub use serving::serve;
 pub use standard::{ReadFeed, WriteOut};
+pub use tool_words::{Words, read_words};
 pub use view::fault::EditFault;
 pub use view::laws::edits_leave_the_present_text;

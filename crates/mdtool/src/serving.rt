@@ -18,7 +18,7 @@ use mdtext::{Entities, Tally};
 use std::alloc::{AllocError, Global};
 
 /// The lines, lent.
-fn lent<'a>(alloc: Global, lines: &'a [String]) -> Result<Vec<&'a str>, AllocError>
+pub fn lent<'a>(alloc: Global, lines: &'a [String]) -> Result<Vec<&'a str>, AllocError>
     ensures { IfOk result (λ lent. map (λ line. line.now) lent.items ≡ map string_bytes lines.now) }
 {
     let mut lent = Vec::with_capacity(alloc, lines.len())?;

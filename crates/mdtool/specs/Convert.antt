@@ -1,0 +1,93 @@
+-- What each end of a conversion says.
+use Rattle.std.specs.Prelude.{◌≡◌, ℕ, List, [], Option, Result, Ok, Err}
+use Rattle.std.specs.List.{concat}
+use Rattle.std.specs.Str.Lossy.{utf8_lossy}
+use Rattle.mdtext.specs.Lines.{text_lines}
+use Rattle.mdtool.specs.declared.fault.ToolFault.{ToolFault}
+use Rattle.mdtool.specs.declared.fault.ToolFault.TheVariants.{Read, Write, Refused, BadCommand, Truncated, Table, NoMemory}
+use Rattle.mdtool.specs.declared.view.fault.EditFault.{EditFault}
+use Rattle.mdtool.specs.declared.view.fault.EditFault.TheVariants.{OutOfRange, BreakInLine, TooManyLines, TooLarge, NestedTooDeep, InlineTooDeep}
+use Rattle.mdtool.specs.declared.view.fault.EditFault.TheVariants.{NoMemory as EditNoMemory}
+use Rattle.mdtool.specs.Bytes.{Gains, GainsFront}
+use Rattle.mdtool.specs.Document.{Document}
+use Rattle.mdtool.specs.Drained.{TakesAll, TakesSome}
+use Rattle.mdtool.specs.Edit.{Call}
+use Rattle.mdtool.specs.Outcome.{outcome}
+use Rattle.mdtool.specs.Reading.{Reading}
+use Rattle.mdtool.specs.Stretch.{Stretch}
+
+-- the lines of all bytes that were left; bytes that are no UTF-8 are read as U+FFFD
+abbrev pub LinesRead : Option (List ℕ) → List (List ℕ) → Option (List ℕ) → Type 0
+LinesRead left lines left' = (bytes : List ℕ) × TakesAll left bytes left' × (lines ≡ text_lines (utf8_lossy bytes))
+
+-- the edit that puts these lines into an empty preview
+abbrev pub whole_text : List (List ℕ) → Call
+whole_text lines = record { at = 0; del = 0; add = lines }
+
+-- want of memory is no refusal of the text
+abbrev pub refusal_of : EditFault → ToolFault
+refusal_of EditNoMemory = NoMemory
+refusal_of (OutOfRange lines) = Refused (OutOfRange lines)
+refusal_of (BreakInLine index) = Refused (BreakInLine index)
+refusal_of TooManyLines = Refused TooManyLines
+refusal_of TooLarge = Refused TooLarge
+refusal_of (NestedTooDeep line) = Refused (NestedTooDeep line)
+refusal_of (InlineTooDeep line) = Refused (InlineTooDeep line)
+
+-- the edit is accepted, and these pieces are held behind it, by some reading of the lines
+pub record Accepts (empty : Document) (lines : List (List ℕ)) (pieces : List (List ℕ)) : Type 0 where
+  pub reading : Reading
+  pub patch : Stretch
+  pub answer : (outcome empty (whole_text lines) reading).0 ≡ Ok patch
+  pub held : (outcome empty (whole_text lines) reading).1.pieces ≡ pieces
+
+-- the edit is refused so, by some reading of the lines
+pub record Refuses (empty : Document) (lines : List (List ℕ)) (fault : EditFault) : Type 0 where
+  pub reading : Reading
+  pub answer : (outcome empty (whole_text lines) reading).0 ≡ Err fault
+  pub refusal : refusal_of fault ≡ Refused fault
+
+-- what each end of the edit of a whole text says; there is no other
+abbrev pub FirstEdit : {T : Type 0} → Result T ToolFault → Document → List (List ℕ) → List (List ℕ) → Type 0
+FirstEdit (Ok answer) empty lines pieces = Accepts empty lines pieces
+FirstEdit (Err (Refused fault)) empty lines pieces = Refuses empty lines fault
+FirstEdit (Err NoMemory) empty lines pieces = Unit {0}
+FirstEdit (Err Read) empty lines pieces = ⊥
+FirstEdit (Err Write) empty lines pieces = ⊥
+FirstEdit (Err (BadCommand line)) empty lines pieces = ⊥
+FirstEdit (Err (Truncated line)) empty lines pieces = ⊥
+FirstEdit (Err (Table fault)) empty lines pieces = ⊥
+
+-- all bytes were read and their lines accepted, and the pieces were written, one after the other
+pub record Converted (empty : Document) (left left' written written' : Option (List ℕ)) : Type 0 where
+  pub lines : List (List ℕ)
+  pub pieces : List (List ℕ)
+  pub read : LinesRead left lines left'
+  pub accepted : Accepts empty lines pieces
+  pub gains : Gains written (concat pieces) written'
+
+-- all bytes were read and their lines accepted, and a beginning of the pieces was written
+pub record Interrupted (empty : Document) (left left' written written' : Option (List ℕ)) : Type 0 where
+  pub lines : List (List ℕ)
+  pub pieces : List (List ℕ)
+  pub read : LinesRead left lines left'
+  pub accepted : Accepts empty lines pieces
+  pub gains : GainsFront written (concat pieces) written'
+
+-- all bytes were read, and their lines were refused; nothing was written
+pub record Declined (empty : Document) (left left' written written' : Option (List ℕ)) (fault : EditFault) : Type 0 where
+  pub lines : List (List ℕ)
+  pub read : LinesRead left lines left'
+  pub refused : Refuses empty lines fault
+  pub same : written' ≡ written
+
+-- what each end says; there is no other
+abbrev pub Conversion : {T : Type 0} → Result T ToolFault → Document → Option (List ℕ) → Option (List ℕ) → Option (List ℕ) → Option (List ℕ) → Type 0
+Conversion (Ok answer) empty left left' written written' = Converted empty left left' written written'
+Conversion (Err Write) empty left left' written written' = Interrupted empty left left' written written'
+Conversion (Err (Refused fault)) empty left left' written written' = Declined empty left left' written written' fault
+Conversion (Err Read) empty left left' written written' = TakesSome left left' × (written' ≡ written)
+Conversion (Err NoMemory) empty left left' written written' = TakesSome left left' × (written' ≡ written)
+Conversion (Err (BadCommand line)) empty left left' written written' = ⊥
+Conversion (Err (Truncated line)) empty left left' written written' = ⊥
+Conversion (Err (Table fault)) empty left left' written written' = ⊥
