@@ -1,6 +1,6 @@
 # The targets for people and for the gate. `rt` is the command of the Rattle toolchain.
 RT ?= rt
-PROGRAMS := mdpreview
+PROGRAMS := mdrender mdpreview
 # The grammar that stands, as the comparison with an oracle names it.
 LEVEL := tables
 SCRIPTS ?= 600
