@@ -1,22 +1,22 @@
 # The targets for people and for the gate. `rt` is the command of the Rattle toolchain.
 RT ?= rt
 PROGRAMS := mdrender mdpreview
-# The grammar that stands, as the comparison with an oracle names it.
-LEVEL := tables
+# How many random texts and edit scripts a comparison with an oracle takes.
+TEXTS ?= 2000
 SCRIPTS ?= 600
 
 .PHONY: help run test build check fmt compare
 
 help:
-	@echo "make run                 proves, builds and runs mdpreview on a writer's few edits, and shows what goes in and out"
+	@echo "make run                 proves, builds and runs mdrender on a page and mdpreview on a writer's few edits, and shows what goes in and out"
 	@echo "make test                the gate: every proof from nothing, the tests and must-fail edits, and the example files"
 	@echo "make build               proves and builds the programs into bin/"
 	@echo "make check               a quick check of every crate, over what earlier checks kept"
 	@echo "make fmt                 lays out the sources"
-	@echo "make compare ORACLE=DIR  builds, and runs DIR/compare on the programs, with SCRIPTS=$(SCRIPTS) random scripts"
+	@echo "make compare ORACLE=DIR  builds, and runs DIR/compare on the programs, with TEXTS=$(TEXTS) random texts and SCRIPTS=$(SCRIPTS) random edit scripts"
 
 run: build
-	@tools/show examples/writer.script
+	@tools/show examples/page.md examples/writer.script
 
 build:
 	@for program in $(PROGRAMS); do \
@@ -35,4 +35,4 @@ fmt:
 	@for crate in crates/*/; do (cd $$crate && $(RT) fmt) || exit 1; done
 
 compare: build
-	@$(ORACLE)/compare bin $(LEVEL) --scripts $(SCRIPTS)
+	@tools/compare $(ORACLE) $(TEXTS) $(SCRIPTS)
