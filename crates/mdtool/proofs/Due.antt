@@ -1,15 +1,13 @@
 -- Why an edit is refused, from what the tests found.
-use Rattle.std.proofs.Common.{◌≡◌, ℕ, ◌+◌, ◌-◌, ◌<◌, ◌≤◌, Bool, true, false, List, ◌++◌, length, take, drop, map, refl, ap, sym, ◌∙◌, arith, string_bytes, String, Global, Option, Some, None, nat_lt}
+use Rattle.std.proofs.Common.{◌≡◌, ℕ, ◌+◌, ◌-◌, ◌≤◌, false, List, length, take, drop, map, refl, ap, sym, ◌∙◌, arith, string_bytes, String, Global, Some, None, nat_lt}
 use Rattle.std.specs.Prelude.{if◌then◌else◌, ◌||◌}
 use Rattle.std.proofs.lemmas.List.{length-map}
 use Rattle.std.specs.List.{take-map, drop-map}
 use Rattle.std.proofs.lemmas.Bool.Decides.{nat_tests}
-use Rattle.mdtool.specs.declared.view.fault.EditFault.{EditFault}
 use Rattle.mdtool.specs.declared.view.fault.EditFault.TheVariants.{TooLarge}
 use Rattle.mdtext.specs.Lines.{without_nul}
-use Rattle.mdtool.specs.Lists.{replaced}
 use Rattle.mdtool.specs.Document.{size_of}
-use Rattle.mdtool.specs.Edit.{Call, put, due, due_of_text, refusal, first_with_ending}
+use Rattle.mdtool.specs.Edit.{Call, put, due, first_with_ending}
 use Rattle.mdtool.proofs.Sizes.{size_part, size_replaced, length_replaced}
 
 -- the size of the lines that go, as the code has them

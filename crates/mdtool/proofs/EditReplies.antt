@@ -1,5 +1,5 @@
 -- An edit that was answered so is replied to so.
-use Rattle.std.proofs.Common.{◌≡◌, List, ℕ, map, ap, ◌∙◌, Result, Ok, Err, IfOk, String, Global, string_bytes}
+use Rattle.std.proofs.Common.{◌≡◌, ap, ◌∙◌, Result, Ok, Err, IfOk, String, Global, string_bytes}
 use Rattle.std.specs.declared.alloc.AllocError.{AllocError}
 use Rattle.mdtool.specs.declared.view.fault.EditFault.{EditFault}
 use Rattle.mdtool.specs.Stretch.{Stretch}

@@ -1,13 +1,13 @@
 -- What an accepted edit leaves is its outcome, and so is a refusal.
-use Rattle.std.proofs.Common.{◌≡◌, ℕ, List, [], Option, Some, None, Result, Ok, Err, refl, ap, ◌∙◌, length}
+use Rattle.std.proofs.Common.{◌≡◌, ℕ, List, [], Option, None, Result, Ok, Err, refl, ap, ◌∙◌, length}
 use Rattle.mdtool.specs.declared.view.fault.EditFault.{EditFault}
 use Rattle.mdtool.specs.declared.view.fault.EditFault.TheVariants.{OutOfRange, BreakInLine, TooManyLines, TooLarge, NestedTooDeep, InlineTooDeep, NoMemory}
 use Rattle.mdtool.specs.Stretch.{Stretch}
 use Rattle.mdtool.specs.Patch.{IsWhole}
-use Rattle.mdtool.specs.Document.{Document, document}
-use Rattle.mdtool.specs.Edit.{Call, put, due}
+use Rattle.mdtool.specs.Document.{Document}
+use Rattle.mdtool.specs.Edit.{Call, due}
 use Rattle.mdtool.specs.Outcome.{outcome, outcome_due, patch_of, edited}
-use Rattle.mdtool.specs.Reading.{Reading, read, reading_of, OfReading}
+use Rattle.mdtool.specs.Reading.{read, reading_of, OfReading}
 use Rattle.mdtool.specs.UnitHtml.{ReadUnit}
 
 stretch_is : (patch : Stretch) (first removed added : ℕ) (again : List ℕ) → patch.first ≡ first → patch.removed ≡ removed → patch.added ≡ added → patch.again ≡ again

@@ -1,11 +1,9 @@
 -- A patch of whole texts leads to the new pieces.
-use Rattle.std.proofs.Common.{◌≡◌, ℕ, ◌+◌, ◌-◌, ◌<◌, ◌≤◌, true, false, List, [], length, get_or, map, refl, sym, ap, ◌∙◌, arith, nat_lt}
-use Rattle.std.specs.Prelude.{if◌then◌else◌}
-use Rattle.std.specs.List.{range_with_len}
+use Rattle.std.proofs.Common.{◌≡◌, ℕ, ◌+◌, true, false, List, [], length, get_or, refl, sym, arith, nat_lt}
 use Rattle.std.proofs.lemmas.List.FromFn.{fill_by_all}
 use Rattle.std.proofs.lemmas.Bool.Decides.{nat_tests}
 use Rattle.mdtool.specs.Stretch.{Stretch}
-use Rattle.mdtool.specs.Patch.{apply, brings, IsWhole}
+use Rattle.mdtool.specs.Patch.{apply, IsWhole}
 
 pub whole_applies : (patch : Stretch) (old new : List (List ℕ)) → IsWhole patch (length old) (length new) → apply patch old (λ i. get_or new i []) ≡ new
 whole_applies patch old new whole = sym (fill_by_all _ new _ [] (omega (arith, whole.removed, whole.added)) (λ k below.

@@ -1,5 +1,5 @@
 -- The definitions at worked texts, by computation.
-use Rattle.std.proofs.Common.{◌≡◌, ℕ, List, [], ◌∷◌, Option, Some, None, refl, codes, false}
+use Rattle.std.proofs.Common.{◌≡◌, ℕ, List, [], ◌∷◌, Some, None, refl, codes, false}
 use Rattle.std.specs.Fmt.{digits}
 use Rattle.mdtext.specs.Escaped.{escaped_byte}
 use Rattle.mdinline.specs.InlineTree.{Inlines, no_inlines, inline, text, hard}
@@ -9,9 +9,8 @@ use Rattle.mdhtml.specs.declared.options.Breaks.TheVariants.{Soft}
 use Rattle.mdhtml.specs.BlockHtml.{fresh}
 use Rattle.mdtool.specs.UnitHtml.{ReadUnit, unit_piece}
 use Rattle.mdtool.specs.Reading.{read, nested, starved}
-use Rattle.mdtool.specs.Document.{Document, document}
-use Rattle.mdtool.specs.Edit.{Call}
-use Rattle.mdtool.specs.Commands.{Command, Html, Edit, Head, HtmlHead, EditHead, number, split_number, head_of}
+use Rattle.mdtool.specs.Document.{document}
+use Rattle.mdtool.specs.Commands.{Html, Edit, HtmlHead, EditHead, number, split_number, head_of}
 use Rattle.mdtool.specs.Replies.{ScriptTurn, replies}
 
 plain : Options

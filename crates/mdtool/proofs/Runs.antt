@@ -2,9 +2,9 @@
 use Rattle.std.proofs.Common.{◌≡◌, ℕ, List, [], ◌∷◌, Option, Some, None, refl, ap, ◌∙◌}
 use Rattle.mdhtml.specs.declared.options.Options.{Options}
 use Rattle.mdtool.specs.declared.view.fault.EditFault.{EditFault}
-use Rattle.mdtool.specs.Document.{Document, document}
+use Rattle.mdtool.specs.Document.{document}
 use Rattle.mdtool.specs.Edit.{Call, put, due}
-use Rattle.mdtool.specs.Outcome.{outcome, outcome_due}
+use Rattle.mdtool.specs.Outcome.{outcome_due}
 use Rattle.mdtool.specs.Reading.{Reading, read, nested, too_deep, starved}
 use Rattle.mdtool.specs.Run.{Turn, held_after, after, read_last, lines_after, units_after}
 use Rattle.mdtool.specs.UnitHtml.{ReadUnit}

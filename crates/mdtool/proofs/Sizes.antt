@@ -1,5 +1,5 @@
 -- Lengths and sizes of lines where some are replaced.
-use Rattle.std.proofs.Common.{◌≡◌, ℕ, ◌+◌, ◌-◌, ◌≤◌, ◌<◌, List, [], ◌∷◌, ◌++◌, Bor, get_or, zero, suc, length, take, drop, map, refl, ap, sym, ◌∙◌, arith, length-append, length-drop, string_bytes}
+use Rattle.std.proofs.Common.{◌≡◌, ℕ, ◌+◌, ◌≤◌, ◌<◌, List, [], ◌∷◌, ◌++◌, Bor, get_or, zero, suc, length, take, drop, map, refl, ap, arith, length-append, length-drop}
 use Rattle.std.proofs.lemmas.List.{drop-drop, length-take-le, map-append}
 use Rattle.std.specs.List.{take-map, drop-map}
 use Rattle.std.proofs.lemmas.List.Sums.{sum_by-cons, sum_by-append, sum_by-take-drop}

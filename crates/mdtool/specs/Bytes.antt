@@ -1,5 +1,5 @@
 -- Bytes that a device takes and gives, where it tells them.
-use Rattle.std.specs.Prelude.{◌≡◌, ℕ, ◌+◌, Bool, true, false, List, [], ◌∷◌, ◌++◌, Option, Some, None}
+use Rattle.std.specs.Prelude.{◌≡◌, ℕ, ◌+◌, Bool, true, false, List, [], ◌++◌, Option, Some, None}
 
 -- what is left was these bytes and then what is left now
 abbrev pub Takes : Option (List ℕ) → List ℕ → Option (List ℕ) → Type 0

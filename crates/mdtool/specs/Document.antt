@@ -1,5 +1,5 @@
 -- What a preview holds.
-use Rattle.std.specs.Prelude.{ℕ, List, [], ◌∷◌, ◌+◌, length, map, sum_by}
+use Rattle.std.specs.Prelude.{ℕ, List, ◌+◌, length, map, sum_by}
 use Rattle.mdhtml.specs.declared.options.Options.{Options}
 use Rattle.mdtool.specs.UnitHtml.{ReadUnit, unit_piece}
 

@@ -1,5 +1,5 @@
 -- What a feed gave that was read to its end, or as far as it came.
-use Rattle.std.specs.Prelude.{◌≡◌, ℕ, List, Option}
+use Rattle.std.specs.Prelude.{ℕ, List, Option}
 use Rattle.mdtool.specs.Bytes.{Takes, AtEnd}
 
 -- all that was left was taken, and it is these bytes

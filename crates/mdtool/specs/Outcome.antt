@@ -1,5 +1,5 @@
 -- The one outcome of an edit, however the reading of the new text ends.
-use Rattle.std.specs.Prelude.{ℕ, List, [], Option, Some, None, Result, Ok, Err, length}
+use Rattle.std.specs.Prelude.{List, [], Option, Some, None, Result, Ok, Err, length}
 use Rattle.mdtool.specs.declared.view.fault.EditFault.{EditFault}
 use Rattle.mdtool.specs.declared.view.fault.EditFault.TheVariants.{NestedTooDeep, InlineTooDeep, NoMemory}
 use Rattle.mdtool.specs.Stretch.{Stretch}

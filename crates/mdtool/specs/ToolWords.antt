@@ -1,5 +1,5 @@
 -- The words of the programs, and what they say.
-use Rattle.std.specs.Prelude.{◌≡◌, ◌≢◌, Bool, true, false, List, Option, Some, None, codes, option_map, string_bytes, map}
+use Rattle.std.specs.Prelude.{◌≡◌, Bool, true, false, List, Some, None, codes, option_map, string_bytes}
 use Rattle.clap.specs.Words.{App, Rule, Text, new_app, new_rule, with_rule, rows_of, matches_of, found_of, one_text, first_value}
 use Rattle.clap.specs.declared.builder.action.ArgAction.TheVariants.{SetTrue}
 use Rattle.clap.specs.declared.parser.matches.ArgMatches.{ArgMatches}

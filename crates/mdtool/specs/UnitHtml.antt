@@ -1,5 +1,5 @@
 -- The HTML of a unit whose inline texts were read.
-use Rattle.std.specs.Prelude.{ℕ, List, [], ◌+◌, false, length, sum_by, refl}
+use Rattle.std.specs.Prelude.{ℕ, List, [], false, length, sum_by, refl}
 use Rattle.std.specs.Coded.{Coded, code_by, coded×, coded_list}
 use Rattle.mdblock.specs.UnitTree.{FoundUnit, found_code}
 use Rattle.mdinline.specs.ParsedText.{ParsedText, parsed_code}

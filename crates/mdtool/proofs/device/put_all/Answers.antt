@@ -1,7 +1,6 @@
-use Rattle.std.proofs.Common.{◌≡◌, ◌∙◌, rules, ◌++◌, ℕ, take, drop, sym, ap, length, arith, ◌+◌, ◌-◌, ◌≤◌}
-use Rattle.std.proofs.lemmas.List.{take-append-drop, take_all}
+use Rattle.std.proofs.Common.{◌∙◌, rules, take, drop, sym, ap, ◌+◌}
+use Rattle.std.proofs.lemmas.List.{take-append-drop}
 use Rattle.std.proofs.lemmas.Result.{err_from_is_err_and}
-use Rattle.mdtool.specs.Bytes.{Gains}
 use Rattle.mdtool.proofs.Devices.{gains_more, take_on}
 use Rattle.mdtool.proofs.device.put_all.Goals as goal
 

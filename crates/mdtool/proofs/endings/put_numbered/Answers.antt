@@ -1,4 +1,4 @@
-use Rattle.std.proofs.Common.{◌≡◌, List, ℕ, ◌++◌, ◌∷◌, [], codes, decimal, sym, ap, refl, ◌∙◌, append_assoc, rules}
+use Rattle.std.proofs.Common.{decimal, ap, refl, ◌∙◌}
 use Rattle.std.specs.Result.{is_ok}
 use Rattle.std.proofs.lemmas.Result.{err_from_is_err_and}
 use Rattle.mdtool.proofs.Devices.{puts_then, puts_part}

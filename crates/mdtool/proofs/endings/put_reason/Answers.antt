@@ -1,8 +1,7 @@
-use Rattle.std.proofs.Common.{◌≡◌, List, ℕ, ◌++◌, ◌∷◌, [], codes, decimal, sym, ap, refl, ◌∙◌, append_assoc, rules, string_bytes}
+use Rattle.std.proofs.Common.{codes, ap, refl, string_bytes}
 use Rattle.std.specs.Result.{is_ok}
 use Rattle.std.proofs.lemmas.Result.{err_from_is_err_and}
 use Rattle.mdtool.proofs.Devices.{puts_then, puts_part}
-use Rattle.mdtool.specs.Endings.{reason_of}
 use Rattle.mdtool.proofs.endings.put_reason.Goals as goal
 
 pub returns-in_err-put_all-in-NotOpened : goal.returns-in_err-put_all-in-NotOpened

@@ -1,4 +1,3 @@
-use Rattle.std.proofs.Common.{◌≡◌}
 use Rattle.mdtool.proofs.Refusals.{refusal_is}
 use Rattle.mdtool.proofs.endings.put_refusal.Goals as goal
 

@@ -1,4 +1,4 @@
-use Rattle.std.proofs.Common.{rules, ap₂, codes, ◌≡◌, ◌∙◌}
+use Rattle.std.proofs.Common.{rules, ap₂, ◌≡◌, ◌∙◌}
 use Rattle.clap.specs.Words.{rule_of, with_rule}
 use Rattle.mdtool.specs.ToolWords.{entities_rule, file_rule}
 use Rattle.mdtool.proofs.tool_words.command.Goals as goal

@@ -1,7 +1,6 @@
-use Rattle.std.proofs.Common.{◌≡◌, ◌++◌, List, String, Global, map, take, drop, ◌+◌, length-drop, arith, string_bytes, sym, ap, ◌∙◌, append_assoc}
+use Rattle.std.proofs.Common.{◌++◌, map, take, ◌+◌, length-drop, arith, string_bytes, ap}
 use Rattle.std.specs.List.{take-map, drop-map}
 use Rattle.std.proofs.lemmas.List.{take_all}
-use Rattle.mdtool.specs.Lists.{replaced}
 use Rattle.mdtool.proofs.view.clean.edited.Goals as goal
 
 pub returns : goal.returns

@@ -1,4 +1,4 @@
-use Rattle.std.proofs.Common.{◌≡◌, ℕ, ◌+◌, ◌-◌, List, ◌++◌, length, take, drop, arith, ap, refl, ◌∙◌, sym}
+use Rattle.std.proofs.Common.{◌≡◌, length, arith}
 use Rattle.mdtool.proofs.Rotation.{exchanged}
 use Rattle.mdtool.proofs.view.exchange.replace.Goals as goal
 

@@ -1,10 +1,10 @@
-use Rattle.std.proofs.Common.{◌≡◌, ℕ, ◌+◌, ◌-◌, ◌≤◌, ◌<◌, List, map, length, take, drop, string_bytes, arith, ap, sym, ◌∙◌, refl, nat_lt, true, false, None}
+use Rattle.std.proofs.Common.{◌≡◌, ℕ, ◌+◌, ◌-◌, ◌≤◌, List, map, length, string_bytes, arith, sym, ◌∙◌, refl, nat_lt, true, false, None}
 use Rattle.std.proofs.lemmas.List.{length-map}
 use Rattle.std.proofs.lemmas.Bool.Decides.{nat_tests}
 use Rattle.mdtool.specs.Document.{size_of}
 use Rattle.mdtext.specs.Lines.{without_nul}
-use Rattle.mdtool.specs.Edit.{Call, due, put, first_with_ending}
-use Rattle.mdtool.proofs.Sizes.{size_part, size_replaced}
+use Rattle.mdtool.specs.Edit.{due, put}
+use Rattle.mdtool.proofs.Sizes.{size_part}
 use Rattle.mdtool.proofs.Due.{gone_is, due_of_parts, put_of_parts}
 use Rattle.mdtool.proofs.view.preview.Preview.accept.Goals as goal
 

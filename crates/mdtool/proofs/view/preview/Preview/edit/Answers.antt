@@ -1,15 +1,14 @@
-use Rattle.std.proofs.Common.{◌≡◌, ℕ, ◌+◌, ◌-◌, ◌≤◌, List, ◌++◌, map, length, take, drop, string_bytes, arith, ap, sym, ◌∙◌, refl}
+use Rattle.std.proofs.Common.{◌≡◌, ℕ, List, map, length, string_bytes, arith, ap, sym, ◌∙◌, refl}
 use Rattle.std.proofs.lemmas.List.{length-map}
-use Rattle.mdtool.specs.Document.{Document, size_of, document}
 use Rattle.mdtool.specs.UnitHtml.{unit_view, unit_piece, ReadUnit}
 use Rattle.mdtext.specs.Lines.{without_nul}
 use Rattle.mdtool.specs.Lists.{replaced}
-use Rattle.mdtool.specs.Edit.{Call, due, put}
+use Rattle.mdtool.specs.Edit.{Call, put}
 use Rattle.mdtool.specs.Outcome.{edited}
 use Rattle.mdtool.specs.Patch.{IsWhole}
 use Rattle.mdtool.proofs.Sizes.{map_replaced}
 use Rattle.mdtool.proofs.Patches.{whole_applies}
-use Rattle.mdtool.proofs.Outcomes.{accepted_is_outcome, refused_is_outcome}
+use Rattle.mdtool.proofs.Outcomes.{accepted_is_outcome}
 use Rattle.mdtool.proofs.view.preview.Preview.edit.Goals as goal
 
 pub invariant_of-self-2 : goal.invariant_of-self-2
