@@ -1,5 +1,6 @@
 //! What no clause says: that calls succeed with ample memory, the worked scripts, and that replies are flushed one by one.
 
+mod tools;
 mod worked_texts;
 
 ghost use Rattle.std.specs.Prelude.{◌<◌};

@@ -1,0 +1,196 @@
+//! The whole-text engine, entity files and words, at worked rows; devices that fail at each call.
+
+ghost use Rattle.std.specs.Prelude.{◌<◌};
+
+use crate::{Breaks, MemoryFeed, MemoryOut, Options, convert, entities_from, read_words};
+use mdtext::Entities;
+use std::alloc::{AllocError, Global};
+use std::process::Abort;
+use std::test::Fail;
+
+const SOFT: Options = Options {
+    unsafe_html: false,
+    breaks: Breaks::Soft,
+};
+
+/// What `convert` writes, and how it ends.
+fn converted(
+    alloc: Global,
+    text: &[u8],
+    options: Options,
+    feed_fails: Option<u64>,
+    out_fails: Option<u64>,
+) -> Result<(String, String), AllocError> {
+    let mut feed = MemoryFeed::new(text, 7, feed_fails);
+    let mut out = MemoryOut::new(alloc, 7, out_fails);
+    let entities = Entities::builtin(alloc)?;
+    let end = convert(alloc, &mut feed, &mut out, entities, options);
+    let written = String::from_utf8_lossy(alloc, out.bytes())?;
+    let end = format!(in alloc; "{end:?}")?;
+    Ok((written, end))
+}
+
+fn check(
+    rt: &impl Abort,
+    alloc: Global,
+    text: &[u8],
+    options: Options,
+    want: &str,
+    want_end: &str,
+) -> Result<(), AllocError> {
+    let (written, end) = converted(alloc, text, options, None, None)?;
+    assert_eq!(rt; written.as_str(), want);
+    assert_eq!(rt; end.as_str(), want_end);
+    Ok(())
+}
+
+#[test]
+fn converts_worked_texts(rt: HostRuntime) -> Result<(), Fail> {
+    let alloc = rt.alloc();
+    let raw = Options {
+        unsafe_html: true,
+        breaks: Breaks::Soft,
+    };
+    let spaces = Options {
+        unsafe_html: false,
+        breaks: Breaks::Space,
+    };
+    check(&rt, alloc, b"", SOFT, "", "Ok(())")?;
+    check(
+        &rt,
+        alloc,
+        b"a\xFF\rb",
+        SOFT,
+        "<p>a\u{FFFD}\nb</p>\n",
+        "Ok(())",
+    )?;
+    check(&rt, alloc, b"a\nb", spaces, "<p>a b</p>\n", "Ok(())")?;
+    check(&rt, alloc, b"<b>x</b>", raw, "<p><b>x</b></p>\n", "Ok(())")?;
+    check(
+        &rt,
+        alloc,
+        b"[foo][bar][baz]\n\n[baz]: /url1\n[foo]: /url2\n",
+        SOFT,
+        "<p>[foo]<a href=\"/url1\">bar</a></p>\n",
+        "Ok(())",
+    )?;
+    Ok(())
+}
+
+/// A block quote in 64 others, below a first paragraph: nothing of the paragraph is written.
+#[test]
+fn writes_nothing_of_a_refused_text(rt: HostRuntime) -> Result<(), Fail> {
+    let alloc = rt.alloc();
+    let deep = ">".repeat(alloc, 65)?;
+    let text = format!(in alloc; "a\n\n{deep}x\n")?;
+    let want = "Err(Refused(NestedTooDeep { line: 2 }))";
+    check(&rt, alloc, text.as_bytes(), SOFT, "", want)?;
+    Ok(())
+}
+
+const LINKS: &[u8] = b"[foo][bar][baz]\n\n[baz]: /url1\n[foo]: /url2\n";
+
+const LINKS_HTML: &str = "<p>[foo]<a href=\"/url1\">bar</a></p>\n";
+
+/// The text comes in 7 calls of 7 bytes with one more that finds the end; its 36 bytes go in 6 calls and a flush.
+#[test]
+fn ends_at_each_device_fault(rt: HostRuntime) -> Result<(), Fail> {
+    let alloc = rt.alloc();
+    for calls in 0..8 {
+        let (written, end) = converted(alloc, LINKS, SOFT, Some(calls), None)?;
+        if calls < 7 {
+            assert_eq!(rt; written.as_str(), "", "{calls}");
+            assert_eq!(rt; end.as_str(), "Err(Read)", "{calls}");
+        }
+    }
+    for calls in 0..7 {
+        let (written, end) = converted(alloc, LINKS, SOFT, None, Some(calls))?;
+        assert!(rt; LINKS_HTML.starts_with(written.as_str()), "{calls}");
+        assert_eq!(rt; written.len() as u64, (calls * 7).min(36), "{calls}");
+        assert_eq!(rt; end.as_str(), "Err(Write)", "{calls}");
+    }
+    let (written, end) = converted(alloc, LINKS, SOFT, None, Some(7))?;
+    assert_eq!(rt; written.as_str(), LINKS_HTML);
+    assert_eq!(rt; end.as_str(), "Ok(())");
+    Ok(())
+}
+
+fn check_entities(
+    rt: &impl Abort,
+    alloc: Global,
+    file: &[u8],
+    fails: Option<u64>,
+    want: &str,
+) -> Result<(), AllocError> {
+    let mut feed = MemoryFeed::new(file, 5, fails);
+    let said = match entities_from(alloc, &mut feed) {
+        Ok(entities) => format!(in alloc; "{:?}", entities.get("x"))?,
+        Err(fault) => format!(in alloc; "{fault:?}")?,
+    };
+    assert_eq!(rt; said.as_str(), want);
+    Ok(())
+}
+
+#[test]
+fn reads_entity_files(rt: HostRuntime) -> Result<(), Fail> {
+    let alloc = rt.alloc();
+    let file = b"{\"&x;\":{\"characters\":\"y\"}}";
+    check_entities(&rt, alloc, file, None, "Some(\"y\")")?;
+    check_entities(&rt, alloc, b"{\"&a\":5}", None, "None")?;
+    check_entities(&rt, alloc, b"[]", None, "Table(NotJson)")?;
+    let bad = b"{\"&;\":{\"characters\":\"x\"}}";
+    check_entities(&rt, alloc, bad, None, "Table(BadEntry)")?;
+    check_entities(&rt, alloc, file, Some(0), "Read")?;
+    check_entities(&rt, alloc, file, Some(3), "Read")?;
+    Ok(())
+}
+
+fn check_words(
+    rt: &impl Abort,
+    alloc: Global,
+    words: &[&str],
+    want: &str,
+) -> Result<(), AllocError> {
+    let said = match read_words(alloc, &*words) {
+        Ok(read) => {
+            format!(in alloc;
+                "{} {:?} {:?} {:?}",
+                read.options.unsafe_html, read.options.breaks, read.entities, read.file
+            )?
+        }
+        Err(fault) => format!(in alloc; "{fault:?}")?,
+    };
+    assert_eq!(rt; said.as_str(), want, "{words:?}");
+    Ok(())
+}
+
+#[test]
+fn reads_words(rt: HostRuntime) -> Result<(), Fail> {
+    let alloc = rt.alloc();
+    let bad = "NotUnderstood";
+    check_words(&rt, alloc, &["mdrender"], "false Soft None None")?;
+    check_words(
+        &rt,
+        alloc,
+        &["mdrender", "--nobreaks"],
+        "false Space None None",
+    )?;
+    check_words(
+        &rt,
+        alloc,
+        &["mdrender", "--unsafe", "--hardbreaks", "a"],
+        "true Hard None Some(\"a\")",
+    )?;
+    check_words(
+        &rt,
+        alloc,
+        &["mdpreview", "--entities", "e", "--", "-a"],
+        "false Soft Some(\"e\") Some(\"-a\")",
+    )?;
+    check_words(&rt, alloc, &["mdrender", "--hardbreaks", "--nobreaks"], bad)?;
+    check_words(&rt, alloc, &["mdrender", "--unsafe", "--unsafe"], bad)?;
+    check_words(&rt, alloc, &["mdrender", "--entities"], bad)?;
+    check_words(&rt, alloc, &["mdrender", "--nosuch"], bad)?;
+    check_words(&rt, alloc, &["mdrender", "a", "b"], bad)?;
+    Ok(())
+}
