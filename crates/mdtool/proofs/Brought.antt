@@ -3,8 +3,8 @@ use Rattle.std.proofs.Common.{◌≡◌, ℕ, ◌+◌, ◌<◌, Bool, true, fals
 use Rattle.std.specs.Prelude.{codes, decimal}
 use Rattle.std.specs.Prelude.{if◌then◌else◌}
 use Rattle.std.proofs.lemmas.Option.{slice_get-get_or}
-use Rattle.mdtool.specs.Stretch.{Stretch}
-use Rattle.mdtool.specs.Patch.{brings}
+use Rattle.mdview.specs.Stretch.{Stretch}
+use Rattle.mdview.specs.Patch.{brings}
 use Rattle.mdtool.specs.Replies.{brought, piece_reply, patch_line}
 
 at_front : (pieces : List (List ℕ)) (i : ℕ) → i < length pieces → drop i pieces ≡ get_or pieces i [] ∷ drop (i + 1) pieces

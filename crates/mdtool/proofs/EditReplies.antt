@@ -1,12 +1,12 @@
 -- An edit that was answered so is replied to so.
 use Rattle.std.proofs.Common.{◌≡◌, ap, ◌∙◌, Result, Ok, Err, IfOk, String, Global, string_bytes}
 use Rattle.std.specs.declared.alloc.AllocError.{AllocError}
-use Rattle.mdtool.specs.declared.view.fault.EditFault.{EditFault}
-use Rattle.mdtool.specs.Stretch.{Stretch}
-use Rattle.mdtool.specs.Document.{Document}
-use Rattle.mdtool.specs.Edit.{Call}
-use Rattle.mdtool.specs.Outcome.{outcome}
-use Rattle.mdtool.specs.Reading.{reading_of}
+use Rattle.mdview.specs.declared.fault.EditFault.{EditFault}
+use Rattle.mdview.specs.Stretch.{Stretch}
+use Rattle.mdview.specs.Document.{Document}
+use Rattle.mdview.specs.Edit.{Call}
+use Rattle.mdview.specs.Outcome.{outcome}
+use Rattle.mdview.specs.Reading.{reading_of}
 use Rattle.mdtool.specs.Commands.{Edit}
 use Rattle.mdtool.specs.Replies.{edit_reply}
 use Rattle.mdtool.specs.Serve.{Replied}

@@ -1,12 +1,6 @@
-pub mod Rotation
-pub mod Sizes
-pub mod Due
-pub mod Patches
 pub mod Devices
 pub mod EditReplies
 pub mod Refusals
-pub mod Runs
-pub mod Outcomes
 pub mod ScriptLines
 pub mod Readings
 pub mod Numbers

@@ -1,8 +1,8 @@
 -- What a refusal is written as.
 use Rattle.std.proofs.Common.{◌≡◌, refl}
-use Rattle.mdtool.specs.declared.view.fault.EditFault.{EditFault}
-use Rattle.mdtool.specs.declared.view.fault.EditFault.TheVariants.{OutOfRange, BreakInLine, TooManyLines, TooLarge, NestedTooDeep, InlineTooDeep, NoMemory}
-use Rattle.mdtool.specs.FaultNames.{refused_text}
+use Rattle.mdview.specs.declared.fault.EditFault.{EditFault}
+use Rattle.mdview.specs.declared.fault.EditFault.TheVariants.{OutOfRange, BreakInLine, TooManyLines, TooLarge, NestedTooDeep, InlineTooDeep, NoMemory}
+use Rattle.mdtool.specs.RefusalText.{refused_text}
 use Rattle.mdtool.specs.Endings.{refusal_reason_of}
 
 -- each but want of memory by its name and number

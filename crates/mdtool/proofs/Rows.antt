@@ -7,9 +7,9 @@ use Rattle.mdblock.specs.BlockTree.{Block, block, no_blocks, heading, paragraph}
 use Rattle.mdhtml.specs.declared.options.Options.{Options}
 use Rattle.mdhtml.specs.declared.options.Breaks.TheVariants.{Soft}
 use Rattle.mdhtml.specs.BlockHtml.{fresh}
-use Rattle.mdtool.specs.UnitHtml.{ReadUnit, unit_piece}
-use Rattle.mdtool.specs.Reading.{read, nested, starved}
-use Rattle.mdtool.specs.Document.{document}
+use Rattle.mdview.specs.HeldUnit.{ReadUnit, unit_piece}
+use Rattle.mdview.specs.Reading.{read, nested, starved}
+use Rattle.mdview.specs.Document.{document}
 use Rattle.mdtool.specs.Commands.{Html, Edit, HtmlHead, EditHead, number, split_number, head_of}
 use Rattle.mdtool.specs.Replies.{ScriptTurn, replies}
 

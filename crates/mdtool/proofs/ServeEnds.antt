@@ -2,7 +2,7 @@
 use Rattle.std.proofs.Common.{ℕ, List, Option, Err}
 use Rattle.mdtool.specs.declared.fault.ToolFault.{ToolFault}
 use Rattle.mdtool.specs.declared.fault.ToolFault.TheVariants.{Read, Write, Refused, BadCommand, Truncated, Table, NoMemory}
-use Rattle.mdtool.specs.Document.{Document}
+use Rattle.mdview.specs.Document.{Document}
 use Rattle.mdtool.specs.Commands.{Open, Bad, Short}
 use Rattle.mdtool.specs.Pending.{Pending}
 use Rattle.mdtool.specs.Steps.{NextCommand}

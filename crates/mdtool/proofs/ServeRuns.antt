@@ -3,9 +3,9 @@ use Rattle.std.proofs.Common.{◌≡◌, ℕ, ◌+◌, Bool, true, false, List, 
 use Rattle.std.proofs.lemmas.List.{map-append}
 use Rattle.std.proofs.Math.Seq.{drop-append_seam}
 use Rattle.mdtool.specs.Bytes.{Takes, AtEnd, Gains, GainsFront}
-use Rattle.mdtool.specs.Document.{Document}
+use Rattle.mdview.specs.Document.{Document}
 use Rattle.mdtool.specs.Commands.{Command, Stop, Leads, first_command, script_lines, capped}
-use Rattle.mdtool.specs.Reading.{Reading}
+use Rattle.mdview.specs.Reading.{Reading}
 use Rattle.mdtool.specs.Replies.{ScriptTurn, replies, reply, held_behind}
 use Rattle.mdtool.specs.Pending.{Pending, MayFollow, Reads, Draws, fresh}
 use Rattle.mdtool.specs.Steps.{StopsAt, ReadsCommand}

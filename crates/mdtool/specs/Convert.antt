@@ -5,16 +5,16 @@ use Rattle.std.specs.Str.Lossy.{utf8_lossy}
 use Rattle.mdtext.specs.Lines.{text_lines}
 use Rattle.mdtool.specs.declared.fault.ToolFault.{ToolFault}
 use Rattle.mdtool.specs.declared.fault.ToolFault.TheVariants.{Read, Write, Refused, BadCommand, Truncated, Table, NoMemory}
-use Rattle.mdtool.specs.declared.view.fault.EditFault.{EditFault}
-use Rattle.mdtool.specs.declared.view.fault.EditFault.TheVariants.{OutOfRange, BreakInLine, TooManyLines, TooLarge, NestedTooDeep, InlineTooDeep}
-use Rattle.mdtool.specs.declared.view.fault.EditFault.TheVariants.{NoMemory as EditNoMemory}
+use Rattle.mdview.specs.declared.fault.EditFault.{EditFault}
+use Rattle.mdview.specs.declared.fault.EditFault.TheVariants.{OutOfRange, BreakInLine, TooManyLines, TooLarge, NestedTooDeep, InlineTooDeep}
+use Rattle.mdview.specs.declared.fault.EditFault.TheVariants.{NoMemory as EditNoMemory}
 use Rattle.mdtool.specs.Bytes.{Gains, GainsFront}
-use Rattle.mdtool.specs.Document.{Document}
+use Rattle.mdview.specs.Document.{Document}
 use Rattle.mdtool.specs.Drained.{TakesAll, TakesSome}
-use Rattle.mdtool.specs.Edit.{Call}
-use Rattle.mdtool.specs.Outcome.{outcome}
-use Rattle.mdtool.specs.Reading.{Reading}
-use Rattle.mdtool.specs.Stretch.{Stretch}
+use Rattle.mdview.specs.Edit.{Call}
+use Rattle.mdview.specs.Outcome.{outcome}
+use Rattle.mdview.specs.Reading.{Reading}
+use Rattle.mdview.specs.Stretch.{Stretch}
 
 -- the lines of all bytes that were left; bytes that are no UTF-8 are read as U+FFFD
 abbrev pub LinesRead : Option (List ℕ) → List (List ℕ) → Option (List ℕ) → Type 0

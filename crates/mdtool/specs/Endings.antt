@@ -1,8 +1,8 @@
 -- What a program says when it stops, and its status.
 use Rattle.std.specs.Prelude.{ℕ, List, [], ◌∷◌, ◌++◌, codes, decimal, string_bytes}
-use Rattle.mdtool.specs.declared.view.fault.EditFault.{EditFault}
-use Rattle.mdtool.specs.declared.view.fault.EditFault.TheVariants.{OutOfRange, BreakInLine, TooManyLines, TooLarge, NestedTooDeep, InlineTooDeep}
-use Rattle.mdtool.specs.declared.view.fault.EditFault.TheVariants.{NoMemory as EditNoMemory}
+use Rattle.mdview.specs.declared.fault.EditFault.{EditFault}
+use Rattle.mdview.specs.declared.fault.EditFault.TheVariants.{OutOfRange, BreakInLine, TooManyLines, TooLarge, NestedTooDeep, InlineTooDeep}
+use Rattle.mdview.specs.declared.fault.EditFault.TheVariants.{NoMemory as EditNoMemory}
 use Rattle.mdtext.specs.declared.entity_file.TableFault.TheVariants.{NotJson, BadEntry}
 use Rattle.mdtext.specs.declared.entity_file.TableFault.TheVariants.{NoMemory as TableNoMemory}
 use Rattle.mdtool.specs.declared.fault.ToolFault.{ToolFault}
@@ -13,7 +13,7 @@ use Rattle.mdtool.specs.declared.fault.WordFault.TheVariants.{Help, NotUnderstoo
 use Rattle.mdtool.specs.declared.fault.WordFault.TheVariants.{NoMemory as WordNoMemory}
 use Rattle.mdtool.specs.declared.fault.Stop.{Stop}
 use Rattle.mdtool.specs.declared.fault.Stop.TheVariants.{Words, NotOpened, Tool}
-use Rattle.mdtool.specs.FaultNames.{refused_text}
+use Rattle.mdtool.specs.RefusalText.{refused_text}
 
 abbrev pub no_memory : List ℕ
 no_memory = codes "no memory"

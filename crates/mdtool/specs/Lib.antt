@@ -1,15 +1,6 @@
-pub mod UnitHtml
-pub mod Reading
-pub mod Lists
-pub mod Document
-pub mod Edit
-pub mod Stretch
-pub mod Patch
-pub mod Outcome
-pub mod Run
 pub mod Bytes
 pub mod Commands
-pub mod FaultNames
+pub mod RefusalText
 pub mod Replies
 pub mod Endings
 pub mod Views

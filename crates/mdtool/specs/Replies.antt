@@ -1,13 +1,13 @@
 -- The replies to the commands of a script.
 use Rattle.std.specs.Prelude.{ℕ, ◌+◌, List, [], ◌∷◌, ◌++◌, length, codes, decimal, Result, Ok, Err, if◌then◌else◌}
 use Rattle.std.specs.List.{concat}
-use Rattle.mdtool.specs.declared.view.fault.EditFault.{EditFault}
-use Rattle.mdtool.specs.FaultNames.{refused_text}
-use Rattle.mdtool.specs.Stretch.{Stretch}
-use Rattle.mdtool.specs.Patch.{brings}
-use Rattle.mdtool.specs.Document.{Document}
-use Rattle.mdtool.specs.Outcome.{outcome}
-use Rattle.mdtool.specs.Reading.{Reading}
+use Rattle.mdview.specs.declared.fault.EditFault.{EditFault}
+use Rattle.mdtool.specs.RefusalText.{refused_text}
+use Rattle.mdview.specs.Stretch.{Stretch}
+use Rattle.mdview.specs.Patch.{brings}
+use Rattle.mdview.specs.Document.{Document}
+use Rattle.mdview.specs.Outcome.{outcome}
+use Rattle.mdview.specs.Reading.{Reading}
 use Rattle.mdtool.specs.Commands.{Command, Html, Edit}
 
 -- a piece with its number and its length

@@ -3,9 +3,9 @@ use Rattle.std.specs.Prelude.{◌≡◌, ℕ, ◌+◌, Bool, true, List, Option,
 use Rattle.mdtool.specs.declared.fault.ToolFault.{ToolFault}
 use Rattle.mdtool.specs.declared.fault.ToolFault.TheVariants.{Read, Write, Refused, BadCommand, Truncated, Table, NoMemory}
 use Rattle.mdtool.specs.Bytes.{Takes, AtEnd, Gains, GainsFront}
-use Rattle.mdtool.specs.Document.{Document}
+use Rattle.mdview.specs.Document.{Document}
 use Rattle.mdtool.specs.Commands.{Command, Stop, Done, Open, Bad, Short, Script, Leads, script_lines}
-use Rattle.mdtool.specs.Reading.{Reading}
+use Rattle.mdview.specs.Reading.{Reading}
 use Rattle.mdtool.specs.Replies.{ScriptTurn, replies, reply, held_behind}
 
 abbrev pub commands_of : List ScriptTurn → List Command

@@ -3,11 +3,11 @@ ghost use Rattle.std.specs.Prelude.{◌≡◌, ◌-◌, ◌^◌, ◌<◌, ◌++�
 ghost use Rattle.std.specs.Result.{is_ok};
 ghost use Rattle.mdtool.specs.Bytes.{Gains, GainsFront, Puts};
 ghost use Rattle.mdtool.specs.Endings.{text_of, line_of, reason_of, tool_reason_of, refusal_reason_of, words_reason_of, status_of};
-ghost use Rattle.mdtool.specs.FaultNames.{refused_text};
+ghost use Rattle.mdtool.specs.RefusalText.{refused_text};
 
 use crate::device::{DeviceFault, Out, put_all};
 use crate::fault::{Stop, ToolFault, WordFault};
-use crate::view::fault::EditFault;
+use mdview::EditFault;
 use itoa::Buffer;
 use mdtext::TableFault;
 

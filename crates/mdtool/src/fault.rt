@@ -1,7 +1,7 @@
 ghost use Rattle.std.specs.Prelude.{◌≡◌};
 ghost use Rattle.mdtool.specs.declared.fault.ToolFault.TheVariants.{NoMemory};
 
-use crate::view::fault::EditFault;
+use mdview::EditFault;
 use mdtext::TableFault;
 use std::alloc::{AllocError, AllocFailed};
 use thiserror::Error;

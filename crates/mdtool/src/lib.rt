@@ -19,7 +19,6 @@ mod standard;
 #[cfg(test)]
 mod tests;
 mod tool_words;
-mod view;
 
 pub use converting::convert;
 pub use device::{DeviceFault, Feed, Out};
@@ -33,5 +32,4 @@ pub use programs::{ended, entities_of, opened, words_of};
 pub use serving::serve;
 pub use standard::{ReadFeed, WriteOut};
 pub use tool_words::{Words, read_words};
-pub use view::fault::EditFault;
-pub use view::laws::edits_leave_the_present_text;
+pub use mdview::EditFault;

@@ -2,7 +2,7 @@
 ghost use Rattle.std.specs.Prelude.{◌≡◌, ◌+◌, ◌-◌, ◌^◌, ◌<◌, [], IfOk, map, string_bytes};
 ghost use Rattle.std.specs.Result.{is_ok};
 ghost use Rattle.mdtool.specs.Bytes.{Puts};
-ghost use Rattle.mdtool.specs.Document.{document};
+ghost use Rattle.mdview.specs.Document.{document};
 ghost use Rattle.mdtool.specs.Views.{command_view};
 ghost use Rattle.mdtool.specs.Steps.{failures_after};
 ghost use Rattle.mdtool.specs.Serve.{Served, Replied, out_failures_after};
@@ -12,7 +12,7 @@ use crate::device::{DeviceFault, Feed, Out, put_all};
 use crate::fault::ToolFault;
 use crate::replies::{edit_reply, html_reply};
 use crate::script::Script;
-use crate::view::preview::Preview;
+use mdview::Preview;
 use mdhtml::Options;
 use mdtext::{Entities, Tally};
 use std::alloc::{AllocError, Global};

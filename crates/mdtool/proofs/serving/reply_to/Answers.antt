@@ -1,5 +1,5 @@
 use Rattle.std.proofs.Common.{◌≡◌, map, string_bytes, ap, ◌∙◌}
-use Rattle.mdtool.specs.Edit.{Call}
+use Rattle.mdview.specs.Edit.{Call}
 use Rattle.mdtool.proofs.EditReplies.{edit_replied}
 use Rattle.mdtool.proofs.serving.reply_to.Goals as goal
 

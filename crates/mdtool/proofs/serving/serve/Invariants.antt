@@ -1,5 +1,5 @@
 use Rattle.std.proofs.Common.{◌≡◌, ◌+◌, ◌*◌, [], length}
-use Rattle.mdtool.specs.Document.{document}
+use Rattle.mdview.specs.Document.{document}
 use Rattle.mdtool.proofs.ServeRuns.{Run}
 use Rattle.mdtool.proofs.serving.serve.Given as goal
 

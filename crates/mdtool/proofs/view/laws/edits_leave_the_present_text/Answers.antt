@@ -1,6 +1,0 @@
-use Rattle.std.proofs.Common.{[]}
-use Rattle.mdtool.proofs.Runs.{run_is_document}
-use Rattle.mdtool.proofs.view.laws.edits_leave_the_present_text.Goals as goal
-
-pub returns : goal.returns
-returns c = λ entities options turns. run_is_document entities options turns [] []

@@ -1,0 +1,42 @@
+-- Why an edit is refused, from what the tests found.
+use Rattle.std.proofs.Common.{◌≡◌, ℕ, ◌+◌, ◌-◌, ◌≤◌, false, List, length, take, drop, map, refl, ap, sym, ◌∙◌, arith, string_bytes, String, Global, Some, None, nat_lt}
+use Rattle.std.specs.Prelude.{if◌then◌else◌, ◌||◌}
+use Rattle.std.proofs.lemmas.List.{length-map}
+use Rattle.std.specs.List.{take-map, drop-map}
+use Rattle.std.proofs.lemmas.Bool.Decides.{nat_tests}
+use Rattle.mdview.specs.declared.fault.EditFault.TheVariants.{TooLarge}
+use Rattle.mdtext.specs.Lines.{without_nul}
+use Rattle.mdview.specs.Document.{size_of}
+use Rattle.mdview.specs.Edit.{Call, put, due, first_with_ending}
+use Rattle.mdview.proofs.Sizes.{size_part, size_replaced, length_replaced}
+
+-- the size of the lines that go, as the code has them
+pub gone_is : (items : List (String Global)) (at del : ℕ) → size_of (map string_bytes (take (at + del - at) (drop at items))) ≡ size_of (take del (drop at (map string_bytes items)))
+gone_is items at del =
+    let e : at + del - at ≡ del = omega arith in
+    rw e (ap size_of (sym (take-map string_bytes del (drop at items)) ∙ ap (take del) (sym (drop-map string_bytes at items))))
+
+pub due_of_parts : (ls : List (List ℕ)) (call : Call) (gone : ℕ) → call.at + call.del ≤ length ls → first_with_ending 0 call.add ≡ None
+    → gone ≡ size_of (take call.del (drop call.at ls)) → length call.add ≤ 1000000 - (length ls - call.del) → length ls ≤ 1000000
+    → due ls call ≡ (if nat_lt 16777216 (size_of ls - gone + size_of (map without_nul call.add)) then Some TooLarge else None)
+due_of_parts ls call gone within unbroken gone_is few held =
+    let lines = length_replaced ls (map without_nul call.add) call.at call.del within in
+    let added = length-map call.add without_nul in
+    let size = size_replaced ls (map without_nul call.add) call.at call.del in
+    let part = size_part ls call.at call.del in
+    let total : size_of (put ls call) ≡ size_of ls - gone + size_of (map without_nul call.add) = omega arith in
+    let short : length (put ls call) ≤ 1000000 = omega arith in
+    let inside : (nat_lt (length ls) call.at || nat_lt (length ls - call.at) call.del) ≡ false = grind (arith, nat_tests) in
+    let small : nat_lt 1000000 (length (put ls call)) ≡ false = grind (arith, nat_tests) in
+    rw (inside, unbroken, small, total) refl
+
+-- the text after the edit, from what the tests found
+pub put_of_parts : (ls : List (List ℕ)) (call : Call) (gone : ℕ) → call.at + call.del ≤ length ls
+    → gone ≡ size_of (take call.del (drop call.at ls)) → length call.add ≤ 1000000 - (length ls - call.del) → length ls ≤ 1000000
+    → (size_of (put ls call) ≡ size_of ls - gone + size_of (map without_nul call.add)) × (length (put ls call) ≤ 1000000)
+put_of_parts ls call gone within gone_is few held =
+    let lines = length_replaced ls (map without_nul call.add) call.at call.del within in
+    let added = length-map call.add without_nul in
+    let size = size_replaced ls (map without_nul call.add) call.at call.del in
+    let part = size_part ls call.at call.del in
+    (omega arith, omega arith)

@@ -1,0 +1,5 @@
+pub mod Rotation
+pub mod Sizes
+pub mod Due
+pub mod Runs
+pub mod Outcomes

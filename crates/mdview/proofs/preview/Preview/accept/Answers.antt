@@ -1,0 +1,61 @@
+use Rattle.std.proofs.Common.{◌≡◌, ℕ, ◌+◌, ◌-◌, ◌≤◌, List, map, length, string_bytes, arith, sym, ◌∙◌, refl, nat_lt, true, false, None}
+use Rattle.std.proofs.lemmas.List.{length-map}
+use Rattle.std.proofs.lemmas.Bool.Decides.{nat_tests}
+use Rattle.mdview.specs.Document.{size_of}
+use Rattle.mdtext.specs.Lines.{without_nul}
+use Rattle.mdview.specs.Edit.{due, put}
+use Rattle.mdview.proofs.Sizes.{size_part}
+use Rattle.mdview.proofs.Due.{gone_is, due_of_parts, put_of_parts}
+use Rattle.mdview.proofs.preview.Preview.accept.Goals as goal
+
+pub size-requires : goal.size-requires
+size-requires c =
+    let e = gone_is c.self.inside.lines.items c.args.at c.args.del in
+    let part = size_part (map string_bytes c.self.inside.lines.items) c.args.at c.args.del in
+    rw c.deref.ensures.value (omega arith)
+
+pub overflow_sub-kept : goal.overflow_sub-kept
+overflow_sub-kept c =
+    let e = gone_is c.self.inside.lines.items c.args.at c.args.del in
+    let part = size_part (map string_bytes c.self.inside.lines.items) c.args.at c.args.del in
+    let is = rw c.deref.ensures.value at c.size.ensures in
+    omega arith
+
+pub returns-then-added-kept-clause-err : goal.returns-then-added-kept-clause-err
+returns-then-added-kept-clause-err c =
+    let ls : List (List ℕ) = map string_bytes c.self.inside.lines.items in
+    let long : length ls ≡ length c.self.inside.lines.items = length-map c.self.inside.lines.items string_bytes in
+    let add : List (List ℕ) = map (λ line. line.now) c.args.add.now in
+    let added : length add ≡ length c.args.add.now = length-map c.args.add.now (λ line. line.now) in
+    let held = c.self.inside.lines.ok.0 in
+    let gone = (rw c.deref.ensures.value at c.size.ensures) ∙ gone_is c.self.inside.lines.items c.args.at c.args.del in
+    let is = due_of_parts ls (record { at = c.args.at; del = c.args.del; add = add }) c.size.result (omega arith) (sym c.first_line_break.ensures ∙ c.in_default.is) gone (omega arith) (omega arith) in
+    let large : nat_lt 16777216 (size_of ls - c.size.result + size_of (map without_nul add)) ≡ true = grind (arith, nat_tests) in
+    rw (← c.self.view_is, is, large) refl
+
+pub returns-clause-ok : goal.returns-clause-ok
+returns-clause-ok c =
+    let ls : List (List ℕ) = map string_bytes c.self.inside.lines.items in
+    let long : length ls ≡ length c.self.inside.lines.items = length-map c.self.inside.lines.items string_bytes in
+    let add : List (List ℕ) = map (λ line. line.now) c.args.add.now in
+    let added : length add ≡ length c.args.add.now = length-map c.args.add.now (λ line. line.now) in
+    let held = c.self.inside.lines.ok.0 in
+    let gone = (rw c.deref.ensures.value at c.size.ensures) ∙ gone_is c.self.inside.lines.items c.args.at c.args.del in
+    let is = due_of_parts ls (record { at = c.args.at; del = c.args.del; add = add }) c.size.result (omega arith) (sym c.first_line_break.ensures ∙ c.in_default.is) gone (omega arith) (omega arith) in
+    let after = put_of_parts ls (record { at = c.args.at; del = c.args.del; add = add }) c.size.result (omega arith) gone (omega arith) (omega arith) in
+    let small : nat_lt 16777216 (size_of ls - c.size.result + size_of (map without_nul add)) ≡ false = grind (arith, nat_tests) in
+    let none : due ls (record { at = c.args.at; del = c.args.del; add = add }) ≡ None = is ∙ (rw small refl) in
+    let size : c.self.inside.size - c.size.result + c.clean_size-added.result ≡ size_of (put ls (record { at = c.args.at; del = c.args.del; add = add })) = omega arith in
+    rw (← c.self.view_is) (none, size)
+
+pub returns-clause-small : goal.returns-clause-small
+returns-clause-small c =
+    let ls : List (List ℕ) = map string_bytes c.self.inside.lines.items in
+    let long : length ls ≡ length c.self.inside.lines.items = length-map c.self.inside.lines.items string_bytes in
+    let add : List (List ℕ) = map (λ line. line.now) c.args.add.now in
+    let added : length add ≡ length c.args.add.now = length-map c.args.add.now (λ line. line.now) in
+    let held = c.self.inside.lines.ok.0 in
+    let gone = (rw c.deref.ensures.value at c.size.ensures) ∙ gone_is c.self.inside.lines.items c.args.at c.args.del in
+    let after = put_of_parts ls (record { at = c.args.at; del = c.args.del; add = add }) c.size.result (omega arith) gone (omega arith) (omega arith) in
+    let small : size_of (put ls (record { at = c.args.at; del = c.args.del; add = add })) ≤ 16777216 = omega arith in
+    rw (← c.self.view_is) (after.1, small)

@@ -1,0 +1,41 @@
+-- Units whose inline texts were read, and their HTML.
+use Rattle.std.specs.Prelude.{◌≡◌, ℕ, List, [], false, length, sum_by, refl}
+use Rattle.std.specs.Coded.{Coded, code_by, coded×, coded_ℕ, coded_list}
+use Rattle.mdblock.specs.UnitTree.{FoundUnit, found_code}
+use Rattle.mdinline.specs.ParsedText.{ParsedText, parsed_code}
+use Rattle.mdhtml.specs.declared.options.Options.{Options}
+use Rattle.mdhtml.specs.BlockHtml.{blocks_html, trees_of}
+
+-- a unit, and what each of its texts reads as
+pub record ReadUnit : Type 0 where
+  pub found : FoundUnit
+  pub readings : List ParsedText
+
+-- a unit that is held, with its piece
+pub record HeldUnit : Type 0 where
+  pub read : ReadUnit
+  pub piece : List ℕ
+
+abbrev pub read_unit_code : Coded ReadUnit
+read_unit_code = code_by (FoundUnit × List ParsedText) (coded× found_code (coded_list parsed_code)) (λ u. (u.found, u.readings)) (λ p. record { found = p.0; readings = p.1 }) (λ _. refl)
+
+abbrev pub held_unit_code : Coded HeldUnit
+held_unit_code = code_by (ReadUnit × List ℕ) (coded× read_unit_code (coded_list coded_ℕ)) (λ u. (u.read, u.piece)) (λ p. record { read = p.0; piece = p.1 }) (λ _. refl)
+
+-- a unit's piece: the HTML of its blocks with the trees of its texts
+abbrev pub unit_piece : Options → ReadUnit → List ℕ
+unit_piece options u = blocks_html options (trees_of u.readings) false u.found.unit.blocks []
+
+abbrev pub read_of : HeldUnit → ReadUnit
+read_of u = u.read
+
+abbrev pub piece_of : HeldUnit → List ℕ
+piece_of u = u.piece
+
+-- what is held as the piece of a unit is its HTML
+abbrev pub IsRendered : Options → HeldUnit → Type 0
+IsRendered options u = u.piece ≡ unit_piece options u.read
+
+-- how many inline texts the units have
+abbrev pub texts_of : List ReadUnit → ℕ
+texts_of units = sum_by (λ (u : ReadUnit). length u.readings) units

@@ -1,0 +1,26 @@
+-- Where labels lead, now and after an edit.
+use Rattle.std.specs.Prelude.{ℕ, List, Option, Some, None, option_map, option_and_then}
+use Rattle.std.specs.BTreeMap.{is_at}
+use Rattle.std.specs.Cmp.Lexicographic.{slice_cmp}
+use Rattle.std.specs.Map.{lookup}
+use Rattle.std.specs.Ordering.{nat_cmp}
+use Rattle.mdinline.specs.LabelMap.{LinkTarget, target_of}
+use Rattle.mdview.specs.declared.held_labels.HeldLabels.{HeldLabels}
+use Rattle.mdview.specs.declared.held_labels.LabelsAfter.{LabelsAfter}
+use Rattle.mdview.specs.declared.label_changes.LabelChange.{LabelChange}
+
+-- what stands at a label in a map
+abbrev pub at : {A : Type 0} → List ℕ → List (List ℕ × A) → Option A
+at label entries = lookup (is_at (slice_cmp nat_cmp label)) entries
+
+-- the target of a label; one that has room only leads nowhere
+abbrev pub target_held : HeldLabels → List ℕ → Option LinkTarget
+target_held held label = option_and_then (option_map target_of) (at label held.targets.entries)
+
+abbrev pub changed : Option LabelChange → Option LinkTarget → Option LinkTarget
+changed None before = before
+changed (Some change) before = option_map target_of change.target
+
+-- the target of a label after an edit: where the edit touches it, what the change says
+abbrev pub target_after : LabelsAfter → List ℕ → Option LinkTarget
+target_after after label = changed (at label after.changes.now.changes.entries) (target_held after.held.now label)

@@ -1,0 +1,13 @@
+pub mod HeldUnit
+pub mod Reading
+pub mod Lists
+pub mod Document
+pub mod Edit
+pub mod Stretch
+pub mod Patch
+pub mod Outcome
+pub mod Run
+pub mod FaultNames
+pub mod NewText
+pub mod LabelTargets
+pub mod Renewed

@@ -1,0 +1,70 @@
+ghost use Rattle.std.specs.Prelude.{◌≡◌};
+ghost use Rattle.mdview.specs.declared.fault.EditFault.TheVariants.{NoMemory};
+ghost use Rattle.mdview.specs.FaultNames.{name_of, number_of};
+
+use std::alloc::{AllocError, AllocFailed};
+
+/// Why an edit was refused. Nothing has changed then.
+#[derive(Clone, Copy, Debug, PartialEq, Eq)]
+pub enum EditFault {
+    /// The edit reaches past the text, which has this many lines.
+    OutOfRange { lines: usize },
+    /// The added line of this index, counted from 0, holds LF or CR; it is the first such.
+    BreakInLine { index: usize },
+    /// The text would have more than 1,000,000 lines.
+    TooManyLines,
+    /// The text would have more than 16,777,216 bytes, with one counted for each line's end.
+    TooLarge,
+    /// The line of this number, counted from 0 in the text that the edit would leave, begins a container that lies in 64
+    /// others; it is the first such.
+    NestedTooDeep { line: usize },
+    /// A text of the unit that begins in this line has a span that lies in 64 others; it is the first such unit.
+    InlineTooDeep { line: usize },
+    /// A growth was refused.
+    NoMemory,
+}
+
+impl EditFault {
+    /// The name that a reply or an error line gives it.
+    pub fn name(&self) -> &'static str
+        ensures { result.now ≡ name_of self.now }
+    {
+        match self {
+            EditFault::OutOfRange { .. } => "OutOfRange",
+            EditFault::BreakInLine { .. } => "BreakInLine",
+            EditFault::TooManyLines => "TooManyLines",
+            EditFault::TooLarge => "TooLarge",
+            EditFault::NestedTooDeep { .. } => "NestedTooDeep",
+            EditFault::InlineTooDeep { .. } => "InlineTooDeep",
+            EditFault::NoMemory => "NoMemory",
+        }
+    }
+
+    /// Its number: of lines, of an added line, or of a line of the text; 0 where it has none.
+    pub fn number(&self) -> usize
+        ensures { result ≡ number_of self.now }
+    {
+        match self {
+            EditFault::OutOfRange { lines } => *lines,
+            EditFault::BreakInLine { index } => *index,
+            EditFault::NestedTooDeep { line } | EditFault::InlineTooDeep { line } => *line,
+            EditFault::TooManyLines | EditFault::TooLarge | EditFault::NoMemory => 0,
+        }
+    }
+}
+
+impl From<AllocError> for EditFault {
+    ghost from_gives = { λ _ e. e ≡ NoMemory };
+
+    fn from(_error: AllocError) -> EditFault {
+        EditFault::NoMemory
+    }
+}
+
+impl<T: Drop> From<AllocFailed<T>> for EditFault {
+    ghost from_gives = { λ _ e. e ≡ NoMemory };
+
+    fn from(_error: AllocFailed<T>) -> EditFault {
+        EditFault::NoMemory
+    }
+}

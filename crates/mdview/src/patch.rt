@@ -1,0 +1,49 @@
+ghost use Rattle.std.specs.Prelude.{◌≡◌, [], None, option_map, slice_get, if◌then◌else◌, not, nat_lt, ◌+◌, ◌&&◌};
+ghost use Rattle.mdview.specs.Patch.{brings};
+
+use crate::preview::Preview;
+use std::alloc::Global;
+use std::marker::Model;
+
+/// Which pieces an edit changed: `removed` pieces at `first` gave way to `added` new ones, and those of `again` were
+/// made again.
+#[derive(Debug, Drop)]
+pub struct Patch {
+    pub first: usize,
+    pub removed: usize,
+    pub added: usize,
+    pub again: Vec<usize>,
+}
+
+impl Model for Patch {
+    ghost use Rattle.mdview.specs.Stretch.{Stretch};
+
+    ghost Value = { Stretch };
+
+    ghost view = { λ p. record { first = p.first; removed = p.removed; added = p.added; again = p.again.items } };
+}
+
+impl Patch {
+    /// The preview's piece `i`, where the patch brings it.
+    pub fn text<'a>(&self, preview: &'a Preview, i: usize) -> Option<&'a str>
+        ensures { option_map (λ text. text.now) result ≡ (if brings self.now i then slice_get preview.now.pieces i else None) }
+    {
+        if self.brings(i) {
+            preview.piece(i)
+        } else {
+            None
+        }
+    }
+
+    fn brings(&self, i: usize) -> bool
+        ensures { result ≡ brings self.now i }
+    {
+        self.is_new(i) || self.again.contains(&i)
+    }
+
+    fn is_new(&self, i: usize) -> bool
+        ensures { result ≡ (not (nat_lt i self.now.first) && nat_lt i (self.now.first + self.now.added)) }
+    {
+        i >= self.first && i - self.first < self.added
+    }
+}

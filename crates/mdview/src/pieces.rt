@@ -1,0 +1,44 @@
+ghost use Rattle.std.specs.Prelude.{◌≡◌, map};
+ghost use Rattle.mdview.specs.HeldUnit.{HeldUnit, piece_of};
+ghost use Rattle.std.specs.Iterator.{YieldsFirstRef, item_count};
+
+use crate::held_units::HeldUnit;
+use std::marker::Model;
+
+/// The pieces of HTML, lent in order.
+#[derive(Drop)]
+pub struct Pieces<'a> {
+    rest: &'a [HeldUnit],
+}
+
+impl<'a> Model for Pieces<'a> {
+    ghost use Rattle.std.specs.Prelude.{ℕ, List, map};
+    ghost use Rattle.mdview.specs.HeldUnit.{piece_of};
+
+    ghost Value = { List (List ℕ) };
+
+    ghost view = { λ p. map piece_of p.rest.now };
+}
+
+impl<'a> Pieces<'a> {
+    pub(crate) fn new(units: &'a [HeldUnit]) -> Pieces<'a>
+        ensures { result ≡ map piece_of units.now }
+    {
+        Pieces { rest: units }
+    }
+}
+
+impl<'a> Iterator for Pieces<'a> {
+    type Item = &'a str;
+
+    ghost next_gives = { YieldsFirstRef (λ s. s) };
+
+    ghost remaining = { item_count (λ s. s) };
+
+    fn next(&mut self) -> Option<&'a str> {
+        let rest = self.rest;
+        let (first, rest) = rest.split_first()?;
+        self.rest = rest;
+        Some(first.piece())
+    }
+}

@@ -1,0 +1,241 @@
+ghost use Rattle.std.specs.Prelude.{◌≡◌, ◌≤◌, ◌+◌, IfOk, IfErr, OnOk, List, [], map, length, slice_get, get_or, IsSome, option_map, string_bytes};
+ghost use Rattle.mdview.specs.Document.{document, size_of};
+ghost use Rattle.mdview.specs.Edit.{Call, due, put};
+ghost use Rattle.mdview.specs.Outcome.{outcome};
+ghost use Rattle.mdview.specs.Lists.{replaced};
+ghost use Rattle.mdview.specs.Reading.{reading_of};
+ghost use Rattle.mdview.specs.HeldUnit.{ReadUnit, texts_of};
+ghost use Rattle.mdview.specs.Patch.{Brings};
+
+use crate::clean::clean_lines;
+use crate::exchange::{renew_units, replace};
+use crate::fault::EditFault;
+use crate::held_labels::HeldLabels;
+use crate::held_units::HeldUnit;
+use crate::limits::{clean_size, first_line_break, size};
+use crate::new_text::NewText;
+use crate::patch::Patch;
+use crate::pieces::Pieces;
+use crate::renewals::{Held, Renewal};
+use crate::resuming::begin_of;
+use mdblock::Unit;
+use mdhtml::Options;
+use mdinline::Parsed;
+use mdtext::{Count, Entities};
+use std::alloc::{AllocError, Global};
+use std::marker::Model;
+
+const MAX_LINES: usize = 1_000_000;
+
+const MAX_SIZE: usize = 16_777_216;
+
+/// A text that is edited by lines, and its HTML.
+#[derive(Drop)]
+pub struct Preview {
+    alloc: Global,
+    entities: Entities,
+    options: Options,
+    lines: Vec<String>,
+    size: usize,
+    /// How many lines stand before the first unit.
+    head: usize,
+    units: Vec<HeldUnit>,
+    labels: HeldLabels,
+}
+
+impl Model for Preview {
+    ghost use Rattle.std.specs.Prelude.{◌≡◌, ◌≤◌, map, length, string_bytes};
+    ghost use Rattle.mdview.specs.Document.{Document, size_of};
+    ghost use Rattle.mdview.specs.HeldUnit.{IsRendered, piece_of, read_of, read_unit_code};
+    ghost use Rattle.std.specs.Coded.{codes};
+    ghost use Rattle.std.specs.List.{All};
+
+    ghost Value = { Document };
+
+    ghost coded = { Prim.hlevel (codes, read_unit_code) };
+
+    ghost view = { λ p. record { entities = p.entities; options = p.options; lines = map string_bytes p.lines.items; head = p.head; units = map read_of p.units.items; pieces = map piece_of p.units.items } };
+
+    ghost invariant = { λ p. (p.size ≡ size_of (map string_bytes p.lines.items)) × (p.size ≤ 16777216) × (length p.lines.items ≤ 1000000) × All (IsRendered p.options) p.units.items };
+}
+
+impl Preview {
+    /// The empty text. Takes no memory.
+    pub fn new(alloc: Global, entities: Entities, options: Options) -> Preview
+        ensures { result ≡ document entities options [] 0 [] }
+    {
+        Preview {
+            alloc,
+            entities,
+            options,
+            lines: Vec::new(alloc),
+            size: 0,
+            head: 0,
+            units: Vec::new(alloc),
+            labels: HeldLabels::new(alloc),
+        }
+    }
+
+    /// How many lines the text has.
+    pub fn len(&self) -> usize
+        ensures { result ≡ length self.now.lines }
+    {
+        self.lines.len()
+    }
+
+    /// The line of this number, without a line ending; nothing where the text has fewer.
+    pub fn line(&self, i: usize) -> Option<&str>
+        ensures { option_map (λ line. line.now) result ≡ slice_get self.now.lines i }
+    {
+        match self.lines.get(i) {
+            Some(line) => Some(line.as_str()),
+            None => None,
+        }
+    }
+
+    /// How many units the text has.
+    pub fn units(&self) -> usize
+        ensures { result ≡ length self.now.pieces }
+    {
+        self.units.len()
+    }
+
+    /// The unit of this number; nothing where the text has fewer.
+    pub fn unit(&self, i: usize) -> Option<&Unit>
+        ensures { option_map (λ unit. unit.now) result ≡ option_map (λ (u : ReadUnit). u.found.unit) (slice_get self.now.units i) }
+    {
+        match self.units.get(i) {
+            Some(unit) => Some(unit.found().unit()),
+            None => None,
+        }
+    }
+
+    /// What the texts of the unit of this number read as; nothing where the text has fewer units.
+    pub fn inlines(&self, i: usize) -> Option<&[Parsed]>
+        ensures { option_map (λ inlines. inlines.now) result ≡ option_map (λ (u : ReadUnit). u.readings) (slice_get self.now.units i) }
+    {
+        match self.units.get(i) {
+            Some(unit) => Some(unit.inlines()),
+            None => None,
+        }
+    }
+
+    /// The number of the first line of the unit of this number; nothing where the text has fewer units.
+    pub fn first_line(&self, i: usize) -> Option<usize> {
+        if i < self.units.len() {
+            Some(begin_of(&self.units, self.head, i))
+        } else {
+            None
+        }
+    }
+
+    /// The HTML of each unit, in order, lent without copying.
+    pub fn pieces(&self) -> Pieces<'_>
+        ensures { result ≡ self.now.pieces }
+    {
+        Pieces::new(&self.units)
+    }
+
+    /// The HTML of the unit of this number; nothing where the text has fewer.
+    pub(crate) fn piece(&self, i: usize) -> Option<&str>
+        ensures { option_map (λ piece. piece.now) result ≡ slice_get self.now.pieces i }
+    {
+        match self.units.get(i) {
+            Some(unit) => Some(unit.piece()),
+            None => None,
+        }
+    }
+}
+
+impl Preview {
+    /// The size of the text after the edit, or why it is refused, whatever the memory. Takes none.
+    fn accept(&self, at: usize, del: usize, add: &[&str]) -> Result<usize, EditFault>
+        ensures ok { IfOk result (λ size. (due self.now.lines (record { at = at; del = del; add = map (λ line. line.now) add.now }) ≡ None)
+            × (size ≡ size_of (put self.now.lines (record { at = at; del = del; add = map (λ line. line.now) add.now })))) }
+        ensures err { IfErr result (λ fault. due self.now.lines (record { at = at; del = del; add = map (λ line. line.now) add.now }) ≡ Some fault) }
+        ensures within { OnOk result (at + del ≤ length self.now.lines) }
+        ensures small { OnOk result ((length (put self.now.lines (record { at = at; del = del; add = map (λ line. line.now) add.now })) ≤ 1000000)
+            × (size_of (put self.now.lines (record { at = at; del = del; add = map (λ line. line.now) add.now })) ≤ 16777216)) }
+    {
+        let lines = self.lines.len();
+        if at > lines || del > lines - at {
+            return Err(EditFault::OutOfRange { lines });
+        }
+        if let Some(index) = first_line_break(add) {
+            return Err(EditFault::BreakInLine { index });
+        }
+        if add.len() > MAX_LINES - (lines - del) {
+            return Err(EditFault::TooManyLines);
+        }
+        let kept = self.size - size(&self.lines[at..at + del]);
+        let added = clean_size(add);
+        if added > MAX_SIZE - kept {
+            return Err(EditFault::TooLarge);
+        }
+        Ok(kept + added)
+    }
+
+    /// Replaces `del` lines at line `at` by others, and says which pieces changed.
+    ///
+    /// Refused, in this order: `OutOfRange`, `BreakInLine`, `TooManyLines`, `TooLarge`, whatever the memory; then
+    /// `NestedTooDeep`, `InlineTooDeep`; `NoMemory` at any point. After each the preview is as before, and after the first
+    /// four the counter too. U+0000 in an added line is
+    /// replaced by U+FFFD before its size is counted (CommonMark 2.3).
+    pub fn edit<C: Count>(
+        &mut self,
+        at: usize,
+        del: usize,
+        add: &[&str],
+        count: &mut C,
+    ) -> Result<Patch, EditFault>
+        ensures outcome { (result, self.new) ≡ outcome self.old (record { at = at; del = del; add = map (λ line. line.now) add.now }) (reading_of result self.new) }
+        // The patch takes the old pieces to the new ones, and the units that it does not bring are held as they were.
+        ensures patch { IfOk result (λ patch. Brings patch self.old.pieces self.new.pieces) }
+        ensures units { IfOk result (λ patch. Brings patch self.old.units self.new.units) }
+        // What was read is counted, and nothing is read where a refusal is due.
+        ensures lines { C.lines count.new ≤ C.lines count.old + length (put self.old.lines (record { at = at; del = del; add = map (λ line. line.now) add.now })) }
+        ensures inlines { OnOk result (C.inlines count.new ≤ C.inlines count.old + texts_of self.new.units) }
+        ensures uncounted { IsSome (due self.old.lines (record { at = at; del = del; add = map (λ line. line.now) add.now })) → count.new ≡ count.old }
+    {
+        let size = self.accept(at, del, add)?;
+        let mut new_lines = clean_lines(self.alloc, add)?;
+        let text = NewText::new(&self.lines, at, del, &new_lines);
+        let renewal = Renewal::of(&self.held(), text, count)?;
+        let patch = renewal.patch(self.alloc)?;
+        self.lines.reserve(new_lines.len())?;
+        self.units.reserve(renewal.units.len())?;
+        self.labels.make_room(self.alloc, &renewal.changes)?;
+        // From here on nothing fails.
+        replace(&mut self.lines, at, del, &mut new_lines);
+        self.size = size;
+        self.exchange(renewal);
+        Ok(patch)
+    }
+
+    fn held(&self) -> Held<'_> {
+        Held {
+            alloc: self.alloc,
+            entities: &self.entities,
+            options: &self.options,
+            head: self.head,
+            units: &self.units,
+            labels: &self.labels,
+        }
+    }
+
+    /// Puts what an edit made in its place. It takes no memory: the room was reserved before.
+    fn exchange(&mut self, renewal: Renewal) {
+        let Renewal {
+            first,
+            next,
+            head,
+            mut units,
+            again,
+            changes,
+        } = renewal;
+        renew_units(&mut self.units, again);
+        replace(&mut self.units, first, next - first, &mut units);
+        self.head = head;
+        changes.carry_out(&mut self.labels);
+    }
+}

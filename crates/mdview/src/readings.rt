@@ -1,0 +1,191 @@
+//! What inline texts read as after an edit, and the HTML of units.
+
+ghost use Rattle.std.specs.Prelude.{◌≡◌, ◌+◌, ◌≤◌, IfOk, IfErr, length, map, string_bytes};
+ghost use Rattle.std.specs.List.{All};
+ghost use Rattle.mdview.specs.Reading.{OfReading};
+ghost use Rattle.mdview.specs.HeldUnit.{HeldUnit, IsRendered, unit_piece, texts_of, read_of};
+
+use crate::fault::EditFault;
+use crate::held_labels::LabelsAfter;
+use crate::held_units::HeldUnit;
+use mdblock::{Found, Unit};
+use mdhtml::{Options, unit_html};
+use mdinline::{InlineFault, Parsed, read};
+use mdtext::{Count, Entities};
+use std::alloc::{AllocError, Global};
+
+/// Reads inline texts under the labels of the text that an edit leaves, and writes HTML. Each text that is read is counted.
+#[derive(Clone, Copy)]
+pub struct TextReader<'a> {
+    pub alloc: Global,
+    pub entities: &'a Entities,
+    pub options: &'a Options,
+    pub labels: LabelsAfter<'a>,
+}
+
+/// A unit that is held, by its number, with what its texts read as after an edit, and its piece then.
+#[derive(Drop)]
+pub struct Again {
+    pub unit: usize,
+    pub inlines: Vec<Parsed>,
+    pub piece: String,
+}
+
+impl<'a> TextReader<'a> {
+    /// Reads the texts of the units that were found in the lines from `from` on.
+    pub fn read_units<C: Count>(
+        &self,
+        found: Vec<Found>,
+        from: usize,
+        count: &mut C,
+    ) -> Result<Vec<HeldUnit>, EditFault>
+        ensures fault { IfErr result OfReading }
+        ensures pieces { IfOk result (λ units. All (IsRendered self.now.options.now) units.items) }
+        ensures lines { C.lines count.new ≡ C.lines count.old }
+        ensures inlines { IfOk result (λ units. C.inlines count.new ≤ C.inlines count.old + texts_of (map read_of units.items)) }
+    {
+        let mut units = Vec::with_capacity(self.alloc, found.len())?;
+        for one in found {
+            let begin = from.saturating_add(one.begin());
+            match self.read_unit(one, count) {
+                Ok(unit) => units.push(unit)?,
+                Err(fault) => return Err(fault_in_unit(fault, begin)),
+            }
+        }
+        Ok(units)
+    }
+
+    fn read_unit<C: Count>(&self, found: Found, count: &mut C) -> Result<HeldUnit, InlineFault>
+        ensures found { IfOk result (λ unit. unit.read.found ≡ found) }
+        ensures piece { IfOk result (IsRendered self.now.options.now) }
+        ensures lines { C.lines count.new ≡ C.lines count.old }
+        ensures inlines { IfOk result (λ unit. C.inlines count.new ≤ C.inlines count.old + length unit.read.readings) }
+    {
+        let inlines = self.read_texts(found.unit(), count)?;
+        let piece = unit_html(self.alloc, found.unit().blocks(), &inlines, self.options)?;
+        Ok(HeldUnit::new(found, inlines, piece))
+    }
+
+    fn read_texts<C: Count>(&self, unit: &Unit, count: &mut C) -> Result<Vec<Parsed>, InlineFault>
+        ensures all { IfOk result (λ inlines. length inlines.items ≡ length unit.now.texts) }
+        ensures lines { C.lines count.new ≡ C.lines count.old }
+        ensures inlines { C.inlines count.new ≤ C.inlines count.old + length unit.now.texts }
+    {
+        let texts = unit.texts();
+        let mut inlines = Vec::with_capacity(self.alloc, texts.len())?;
+        for text in texts {
+            inlines.push(read(self.alloc, text, &self.labels, self.entities, count)?)?;
+        }
+        Ok(inlines)
+    }
+
+    /// Reads again those of the units from number `first` up to `next`, the first of which begins in line `begin` after the edit, that asked for a label
+    /// that leads elsewhere then. A text of theirs that did not ask for one is not read again.
+    pub fn read_again<C: Count>(
+        &self,
+        units: &[HeldUnit],
+        first: usize,
+        next: usize,
+        begin: usize,
+        again: &mut Vec<Again>,
+        count: &mut C,
+    ) -> Result<(), EditFault>
+        requires { next ≤ length units.now }
+        ensures fault { IfErr result OfReading }
+        ensures lines { C.lines count.new ≡ C.lines count.old }
+    {
+        if !self.labels.changes.some_are_new() {
+            return Ok(());
+        }
+        let mut begin = begin;
+        for i in first..next {
+            let unit = &units[i];
+            if self.is_concerned(unit) {
+                match self.again(i, unit, count) {
+                    Ok(one) => again.push(one)?,
+                    Err(fault) => return Err(fault_in_unit(fault, begin)),
+                }
+            }
+            begin = begin.saturating_add(unit.found().lines());
+        }
+        Ok(())
+    }
+
+    /// Whether a text of the unit asked for a label that leads elsewhere after the edit.
+    fn is_concerned(&self, unit: &HeldUnit) -> bool {
+        let changes = self.labels.changes;
+        unit.inlines()
+            .iter()
+            .any(|parsed| changes.concern(parsed.asked()))
+    }
+
+    fn again<C: Count>(
+        &self,
+        number: usize,
+        unit: &HeldUnit,
+        count: &mut C,
+    ) -> Result<Again, InlineFault>
+        ensures unit { IfOk result (λ again. again.unit ≡ number) }
+        ensures all { IfOk result (λ again. length again.inlines.items ≡ length unit.now.read.found.unit.texts) }
+        ensures piece { IfOk result (λ again. string_bytes again.piece ≡ unit_piece self.now.options.now (record { found = unit.now.read.found; readings = again.inlines.items })) }
+        ensures lines { C.lines count.new ≡ C.lines count.old }
+        ensures inlines { C.inlines count.new ≤ C.inlines count.old + length unit.now.read.found.unit.texts }
+    {
+        let inlines = self.read_some(unit, count)?;
+        let piece = unit_html(
+            self.alloc,
+            unit.found().unit().blocks(),
+            &inlines,
+            self.options,
+        )?;
+        Ok(Again {
+            unit: number,
+            inlines,
+            piece,
+        })
+    }
+
+    /// What the texts of a unit that is held read as; those that are concerned are read.
+    fn read_some<C: Count>(
+        &self,
+        unit: &HeldUnit,
+        count: &mut C,
+    ) -> Result<Vec<Parsed>, InlineFault>
+        ensures all { IfOk result (λ inlines. length inlines.items ≡ length unit.now.read.found.unit.texts) }
+        ensures lines { C.lines count.new ≡ C.lines count.old }
+        ensures inlines { C.inlines count.new ≤ C.inlines count.old + length unit.now.read.found.unit.texts }
+    {
+        let texts = unit.found().unit().texts();
+        let held = unit.inlines();
+        let mut inlines = Vec::with_capacity(self.alloc, texts.len())?;
+        for i in 0..texts.len() {
+            inlines.push(self.read_one(&texts[i], &held[i], count)?)?;
+        }
+        Ok(inlines)
+    }
+
+    fn read_one<C: Count>(
+        &self,
+        text: &str,
+        held: &Parsed,
+        count: &mut C,
+    ) -> Result<Parsed, InlineFault>
+        ensures lines { C.lines count.new ≡ C.lines count.old }
+        ensures inlines { C.inlines count.new ≤ C.inlines count.old + 1 }
+    {
+        if self.labels.changes.concern(held.asked()) {
+            read(self.alloc, text, &self.labels, self.entities, count)
+        } else {
+            Ok(held.copy(self.alloc)?)
+        }
+    }
+}
+
+fn fault_in_unit(fault: InlineFault, begin: usize) -> EditFault
+    ensures { OfReading result }
+{
+    match fault {
+        InlineFault::TooDeep => EditFault::InlineTooDeep { line: begin },
+        InlineFault::NoMemory => EditFault::NoMemory,
+    }
+}

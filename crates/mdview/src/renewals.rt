@@ -1,0 +1,128 @@
+//! What an edit changes, made before anything of the preview is.
+
+ghost use Rattle.std.specs.Prelude.{◌≡◌, ◌≤◌, ◌+◌, IfErr, length};
+ghost use Rattle.mdview.specs.Document.{size_of};
+ghost use Rattle.mdview.specs.NewText.{lines_of};
+ghost use Rattle.mdview.specs.Reading.{OfReading};
+
+use crate::fault::EditFault;
+use crate::held_labels::{HeldLabels, LabelsAfter};
+use crate::held_units::HeldUnit;
+use crate::label_changes::LabelChanges;
+use crate::new_text::NewText;
+use crate::patch::Patch;
+use crate::readings::{Again, TextReader};
+use crate::stretches::{Stretch, read_stretch};
+use mdblock::Found;
+use mdhtml::Options;
+use mdtext::{Count, Entities};
+use std::alloc::{AllocError, Global};
+
+/// What an edit finds held.
+#[derive(Clone, Copy)]
+pub struct Held<'a> {
+    pub alloc: Global,
+    pub entities: &'a Entities,
+    pub options: &'a Options,
+    /// How many lines stand before the first unit.
+    pub head: usize,
+    pub units: &'a [HeldUnit],
+    pub labels: &'a HeldLabels,
+}
+
+/// What an edit brings: `units` take the place of those from number `first` up to `next`, and `head` lines stand before the
+/// first unit then. The units of `again` are held and read again; they are numbered as before the edit.
+#[derive(Drop)]
+pub struct Renewal {
+    pub first: usize,
+    pub next: usize,
+    pub head: usize,
+    pub units: Vec<HeldUnit>,
+    pub again: Vec<Again>,
+    pub changes: LabelChanges,
+}
+
+impl Renewal {
+    /// What an edit brings that leaves this text. Each line and each inline text that is read is counted. Where several units have a text that is
+    /// too deep, the first of the text is named.
+    pub fn of<C: Count>(
+        held: &Held<'_>,
+        text: NewText<'_>,
+        count: &mut C,
+    ) -> Result<Renewal, EditFault>
+        requires few { length (lines_of text) ≤ 1000000 }
+        requires small { size_of (lines_of text) ≤ 16777216 }
+        ensures fault { IfErr result OfReading }
+        ensures lines { C.lines count.new ≤ C.lines count.old + length (lines_of text) }
+    {
+        let stretch = read_stretch(held, text, count)?;
+        let changes = LabelChanges::of(held, &stretch)?;
+        let reader = TextReader {
+            alloc: held.alloc,
+            entities: held.entities,
+            options: held.options,
+            labels: LabelsAfter {
+                held: held.labels,
+                changes: &changes,
+            },
+        };
+        let Stretch {
+            first,
+            next,
+            from,
+            meet,
+            found,
+        } = stretch;
+        let head = if from == 0 {
+            head_of(&found, meet)
+        } else {
+            held.head
+        };
+        let mut again = Vec::new(held.alloc);
+        reader.read_again(held.units, 0, first, head, &mut again, count)?;
+        let units = reader.read_units(found, from, count)?;
+        reader.read_again(held.units, next, held.units.len(), meet, &mut again, count)?;
+        Ok(Renewal {
+            first,
+            next,
+            head,
+            units,
+            again,
+            changes,
+        })
+    }
+
+    /// The patch that the edit answers.
+    pub fn patch(&self, alloc: Global) -> Result<Patch, AllocError> {
+        let added = self.units.len();
+        let mut again = Vec::with_capacity(alloc, self.again.len())?;
+        for one in &self.again {
+            again.push(self.number_after(one.unit))?;
+        }
+        Ok(Patch {
+            first: self.first,
+            removed: self.next - self.first,
+            added,
+            again,
+        })
+    }
+
+    /// The number that a unit which stays has after the edit.
+    fn number_after(&self, unit: usize) -> usize {
+        if unit < self.next {
+            unit
+        } else {
+            (unit - self.next)
+                .saturating_add(self.first)
+                .saturating_add(self.units.len())
+        }
+    }
+}
+
+/// How many lines stand before the first unit of a text of which these were found from its front up to line `meet`.
+fn head_of(found: &[Found], meet: usize) -> usize {
+    match found.first() {
+        Some(one) => one.begin(),
+        None => meet,
+    }
+}

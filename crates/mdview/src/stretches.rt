@@ -1,0 +1,106 @@
+//! The stretch of a text that an edit reads again.
+
+ghost use Rattle.std.specs.Prelude.{◌≡◌, ◌≤◌, ◌+◌, IfErr, IfOk, length};
+ghost use Rattle.mdview.specs.Document.{size_of};
+ghost use Rattle.mdview.specs.NewText.{lines_of};
+ghost use Rattle.mdview.specs.Reading.{OfReading};
+
+use crate::fault::EditFault;
+use crate::new_text::NewText;
+use crate::renewals::Held;
+use crate::resuming::{Cursor, Place, resume_at};
+use mdblock::{BlockFault, Found, Reader};
+use mdtext::Count;
+use std::alloc::AllocError;
+
+/// What an edit reads: from line `from` up to line `meet` there are the units `found`, in the place of those from number `first` up to
+/// `next`.
+#[derive(Drop)]
+pub struct Stretch {
+    pub first: usize,
+    pub next: usize,
+    pub from: usize,
+    pub meet: usize,
+    pub found: Vec<Found>,
+}
+
+/// Reads blocks from the last unit that begins above the edit up to where a unit begins behind it that is held, or to the end. Each line that
+/// is read is counted.
+pub fn read_stretch<C: Count>(
+    held: &Held<'_>,
+    text: NewText<'_>,
+    count: &mut C,
+) -> Result<Stretch, EditFault>
+    requires few { length (lines_of text) ≤ 1000000 }
+    requires small { size_of (lines_of text) ≤ 16777216 }
+    ensures fault { IfErr result OfReading }
+    ensures lines { C.lines count.new ≤ C.lines count.old + length (lines_of text) }
+    ensures inlines { C.inlines count.new ≡ C.inlines count.old }
+{
+    let Place {
+        unit: first,
+        line: from,
+    } = resume_at(held.units, held.head, text.at());
+    let mut cursor = Cursor::new(held.units, held.head);
+    let mut found = Vec::new(held.alloc);
+    let mut reader = Reader::new(held.alloc, held.entities);
+    for line in from..text.len() {
+        match reader.line(text.line(line), count) {
+            Ok(unit) => push_some(&mut found, unit)?,
+            Err(fault) => return Err(fault_in_line(fault, line)),
+        }
+        if begins_at(&reader, line - from)
+            && let Some(next) = held_at(&mut cursor, text, line)
+        {
+            return Ok(Stretch {
+                first,
+                next,
+                from,
+                meet: line,
+                found,
+            });
+        }
+    }
+    // Behind the last line no container begins any more.
+    match reader.finish() {
+        Ok(unit) => push_some(&mut found, unit)?,
+        Err(_) => return Err(EditFault::NoMemory),
+    }
+    Ok(Stretch {
+        first,
+        next: held.units.len(),
+        from,
+        meet: text.len(),
+        found,
+    })
+}
+
+fn push_some(found: &mut Vec<Found>, unit: Option<Found>) -> Result<(), AllocError> {
+    if let Some(unit) = unit {
+        found.push(unit)?;
+    }
+    Ok(())
+}
+
+/// No line is fed after a fault, so none is answered `Failed`.
+fn fault_in_line(fault: BlockFault, line: usize) -> EditFault
+    ensures { OfReading result }
+{
+    match fault {
+        BlockFault::NestedTooDeep => EditFault::NestedTooDeep { line },
+        BlockFault::NoMemory | BlockFault::Failed => EditFault::NoMemory,
+    }
+}
+
+/// Whether the line of this number, the last that was read, begins a unit.
+fn begins_at(reader: &Reader<'_>, line: usize) -> bool {
+    match reader.open_at() {
+        Some(begin) => begin == line,
+        None => false,
+    }
+}
+
+/// The unit that is held and begins in this line, if that stands behind the edit.
+fn held_at(cursor: &mut Cursor<'_>, text: NewText<'_>, line: usize) -> Option<usize> {
+    cursor.unit_at(text.old_line(line)?)
+}
