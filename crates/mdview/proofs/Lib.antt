@@ -3,3 +3,9 @@ pub mod Sizes
 pub mod Due
 pub mod Runs
 pub mod Outcomes
+pub mod MemberChanges
+pub mod RenewedUnits
+pub mod Targets
+pub mod Texts
+pub mod Splices
+pub mod Exchanged

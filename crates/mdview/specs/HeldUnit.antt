@@ -1,5 +1,5 @@
 -- Units whose inline texts were read, and their HTML.
-use Rattle.std.specs.Prelude.{◌≡◌, ℕ, List, [], false, length, sum_by, refl}
+use Rattle.std.specs.Prelude.{◌≡◌, ℕ, List, [], false, length, sum_by, take, refl}
 use Rattle.std.specs.Coded.{Coded, code_by, coded×, coded_ℕ, coded_list}
 use Rattle.mdblock.specs.UnitTree.{FoundUnit, found_code}
 use Rattle.mdinline.specs.ParsedText.{ParsedText, parsed_code}
@@ -36,6 +36,17 @@ piece_of u = u.piece
 abbrev pub IsRendered : Options → HeldUnit → Type 0
 IsRendered options u = u.piece ≡ unit_piece options u.read
 
+-- how many inline texts a unit has
+abbrev pub texts_in : FoundUnit → ℕ
+texts_in found = length found.unit.texts
+
+abbrev pub found_in : HeldUnit → FoundUnit
+found_in u = u.read.found
+
 -- how many inline texts the units have
 abbrev pub texts_of : List ReadUnit → ℕ
-texts_of units = sum_by (λ (u : ReadUnit). length u.readings) units
+texts_of units = sum_by (λ (u : ReadUnit). texts_in u.found) units
+
+-- how many the first units have
+abbrev pub texts_before : ℕ → List HeldUnit → ℕ
+texts_before n units = sum_by (λ (u : HeldUnit). texts_in u.read.found) (take n units)

@@ -1,11 +1,15 @@
--- Units whose texts are read again.
-use Rattle.std.specs.Prelude.{◌≡◌, ℕ, zero, suc, List, [], ◌∷◌, IfSome, length, map, slice_get, string_bytes}
+-- Units whose texts are read again, and what an edit changes.
+use Rattle.std.specs.Prelude.{◌≡◌, ℕ, ◌+◌, ◌-◌, ◌^◌, ◌≤◌, zero, suc, if◌then◌else◌, nat_lt, min, List, [], ◌∷◌, IfSome, length, map, slice_get, string_bytes}
+use Rattle.std.specs.List.{All}
+use Rattle.mdblock.specs.UnitTree.{FoundUnit}
 use Rattle.mdhtml.specs.declared.options.Options.{Options}
 use Rattle.mdview.specs.declared.readings.Again.{Again}
-use Rattle.mdview.specs.HeldUnit.{HeldUnit, IsRendered}
+use Rattle.mdview.specs.declared.renewals.Renewal.{Renewal}
+use Rattle.mdview.specs.HeldUnit.{HeldUnit, IsRendered, found_in, unit_piece}
+use Rattle.mdview.specs.Stretch.{Stretch}
 
 -- the list with its i-th member changed, if it has one
-pub map_at : {A : Type 0} → (A → A) → ℕ → List A → List A
+unfoldable pub map_at : {A : Type 0} → (A → A) → ℕ → List A → List A
 map_at f i [] = []
 map_at f zero (x ∷ xs) = f x ∷ xs
 map_at f (suc i) (x ∷ xs) = x ∷ map_at f i xs
@@ -15,21 +19,34 @@ abbrev pub renewed : Again → HeldUnit → HeldUnit
 renewed again u = record { read = record { found = u.read.found; readings = again.inlines.items }; piece = string_bytes again.piece }
 
 -- the units, of which these are read again
-pub all_renewed : List HeldUnit → List Again → List HeldUnit
+unfoldable pub all_renewed : List HeldUnit → List Again → List HeldUnit
 all_renewed units [] = units
 all_renewed units (one ∷ again) = all_renewed (map_at (renewed one) one.unit units) again
 
-abbrev pub texts_in : HeldUnit → ℕ
-texts_in u = length u.read.found.unit.texts
-
 -- there is a reading for each text of the unit
-abbrev pub Fits : List HeldUnit → Again → Type 0
-Fits units again = IfSome (slice_get (map texts_in units) again.unit) (λ texts. length again.inlines.items ≡ texts)
+abbrev pub Fits : List FoundUnit → Again → Type 0
+Fits units again = IfSome (slice_get units again.unit) (λ u. length again.inlines.items ≡ length u.unit.texts)
 
 -- the piece is the HTML of the unit, read so
-abbrev pub IsWritten : Options → List HeldUnit → Again → Type 0
-IsWritten options units again = IfSome (slice_get units again.unit) (λ u. IsRendered options (renewed again u))
+abbrev pub IsWritten : Options → List FoundUnit → Again → Type 0
+IsWritten options units again = IfSome (slice_get units again.unit) (λ u. string_bytes again.piece ≡ unit_piece options (record { found = u; readings = again.inlines.items }))
 
--- the numbers of the units that are read again
-abbrev pub numbers : List Again → List ℕ
-numbers again = map (λ (one : Again). one.unit) again
+-- what an edit changes is fit for these units
+pub record Renews (options : Options) (units : List FoundUnit) (renewal : Renewal) : Type 0 where
+  pub order : renewal.first ≤ renewal.next
+  pub within : renewal.next ≤ length units
+  pub fits : All (Fits units) renewal.again.items
+  pub written : All (IsWritten options units) renewal.again.items
+  pub pieces : All (IsRendered options) renewal.units.items
+
+-- the number that a unit which stays has after the edit
+abbrev pub number_after : Renewal → ℕ → ℕ
+number_after renewal unit =
+    if nat_lt unit renewal.next then unit else min (unit - renewal.next + renewal.first + length renewal.units.items) (2 ^ 64 - 1)
+
+-- the patch of an edit
+pub record IsPatchOf (renewal : Renewal) (patch : Stretch) : Type 0 where
+  pub first : patch.first ≡ renewal.first
+  pub removed : patch.removed ≡ renewal.next - renewal.first
+  pub added : patch.added ≡ length renewal.units.items
+  pub again : patch.again ≡ map (λ (one : Again). number_after renewal one.unit) renewal.again.items

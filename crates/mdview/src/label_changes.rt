@@ -1,6 +1,7 @@
 //! What an edit changes of where labels lead.
 
-ghost use Rattle.std.specs.Prelude.{◌≤◌, length};
+ghost use Rattle.std.specs.Prelude.{◌≡◌, ◌≤◌, length, option_copied};
+ghost use Rattle.mdview.specs.LabelTargets.{at};
 
 use crate::held_labels::HeldLabels;
 use crate::held_units::HeldUnit;
@@ -50,7 +51,9 @@ impl LabelChanges {
     }
 
     /// The change of a label; none where the edit does not touch it.
-    pub fn get(&self, label: &Label) -> Option<&LabelChange> {
+    pub fn get(&self, label: &Label) -> Option<&LabelChange>
+        ensures { option_copied result ≡ at label.now self.now.changes.entries }
+    {
         self.changes.get(label)
     }
 

@@ -61,7 +61,9 @@ impl<'a> NewText<'a> {
     }
 
     /// The first line that the edit touches.
-    pub fn at(&self) -> usize {
+    pub fn at(&self) -> usize
+        ensures { result ≤ length (lines_of self.now) }
+    {
         self.front.len()
     }
 }

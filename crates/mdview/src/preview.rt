@@ -3,12 +3,13 @@ ghost use Rattle.mdview.specs.Document.{document, size_of};
 ghost use Rattle.mdview.specs.Edit.{Call, due, put};
 ghost use Rattle.mdview.specs.Outcome.{outcome};
 ghost use Rattle.mdview.specs.Lists.{replaced};
-ghost use Rattle.mdview.specs.Reading.{reading_of};
+ghost use Rattle.mdview.specs.Reading.{OfReading, reading_of};
 ghost use Rattle.mdview.specs.HeldUnit.{ReadUnit, texts_of};
 ghost use Rattle.mdview.specs.Patch.{Brings};
+ghost use Rattle.mdview.specs.Renewed.{Renews};
 
 use crate::clean::clean_lines;
-use crate::exchange::{renew_units, replace};
+use crate::exchange::{exchange, replace};
 use crate::fault::EditFault;
 use crate::held_labels::HeldLabels;
 use crate::held_units::HeldUnit;
@@ -199,8 +200,16 @@ impl Preview {
     {
         let size = self.accept(at, del, add)?;
         let mut new_lines = clean_lines(self.alloc, add)?;
+        let held = Held {
+            alloc: self.alloc,
+            entities: &self.entities,
+            options: &self.options,
+            head: self.head,
+            units: &self.units,
+            labels: &self.labels,
+        };
         let text = NewText::new(&self.lines, at, del, &new_lines);
-        let renewal = Renewal::of(&self.held(), text, count)?;
+        let renewal = Renewal::of(&held, text, count)?;
         let patch = renewal.patch(self.alloc)?;
         self.lines.reserve(new_lines.len())?;
         self.units.reserve(renewal.units.len())?;
@@ -208,34 +217,8 @@ impl Preview {
         // From here on nothing fails.
         replace(&mut self.lines, at, del, &mut new_lines);
         self.size = size;
-        self.exchange(renewal);
+        self.head = renewal.head;
+        exchange(&mut self.units, &mut self.labels, renewal);
         Ok(patch)
-    }
-
-    fn held(&self) -> Held<'_> {
-        Held {
-            alloc: self.alloc,
-            entities: &self.entities,
-            options: &self.options,
-            head: self.head,
-            units: &self.units,
-            labels: &self.labels,
-        }
-    }
-
-    /// Puts what an edit made in its place. It takes no memory: the room was reserved before.
-    fn exchange(&mut self, renewal: Renewal) {
-        let Renewal {
-            first,
-            next,
-            head,
-            mut units,
-            again,
-            changes,
-        } = renewal;
-        renew_units(&mut self.units, again);
-        replace(&mut self.units, first, next - first, &mut units);
-        self.head = head;
-        changes.carry_out(&mut self.labels);
     }
 }

@@ -1,9 +1,10 @@
 //! What inline texts read as after an edit, and the HTML of units.
 
-ghost use Rattle.std.specs.Prelude.{◌≡◌, ◌+◌, ◌≤◌, IfOk, IfErr, length, map, string_bytes};
+ghost use Rattle.std.specs.Prelude.{◌≡◌, ◌+◌, ◌≤◌, ◌<◌, IfOk, IfErr, OnOk, length, map, string_bytes};
 ghost use Rattle.std.specs.List.{All};
 ghost use Rattle.mdview.specs.Reading.{OfReading};
-ghost use Rattle.mdview.specs.HeldUnit.{HeldUnit, IsRendered, unit_piece, texts_of, read_of};
+ghost use Rattle.mdview.specs.HeldUnit.{HeldUnit, IsRendered, unit_piece, texts_of, read_of, found_in, texts_before, texts_in};
+ghost use Rattle.mdview.specs.Renewed.{Fits, IsWritten};
 
 use crate::fault::EditFault;
 use crate::held_labels::LabelsAfter;
@@ -59,7 +60,7 @@ impl<'a> TextReader<'a> {
         ensures found { IfOk result (λ unit. unit.read.found ≡ found) }
         ensures piece { IfOk result (IsRendered self.now.options.now) }
         ensures lines { C.lines count.new ≡ C.lines count.old }
-        ensures inlines { IfOk result (λ unit. C.inlines count.new ≤ C.inlines count.old + length unit.read.readings) }
+        ensures inlines { IfOk result (λ unit. C.inlines count.new ≤ C.inlines count.old + texts_in unit.read.found) }
     {
         let inlines = self.read_texts(found.unit(), count)?;
         let piece = unit_html(self.alloc, found.unit().blocks(), &inlines, self.options)?;
@@ -90,24 +91,51 @@ impl<'a> TextReader<'a> {
         again: &mut Vec<Again>,
         count: &mut C,
     ) -> Result<(), EditFault>
-        requires { next ≤ length units.now }
+        requires order { first ≤ next }
+        requires within { next ≤ length units.now }
+        requires fits { All (Fits (map found_in units.now)) again.old.items }
+        requires written { All (IsWritten self.now.options.now (map found_in units.now)) again.old.items }
+        ensures fits { OnOk result (All (Fits (map found_in units.now)) again.new.items) }
+        ensures written { OnOk result (All (IsWritten self.now.options.now (map found_in units.now)) again.new.items) }
         ensures fault { IfErr result OfReading }
         ensures lines { C.lines count.new ≡ C.lines count.old }
+        ensures inlines { OnOk result (C.inlines count.new + texts_before first units.now ≤ C.inlines count.old + texts_before next units.now) }
     {
         if !self.labels.changes.some_are_new() {
             return Ok(());
         }
         let mut begin = begin;
         for i in first..next {
-            let unit = &units[i];
-            if self.is_concerned(unit) {
-                match self.again(i, unit, count) {
-                    Ok(one) => again.push(one)?,
-                    Err(fault) => return Err(fault_in_unit(fault, begin)),
-                }
+            if let Err(fault) = self.read_if_concerned(units, i, again, count) {
+                return Err(fault_in_unit(fault, begin));
             }
-            begin = begin.saturating_add(unit.found().lines());
+            begin = begin.saturating_add(units[i].found().lines());
         }
+        Ok(())
+    }
+
+    /// Reads the unit of this number again if a text of it asked for a label that leads elsewhere after the edit.
+    fn read_if_concerned<C: Count>(
+        &self,
+        units: &[HeldUnit],
+        number: usize,
+        again: &mut Vec<Again>,
+        count: &mut C,
+    ) -> Result<(), InlineFault>
+        requires within { number < length units.now }
+        requires fits { All (Fits (map found_in units.now)) again.old.items }
+        requires written { All (IsWritten self.now.options.now (map found_in units.now)) again.old.items }
+        ensures fits { OnOk result (All (Fits (map found_in units.now)) again.new.items) }
+        ensures written { OnOk result (All (IsWritten self.now.options.now (map found_in units.now)) again.new.items) }
+        ensures lines { C.lines count.new ≡ C.lines count.old }
+        ensures inlines { C.inlines count.new + texts_before number units.now ≤ C.inlines count.old + texts_before (number + 1) units.now }
+    {
+        let unit = &units[number];
+        if !self.is_concerned(unit) {
+            return Ok(());
+        }
+        let one = self.again(number, unit, count)?;
+        again.push(one)?;
         Ok(())
     }
 

@@ -1,9 +1,11 @@
 //! What an edit changes, made before anything of the preview is.
 
-ghost use Rattle.std.specs.Prelude.{◌≡◌, ◌≤◌, ◌+◌, IfErr, length};
+ghost use Rattle.std.specs.Prelude.{◌≡◌, ◌≤◌, ◌+◌, IfErr, IfOk, length, map};
 ghost use Rattle.mdview.specs.Document.{size_of};
 ghost use Rattle.mdview.specs.NewText.{lines_of};
 ghost use Rattle.mdview.specs.Reading.{OfReading};
+ghost use Rattle.mdview.specs.HeldUnit.{found_in, read_of, texts_before, texts_of};
+ghost use Rattle.mdview.specs.Renewed.{Renews, IsPatchOf, number_after};
 
 use crate::fault::EditFault;
 use crate::held_labels::{HeldLabels, LabelsAfter};
@@ -53,7 +55,9 @@ impl Renewal {
         requires few { length (lines_of text) ≤ 1000000 }
         requires small { size_of (lines_of text) ≤ 16777216 }
         ensures fault { IfErr result OfReading }
-        ensures lines { C.lines count.new ≤ C.lines count.old + length (lines_of text) }
+        ensures inlines { IfOk result (λ r. C.inlines count.new + texts_before r.next held.now.units.now ≤ C.inlines count.old + texts_before r.first held.now.units.now + texts_of (map read_of r.units.items) + texts_before (length held.now.units.now) held.now.units.now) }
+        ensures renews { IfOk result (Renews held.now.options.now (map found_in held.now.units.now)) }
+        ensures lines { C.lines count.new ≤ C.lines count.old + length (lines_of text.entry) }
     {
         let stretch = read_stretch(held, text, count)?;
         let changes = LabelChanges::of(held, &stretch)?;
@@ -93,7 +97,10 @@ impl Renewal {
     }
 
     /// The patch that the edit answers.
-    pub fn patch(&self, alloc: Global) -> Result<Patch, AllocError> {
+    pub fn patch(&self, alloc: Global) -> Result<Patch, AllocError>
+        requires { self.now.first ≤ self.now.next }
+        ensures { IfOk result (IsPatchOf self.now) }
+    {
         let added = self.units.len();
         let mut again = Vec::with_capacity(alloc, self.again.len())?;
         for one in &self.again {
@@ -108,14 +115,15 @@ impl Renewal {
     }
 
     /// The number that a unit which stays has after the edit.
-    fn number_after(&self, unit: usize) -> usize {
+    fn number_after(&self, unit: usize) -> usize
+        ensures { result ≡ number_after self.now unit }
+    {
         if unit < self.next {
-            unit
-        } else {
-            (unit - self.next)
-                .saturating_add(self.first)
-                .saturating_add(self.units.len())
+            return unit;
         }
+        (unit - self.next)
+            .saturating_add(self.first)
+            .saturating_add(self.units.len())
     }
 }
 

@@ -1,5 +1,7 @@
 //! Where an edit begins to read, and where what it reads meets the units that are held.
 
+ghost use Rattle.std.specs.Prelude.{◌≡◌, ◌≤◌, ◌<◌, IfSome, length};
+
 use crate::held_units::HeldUnit;
 
 /// A unit by its number, and the number of its first line.
@@ -9,21 +11,40 @@ pub struct Place {
     pub line: usize,
 }
 
-/// The last unit that begins above a line. Where there is none it is the front of the text.
-pub fn resume_at(units: &[HeldUnit], head: usize, at: usize) -> Place {
-    let mut place = Place { unit: 0, line: 0 };
+/// Where reading begins: a line, and the first unit that is not before it.
+#[derive(Clone, Copy)]
+pub struct Resume {
+    pub from: usize,
+    pub place: Place,
+}
+
+/// The last unit that begins above a line. Where there is none, it is the front of the text.
+pub fn resume_at(units: &[HeldUnit], head: usize, at: usize) -> Resume
+    ensures from { result.from ≤ at }
+    ensures unit { result.place.unit ≤ length units.now }
+{
+    let mut resume = Resume {
+        from: 0,
+        place: Place {
+            unit: 0,
+            line: head,
+        },
+    };
     let mut begin = head;
     for i in 0..units.len() {
         if begin >= at {
-            return place;
+            return resume;
         }
-        place = Place {
-            unit: i,
-            line: begin,
+        resume = Resume {
+            from: begin,
+            place: Place {
+                unit: i,
+                line: begin,
+            },
         };
         begin = begin.saturating_add(units[i].found().lines());
     }
-    place
+    resume
 }
 
 /// The first line of the unit of this number, or the line behind the last unit.
@@ -43,19 +64,19 @@ pub struct Cursor<'a> {
 }
 
 impl<'a> Cursor<'a> {
-    /// A cursor at the first unit, before which `head` lines stand.
-    pub fn new(units: &'a [HeldUnit], head: usize) -> Cursor<'a> {
-        Cursor {
-            units,
-            next: Place {
-                unit: 0,
-                line: head,
-            },
-        }
+    /// A cursor at a unit.
+    pub fn at(units: &'a [HeldUnit], place: Place) -> Cursor<'a>
+        ensures { (result.units.now ≡ units.now) × (result.next ≡ place) }
+    {
+        Cursor { units, next: place }
     }
 
     /// The unit that begins at a line. The lines that are asked for ascend.
-    pub fn unit_at(&mut self, line: usize) -> Option<usize> {
+    pub fn unit_at(&mut self, line: usize) -> Option<usize>
+        ensures same { self.new.units.now ≡ self.old.units.now }
+        ensures forward { self.old.next.unit ≤ self.new.next.unit }
+        ensures unit { IfSome result (λ unit. (unit ≡ self.new.next.unit) × (unit < length self.new.units.now)) }
+    {
         while self.next.unit < self.units.len() && self.next.line < line {
             let unit = &self.units[self.next.unit];
             self.next = Place {

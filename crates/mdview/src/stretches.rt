@@ -1,6 +1,6 @@
 //! The stretch of a text that an edit reads again.
 
-ghost use Rattle.std.specs.Prelude.{◌≡◌, ◌≤◌, ◌+◌, IfErr, IfOk, length};
+ghost use Rattle.std.specs.Prelude.{◌≡◌, ◌≤◌, ◌+◌, ◌<◌, ◌-◌, IfErr, IfOk, IfSome, length};
 ghost use Rattle.mdview.specs.Document.{size_of};
 ghost use Rattle.mdview.specs.NewText.{lines_of};
 ghost use Rattle.mdview.specs.Reading.{OfReading};
@@ -8,7 +8,7 @@ ghost use Rattle.mdview.specs.Reading.{OfReading};
 use crate::fault::EditFault;
 use crate::new_text::NewText;
 use crate::renewals::Held;
-use crate::resuming::{Cursor, Place, resume_at};
+use crate::resuming::{Cursor, Resume, resume_at};
 use mdblock::{BlockFault, Found, Reader};
 use mdtext::Count;
 use std::alloc::AllocError;
@@ -34,14 +34,13 @@ pub fn read_stretch<C: Count>(
     requires few { length (lines_of text) ≤ 1000000 }
     requires small { size_of (lines_of text) ≤ 16777216 }
     ensures fault { IfErr result OfReading }
-    ensures lines { C.lines count.new ≤ C.lines count.old + length (lines_of text) }
+    ensures order { IfOk result (λ stretch. (stretch.first ≤ stretch.next) × (stretch.next ≤ length held.now.units.now)) }
+    ensures lines { C.lines count.new ≤ C.lines count.old + length (lines_of text.entry) }
     ensures inlines { C.inlines count.new ≡ C.inlines count.old }
 {
-    let Place {
-        unit: first,
-        line: from,
-    } = resume_at(held.units, held.head, text.at());
-    let mut cursor = Cursor::new(held.units, held.head);
+    let Resume { from, place } = resume_at(held.units, held.head, text.at());
+    let first = place.unit;
+    let mut cursor = Cursor::at(held.units, place);
     let mut found = Vec::new(held.alloc);
     let mut reader = Reader::new(held.alloc, held.entities);
     for line in from..text.len() {
@@ -101,6 +100,10 @@ fn begins_at(reader: &Reader<'_>, line: usize) -> bool {
 }
 
 /// The unit that is held and begins in this line, if that stands behind the edit.
-fn held_at(cursor: &mut Cursor<'_>, text: NewText<'_>, line: usize) -> Option<usize> {
+fn held_at(cursor: &mut Cursor<'_>, text: NewText<'_>, line: usize) -> Option<usize>
+    ensures same { cursor.new.units.now ≡ cursor.old.units.now }
+    ensures forward { cursor.old.next.unit ≤ cursor.new.next.unit }
+    ensures unit { IfSome result (λ unit. (unit ≡ cursor.new.next.unit) × (unit < length cursor.new.units.now)) }
+{
     cursor.unit_at(text.old_line(line)?)
 }
