@@ -1,6 +1,6 @@
 # The targets for people and for the gate. `rt` is the command of the Rattle toolchain.
 RT ?= rt
-PROGRAMS := mdrender mdpreview
+PROGRAMS := mdrender mdpreview edit_counts
 # How many random texts and edit scripts a comparison with an oracle takes.
 TEXTS ?= 2000
 SCRIPTS ?= 600

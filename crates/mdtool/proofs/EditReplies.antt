@@ -12,10 +12,10 @@ use Rattle.mdtool.specs.Replies.{edit_reply}
 use Rattle.mdtool.specs.Serve.{Replied}
 
 pub edit_replied : (r : Result (String Global) AllocError) (old new : Document) (call : Call) (answer : Result Stretch EditFault)
-    → ◌≡◌ {A = Result Stretch EditFault × Document} (answer, new) (outcome old call (reading_of answer new.units))
+    → ◌≡◌ {A = Result Stretch EditFault × Document} (answer, new) (outcome old call (reading_of answer new))
     → IfOk r (λ reply. string_bytes reply ≡ edit_reply answer new.pieces) → IfOk r (λ reply. Replied old (Edit call) (string_bytes reply) new)
 edit_replied (Ok reply) old new call answer is text = record {
-  reading = reading_of answer new.units;
+  reading = reading_of answer new;
   bytes_are = text ∙ ap (λ p. edit_reply p.0 p.1.pieces) is;
   holds = ap (λ p. p.1) is;
 }

@@ -61,12 +61,12 @@ head_html_space = refl
 
 -- a script's replies, where its texts read so
 edits : List ScriptTurn
-edits = record { command = Edit (record { at = 0; del = 0; add = codes "# a" ∷ codes "b  " ∷ codes "c" ∷ [] }); reading = read (title ∷ broken 1 ∷ []) }
-    ∷ record { command = Edit (record { at = 0; del = 1; add = [] }); reading = read (broken 0 ∷ []) }
+edits = record { command = Edit (record { at = 0; del = 0; add = codes "# a" ∷ codes "b  " ∷ codes "c" ∷ [] }); reading = read (record { first = 0; removed = 0; added = 2; again = [] }) 0 (title ∷ broken 1 ∷ []) }
+    ∷ record { command = Edit (record { at = 0; del = 1; add = [] }); reading = read (record { first = 0; removed = 1; added = 0; again = [] }) 0 (broken 0 ∷ []) }
     ∷ record { command = Edit (record { at = 0; del = 0; add = codes ">" ∷ [] }); reading = nested 0 }
     ∷ record { command = Edit (record { at = 9; del = 0; add = [] }); reading = starved }
     ∷ record { command = Html; reading = starved } ∷ []
 
-first_replies : replies (document [] plain [] []) edits ≡ codes "ok 0 0 2 0\npiece 0 11\n<h1>a</h1>\npiece 1 17\n<p>b<br />\nc</p>\nok 0 2 1 0\npiece 0 17\n<p>b<br />\nc</p>\nrefused NestedTooDeep 0\nrefused OutOfRange 2\nhtml 17\n<p>b<br />\nc</p>\n"
+first_replies : replies (document [] plain [] 0 []) edits ≡ codes "ok 0 0 2 0\npiece 0 11\n<h1>a</h1>\npiece 1 17\n<p>b<br />\nc</p>\nok 0 1 0 0\nrefused NestedTooDeep 0\nrefused OutOfRange 2\nhtml 17\n<p>b<br />\nc</p>\n"
 unfolding edits plain title broken unit_of replies fresh escaped_byte digits
 first_replies = refl

@@ -13,10 +13,9 @@ use crate::device::{DeviceFault, Feed, Out, put_all};
 use crate::draining::read_all;
 use crate::fault::ToolFault;
 use crate::serving::lent;
-use mdview::EditFault;
-use mdview::Preview;
 use mdhtml::Options;
 use mdtext::{Entities, Tally, lines_of};
+use mdview::{EditFault, Preview};
 use std::alloc::Global;
 
 /// Writes the HTML of the text that the feed has left, and flushes.
@@ -33,7 +32,7 @@ pub fn convert<R: Feed, W: Out>(
 ) -> Result<(), ToolFault>
     requires feed { R.failures feed.old < 2 ^ 64 - 1 }
     requires out { W.failures out.old < 2 ^ 64 - 1 }
-    ensures converted { Conversion result (document entities options [] []) (R.left feed.old) (R.left feed.new) (W.written out.old) (W.written out.new) }
+    ensures converted { Conversion result (document entities options [] 0 []) (R.left feed.old) (R.left feed.new) (W.written out.old) (W.written out.new) }
     // `Read` is answered where the feed failed, and `Write` where the out did.
     ensures feed { R.failures feed.new ≡ failures_after result (R.failures feed.old) }
     ensures out { W.failures out.new ≡ out_failures_after result (W.failures out.old) }

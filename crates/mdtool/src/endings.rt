@@ -7,9 +7,9 @@ ghost use Rattle.mdtool.specs.RefusalText.{refused_text};
 
 use crate::device::{DeviceFault, Out, put_all};
 use crate::fault::{Stop, ToolFault, WordFault};
-use mdview::EditFault;
 use itoa::Buffer;
 use mdtext::TableFault;
+use mdview::EditFault;
 
 /// Writes why the program of this name stopped, as one line, or the help that was asked for, and answers the exit
 /// status. A fault of `err` ends the writing alone. Takes no memory.

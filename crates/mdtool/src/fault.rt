@@ -1,8 +1,8 @@
 ghost use Rattle.std.specs.Prelude.{◌≡◌};
 ghost use Rattle.mdtool.specs.declared.fault.ToolFault.TheVariants.{NoMemory};
 
-use mdview::EditFault;
 use mdtext::TableFault;
+use mdview::EditFault;
 use std::alloc::{AllocError, AllocFailed};
 use thiserror::Error;
 

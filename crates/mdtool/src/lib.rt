@@ -4,6 +4,7 @@
 
 mod command;
 mod converting;
+mod counting;
 mod device;
 mod draining;
 mod endings;
@@ -21,15 +22,16 @@ mod tests;
 mod tool_words;
 
 pub use converting::convert;
+pub use counting::serve_counts;
 pub use device::{DeviceFault, Feed, Out};
 pub use endings::ending;
 pub use entity_tables::entities_from;
 pub use fault::{Stop, ToolFault, WordFault};
 pub use mdhtml::{Breaks, Options};
 pub use mdtext::TableFault;
+pub use mdview::EditFault;
 pub use memory::{MemoryFeed, MemoryOut};
 pub use programs::{ended, entities_of, opened, words_of};
 pub use serving::serve;
 pub use standard::{ReadFeed, WriteOut};
 pub use tool_words::{Words, read_words};
-pub use mdview::EditFault;

@@ -3,9 +3,7 @@ ghost use Rattle.std.specs.Prelude.{◌≡◌, ◌++◌, string_bytes, IfOk, OnO
 ghost use Rattle.std.specs.List.{concat};
 ghost use Rattle.mdtool.specs.Replies.{html_reply, edit_reply, refused_reply, piece_reply, patch_line, brought};
 
-use mdview::EditFault;
-use mdview::Patch;
-use mdview::Preview;
+use mdview::{EditFault, Patch, Preview};
 use std::alloc::{AllocError, Global};
 
 /// The reply to `html`: the number of bytes of all pieces, and these.

@@ -12,9 +12,9 @@ use crate::device::{DeviceFault, Feed, Out, put_all};
 use crate::fault::ToolFault;
 use crate::replies::{edit_reply, html_reply};
 use crate::script::Script;
-use mdview::Preview;
 use mdhtml::Options;
 use mdtext::{Entities, Tally};
+use mdview::Preview;
 use std::alloc::{AllocError, Global};
 
 /// The lines, lent.
@@ -43,7 +43,7 @@ fn reply_to(alloc: Global, preview: &mut Preview, command: &Command) -> Result<S
 }
 
 /// Writes a reply and flushes.
-fn send<W: Out>(out: &mut W, reply: &[u8]) -> Result<(), DeviceFault>
+pub fn send<W: Out>(out: &mut W, reply: &[u8]) -> Result<(), DeviceFault>
     requires { W.failures out.old < 2 ^ 64 - 1 }
     ensures { Puts (W.written out.old) (W.failures out.old) reply.now (is_ok result) (W.written out.new) (W.failures out.new) }
 {
@@ -65,7 +65,7 @@ pub fn serve<R: Feed, W: Out>(
 ) -> Result<(), ToolFault>
     requires feed { R.failures feed.old < 2 ^ 64 - 1 }
     requires out { W.failures out.old < 2 ^ 64 - 1 }
-    ensures served { Served result (document entities options [] []) (R.left feed.old) (R.left feed.new) (W.written out.old) (W.written out.new) }
+    ensures served { Served result (document entities options [] 0 []) (R.left feed.old) (R.left feed.new) (W.written out.old) (W.written out.new) }
     // `Read` is answered where the feed failed, and `Write` where the out did.
     ensures feed { R.failures feed.new ≡ failures_after result (R.failures feed.old) }
     ensures out { W.failures out.new ≡ out_failures_after result (W.failures out.old) }

@@ -1,5 +1,6 @@
 //! What no clause says: that calls succeed with ample memory, the worked scripts, and that replies are flushed one by one.
 
+mod kept_units;
 mod tools;
 mod worked_texts;
 
@@ -55,7 +56,7 @@ fn check(
 const EDITS: &str = "edit 0 0 3\n# a\nb  \nc\nedit 0 1 0\nhtml\n";
 
 const REPLIES: &str =
-    "ok 0 0 2 0\npiece 0 11\n<h1>a</h1>\npiece 1 17\n<p>b<br />\nc</p>\nok 0 2 1 0\npiece 0 17\n<p>b<br />\nc</p>\nhtml 17\n<p>b<br />\nc</p>\n";
+    "ok 0 0 2 0\npiece 0 11\n<h1>a</h1>\npiece 1 17\n<p>b<br />\nc</p>\nok 0 1 0 0\nhtml 17\n<p>b<br />\nc</p>\n";
 
 #[test]
 fn answers_edits(rt: HostRuntime) -> Result<(), Fail> {
@@ -289,7 +290,7 @@ fn ends_at_each_device_fault(rt: HostRuntime) -> Result<(), Fail> {
         let entities = Entities::builtin(alloc)?;
         let end = serve(alloc, &mut feed, &mut out, entities, options(Breaks::Soft));
         assert!(rt; matches!(end, Err(ToolFault::Write)), "write {call}");
-        let lens = [0, 61, 100, 125];
+        let lens = [0, 61, 72, 97];
         let len = lens.get(replies).copied().unwrap_or(0);
         assert_eq!(rt; out.bytes().len(), len, "write {call}");
     }

@@ -3,6 +3,7 @@
 use crate::{Breaks, EditFault, Options, Patch, Preview};
 use mdtext::{Entities, Tally};
 use std::alloc::{AllocError, Global};
+use std::process::Abort;
 use std::test::Fail;
 
 fn options(breaks: Breaks) -> Options {
@@ -73,4 +74,183 @@ fn letters(alloc: Global, count: usize) -> Result<String, AllocError> {
         line.push('a')?;
     }
     Ok(line)
+}
+
+/// A preview of these lines.
+fn preview_of(alloc: Global, lines: &[&str]) -> Result<Preview, Fail> {
+    let mut preview = Preview::new(alloc, Entities::builtin(alloc)?, options(Breaks::Soft));
+    preview
+        .edit(0, 0, lines, &mut Tally::new())
+        .map_err(|_| "refused")?;
+    Ok(preview)
+}
+
+#[test]
+fn an_edit_reads_its_stretch(rt: HostRuntime) -> Result<(), Fail> {
+    let alloc = rt.alloc();
+    let mut preview = preview_of(alloc, ["[foo]", "", "x", "", "[foo]: /a"].as_slice())?;
+    // From line 2 to the end there are three lines; the text of the paragraph before asked for the label.
+    let mut count = Tally::new();
+    let patch = preview
+        .edit(4, 1, ["[foo]: /b"].as_slice(), &mut count)
+        .map_err(|_| "refused")?;
+    assert_eq!(rt; (patch.first, patch.removed, patch.added), (1, 2, 2));
+    assert_eq!(rt; patch.again.as_slice(), [0].as_slice());
+    assert!(rt; count.lines() >= 1 && count.lines() <= 4);
+    assert!(rt; count.inlines() >= 1 && count.inlines() <= 2);
+    assert_eq!(rt;
+        patch.text(&preview, 0),
+        Some("<p><a href=\"/b\">foo</a></p>\n")
+    );
+    assert_eq!(rt; patch.text(&preview, 3), None);
+    Ok(())
+}
+
+#[test]
+fn the_first_definition_counts(rt: HostRuntime) -> Result<(), Fail> {
+    let alloc = rt.alloc();
+    let mut preview = preview_of(alloc, ["[foo]", "", "x", "", "[foo]: /a"].as_slice())?;
+    let mut count = Tally::new();
+    let patch = preview
+        .edit(0, 0, ["[foo]: /c", ""].as_slice(), &mut count)
+        .map_err(|_| "refused")?;
+    assert_eq!(rt; (patch.first, patch.removed, patch.added), (0, 0, 1));
+    assert_eq!(rt; patch.again.as_slice(), [1].as_slice());
+    assert!(rt; count.inlines() <= 1);
+    assert_eq!(rt;
+        patch.text(&preview, 1),
+        Some("<p><a href=\"/c\">foo</a></p>\n")
+    );
+    let mut count = Tally::new();
+    let none: [&str; 0] = [];
+    let patch = preview
+        .edit(0, 2, none.as_slice(), &mut count)
+        .map_err(|_| "refused")?;
+    assert_eq!(rt; (patch.first, patch.removed, patch.added), (0, 1, 0));
+    assert_eq!(rt; patch.again.as_slice(), [0].as_slice());
+    assert!(rt; count.lines() <= 1);
+    assert_eq!(rt;
+        patch.text(&preview, 0),
+        Some("<p><a href=\"/a\">foo</a></p>\n")
+    );
+    Ok(())
+}
+
+#[test]
+fn units_are_told_by_their_numbers(rt: HostRuntime) -> Result<(), Fail> {
+    let alloc = rt.alloc();
+    let preview = preview_of(alloc, ["", "a *b*", "", "# [c]", "[d]: /u"].as_slice())?;
+    assert_eq!(rt; preview.units(), 3);
+    assert_eq!(rt; preview.first_line(0), Some(1));
+    assert_eq!(rt; preview.first_line(1), Some(3));
+    assert_eq!(rt; preview.first_line(2), Some(4));
+    assert_eq!(rt; preview.first_line(3), None);
+    let unit = preview.unit(2).ok_or("no unit")?;
+    assert_eq!(rt; unit.definitions().len(), 1);
+    assert!(rt; preview.unit(3).is_none());
+    let inlines = preview.inlines(1).ok_or("no unit")?;
+    assert_eq!(rt; inlines.len(), 1);
+    assert_eq!(rt; inlines[0].asked().len(), 1);
+    assert!(rt; preview.inlines(3).is_none());
+    Ok(())
+}
+
+/// Lines of which each kind of block can begin, go on and end, and that change where labels lead.
+const LINES: [&str; 24] = [
+    "",
+    "",
+    "",
+    "a",
+    "b *c* [k]",
+    "[m][k] d",
+    "# t [m]",
+    "---",
+    "===",
+    "- x [k]",
+    "  y",
+    "2. z",
+    "> q [k]",
+    ">",
+    "[k]: /u",
+    "[m]: /v \"t\"",
+    "[k]: /w",
+    "```",
+    "    i",
+    "| a |",
+    "| - |",
+    "<div>",
+    "<!-- x",
+    "-->",
+];
+
+/// The next number of a sequence that looks random.
+fn next(seed: &mut u64) -> usize {
+    *seed = seed
+        .wrapping_mul(6_364_136_223_846_793_005)
+        .wrapping_add(1_442_695_040_888_963_407);
+    (*seed >> 33) as usize
+}
+
+fn line_of(seed: &mut u64) -> &'static str {
+    LINES.as_slice().get(next(seed) % 24).copied().unwrap_or("")
+}
+
+/// Whether both hold the same, as far as it is told.
+fn are_same(rt: &impl Abort, one: &Preview, other: &Preview) {
+    assert_eq!(rt; (one.len(), one.units()), (other.len(), other.units()));
+    for i in 0..one.len() {
+        assert_eq!(rt; one.line(i), other.line(i));
+    }
+    for i in 0..one.units() {
+        assert_eq!(rt; one.first_line(i), other.first_line(i));
+        assert_eq!(rt; one.piece(i), other.piece(i));
+    }
+}
+
+/// The lines with some replaced.
+fn replaced(
+    alloc: Global,
+    lines: &[&'static str],
+    at: usize,
+    del: usize,
+    add: &[&'static str],
+) -> Result<Vec<&'static str>, AllocError> {
+    let mut new = Vec::with_capacity(alloc, lines.len() + add.len())?;
+    for line in lines.iter().take(at) {
+        new.push(*line)?;
+    }
+    for line in add {
+        new.push(*line)?;
+    }
+    for line in lines.iter().skip(at).skip(del) {
+        new.push(*line)?;
+    }
+    Ok(new)
+}
+
+#[test]
+fn edits_leave_what_the_whole_text_gives(rt: HostRuntime) -> Result<(), Fail> {
+    let alloc = rt.alloc();
+    let mut seed = 41;
+    let mut lines: Vec<&'static str> = Vec::new(alloc);
+    for i in 0..300 {
+        lines.push("")?;
+        lines.push(line_of(&mut seed))?;
+        lines.push(if i % 3 == 0 { line_of(&mut seed) } else { "z" })?;
+    }
+    let mut preview = preview_of(alloc, &lines)?;
+    for _ in 0..1000 {
+        let at = next(&mut seed) % (lines.len() + 1);
+        let del = (next(&mut seed) % 4).min(lines.len() - at);
+        let mut add: Vec<&'static str> = Vec::new(alloc);
+        for _ in 0..next(&mut seed) % 4 {
+            add.push(line_of(&mut seed))?;
+        }
+        preview
+            .edit(at, del, &add, &mut Tally::new())
+            .map_err(|_| "refused")?;
+        lines = replaced(alloc, &lines, at, del, &add)?;
+        are_same(&rt, &preview, &preview_of(alloc, &lines)?);
+    }
+    Ok(())
 }
