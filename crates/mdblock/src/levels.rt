@@ -454,7 +454,18 @@ fn deeper(room: usize) -> Result<usize, BlockFault>
 fn push_block(over: &mut Vec<Block>, block: Block) -> Result<(), AllocError>
     ensures { OnOk result ((n : ℕ) → BlocksIn n (blocks_view over.old.items) → BlockIn n (block_view block) → BlocksIn n (blocks_view over.new.items)) }
 {
+    make_room(over)?;
     over.push(block)?;
+    Ok(())
+}
+
+/// Most containers and units hold one block alone, so at first there is room for no more.
+fn make_room(over: &mut Vec<Block>) -> Result<(), AllocError>
+    ensures { over.new.items ≡ over.old.items }
+{
+    if over.is_empty() {
+        over.reserve_exact(1)?;
+    }
     Ok(())
 }
 
