@@ -1,6 +1,6 @@
 use Rattle.std.proofs.Common.{refl, arith}
 use Rattle.mdtext.specs.ByteClass.{in_class}
-use Rattle.mdtext.proofs.PlainRuns.{Stops, stops}
+use Rattle.mdtext.proofs.PlainRuns.{stops}
 use Rattle.mdinline.proofs.backticks.next_run.Goals.{After-first_special}
 use Rattle.mdinline.proofs.backticks.next_run.Goals as goal
 
