@@ -1,5 +1,5 @@
 -- The first place of one of a few bytes.
-use Rattle.std.proofs.Common.{◌≡◌, ℕ, ◌<◌, Bool, true, false, List, [], ◌∷◌, Option, None, Some, length, take, get_or, unwrap_or, refl, ap, sym, ◌∙◌, arith, ◌||◌}
+use Rattle.std.proofs.Common.{◌≡◌, ℕ, Bool, true, false, List, [], ◌∷◌, Option, None, Some, length, take, get_or, unwrap_or, refl, ap, sym, ◌∙◌, arith, ◌||◌}
 use Rattle.std.specs.List.{position_or_len, list_any}
 use Rattle.std.proofs.Math.Seq.{take-length}
 use Rattle.mdtext.specs.Lines.{clean_byte, without_nul}
