@@ -5,14 +5,24 @@ PROGRAMS := mdrender mdpreview edit_counts
 TEXTS ?= 2000
 SCRIPTS ?= 600
 
-.PHONY: help run test build check fmt compare
+# Where `make install` puts things; DESTDIR goes before each of these folders.
+PREFIX ?= /usr/local
+BIN_DIR ?= $(PREFIX)/bin
+MAN_DIR ?= $(PREFIX)/share/man/man1
+BASH_COMPLETION_DIR ?= $(PREFIX)/share/bash-completion/completions
+ZSH_COMPLETION_DIR ?= $(PREFIX)/share/zsh/site-functions
+INSTALL ?= install
+
+.PHONY: help run test build check fmt compare install uninstall
 
 help:
 	@echo "make run                 proves, builds and runs mdrender on a page and mdpreview on a writer's few edits, and shows what goes in and out"
-	@echo "make test                the gate: every proof from nothing, the tests and must-fail edits, and the example files"
+	@echo "make test                the gate: every proof from nothing, the tests and must-fail edits, the example files, endings and completions"
 	@echo "make build               proves and builds the programs into bin/"
 	@echo "make check               a quick check of every crate, over what earlier checks kept"
 	@echo "make fmt                 lays out the sources"
+	@echo "make install PREFIX=DIR  installs the programs, their man pages and completions for bash and zsh below DIR ($(PREFIX)); DESTDIR is honoured"
+	@echo "make uninstall           removes what make install put there"
 	@echo "make compare ORACLE=DIR  builds, and runs DIR/compare on the programs, with TEXTS=$(TEXTS) random texts and SCRIPTS=$(SCRIPTS) random edit scripts"
 
 run: build
@@ -36,3 +46,22 @@ fmt:
 
 compare: build
 	@tools/compare $(ORACLE) $(TEXTS) $(SCRIPTS)
+
+# A program that is not there yet; one that is there is installed as it stands.
+$(PROGRAMS:%=bin/%):
+	@$(MAKE) -s build
+
+install: $(PROGRAMS:%=bin/%)
+	$(INSTALL) -d "$(DESTDIR)$(BIN_DIR)" "$(DESTDIR)$(MAN_DIR)" "$(DESTDIR)$(BASH_COMPLETION_DIR)" "$(DESTDIR)$(ZSH_COMPLETION_DIR)"
+	$(INSTALL) -m 755 $(PROGRAMS:%=bin/%) "$(DESTDIR)$(BIN_DIR)"
+	$(INSTALL) -m 644 $(PROGRAMS:%=docs/man/%.1) "$(DESTDIR)$(MAN_DIR)"
+	@for program in $(PROGRAMS); do \
+	  $(INSTALL) -m 644 completions/mdrender.bash "$(DESTDIR)$(BASH_COMPLETION_DIR)/$$program" || exit 1; \
+	done
+	$(INSTALL) -m 644 completions/_mdrender "$(DESTDIR)$(ZSH_COMPLETION_DIR)"
+
+uninstall:
+	@for program in $(PROGRAMS); do \
+	  rm -f "$(DESTDIR)$(BIN_DIR)/$$program" "$(DESTDIR)$(MAN_DIR)/$$program.1" "$(DESTDIR)$(BASH_COMPLETION_DIR)/$$program" || exit 1; \
+	done
+	rm -f "$(DESTDIR)$(ZSH_COMPLETION_DIR)/_mdrender"

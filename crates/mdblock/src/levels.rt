@@ -1,6 +1,6 @@
 //! The open blocks: each level holds the blocks that are over in it, and the one that is still open.
 
-ghost use Rattle.std.specs.Prelude.{◌≡◌, ◌+◌, ◌≤◌, ℕ, IfOk, IfSome, OnOk, length};
+ghost use Rattle.std.specs.Prelude.{◌≡◌, ◌+◌, ◌≤◌, ℕ, List, IfOk, IfSome, OnOk, length};
 ghost use Rattle.mdtext.specs.Columns.{AreMarks};
 ghost use Rattle.mdblock.specs.BlockView.{block_view, blocks_view, items_view};
 ghost use Rattle.mdblock.specs.OpenPositions.{LevelIn, StepIn, IsPlaceOf};
@@ -45,10 +45,10 @@ enum Spine {
     List(Box<Level>, OpenList),
 }
 
-/// What a line is to an open list.
+/// What a line is to the open block, or to an open list.
 #[derive(Clone, Copy, Debug, PartialEq, Eq)]
-enum Place {
-    /// A line of the open item.
+pub(crate) enum Place {
+    /// A line of the block, or of the open item.
     Matched,
     /// A line of the paragraph that is open in the item, which does not match it.
     Lazy,
@@ -56,7 +56,7 @@ enum Place {
     Between,
     /// The first line of the next item.
     Next(Marker),
-    /// No line of the list.
+    /// No line of the block.
     Outside,
 }
 
@@ -86,17 +86,21 @@ impl Level {
         }
     }
 
-    /// Whether the open block takes the line.
-    pub(crate) fn takes(&self, line: &Line) -> bool {
-        if line.is_lazy() {
-            return true;
-        }
+    /// What a line is to the open block.
+    pub(crate) fn place(&self, line: &Line) -> Place
+        ensures { IsPlaceOf line.now.text.now result }
+    {
         match &self.last {
-            Spine::Shut => false,
-            Spine::Leaf(leaf) => leaf.takes(line),
-            Spine::Quote(inner) => quotes::matches(line) || inner.goes_on_lazily(line),
-            Spine::List(inner, list) => inner.place(list, line) != Place::Outside,
+            Spine::Shut => matched_if(line.is_lazy()),
+            Spine::Leaf(leaf) => matched_if(line.is_lazy() || leaf.takes(line)),
+            Spine::Quote(inner) => matched_if(inner.goes_on_in_quote(line)),
+            Spine::List(inner, list) => inner.place_in(list, line),
         }
+    }
+
+    /// Whether a line is one of the block quote that holds these blocks.
+    fn goes_on_in_quote(&self, line: &Line) -> bool {
+        line.is_lazy() || quotes::matches(line) || self.goes_on_lazily(line)
     }
 
     /// Whether a line that a container around does not match continues the paragraph that is open here.
@@ -105,7 +109,7 @@ impl Level {
     }
 
     /// What a line is to the list whose last item holds these blocks.
-    fn place(&self, list: &OpenList, line: &Line) -> Place
+    fn place_in(&self, list: &OpenList, line: &Line) -> Place
         ensures { IsPlaceOf line.now.text.now result }
     {
         if line.is_lazy() {
@@ -127,11 +131,6 @@ impl Level {
             Some(marker) => Place::Next(marker),
             None => Place::Outside,
         }
-    }
-
-    /// Whether the line begins a block of its own here.
-    pub(crate) fn is_left_by(&self, line: &Line) -> bool {
-        !line.is_blank() && !self.takes(line)
     }
 
     /// Whether the next block is the first one of a list item.
@@ -200,24 +199,26 @@ impl Level {
         Ok(())
     }
 
-    /// Reads one line more, where at most `room` containers may be open inside one another.
+    /// Reads one line more, at its place, where at most `room` containers may be open inside one another.
     #[cycle(reading)]
     pub(crate) fn add(
         &mut self,
         line: Line,
+        place: Place,
         room: usize,
         gathering: &mut Gathering,
     ) -> Result<(), BlockFault>
-        requires { LevelIn (length gathering.old.texts.items) self.old }
+        requires level { LevelIn (length gathering.old.texts.items) self.old }
+        requires place { IsPlaceOf line.text.now place }
         ensures within { OnOk result (LevelIn (length gathering.new.texts.items) self.new) }
         ensures grows { length gathering.old.texts.items ≤ length gathering.new.texts.items }
     {
-        if !self.takes(&line) {
+        if place == Place::Outside {
             self.shut(gathering)?;
             return self.begin(line, room, gathering);
         }
         let blank = line.is_blank();
-        self.go_on(line, room, gathering)?;
+        self.go_on(line, place, room, gathering)?;
         self.blank = blank && !self.is_verbatim();
         Ok(())
     }
@@ -228,10 +229,12 @@ impl Level {
     fn go_on(
         &mut self,
         mut line: Line,
+        place: Place,
         room: usize,
         gathering: &mut Gathering,
     ) -> Result<(), BlockFault>
-        requires { LevelIn (length gathering.old.texts.items) self.old }
+        requires level { LevelIn (length gathering.old.texts.items) self.old }
+        requires place { IsPlaceOf line.text.now place }
         ensures within { OnOk result (LevelIn (length gathering.new.texts.items) self.new) }
         ensures grows { length gathering.old.texts.items ≤ length gathering.new.texts.items }
     {
@@ -240,12 +243,16 @@ impl Level {
             Spine::Leaf(_) => Ok(self.add_to_leaf(line, gathering)?),
             Spine::Quote(inner) => {
                 quotes::enter(&mut line);
-                inner.add(line, deeper(room)?, gathering)
+                let place = inner.place(&line);
+                inner.add(line, place, deeper(room)?, gathering)
             }
             Spine::List(inner, list) => {
                 let room = deeper(room)?;
-                match enter_item(inner, list, self.blank, &mut line, gathering)? {
-                    Entry::Goes => inner.add(line, room, gathering),
+                match enter_item(inner, list, self.blank, &mut line, place, gathering)? {
+                    Entry::Goes => {
+                        let place = inner.place(&line);
+                        inner.add(line, place, room, gathering)
+                    }
                     Entry::Begins => inner.begin(line, room, gathering),
                     Entry::Stays => Ok(()),
                 }
@@ -354,6 +361,16 @@ impl Level {
     }
 }
 
+fn matched_if(takes: bool) -> Place
+    ensures { (text : List ℕ) → IsPlaceOf text result }
+{
+    if takes {
+        Place::Matched
+    } else {
+        Place::Outside
+    }
+}
+
 /// What a line of an open list does inside its last item.
 enum Entry {
     /// It is read there.
@@ -371,15 +388,17 @@ fn enter_item(
     list: &mut OpenList,
     gap: bool,
     line: &mut Line,
+    place: Place,
     gathering: &mut Gathering,
 ) -> Result<Entry, AllocError>
     requires inner { LevelIn (length gathering.old.texts.items) inner.old }
     requires list { ItemsIn (length gathering.old.texts.items) (items_view list.old.items.items) }
+    requires place { IsPlaceOf line.old.text.now place }
     ensures inner { IfOk result (λ _. LevelIn (length gathering.new.texts.items) inner.new) }
     ensures list { IfOk result (λ _. ItemsIn (length gathering.new.texts.items) (items_view list.new.items.items)) }
     ensures grows { length gathering.old.texts.items ≤ length gathering.new.texts.items }
 {
-    match inner.place(list, line) {
+    match place {
         Place::Matched => {
             list.enter(line);
             Ok(Entry::Goes)
@@ -435,7 +454,18 @@ fn deeper(room: usize) -> Result<usize, BlockFault>
 fn push_block(over: &mut Vec<Block>, block: Block) -> Result<(), AllocError>
     ensures { OnOk result ((n : ℕ) → BlocksIn n (blocks_view over.old.items) → BlockIn n (block_view block) → BlocksIn n (blocks_view over.new.items)) }
 {
+    make_room(over)?;
     over.push(block)?;
+    Ok(())
+}
+
+/// Most containers and units hold one block alone, so at first there is room for no more.
+fn make_room(over: &mut Vec<Block>) -> Result<(), AllocError>
+    ensures { over.new.items ≡ over.old.items }
+{
+    if over.is_empty() {
+        over.reserve_exact(1)?;
+    }
     Ok(())
 }
 

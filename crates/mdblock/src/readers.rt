@@ -7,7 +7,7 @@ ghost use Rattle.mdblock.specs.Reading.{AreKept};
 
 use crate::faults::BlockFault;
 use crate::gathering::Gathering;
-use crate::levels::Level;
+use crate::levels::{Level, Place};
 use crate::lines::Line;
 use crate::units::Found;
 use mdtext::{Count, Entities};
@@ -131,12 +131,13 @@ impl<'e> Held<'e> {
         ensures { OnOk result (AreKept self.new) }
     {
         let line = Line::new(text);
-        let found = if self.level.is_left_by(&line) {
+        let place = self.level.place(&line);
+        let found = if place == Place::Outside && !line.is_blank() {
             self.begin_unit(fed)?
         } else {
             None
         };
-        self.level.add(line, LIMIT, &mut self.gathering)?;
+        self.level.add(line, place, LIMIT, &mut self.gathering)?;
         Ok(found)
     }
 

@@ -1,40 +1,16 @@
 -- Places beside ASCII bytes.
-use Rattle.std.proofs.Common.{◌≡◌, ℕ, zero, suc, ◌+◌, ◌-◌, ◌<◌, ◌≤◌, Bool, true, false, ◌&&◌, ◌||◌, List, [], ◌∷◌, length, get_or, drop, length-drop, Option, Some, None, IfSome, Result, Ok, Err, IfOk, refl, sym, ap, ◌∙◌, subst, arith}
-use Rattle.std.specs.Prelude.{nat_lt, nat_eq, slice_index}
-use Rattle.std.specs.List.{list_all}
+use Rattle.std.proofs.Common.{◌≡◌, ℕ, zero, suc, ◌+◌, ◌-◌, ◌<◌, ◌≤◌, true, List, [], ◌∷◌, length, get_or, drop, length-drop, Option, Some, None, IfSome, Result, Ok, Err, IfOk, sym, ap, ◌∙◌, subst, arith}
+use Rattle.std.specs.Prelude.{slice_index}
 use Rattle.std.specs.Str.{IsUtf8, IsCharBoundary}
 use Rattle.std.proofs.lemmas.Str.{IsCharBoundary-after_ascii}
 use Rattle.std.proofs.lemmas.List.{get_or-drop}
 use Rattle.std.proofs.lemmas.Bool.Decides.{nat_tests}
-use Rattle.mdtext.specs.ByteClass.{in_class}
 use Rattle.mdscan.specs.Blanks.{begins_with}
 use Rattle.mdscan.specs.Spans.{IsEndAfter, EndsAfterMark, IsEnclosed}
 use Rattle.mdscan.specs.declared.spans.Span.{Span}
 use Rattle.mdinline.specs.Brackets.{IsLinkEnd}
 use Rattle.mdinline.specs.Ticks.{AreTicksFrom}
 use Rattle.mdinline.specs.declared.backticks.Ticks.{Ticks}
-
--- the bytes of a class of ASCII bytes are ASCII
-either_true : (s t : Bool) → (s || t) ≡ true → s ≡ false → t ≡ true
-either_true true t h e = cc
-either_true false t h e = h
-
-both_true : (s t : Bool) → (s && t) ≡ true → (s ≡ true) × (t ≡ true)
-both_true true t h = (refl, h)
-both_true false t h = cc
-
-low_byte : (x b : ℕ) → nat_lt x 128 ≡ true → nat_eq b x ≡ true → b < 128
-low_byte x b h e = grind (arith, nat_tests)
-
-by_head : (t : Bool) (x b : ℕ) → nat_eq b x ≡ t → nat_lt x 128 ≡ true → (t ≡ false → b < 128) → b < 128
-by_head true x b e h rest = low_byte x b h e
-by_head false x b e h rest = rest refl
-
-pub class_low : (class : List ℕ) (b : ℕ) → list_all (λ x. nat_lt x 128) class ≡ true → in_class class b ≡ true → b < 128
-class_low [] b h e = cc
-class_low (x ∷ xs) b h e =
-    let both = both_true (nat_lt x 128) (list_all (λ y. nat_lt y 128) xs) h in
-    by_head (nat_eq b x) x b refl both.0 (λ no. class_low xs b both.1 (either_true (nat_eq b x) (in_class xs b) e no))
 
 -- a place at an ASCII byte, or at the text's end
 pub before_mark : (text line : List ℕ) (at end : ℕ) → line ≡ text → at < end → end ≤ length line → (end < length line → slice_index line end < 128) → IsEndAfter text at end

@@ -7,6 +7,7 @@ ghost use Rattle.mdinline.specs.Ticks.{AreTicksFrom};
 use crate::inlines::Inline;
 use crate::plain::{past_marks, text_of};
 use crate::scanner::{Found, simple};
+use mdtext::{Class, first_special};
 use std::alloc::{AllocError, Global};
 use std::collections::BTreeMap;
 
@@ -87,13 +88,12 @@ fn next_run(text: &[u8], from: usize) -> Option<Ticks>
     requires { from ≤ length text.now }
     ensures { IfSome result (λ run. AreTicksFrom text.now from run) }
 {
-    for start in from..text.len() {
-        if text[start] == b'`' {
-            return Some(Ticks {
-                start,
-                end: past_marks(text, start, b'`'),
-            });
-        }
+    let start = from + first_special(&text[from..], &Class::of(b"`"));
+    if start < text.len() && text[start] == b'`' {
+        return Some(Ticks {
+            start,
+            end: past_marks(text, start, b'`'),
+        });
     }
     None
 }

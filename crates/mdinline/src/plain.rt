@@ -1,12 +1,11 @@
 //! Text, backslash escapes and line breaks (CommonMark 2.4, 6.7, 6.8).
 
-ghost use Rattle.std.specs.Prelude.{◌≡◌, ◌<◌, ◌≤◌, IfOk, IfSome, length, slice_index};
+ghost use Rattle.std.specs.Prelude.{◌≡◌, ◌<◌, ◌≤◌, true, IfOk, IfSome, length, slice_index};
 ghost use Rattle.std.specs.Str.{IsCharBoundary};
 ghost use Rattle.mdscan.specs.Spans.{IsEndAfter, EndsAfterMark};
 
 use crate::inlines::Inline;
 use crate::scanner::{Found, simple};
-use mdtext::{Class, first_special};
 use std::alloc::{AllocError, Global};
 
 /// A part of a text as it is written.
@@ -53,7 +52,23 @@ fn first_stop(text: &[u8]) -> usize
     ensures within { result ≤ length text.now }
     ensures mark { result < length text.now → slice_index text.now result < 128 }
 {
-    first_special(text, &Class::of(b"\n!&*<[\\]_`~"))
+    for (i, byte) in text.iter().enumerate() {
+        if is_stop(*byte) {
+            return i;
+        }
+    }
+    text.len()
+}
+
+/// Whether something may begin at a byte that is not text; most bytes are small letters, which one test leaves.
+fn is_stop(byte: u8) -> bool
+    ensures { result ≡ true → byte < 128 }
+{
+    !byte.is_ascii_lowercase()
+        && matches!(
+            byte,
+            b'\n' | b'!' | b'&' | b'*' | b'<' | b'[' | b'\\' | b']' | b'_' | b'`' | b'~'
+        )
 }
 
 /// Where the spaces begin that stand before `end`, and not before `start`.

@@ -22,7 +22,7 @@ struct PairedRun {
 /// The tree of these pieces. It is refused while it is built if too many spans lie in one another.
 pub(crate) fn settle(alloc: Global, pieces: Vec<Piece>) -> Result<Tree, InlineFault> {
     let mut runs = paired(alloc, &pieces)?.into_iter();
-    let mut builder = TreeBuilder::new(alloc);
+    let mut builder = TreeBuilder::new(alloc, pieces.len())?;
     for piece in pieces {
         match piece {
             Piece::Made { inline, depth } => builder.add(inline, depth)?,

@@ -41,12 +41,13 @@ pub(crate) struct Tree {
 }
 
 impl TreeBuilder {
-    pub(crate) fn new(alloc: Global) -> TreeBuilder {
-        TreeBuilder {
+    /// No inlines yet, with room for so many.
+    pub(crate) fn new(alloc: Global, room: usize) -> Result<TreeBuilder, AllocError> {
+        Ok(TreeBuilder {
             frames: Vec::new(alloc),
-            last: Vec::new(alloc),
+            last: Vec::with_capacity(alloc, room)?,
             depth: 0,
-        }
+        })
     }
 
     /// Appends an inline in which `depth` spans lie in one another.
@@ -54,7 +55,7 @@ impl TreeBuilder {
         self.reach(depth)?;
         match inline {
             Inline::Text(text) => self.add_text(text)?,
-            other => self.last.push(other)?,
+            other => push_inline(&mut self.last, other)?,
         }
         Ok(())
     }
@@ -67,8 +68,7 @@ impl TreeBuilder {
         if let Some(Inline::Text(before)) = self.last.last_mut() {
             return before.push_str(text.as_str());
         }
-        self.last.push(Inline::Text(text))?;
-        Ok(())
+        push_inline(&mut self.last, Inline::Text(text))
     }
 
     /// Begins a span.
@@ -85,8 +85,7 @@ impl TreeBuilder {
             return Ok(());
         };
         let inside = mem::replace(&mut self.last, frame.before);
-        self.last.push(span_of(frame.kind, inside))?;
-        Ok(())
+        push_inline(&mut self.last, span_of(frame.kind, inside))
     }
 
     pub(crate) fn finish(self) -> Tree {
@@ -105,6 +104,15 @@ impl TreeBuilder {
         self.depth = self.depth.max(depth);
         Ok(())
     }
+}
+
+/// Appends an inline. Most spans hold one alone, so at first there is room for no more.
+fn push_inline(inlines: &mut Vec<Inline>, inline: Inline) -> Result<(), AllocError> {
+    if inlines.is_empty() {
+        inlines.reserve_exact(1)?;
+    }
+    inlines.push(inline)?;
+    Ok(())
 }
 
 fn span_of(kind: SpanKind, inside: Vec<Inline>) -> Inline {

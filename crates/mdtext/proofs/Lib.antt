@@ -1,5 +1,6 @@
 pub mod BareBrackets
 pub mod EntityMembers
+pub mod FirstPlaces
 pub mod Indents
 pub mod LabelWords
 pub mod LineEnds

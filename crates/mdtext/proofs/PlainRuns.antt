@@ -16,7 +16,7 @@ one_plain : (p : ℕ → Bool) (t : Bool) (b : ℕ) (bs : List ℕ) (n : ℕ) �
 one_plain p true b bs n e h = refl
 one_plain p false b bs n e h = grind (arith, e, h)
 
-front_plain : (p : ℕ → Bool) (bs : List ℕ) → list_any p (take (position_or_len p bs) bs) ≡ false
+pub front_plain : (p : ℕ → Bool) (bs : List ℕ) → list_any p (take (position_or_len p bs) bs) ≡ false
 front_plain p [] = refl
 front_plain p (b ∷ bs) = one_plain p (p b) b bs _ refl (front_plain p bs)
 

@@ -1,8 +1,9 @@
 //! Small sets of bytes, and the first place of one in a text.
-ghost use Rattle.std.specs.Prelude.{◌≡◌, ◌≤◌, length};
+ghost use Rattle.std.specs.Prelude.{◌≡◌, ◌≤◌, [], ◌∷◌, length};
 ghost use Rattle.std.specs.List.{position_or_len};
 ghost use Rattle.mdtext.specs.ByteClass.{in_class};
 
+use memchr::{memchr, memchr2};
 use std::marker::Model;
 
 /// A set of at most 16 bytes.
@@ -24,6 +25,7 @@ impl Model for Class {
 
 impl Class {
     /// The set of these bytes. It takes no memory.
+    #[inline(always)]
     pub fn of(bytes: &[u8]) -> Class
         requires { length bytes.now ≤ 16 }
         ensures { result ≡ bytes.now }
@@ -34,12 +36,14 @@ impl Class {
         Class { bytes: kept, len }
     }
 
+    #[inline(always)]
     fn as_slice(&self) -> &[u8]
         ensures { result.now ≡ self.now }
     {
         &self.bytes[..self.len]
     }
 
+    #[inline(always)]
     fn has(&self, byte: u8) -> bool
         ensures { result ≡ in_class self.now byte }
     {
@@ -48,7 +52,36 @@ impl Class {
 }
 
 /// The first position whose byte is in the class, or the length. It takes no memory.
+#[inline(always)]
 pub fn first_special(bytes: &[u8], class: &Class) -> usize
+    ensures { result ≡ position_or_len (in_class class.now) bytes.now }
+{
+    match class.as_slice() {
+        [one] => first_of_one(bytes, *one),
+        [one, other] => first_of_two(bytes, *one, *other),
+        _ => first_of_many(bytes, class),
+    }
+}
+
+#[inline(never)]
+#[tactic(auto, using(crate::proofs::FirstPlaces::first_of_one))]
+fn first_of_one(bytes: &[u8], one: u8) -> usize
+    ensures { result ≡ position_or_len (in_class (one ∷ [])) bytes.now }
+{
+    memchr(one, bytes).unwrap_or(bytes.len())
+}
+
+#[inline(never)]
+#[tactic(auto, using(crate::proofs::FirstPlaces::first_of_two))]
+fn first_of_two(bytes: &[u8], one: u8, other: u8) -> usize
+    ensures { result ≡ position_or_len (in_class (one ∷ other ∷ [])) bytes.now }
+{
+    memchr2(one, other, bytes).unwrap_or(bytes.len())
+}
+
+// With the bytes of a class known where it is called, each is compared directly.
+#[inline(always)]
+fn first_of_many(bytes: &[u8], class: &Class) -> usize
     ensures { result ≡ position_or_len (in_class class.now) bytes.now }
 {
     for (i, b) in bytes.iter().enumerate() {

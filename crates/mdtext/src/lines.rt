@@ -1,11 +1,12 @@
 //! The lines of a text.
-ghost use Rattle.std.specs.Prelude.{◌≡◌, ◌-◌, ◌^◌, ◌<◌, ◌∷◌, IfOk, drop, if◌then◌else◌, length, map, min, string_bytes};
+ghost use Rattle.std.specs.Prelude.{◌≡◌, ◌-◌, ◌^◌, ◌<◌, ◌∷◌, IfOk, IsTrue, drop, if◌then◌else◌, length, map, min, string_bytes};
 ghost use Rattle.mdtext.specs.Lines.{without_nul, without_mark, begins_with_lf, split_lines, text_lines};
 ghost use Rattle.std.specs.Str.{IsUtf8};
 
 use crate::NoMemory;
 use crate::byte_class::Class;
 use crate::runs::split_at_special;
+use memchr::memchr;
 use std::alloc::Global;
 
 /// The lines of a whole text (CommonMark 2.1): a line ends at LF, at CR LF, at CR without LF after it, and at the end of
@@ -80,8 +81,25 @@ pub fn clean_line(alloc: Global, line: &str) -> Result<String, NoMemory>
 pub fn clean_len(line: &str) -> usize
     ensures { result ≡ min (length (without_nul line.now)) (2 ^ 64 - 1) }
 {
+    if is_clean(line.as_bytes()) {
+        return line.len();
+    }
+    replaced_len(line.as_bytes())
+}
+
+// Whether the line stays as it is.
+#[tactic(auto, using(crate::proofs::FirstPlaces::stays))]
+fn is_clean(line: &[u8]) -> bool
+    ensures { IsTrue result → without_nul line.now ≡ line.now }
+{
+    memchr(0, line).is_none()
+}
+
+fn replaced_len(line: &[u8]) -> usize
+    ensures { result ≡ min (length (without_nul line.now)) (2 ^ 64 - 1) }
+{
     let mut len: usize = 0;
-    for byte in line.as_bytes() {
+    for byte in line {
         len = len.saturating_add(if *byte == 0 { 3 } else { 1 });
     }
     len

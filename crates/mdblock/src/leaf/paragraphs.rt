@@ -75,7 +75,7 @@ impl Paragraph {
         if after_underline(text, Mode::Inside).is_some() {
             return Turn::Ends;
         }
-        if begins_table(last_line(self.text.as_str()), text) {
+        if may_delimit(text) && begins_table(last_line(self.text.as_str()), text) {
             return Turn::Delimits;
         }
         Turn::Continues
@@ -143,6 +143,11 @@ impl Paragraph {
         let text = gathering.text(text)?;
         Ok(Some(Block::Paragraph { text, task }))
     }
+}
+
+/// Whether a line without its indentation begins as a delimiter row of a table does: most lines of text need no closer look.
+fn may_delimit(text: &str) -> bool {
+    matches!(text.as_bytes(), [b'|' | b'-' | b':', ..])
 }
 
 /// What is left of a paragraph's text after its definitions (CommonMark 4.7), without spaces and tabs at its end.

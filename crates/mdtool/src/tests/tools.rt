@@ -2,7 +2,7 @@
 
 ghost use Rattle.std.specs.Prelude.{◌<◌};
 
-use crate::{Breaks, MemoryFeed, MemoryOut, Options, convert, entities_from, read_words};
+use crate::{Breaks, MemoryFeed, MemoryOut, Options, convert, entities_from, read_words, serve};
 use mdtext::Entities;
 use std::alloc::{AllocError, Global};
 use std::process::Abort;
@@ -77,13 +77,18 @@ fn converts_worked_texts(rt: HostRuntime) -> Result<(), Fail> {
     Ok(())
 }
 
-/// A block quote in 64 others, below a first paragraph: nothing of the paragraph is written.
+/// A block quote or a span in 64 others, below a first paragraph: nothing of the paragraph is written.
 #[test]
 fn writes_nothing_of_a_refused_text(rt: HostRuntime) -> Result<(), Fail> {
     let alloc = rt.alloc();
     let deep = ">".repeat(alloc, 65)?;
     let text = format!(in alloc; "a\n\n{deep}x\n")?;
     let want = "Err(Refused(NestedTooDeep { line: 2 }))";
+    check(&rt, alloc, text.as_bytes(), SOFT, "", want)?;
+    let opened = "*a ".repeat(alloc, 65)?;
+    let closed = " a*".repeat(alloc, 65)?;
+    let text = format!(in alloc; "a\n\n{opened}x{closed}\n")?;
+    let want = "Err(Refused(InlineTooDeep { line: 2 }))";
     check(&rt, alloc, text.as_bytes(), SOFT, "", want)?;
     Ok(())
 }
@@ -112,6 +117,72 @@ fn ends_at_each_device_fault(rt: HostRuntime) -> Result<(), Fail> {
     let (written, end) = converted(alloc, LINKS, SOFT, None, Some(7))?;
     assert_eq!(rt; written.as_str(), LINKS_HTML);
     assert_eq!(rt; end.as_str(), "Ok(())");
+    Ok(())
+}
+
+/// Two edits, of which the second leads a link elsewhere.
+const EDITS: &[u8] = b"edit 0 0 5\n[foo]\n\nx\n\n[foo]: /a\nedit 4 1 1\n[foo]: /b\n";
+
+const REPLIES: &str =
+    "ok 0 0 3 0\npiece 0 28\n<p><a href=\"/a\">foo</a></p>\npiece 1 9\n<p>x</p>\npiece 2 0\nok 0 3 3 0\npiece 0 28\n<p><a href=\"/b\">foo</a></p>\npiece 1 9\n<p>x</p>\npiece 2 0\n";
+
+/// The bytes of the first of these replies; the second has as many.
+const REPLY: u64 = 79;
+
+/// What `serve` writes for these edits, how it ends, and how often it flushed.
+fn replied(
+    alloc: Global,
+    feed_fails: Option<u64>,
+    out_fails: Option<u64>,
+) -> Result<(String, String, u64), AllocError> {
+    let mut feed = MemoryFeed::new(EDITS, 7, feed_fails);
+    let mut out = MemoryOut::new(alloc, 7, out_fails);
+    let entities = Entities::builtin(alloc)?;
+    let end = serve(alloc, &mut feed, &mut out, entities, SOFT);
+    let written = String::from_utf8_lossy(alloc, out.bytes())?;
+    let end = format!(in alloc; "{end:?}")?;
+    Ok((written, end, out.flushes()))
+}
+
+/// The script comes in 8 calls of 7 bytes with one more that finds the end; its first edit is whole after 5 calls.
+#[test]
+fn a_script_ends_at_each_feed_fault(rt: HostRuntime) -> Result<(), Fail> {
+    let alloc = rt.alloc();
+    for (calls, replies) in [
+        (0, 0),
+        (1, 0),
+        (2, 0),
+        (3, 0),
+        (4, 0),
+        (5, 1),
+        (6, 1),
+        (7, 1),
+        (8, 2),
+    ] {
+        let (written, end, flushes) = replied(alloc, Some(calls), None)?;
+        assert!(rt; REPLIES.starts_with(written.as_str()), "{calls}");
+        assert_eq!(rt; written.len() as u64, replies * REPLY, "{calls}");
+        assert_eq!(rt; flushes, replies, "{calls}");
+        assert_eq!(rt; end.as_str(), "Err(Read)", "{calls}");
+    }
+    Ok(())
+}
+
+/// A reply goes in 12 calls of 7 bytes and a flush.
+#[test]
+fn a_script_ends_at_each_out_fault(rt: HostRuntime) -> Result<(), Fail> {
+    let alloc = rt.alloc();
+    for calls in 0..26 {
+        let (written, end, _) = replied(alloc, None, Some(calls))?;
+        let want = calls / 13 * REPLY + (calls % 13 * 7).min(REPLY);
+        assert!(rt; REPLIES.starts_with(written.as_str()), "{calls}");
+        assert_eq!(rt; written.len() as u64, want, "{calls}");
+        assert_eq!(rt; end.as_str(), "Err(Write)", "{calls}");
+    }
+    let (written, end, flushes) = replied(alloc, None, Some(26))?;
+    assert_eq!(rt; written.as_str(), REPLIES);
+    assert_eq!(rt; end.as_str(), "Ok(())");
+    assert_eq!(rt; flushes, 2);
     Ok(())
 }
 

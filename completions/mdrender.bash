@@ -1,0 +1,54 @@
+# Completion of mdrender's and mdpreview's words for bash: each option once, one kind of line breaks, a file behind --entities, and one file to read.
+
+# The files that begin as the word does, folders among them.
+_mdrender_files() {
+    local name
+    compopt -o filenames 2> /dev/null
+    while IFS= read -r name; do
+        COMPREPLY+=("$name")
+    done < <(compgen -f -- "$1")
+}
+
+# The options that may still be given after those in $given.
+_mdrender_options() {
+    local option
+    for option in --unsafe --hardbreaks --nobreaks --entities --help; do
+        case "$option $given" in
+            *" $option "*) ;;
+            --hardbreaks*" --nobreaks "* | --nobreaks*" --hardbreaks "*) ;;
+            *) echo "$option" ;;
+        esac
+    done
+}
+
+_mdrender() {
+    local current=${COMP_WORDS[COMP_CWORD]} given=' ' ended='' named='' value='' word at
+    COMPREPLY=()
+    for ((at = 1; at < COMP_CWORD; at++)); do
+        word=${COMP_WORDS[at]}
+        if [ -n "$value" ]; then
+            # The readers of bash's words cut `--entities=FILE` before and behind the sign.
+            [ "$word" = "=" ] || value=
+        elif [ -n "$ended" ]; then
+            named=1
+        else
+            case $word in
+                --) ended=1 ;;
+                --entities) given+="$word " value=1 ;;
+                -?*) given+="$word " ;;
+                *) named=1 ;;
+            esac
+        fi
+    done
+    if [ -n "$value" ]; then
+        _mdrender_files "${current#=}"
+    elif [ -z "$ended" ] && [[ $current == -* ]]; then
+        while IFS= read -r word; do
+            COMPREPLY+=("$word")
+        done < <(compgen -W "$(_mdrender_options)" -- "$current")
+    elif [ -z "$named" ]; then
+        _mdrender_files "$current"
+    fi
+}
+
+complete -F _mdrender mdrender mdpreview

@@ -1,0 +1,56 @@
+-- The first place of one of a few bytes.
+use Rattle.std.proofs.Common.{◌≡◌, ℕ, Bool, true, false, List, [], ◌∷◌, Option, None, Some, length, take, get_or, unwrap_or, refl, ap, sym, ◌∙◌, arith, ◌||◌}
+use Rattle.std.specs.List.{position_or_len, list_any}
+use Rattle.std.proofs.Math.Seq.{take-length}
+use Rattle.mdtext.specs.Lines.{clean_byte, without_nul}
+use Rattle.mdtext.proofs.PlainRuns.{front_plain, run_stays}
+use Rattle.mdtext.proofs.Specials.{replaces_nul}
+use Rattle.std.proofs.lemmas.List.{append-nil}
+use Rattle.std.proofs.lemmas.List.Sums.{position_or_len_is}
+use Rattle.memchr.specs.Find.{IsFirstByte, is_byte, is_byte2}
+use Rattle.mdtext.specs.ByteClass.{in_class}
+
+fails : (b : Bool) → ¬ (b ≡ true) → b ≡ false
+fails true h = absurd (h refl)
+fails false h = refl
+
+first_place : (class : List ℕ) (test : ℕ → Bool) → ((x : ℕ) → in_class class x ≡ test x) → (bs : List ℕ) (r : Option ℕ) → IsFirstByte test bs r
+    → unwrap_or r (length bs) ≡ position_or_len (in_class class) bs
+first_place class test same bs None h =
+    sym (position_or_len_is (in_class class) bs (length bs) 0 (omega arith) (λ k l. same _ ∙ fails _ (h k (omega arith) l)) (λ l. absurd (omega arith)))
+first_place class test same bs (Some k) h =
+    sym (position_or_len_is (in_class class) bs k 0 (omega (arith, h.0.high)) (λ j l. same _ ∙ fails _ (h.0.before j (omega arith) l)) (λ l. same _ ∙ h.1))
+
+one : (b c : Bool) → b ≡ c → (b || false) ≡ c
+one true c h = h
+one false c h = h
+
+pub first_of_one : (a : ℕ) (bs : List ℕ) (r : Option ℕ) → IsFirstByte (is_byte a) bs r → unwrap_or r (length bs) ≡ position_or_len (in_class (a ∷ [])) bs
+first_of_one a bs r h = first_place (a ∷ []) (is_byte a) (λ x. one _ _ refl) bs r h
+
+two : (b c : Bool) → (b || (c || false)) ≡ (b || c)
+two true c = refl
+two false true = refl
+two false false = refl
+
+pub first_of_two : (a b : ℕ) (bs : List ℕ) (r : Option ℕ) → IsFirstByte (is_byte2 a b) bs r → unwrap_or r (length bs) ≡ position_or_len (in_class (a ∷ b ∷ [])) bs
+first_of_two a b bs r h = first_place (a ∷ b ∷ []) (is_byte2 a b) (λ x. two _ _) bs r h
+
+-- the items of short lists
+pub only : (xs : List ℕ) → length xs ≡ 1 → get_or xs 0 0 ∷ [] ≡ xs
+only [] h = absurd (omega arith)
+only (x ∷ []) h = refl
+only (x ∷ y ∷ xs) h = absurd (omega arith)
+
+pub both : (xs : List ℕ) → length xs ≡ 2 → get_or xs 0 0 ∷ get_or xs 1 0 ∷ [] ≡ xs
+both [] h = absurd (omega arith)
+both (x ∷ []) h = absurd (omega arith)
+both (x ∷ y ∷ []) h = refl
+both (x ∷ y ∷ z ∷ xs) h = absurd (omega arith)
+
+-- a line with no NUL stays
+pub stays : (bs : List ℕ) → IsFirstByte (is_byte 0) bs None → without_nul bs ≡ bs
+stays bs h =
+    let end : length bs ≡ position_or_len (in_class (0 ∷ [])) bs = first_of_one 0 bs None h in
+    let plain : list_any (in_class (0 ∷ [])) bs ≡ false = ap (λ l. list_any (in_class (0 ∷ [])) l) (sym (ap (λ n. take n bs) (sym end) ∙ take-length bs)) ∙ front_plain (in_class (0 ∷ [])) bs in
+    ap without_nul (sym (append-nil bs)) ∙ run_stays (0 ∷ []) clean_byte replaces_nul bs [] plain ∙ append-nil bs
