@@ -1,6 +1,6 @@
 # The targets for people and for the gate. `rt` is the command of the Rattle toolchain.
 RT ?= rt
-PROGRAMS := mdrender mdpreview edit_counts
+PROGRAMS := mdrender mdpreview
 # How many random texts and edit scripts a comparison with an oracle takes.
 TEXTS ?= 2000
 SCRIPTS ?= 600
@@ -13,7 +13,7 @@ BASH_COMPLETION_DIR ?= $(PREFIX)/share/bash-completion/completions
 ZSH_COMPLETION_DIR ?= $(PREFIX)/share/zsh/site-functions
 INSTALL ?= install
 
-.PHONY: help run test build check fmt compare install uninstall
+.PHONY: help run test build check fmt compare counts install uninstall
 
 help:
 	@echo "make run                 proves, builds and runs mdrender on a page and mdpreview on a writer's few edits, and shows what goes in and out"
@@ -24,6 +24,7 @@ help:
 	@echo "make install PREFIX=DIR  installs the programs, their man pages and completions for bash and zsh below DIR ($(PREFIX)); DESTDIR is honoured"
 	@echo "make uninstall           removes what make install put there"
 	@echo "make compare ORACLE=DIR  builds, and runs DIR/compare on the programs, with TEXTS=$(TEXTS) random texts and SCRIPTS=$(SCRIPTS) random edit scripts"
+	@echo "make counts ORACLE=DIR   compares what each edit of SCRIPTS=$(SCRIPTS) random edit scripts reads with what DIR/oracle.py allows"
 
 run: build
 	@tools/show examples/page.md examples/writer.script
@@ -46,6 +47,10 @@ fmt:
 
 compare: build
 	@tools/compare $(ORACLE) $(TEXTS) $(SCRIPTS)
+
+counts:
+	@$(MAKE) -s build PROGRAMS=edit_counts
+	@tools/counts $(ORACLE) $(SCRIPTS)
 
 # A program that is not there yet; one that is there is installed as it stands.
 $(PROGRAMS:%=bin/%):
