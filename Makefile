@@ -4,8 +4,10 @@ PROGRAMS := mdrender mdpreview
 # How many random texts and edit scripts a comparison with an oracle takes.
 TEXTS ?= 2000
 SCRIPTS ?= 600
+# The part whose rows are made of the standards' examples.
+PART ?= blocks
 
-.PHONY: help run test build check fmt compare
+.PHONY: help run test build check fmt compare rows
 
 help:
 	@echo "make run                 proves, builds and runs mdrender on a page and mdpreview on a writer's few edits, and shows what goes in and out"
@@ -13,6 +15,7 @@ help:
 	@echo "make build               proves and builds the programs into bin/"
 	@echo "make check               a quick check of every crate, over what earlier checks kept"
 	@echo "make fmt                 lays out the sources"
+	@echo "make rows ORACLE=DIR CORPUS=DIR  proves rows of the definitions of PART=$(PART) from the standards' examples in CORPUS, with what ORACLE/oracle.py says of them"
 	@echo "make compare ORACLE=DIR  builds, and runs DIR/compare on the programs, with TEXTS=$(TEXTS) random texts and SCRIPTS=$(SCRIPTS) random edit scripts"
 
 run: build
@@ -36,3 +39,6 @@ fmt:
 
 compare: build
 	@tools/compare $(ORACLE) $(TEXTS) $(SCRIPTS)
+
+rows:
+	@tools/rows $(PART) $(ORACLE) $(CORPUS)
