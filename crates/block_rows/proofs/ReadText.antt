@@ -36,7 +36,7 @@ use Rattle.mdleaf.specs.ParagraphText.{joined_lines, without_end_blanks}
 use Rattle.mdleaf.specs.TableRows.{row_texts, row_aligns, begins_table}
 use Rattle.mdblock.specs.BlockStart.{padding, start_near, start}
 use Rattle.mdblock.specs.BlockTree.{Block}
-use Rattle.mdblock.specs.BlockUnits.{container_part, groups_within, depth_of, found_units, units}
+use Rattle.mdblock.specs.BlockUnits.{container_part, groups_within, visible, visible_in, found_units, units}
 use Rattle.mdblock.specs.BlockView.{blocks_of}
 use Rattle.mdblock.specs.ContainerLines.{matches, opened, inside, is_bare}
 use Rattle.mdblock.specs.Indentation.{unindented}
@@ -67,7 +67,7 @@ unfolding chars encode default_case_fold full_folding full_folding_rows value_in
     attribute_length open_end_length open_tag closing_tag line_end titled_def labelled_def definition_of angle_destination bare_end destination_at
     label_at title_to title_at ordered_marker marker repeats is_run_of underline_level row_inside bars row_cells task_marker is_break_of is_thematic_break
     code_language fronts leading_of leading_end joined_lines without_end_blanks row_texts row_aligns begins_table padding start_near start container_part
-    groups_within depth_of found_units matches opened inside is_bare unindented continues_lazily leaves_of grouped nodes_of texts_in texts_in_items
+    groups_within visible visible_in found_units matches opened inside is_bare unindented continues_lazily leaves_of grouped nodes_of texts_in texts_in_items
     definitions_in definitions_in_items placed placed_items paragraph_end heading_end table_end step is_single all_of tip_of begin_where after_step add_at
     cut_from tip_within with_task
 units_read text = units builtin_table (text_lines text)

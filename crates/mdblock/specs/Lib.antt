@@ -19,5 +19,6 @@ pub mod Reading
 pub mod StoredBlocks
 pub mod Stretches
 pub mod TaskItem
+pub mod UnitBegin
 pub mod UnitTree
 pub use Rattle.mdleaf.specs.LinkDefinition

@@ -7,14 +7,14 @@ use Rattle.mdblock.specs.BlockUnits.{depth_of}
 use Rattle.mdblock.specs.ContainerLines.{inner}
 use Rattle.mdblock.specs.Stretches.{Stretch, stretches, cut_within}
 
--- the first line on which a container of a stretch begins that lies in too many others, where `deeper` tells it of the lines in a container
-abbrev pub deep_at : (deeper : List BlockLine → Option ℕ) → Stretch → Kind → Option ℕ
-deep_at deeper s (Holds container) = option_map (λ line. s.begin + line) (deeper (inner container s.first s.later))
-deep_at deeper s kind = None
+-- the first line of a stretch on which a container begins that lies in too many others, where `deeper` tells it of the lines in a container
+abbrev pub deep_at : (deeper : List BlockLine → Option ℕ) → Kind → (first : BlockLine) → (later : List BlockLine) → Option ℕ
+deep_at deeper (Holds container) first later = deeper (inner container first later)
+deep_at deeper kind first later = None
 
 unfoldable pub first_deep : (deeper : List BlockLine → Option ℕ) → List Stretch → Option ℕ
 first_deep deeper [] = None
-first_deep deeper (s ∷ ss) = option_or (deep_at deeper s s.kind) (first_deep deeper ss)
+first_deep deeper (s ∷ ss) = option_or (option_map (λ line. s.begin + line) (deep_at deeper s.kind s.first s.later)) (first_deep deeper ss)
 
 -- The first of some lines on which a container begins that lies in `limit` others.
 unfoldable pub deep_within : (limit : ℕ) → List BlockLine → Option ℕ

@@ -120,16 +120,16 @@ ended (Going s) = Over s
 ended (Over s) = Over s
 
 -- what is open at the end of a block's lines
-abbrev pub tip_at : (tip : List BlockLine → Tip) → Stretch → Kind → Tip
-tip_at tip s (Holds container) = tip (inner container s.first s.later)
-tip_at tip s Paragraph = Text
-tip_at tip s (FencedCode indentation mark length info closed) = Verbatim
-tip_at tip s (HtmlBlock kind) = Verbatim
-tip_at tip s kind = Closed
+abbrev pub tip_at : (tip : List BlockLine → Tip) → Kind → (first : BlockLine) → (later : List BlockLine) → Tip
+tip_at tip (Holds container) first later = tip (inner container first later)
+tip_at tip Paragraph first later = Text
+tip_at tip (FencedCode indentation mark length info closed) first later = Verbatim
+tip_at tip (HtmlBlock kind) first later = Verbatim
+tip_at tip kind first later = Closed
 
 unfoldable pub tip_of : (tip : List BlockLine → Tip) → Tail → Tip
 tip_of tip Empty = Closed
-tip_of tip (Going s) = tip_at tip s s.kind
+tip_of tip (Going s) = tip_at tip s.kind s.first s.later
 tip_of tip (Over s) = Closed
 
 -- There is a gap before a block if the line just before it is blank and no content of fenced code or of an HTML block.
