@@ -14,7 +14,7 @@ joins (Listed kind tight items) (Quoted nodes) = false
 joins (Leaves leaves) part = false
 joins (Quoted nodes) part = false
 
-joined-nil : (g : Group) (p : Part) → joined g p [] ≡ g ∷ []
+pub joined-nil : (g : Group) (p : Part) → joined g p [] ≡ g ∷ []
 joined-nil g (Leaves leaves) = refl
 joined-nil g (Quoted nodes) = refl
 joined-nil g (Listed kind tight items) = refl
@@ -30,7 +30,7 @@ list-apart g kind t items n (Leaves leaves) ns e = refl
 list-apart g kind t items n (Quoted nodes) ns e = refl
 list-apart g kind t items n (Listed other t' later) ns e = where-apart (is_same_list kind other) g kind t items n t' later ns e
 
-joined-apart : (g : Group) (p : Part) (n : Group) (ns : List Group) → joins p n.part ≡ false → joined g p (n ∷ ns) ≡ g ∷ n ∷ ns
+pub joined-apart : (g : Group) (p : Part) (n : Group) (ns : List Group) → joins p n.part ≡ false → joined g p (n ∷ ns) ≡ g ∷ n ∷ ns
 joined-apart g (Leaves leaves) n ns e = refl
 joined-apart g (Quoted nodes) n ns e = refl
 joined-apart g (Listed kind t items) n ns e = list-apart g kind t items n n.part ns e

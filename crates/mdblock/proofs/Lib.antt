@@ -1,3 +1,4 @@
+pub mod BeginLaws
 pub mod CutLaws
 pub mod DepthLaws
 pub mod DocumentLaws

@@ -14,19 +14,19 @@ use Rattle.mdblock.specs.UnitTree.{FoundUnit}
 use Rattle.mdblock.proofs.CutLaws.{cut_from-append, all_of-prepend, shift, shift_all, moved, stretches-moved, meets}
 use Rattle.mdblock.proofs.GroupLaws.{joins, grouped-first, grouped-append, shift_group, shift_groups, grouped-shift, shift_found, found-append, found-shift}
 
-abbrev part_mark : Part → Option ListKind
+abbrev pub part_mark : Part → Option ListKind
 part_mark (Leaves leaves) = None
 part_mark (Quoted nodes) = None
 part_mark (Listed kind tight items) = Some kind
 
-joins-marks : (p q : Part) → joins p q ≡ same_mark (part_mark p) (part_mark q)
+pub joins-marks : (p q : Part) → joins p q ≡ same_mark (part_mark p) (part_mark q)
 joins-marks (Leaves leaves) q = refl
 joins-marks (Quoted nodes) q = refl
 joins-marks (Listed kind t items) (Leaves leaves) = refl
 joins-marks (Listed kind t items) (Quoted nodes) = refl
 joins-marks (Listed kind t items) (Listed other t' items') = refl
 
-part-mark : (e : EntityTable) (R : List BlockLine → List Group) (k : Kind) (f : BlockLine) (r : List BlockLine) → part_mark (part_at e R k f r) ≡ list_mark k
+pub part-mark : (e : EntityTable) (R : List BlockLine → List Group) (k : Kind) (f : BlockLine) (r : List BlockLine) → part_mark (part_at e R k f r) ≡ list_mark k
 unfolding container_part
 part-mark e R (Holds (Item marker needed)) f r = refl
 part-mark e R (Holds Quote) f r = refl
@@ -41,7 +41,7 @@ part-mark e R (HtmlBlock kind) f r = refl
 
 -- ---- an item stays one
 
-abbrev keeps : Option ListKind → Step → Type 0
+abbrev pub keeps : Option ListKind → Step → Type 0
 keeps m (Takes kind) = list_mark kind ≡ m
 keeps m (Ends kind) = list_mark kind ≡ m
 keeps m Stops = Unit {0}
@@ -76,7 +76,7 @@ paragraph-keeps true blank k = refl
 paragraph-keeps false true k = tt
 paragraph-keeps false false k = interrupted-keeps k
 
-step-keeps : (T : List BlockLine → Tip) (k : Kind) (f : BlockLine) (r : List BlockLine) (l : BlockLine) → keeps (list_mark k) (step T k f r l)
+pub step-keeps : (T : List BlockLine → Tip) (k : Kind) (f : BlockLine) (r : List BlockLine) (l : BlockLine) → keeps (list_mark k) (step T k f r l)
 unfolding step
 step-keeps T (Holds container) f r l = takes-keeps _ (Holds container)
 step-keeps T (FencedCode indentation mark n info closed) f r l = fence-keeps _ indentation mark n info
@@ -90,16 +90,16 @@ step-keeps T ThematicBreak f r l = tt
 
 -- ---- the first block of some lines
 
-abbrev head_begin : List Stretch → ℕ
+abbrev pub head_begin : List Stretch → ℕ
 head_begin [] = 0
 head_begin (s ∷ ss) = s.begin
 
-abbrev head_mark : List Stretch → Option (Option ListKind)
+abbrev pub head_mark : List Stretch → Option (Option ListKind)
 head_mark [] = None
 head_mark (s ∷ ss) = Some (list_mark s.kind)
 
 -- a first block that begins with the first line, and is an item of this list or none
-abbrev Leads : Option ListKind → List Stretch → Type 0
+abbrev pub Leads : Option ListKind → List Stretch → Type 0
 Leads m ss = (head_begin ss ≡ 0) × (head_mark ss ≡ Some m)
 
 leads-push : (m : Option ListKind) (ss xs : List Stretch) → Leads m ss → Leads m (ss ++ xs)
@@ -163,7 +163,7 @@ first-leads T l xs e =
 -- ---- what a cut is
 
 -- where there is no last block there is none before it
-abbrev IsWhole : List Stretch → Tail → Type 0
+abbrev pub IsWhole : List Stretch → Tail → Type 0
 IsWhole before Empty = before ≡ []
 IsWhole before (Going s) = Unit {0}
 IsWhole before (Over s) = Unit {0}
@@ -196,7 +196,7 @@ add-whole T c l Empty w = begin-whole T c l (is_blank_line l) w
 add-whole T c l (Over s) w = begin-whole T c l (is_blank_line l) w
 add-whole T c l (Going s) w = step-whole T c s l (step T s.kind s.first s.later l) w
 
-cut-whole : (T : List BlockLine → Tip) (c : Cut) (xs : List BlockLine) → IsWhole c.before c.tail → IsWhole (cut_from T c xs).before (cut_from T c xs).tail
+pub cut-whole : (T : List BlockLine → Tip) (c : Cut) (xs : List BlockLine) → IsWhole c.before c.tail → IsWhole (cut_from T c xs).before (cut_from T c xs).tail
 unfolding cut_from
 cut-whole T c [] w = w
 cut-whole T c (x ∷ xs) w = cut-whole T (add T c x) xs (add-whole T c x c.tail w)
@@ -213,13 +213,13 @@ step-lines T c s l (Takes kind) = refl
 step-lines T c s l (Ends kind) = refl
 step-lines T c s l Stops = begin-lines T c l (is_blank_line l)
 
-add-lines : (T : List BlockLine → Tip) (c : Cut) (l : BlockLine) (t : Tail) → (add_at T c l t).lines ≡ suc c.lines
+pub add-lines : (T : List BlockLine → Tip) (c : Cut) (l : BlockLine) (t : Tail) → (add_at T c l t).lines ≡ suc c.lines
 unfolding add_at
 add-lines T c l Empty = begin-lines T c l (is_blank_line l)
 add-lines T c l (Over s) = begin-lines T c l (is_blank_line l)
 add-lines T c l (Going s) = step-lines T c s l (step T s.kind s.first s.later l)
 
-cut-lines : (T : List BlockLine → Tip) (c : Cut) (xs : List BlockLine) → (cut_from T c xs).lines ≡ c.lines + length xs
+pub cut-lines : (T : List BlockLine → Tip) (c : Cut) (xs : List BlockLine) → (cut_from T c xs).lines ≡ c.lines + length xs
 unfolding cut_from
 cut-lines T c [] = let e : c.lines ≡ c.lines + 0 = omega arith in e
 cut-lines T c (x ∷ xs) =
@@ -312,7 +312,7 @@ behind e R before Empty ss m gap n M total w v f t = behind-none e R before ss g
 behind e R before (Going s) ss m gap n M total w v f t = behind-last e R before s ss m gap n M total v f t
 behind e R before (Over s) ss m gap n M total w v f t = behind-last e R before s ss m gap n M total v f t
 
-both-lengths : {A : Type 0} (xs ys : List A) → length (xs ++ ys) ≡ length ys + length xs
+pub both-lengths : {A : Type 0} (xs ys : List A) → length (xs ++ ys) ≡ length ys + length xs
 both-lengths [] ys = let e : length ys ≡ length ys + 0 = omega arith in e
 both-lengths (x ∷ xs) ys =
     let a = both-lengths xs ys in
