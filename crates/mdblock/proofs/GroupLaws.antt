@@ -81,7 +81,7 @@ where-first true b gap kind t items n t' later ns = record {
 }
 where-first false b gap kind t items n t' later ns = alone b gap (Listed kind t items) (n ∷ ns)
 
-list-first : (b : ℕ) (gap : Bool) (kind : ListKind) (t : Bool) (items : ItemNodes) (n : Group) (p : Part) (ns : List Group) →
+pub list-first : (b : ℕ) (gap : Bool) (kind : ListKind) (t : Bool) (items : ItemNodes) (n : Group) (p : Part) (ns : List Group) →
     HasFirst b (Listed kind t items) (joined_list (of_part b gap (Listed kind t items)) kind t items n p ns)
 list-first b gap kind t items n (Leaves leaves) ns = alone b gap (Listed kind t items) (n ∷ ns)
 list-first b gap kind t items n (Quoted nodes) ns = alone b gap (Listed kind t items) (n ∷ ns)

@@ -3,6 +3,7 @@ pub mod CutLaws
 pub mod DepthLaws
 pub mod DocumentLaws
 pub mod GroupLaws
+pub mod ItemLaws
 pub mod Markers
 pub mod Skips
 pub mod UnitLaws

@@ -237,7 +237,7 @@ group-map : (e : EntityTable) (R : List BlockLine → List Group) (k : ℕ) (ss 
 group-map e R k [] = refl
 group-map e R k (s ∷ ss) = ap (λ z. shift_group k (group_of e R s) ∷ z) (group-map e R k ss)
 
-group-shift : (e : EntityTable) (R : List BlockLine → List Group) (g : Bool) (k : ℕ) (ss : List Stretch) →
+pub group-shift : (e : EntityTable) (R : List BlockLine → List Group) (g : Bool) (k : ℕ) (ss : List Stretch) →
     map (group_of e R) (shift_all g k ss) ≡ shift_groups g k (map (group_of e R) ss)
 group-shift e R g k [] = refl
 group-shift e R g k (s ∷ ss) = ap (λ z. record { begin = s.begin + k; gap = g; part = part_at e R s.kind s.first s.later } ∷ z) (group-map e R k ss)
