@@ -6,5 +6,6 @@ pub mod GroupLaws
 pub mod ItemLaws
 pub mod Markers
 pub mod Skips
+pub mod SummaryLaws
 pub mod UnitLaws
 pub mod Within

@@ -8,6 +8,7 @@ pub mod FirstDefinitions
 pub mod Indentation
 pub mod Laziness
 pub mod LeafContents
+pub mod LineSummary
 pub mod ListGroups
 pub mod Nesting
 pub mod NodeTree
