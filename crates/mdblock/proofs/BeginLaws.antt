@@ -10,13 +10,14 @@ use Rattle.mdblock.specs.BlockUnits.{group_of, groups_within, found_units, visib
 use Rattle.mdblock.specs.Laziness.{Tip}
 use Rattle.mdblock.specs.ListGroups.{Part, Leaves, Quoted, Listed, Group, is_same_list, joined_where, joined_list, joined, grouped}
 use Rattle.mdblock.specs.Stretches.{Stretch, Step, Takes, Ends, Stops, step, is_single, Tail, Empty, Going, Over, Cut, no_lines, all_of, stretches, ended, gap_behind, first_of, tail_of, begin_where, grown, after_step, add_at, add, cut_from, cut_by, tip_within}
+use Rattle.mdblock.specs.LineSummary.{part_mark}
 use Rattle.mdblock.specs.UnitBegin.{is_stop, is_apart, list_mark, same_mark, tail_mark, begins_behind, begins_unit, units_of}
 use Rattle.mdblock.specs.UnitTree.{FoundUnit}
 use Rattle.mdblock.proofs.CutLaws.{cut_from-append, apart-begins}
 use Rattle.mdblock.proofs.DepthLaws.{visible-append, groups-deep, begins-deep}
 use Rattle.mdblock.proofs.DocumentLaws.{units-meet}
 use Rattle.mdblock.proofs.GroupLaws.{shift_found, joins, grouped-first, joined-nil}
-use Rattle.mdblock.proofs.UnitLaws.{Leads, first-leads, IsWhole, cut-whole, add-lines, cut-lines, joins-marks, part-mark, part_mark, keeps, step-keeps}
+use Rattle.mdblock.proofs.UnitLaws.{Leads, first-leads, IsWhole, cut-whole, add-lines, cut-lines, joins-marks, part-mark, keeps, step-keeps}
 
 -- where a block begins, and whether it is an item of a list
 abbrev Mark : Type 0

@@ -7,10 +7,12 @@ use Rattle.mdblock.specs.BlockStart.{Inside, start, Container, Kind, Paragraph, 
 use Rattle.mdblock.specs.BlockUnits.{part_at, group_of, groups_within}
 use Rattle.mdblock.specs.ContainerLines.{opened, inside, inner, is_bare}
 use Rattle.mdblock.specs.Laziness.{Tip, Closed, is_verbatim}
-use Rattle.mdblock.specs.LineSummary.{Summary, summary, ended_block, open_leaf, open_container, no_summary, summary_tip, last_tip, container_group, closed, last_groups, ended_last, new_last, summary_gap, begin_after, leaf_after, container_after, last_after, line_added, last_at, last_of, summary_by, summary_within}
+use Rattle.mdblock.specs.LineSummary.{Summary, summary, ended_block, open_leaf, open_container, no_summary, summary_tip, last_tip, container_group, closed, last_groups, ended_last, new_last, summary_gap, begin_after, leaf_after, container_after, last_after, line_added, last_at, last_of, summary_by, summary_within, is_apart_after, mark_of, begins_after}
 use Rattle.mdblock.specs.ListGroups.{Group, grouped}
 use Rattle.mdblock.specs.Stretches.{Stretch, Step, Takes, Ends, Stops, takes_if, goes_on, closes, ends_html, is_row, is_code, fence_step, html_step, interrupted, paragraph_step, step, is_single, Tail, Empty, Going, Over, Cut, no_lines, all_of, ended, tip_at, tip_of, gap_behind, first_of, tail_of, begin_where, grown, after_step, add_at, cut_from, cut_by, tip_within}
+use Rattle.mdblock.specs.UnitBegin.{is_stop, is_apart, list_mark, same_mark, tail_mark, begins_behind}
 use Rattle.mdblock.proofs.CutLaws.{cut_from-append}
+use Rattle.mdblock.proofs.UnitLaws.{part-mark}
 
 -- what is known of one depth
 pub record Laws (e : EntityTable) (depth : ℕ) : Type 0 where
@@ -305,3 +307,59 @@ zero-laws e = record { none = refl; tips = λ ls. refl; reads = λ ls. refl; add
 pub laws : (e : EntityTable) (d : ℕ) → Laws e d
 laws e zero = zero-laws e
 laws e (suc d) = next e d (laws e d)
+
+-- ---- whether the next line begins a unit
+
+not-takes : (b : Bool) (k : Kind) → is_stop (takes_if b k) ≡ not b
+not-takes true k = refl
+not-takes false k = refl
+
+at-apart : {e : EntityTable} {d : ℕ} (h : Laws e d) (n : ℕ) (g : Bool) (k : Kind) (f : BlockLine) (r : List BlockLine) (l : BlockLine) →
+    is_stop (step (tip_within d) k f r l) ≡ is_apart_after (last_at (summary_within e d) k (of_kind n g k f r)) l
+unfolding is_apart_after last_at step
+at-apart {d = d} h n g (Holds c) f r l =
+    not-takes (goes_on c (is_bare c f r) (tip_within d (inner c f r)) l) (Holds c)
+    ∙ ap (λ z. not (goes_on c (is_bare c f r) z l)) (h.tips (inner c f r))
+at-apart h n g Paragraph f r l = refl
+at-apart h n g (SetextHeading level) f r l = refl
+at-apart h n g (Table above) f r l = refl
+at-apart h n g (AtxHeading level content) f r l = refl
+at-apart h n g ThematicBreak f r l = refl
+at-apart h n g (FencedCode i u v info c) f r l = refl
+at-apart h n g IndentedCode f r l = refl
+at-apart h n g (HtmlBlock kind) f r l = refl
+
+of-apart : {e : EntityTable} {d : ℕ} (h : Laws e d) (t : Tail) (l : BlockLine) →
+    is_apart (tip_within d) t l ≡ is_apart_after (last_of e (groups_within e d) (summary_within e d) t) l
+unfolding is_apart last_of is_apart_after
+of-apart h Empty l = refl
+of-apart h (Over s) l = refl
+of-apart h (Going s) l = at-apart h s.begin s.gap s.kind s.first s.later l
+
+at-mark : (S : List BlockLine → Summary) (k : Kind) (s : Stretch) → list_mark k ≡ mark_of (last_at S k s)
+unfolding mark_of last_at
+at-mark S (Holds c) s = refl
+at-mark S Paragraph s = refl
+at-mark S (SetextHeading level) s = refl
+at-mark S (Table above) s = refl
+at-mark S (AtxHeading level content) s = refl
+at-mark S ThematicBreak s = refl
+at-mark S (FencedCode i u v info c) s = refl
+at-mark S IndentedCode s = refl
+at-mark S (HtmlBlock kind) s = refl
+
+of-mark : (e : EntityTable) (d : ℕ) (t : Tail) → tail_mark t ≡ mark_of (last_of e (groups_within e d) (summary_within e d) t)
+unfolding last_of mark_of
+of-mark e d Empty = refl
+of-mark e d (Over s) = sym (part-mark e (groups_within e d) s.kind s.first s.later)
+of-mark e d (Going s) = at-mark (summary_within e d) s.kind s
+
+-- Whether a line begins a unit follows from the summary of those before it.
+pub begins-law : (e : EntityTable) (d : ℕ) (xs : List BlockLine) (l : BlockLine) →
+    begins_behind (tip_within d) (cut_by (tip_within d) xs) l ≡ begins_after (summary_within e (suc d) xs) l
+unfolding begins_behind begins_after summary_within
+begins-law e d xs l =
+    let t = (cut_by (tip_within d) xs).tail in
+    let last = last_of e (groups_within e d) (summary_within e d) t in
+    ap (λ z. z && not (is_blank_line l) && not (same_mark (tail_mark t) (list_mark (begun l)))) (of-apart (laws e d) t l)
+    ∙ ap (λ z. is_apart_after last l && not (is_blank_line l) && not (same_mark z (list_mark (begun l)))) (of-mark e d t)

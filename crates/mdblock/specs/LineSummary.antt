@@ -1,13 +1,15 @@
 -- What has to be kept of some lines so that one line more can be read: the blocks that are over, as what they give, and
 -- the last one. Of a container nothing is kept but the same of what it holds; of a leaf, its lines.
-use Rattle.std.specs.Prelude.{ℕ, zero, suc, Bool, true, false, not, ◌&&◌, List, [], ◌∷◌, ◌++◌, map}
+use Rattle.std.specs.Prelude.{ℕ, zero, suc, Bool, true, false, not, ◌&&◌, List, [], ◌∷◌, ◌++◌, map, Option, Some, None}
 use Rattle.mdtext.specs.EntityTable.{EntityTable}
 use Rattle.mdblock.specs.BlockLine.{BlockLine, is_blank_line}
 use Rattle.mdblock.specs.BlockStart.{Container, Kind, Holds, begun}
 use Rattle.mdblock.specs.BlockUnits.{container_part, group_of, groups_within}
 use Rattle.mdblock.specs.ContainerLines.{opened, inside, inner, is_bare}
 use Rattle.mdblock.specs.Laziness.{Tip, Closed, is_verbatim}
-use Rattle.mdblock.specs.ListGroups.{Group, grouped}
+use Rattle.mdblock.specs.BlockTree.{ListKind}
+use Rattle.mdblock.specs.ListGroups.{Part, Leaves, Quoted, Listed, Group, grouped}
+use Rattle.mdblock.specs.UnitBegin.{is_stop, list_mark, same_mark}
 use Rattle.mdblock.specs.Stretches.{Stretch, Step, Takes, Ends, Stops, goes_on, step, is_single, Tail, Empty, Going, Over, Cut, tip_at, first_of, grown, cut_within}
 
 mutual
@@ -113,3 +115,27 @@ summary_by entities inside below cut =
 unfoldable pub summary_within : EntityTable → (depth : ℕ) → List BlockLine → Summary
 summary_within entities zero ls = no_summary
 summary_within entities (suc depth) ls = summary_by entities (groups_within entities depth) (summary_within entities depth) (cut_within depth ls)
+
+-- whether a line goes on with no block
+unfoldable pub is_apart_after : Last → BlockLine → Bool
+is_apart_after nothing_yet l = true
+is_apart_after (ended_block g) l = true
+is_apart_after (open_leaf s) l = is_stop (step (λ ls. Closed) s.kind s.first s.later l)
+is_apart_after (open_container begin gap bare container inner) l = not (goes_on container bare (summary_tip inner) l)
+
+abbrev pub part_mark : Part → Option ListKind
+part_mark (Leaves leaves) = None
+part_mark (Quoted nodes) = None
+part_mark (Listed kind tight items) = Some kind
+
+-- the list of the last block, if it is an item
+unfoldable pub mark_of : Last → Option ListKind
+mark_of nothing_yet = None
+mark_of (ended_block g) = part_mark g.part
+mark_of (open_leaf s) = None
+mark_of (open_container begin gap bare container inner) = list_mark (Holds container)
+
+-- whether a line begins a unit behind the lines of a summary
+unfoldable pub begins_after : Summary → BlockLine → Bool
+begins_after (summary before last blank lines) l =
+    is_apart_after last l && not (is_blank_line l) && not (same_mark (mark_of last) (list_mark (begun l)))
