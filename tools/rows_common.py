@@ -88,12 +88,15 @@ def option_term(value, term):
 # ---- a workspace
 
 class Workspace:
-    """Copies of some crates with what was checked of them, and one crate of rows that stands on them."""
+    """Copies of some crates with what was checked of them; the last one is the crate of rows, which stands on the others."""
 
     def __init__(self, crates, taken_from=None, kept=None):
         self.path = kept or tempfile.mkdtemp(prefix='rows-')
         self.kept = kept is not None
         source = taken_from or os.path.join(REPOSITORY, 'crates')
+        if not taken_from:
+            # so that the copies have libraries that were checked, and nothing is proved from nothing there
+            subprocess.run([RT, 'check', '--jobs', '1'], cwd=os.path.join(source, crates[-1]), stdout=subprocess.DEVNULL, stderr=subprocess.DEVNULL)
         os.makedirs(os.path.join(self.path, 'crates'), exist_ok=True)
         with open(os.path.join(REPOSITORY, 'crates.txt'), encoding='utf-8') as file:
             lines = [line for line in file if line.split(':')[0] in crates]

@@ -14,7 +14,8 @@ use Rattle.mdblock.specs.LineSummary.{part_mark}
 use Rattle.mdblock.specs.UnitBegin.{is_stop, is_apart, list_mark, same_mark, tail_mark, begins_behind, begins_unit, units_of}
 use Rattle.mdblock.specs.UnitTree.{FoundUnit}
 use Rattle.mdblock.proofs.CutLaws.{cut_from-append, apart-begins}
-use Rattle.mdblock.proofs.DepthLaws.{visible-append, groups-deep, begins-deep}
+use Rattle.mdblock.proofs.VisibleLaws.{visible-append}
+use Rattle.mdblock.proofs.DepthLaws.{groups-deep, begins-deep}
 use Rattle.mdblock.proofs.DocumentLaws.{units-meet}
 use Rattle.mdblock.proofs.GroupLaws.{shift_found, joins, grouped-first, joined-nil}
 use Rattle.mdblock.proofs.UnitLaws.{Leads, first-leads, IsWhole, cut-whole, add-lines, cut-lines, joins-marks, part-mark, keeps, step-keeps}

@@ -11,7 +11,8 @@ use Rattle.mdblock.specs.BlockUnits.{visible_in, groups, found_units, units, def
 use Rattle.mdblock.specs.FirstDefinitions.{first_definition}
 use Rattle.mdblock.specs.UnitBegin.{begins_unit, units_of}
 use Rattle.mdblock.specs.UnitTree.{FoundUnit}
-use Rattle.mdblock.proofs.DepthLaws.{visible-append, groups-deep, begins-deep}
+use Rattle.mdblock.proofs.VisibleLaws.{visible-append}
+use Rattle.mdblock.proofs.DepthLaws.{groups-deep, begins-deep}
 use Rattle.mdblock.proofs.GroupLaws.{shift_found}
 use Rattle.mdblock.proofs.UnitLaws.{units_within, units-split}
 

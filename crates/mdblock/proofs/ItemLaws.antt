@@ -12,7 +12,8 @@ use Rattle.mdblock.specs.NodeTree.{ItemNodes, no_item_nodes, item_node}
 use Rattle.mdblock.specs.Stretches.{Cut, no_lines, stretches, gap_behind, cut_by, tip_within}
 use Rattle.mdblock.specs.UnitBegin.{is_apart}
 use Rattle.mdblock.proofs.CutLaws.{cut_from-append, all_of-prepend, shift_all, moved, stretches-moved, meets}
-use Rattle.mdblock.proofs.DepthLaws.{visible-append, groups-deep}
+use Rattle.mdblock.proofs.VisibleLaws.{visible-append}
+use Rattle.mdblock.proofs.DepthLaws.{groups-deep}
 use Rattle.mdblock.proofs.GroupLaws.{joins, HasFirst, list-first, joined-apart, shift_groups, grouped-shift}
 use Rattle.mdblock.proofs.UnitLaws.{cut-lines, group-shift}
 

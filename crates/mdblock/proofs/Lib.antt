@@ -8,4 +8,5 @@ pub mod Markers
 pub mod Skips
 pub mod SummaryLaws
 pub mod UnitLaws
+pub mod VisibleLaws
 pub mod Within
