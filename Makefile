@@ -4,6 +4,8 @@ PROGRAMS := mdrender mdpreview
 # How many random texts and edit scripts a comparison with an oracle takes.
 TEXTS ?= 2000
 SCRIPTS ?= 600
+# The part whose rows are made of the standards' examples.
+PART ?= blocks
 
 # Where `make install` puts things; DESTDIR goes before each of these folders.
 PREFIX ?= /usr/local
@@ -13,7 +15,7 @@ BASH_COMPLETION_DIR ?= $(PREFIX)/share/bash-completion/completions
 ZSH_COMPLETION_DIR ?= $(PREFIX)/share/zsh/site-functions
 INSTALL ?= install
 
-.PHONY: help run test build check fmt compare counts install uninstall
+.PHONY: help run test build check fmt compare counts rows install uninstall
 
 help:
 	@echo "make run                 proves, builds and runs mdrender on a page and mdpreview on a writer's few edits, and shows what goes in and out"
@@ -23,6 +25,7 @@ help:
 	@echo "make fmt                 lays out the sources"
 	@echo "make install PREFIX=DIR  installs the programs, their man pages and completions for bash and zsh below DIR ($(PREFIX)); DESTDIR is honoured"
 	@echo "make uninstall           removes what make install put there"
+	@echo "make rows ORACLE=DIR CORPUS=DIR  proves rows of the definitions of PART=$(PART) from the standards' examples in CORPUS, with what ORACLE/oracle.py says of them"
 	@echo "make compare ORACLE=DIR  builds, and runs DIR/compare on the programs, with TEXTS=$(TEXTS) random texts and SCRIPTS=$(SCRIPTS) random edit scripts"
 	@echo "make counts ORACLE=DIR   compares what each edit of SCRIPTS=$(SCRIPTS) random edit scripts reads with what DIR/oracle.py allows"
 
@@ -70,3 +73,6 @@ uninstall:
 	  rm -f "$(DESTDIR)$(BIN_DIR)/$$program" "$(DESTDIR)$(MAN_DIR)/$$program.1" "$(DESTDIR)$(BASH_COMPLETION_DIR)/$$program" || exit 1; \
 	done
 	rm -f "$(DESTDIR)$(ZSH_COMPLETION_DIR)/_mdrender"
+
+rows:
+	@tools/rows $(PART) $(ORACLE) $(CORPUS)

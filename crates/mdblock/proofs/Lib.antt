@@ -1,3 +1,12 @@
+pub mod BeginLaws
+pub mod CutLaws
+pub mod DepthLaws
+pub mod DocumentLaws
+pub mod GroupLaws
+pub mod ItemLaws
 pub mod Markers
 pub mod Skips
+pub mod SummaryLaws
+pub mod UnitLaws
+pub mod VisibleLaws
 pub mod Within

@@ -1,3 +1,5 @@
+pub mod CodeLanguage
 pub mod LinkDefinition
 pub mod LeadingDefinitions
+pub mod ParagraphText
 pub mod TableRows

@@ -1,0 +1,141 @@
+-- What has to be kept of some lines so that one line more can be read: the blocks that are over, as what they give, and
+-- the last one. Of a container nothing is kept but the same of what it holds; of a leaf, its lines.
+use Rattle.std.specs.Prelude.{ℕ, zero, suc, Bool, true, false, not, ◌&&◌, List, [], ◌∷◌, ◌++◌, map, Option, Some, None}
+use Rattle.mdtext.specs.EntityTable.{EntityTable}
+use Rattle.mdblock.specs.BlockLine.{BlockLine, is_blank_line}
+use Rattle.mdblock.specs.BlockStart.{Container, Kind, Holds, begun}
+use Rattle.mdblock.specs.BlockUnits.{container_part, group_of, groups_within}
+use Rattle.mdblock.specs.ContainerLines.{opened, inside, inner, is_bare}
+use Rattle.mdblock.specs.Laziness.{Tip, Closed, is_verbatim}
+use Rattle.mdblock.specs.BlockTree.{ListKind}
+use Rattle.mdblock.specs.ListGroups.{Part, Leaves, Quoted, Listed, Group, grouped}
+use Rattle.mdblock.specs.UnitBegin.{is_stop, list_mark, same_mark}
+use Rattle.mdblock.specs.Stretches.{Stretch, Step, Takes, Ends, Stops, goes_on, step, is_single, Tail, Empty, Going, Over, Cut, tip_at, first_of, grown, cut_within}
+
+mutual
+  pub data Summary : Type 0 where
+    summary : (before : List Group) → (last : Last) → (blank : Bool) → (lines : ℕ) → Summary
+
+  pub data Last : Type 0 where
+    nothing_yet : Last
+    ended_block : Group → Last
+    open_leaf : Stretch → Last
+    open_container : (begin : ℕ) → (gap bare : Bool) → Container → Summary → Last
+
+abbrev pub no_summary : Summary
+no_summary = summary [] nothing_yet false 0
+
+-- what is open at the end of the lines
+unfoldable mutual
+  pub summary_tip : Summary → Tip
+  summary_tip (summary before last blank lines) = last_tip last
+
+  pub last_tip : Last → Tip
+  last_tip nothing_yet = Closed
+  last_tip (ended_block g) = Closed
+  last_tip (open_leaf s) = tip_at (λ ls. Closed) s.kind s.first s.later
+  last_tip (open_container begin gap bare container inner) = summary_tip inner
+
+abbrev pub leaf_group : EntityTable → Stretch → Group
+leaf_group entities s = group_of entities (λ ls. []) s
+
+abbrev pub container_group : (begin : ℕ) → (gap : Bool) → Container → List Group → Group
+container_group begin gap container groups = record { begin = begin; gap = gap; part = container_part container groups }
+
+-- what the lines give
+unfoldable mutual
+  pub closed : EntityTable → Summary → List Group
+  closed entities (summary before last blank lines) = grouped (before ++ last_groups entities last)
+
+  pub last_groups : EntityTable → Last → List Group
+  last_groups entities nothing_yet = []
+  last_groups entities (ended_block g) = g ∷ []
+  last_groups entities (open_leaf s) = leaf_group entities s ∷ []
+  last_groups entities (open_container begin gap bare container inner) = container_group begin gap container (closed entities inner) ∷ []
+
+unfoldable pub ended_last : EntityTable → Last → Last
+ended_last entities nothing_yet = nothing_yet
+ended_last entities (ended_block g) = ended_block g
+ended_last entities (open_leaf s) = ended_block (leaf_group entities s)
+ended_last entities (open_container begin gap bare container inner) = ended_block (container_group begin gap container (closed entities inner))
+
+-- a block that begins with this line, where `more` reads one line more in a container
+unfoldable pub new_last : EntityTable → (more : Summary → BlockLine → Summary) → (single : Bool) → Kind → Stretch → Last
+new_last entities more single (Holds container) s =
+    open_container s.begin s.gap (is_blank_line (opened container s.first)) container (more no_summary (opened container s.first))
+new_last entities more true kind s = ended_block (leaf_group entities s)
+new_last entities more false kind s = open_leaf s
+
+abbrev pub summary_gap : Last → (blank : Bool) → Bool
+summary_gap last blank = blank && not (is_verbatim (last_tip last))
+
+-- a line that goes on with no block
+unfoldable pub begin_after : EntityTable → (more : Summary → BlockLine → Summary) → (blank_line : Bool) → List Group → Last → (blank : Bool) → (lines : ℕ) → BlockLine → Summary
+begin_after entities more true before last blank lines l = summary before (ended_last entities last) true (suc lines)
+begin_after entities more false before last blank lines l =
+    summary (before ++ last_groups entities last) (new_last entities more (is_single (begun l) l) (begun l) (first_of lines (summary_gap last blank) l)) false (suc lines)
+
+unfoldable pub leaf_after : EntityTable → (more : Summary → BlockLine → Summary) → List Group → Stretch → (blank : Bool) → (lines : ℕ) → BlockLine → Step → Summary
+leaf_after entities more before s blank lines l (Takes kind) = summary before (open_leaf (grown s kind l)) (is_blank_line l) (suc lines)
+leaf_after entities more before s blank lines l (Ends kind) = summary before (ended_block (leaf_group entities (grown s kind l))) (is_blank_line l) (suc lines)
+leaf_after entities more before s blank lines l Stops = begin_after entities more (is_blank_line l) before (open_leaf s) blank lines l
+
+unfoldable pub container_after : EntityTable → (more : Summary → BlockLine → Summary) → (takes : Bool) → List Group → (begin : ℕ) → (gap bare : Bool) → Container → Summary → (blank : Bool) → (lines : ℕ) → BlockLine → Summary
+container_after entities more true before begin gap bare container inner blank lines l =
+    summary before (open_container begin gap false container (more inner (inside container l))) (is_blank_line l) (suc lines)
+container_after entities more false before begin gap bare container inner blank lines l =
+    begin_after entities more (is_blank_line l) before (open_container begin gap bare container inner) blank lines l
+
+unfoldable pub last_after : EntityTable → (more : Summary → BlockLine → Summary) → List Group → Last → (blank : Bool) → (lines : ℕ) → BlockLine → Summary
+last_after entities more before nothing_yet blank lines l = begin_after entities more (is_blank_line l) before nothing_yet blank lines l
+last_after entities more before (ended_block g) blank lines l = begin_after entities more (is_blank_line l) before (ended_block g) blank lines l
+last_after entities more before (open_leaf s) blank lines l = leaf_after entities more before s blank lines l (step (λ ls. Closed) s.kind s.first s.later l)
+last_after entities more before (open_container begin gap bare container inner) blank lines l =
+    container_after entities more (goes_on container bare (summary_tip inner) l) before begin gap bare container inner blank lines l
+
+-- one line more, in containers that lie in one another at most so deep
+unfoldable pub line_added : EntityTable → (depth : ℕ) → Summary → BlockLine → Summary
+line_added entities zero s l = no_summary
+line_added entities (suc depth) (summary before last blank lines) l = last_after entities (line_added entities depth) before last blank lines l
+
+-- the summary of some lines
+unfoldable pub last_at : (below : List BlockLine → Summary) → Kind → Stretch → Last
+last_at below (Holds container) s = open_container s.begin s.gap (is_bare container s.first s.later) container (below (inner container s.first s.later))
+last_at below kind s = open_leaf s
+
+unfoldable pub last_of : EntityTable → (inside : List BlockLine → List Group) → (below : List BlockLine → Summary) → Tail → Last
+last_of entities inside below Empty = nothing_yet
+last_of entities inside below (Going s) = last_at below s.kind s
+last_of entities inside below (Over s) = ended_block (group_of entities inside s)
+
+abbrev pub summary_by : EntityTable → (inside : List BlockLine → List Group) → (below : List BlockLine → Summary) → Cut → Summary
+summary_by entities inside below cut =
+    summary (map (group_of entities inside) cut.before) (last_of entities inside below cut.tail) cut.blank cut.lines
+
+unfoldable pub summary_within : EntityTable → (depth : ℕ) → List BlockLine → Summary
+summary_within entities zero ls = no_summary
+summary_within entities (suc depth) ls = summary_by entities (groups_within entities depth) (summary_within entities depth) (cut_within depth ls)
+
+-- whether a line goes on with no block
+unfoldable pub is_apart_after : Last → BlockLine → Bool
+is_apart_after nothing_yet l = true
+is_apart_after (ended_block g) l = true
+is_apart_after (open_leaf s) l = is_stop (step (λ ls. Closed) s.kind s.first s.later l)
+is_apart_after (open_container begin gap bare container inner) l = not (goes_on container bare (summary_tip inner) l)
+
+abbrev pub part_mark : Part → Option ListKind
+part_mark (Leaves leaves) = None
+part_mark (Quoted nodes) = None
+part_mark (Listed kind tight items) = Some kind
+
+-- the list of the last block, if it is an item
+unfoldable pub mark_of : Last → Option ListKind
+mark_of nothing_yet = None
+mark_of (ended_block g) = part_mark g.part
+mark_of (open_leaf s) = None
+mark_of (open_container begin gap bare container inner) = list_mark (Holds container)
+
+-- whether a line begins a unit behind the lines of a summary
+unfoldable pub begins_after : Summary → BlockLine → Bool
+begins_after (summary before last blank lines) l =
+    is_apart_after last l && not (is_blank_line l) && not (same_mark (mark_of last) (list_mark (begun l)))
