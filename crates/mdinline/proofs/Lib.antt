@@ -1,3 +1,9 @@
+pub mod AskedLabels
 pub mod Autolinks
 pub mod FirstTargets
+pub mod FrontEnds
+pub mod ItemEnds
+pub mod JoinedTrees
 pub mod Marks
+pub mod OneReading
+pub mod TailEnds
