@@ -5,7 +5,7 @@ PROGRAMS := mdrender mdpreview
 TEXTS ?= 2000
 SCRIPTS ?= 600
 
-.PHONY: help run test build check fmt compare
+.PHONY: help run test build check fmt compare rows_inlines
 
 help:
 	@echo "make run                 proves, builds and runs mdrender on a page and mdpreview on a writer's few edits, and shows what goes in and out"
@@ -14,6 +14,7 @@ help:
 	@echo "make check               a quick check of every crate, over what earlier checks kept"
 	@echo "make fmt                 lays out the sources"
 	@echo "make compare ORACLE=DIR  builds, and runs DIR/compare on the programs, with TEXTS=$(TEXTS) random texts and SCRIPTS=$(SCRIPTS) random edit scripts"
+	@echo "make rows_inlines ORACLE=DIR CORPUS=DIR   computes the definition of inlines at the examples of CORPUS, as DIR/oracle.py reads them"
 
 run: build
 	@tools/show examples/page.md examples/writer.script
@@ -36,3 +37,6 @@ fmt:
 
 compare: build
 	@tools/compare $(ORACLE) $(TEXTS) $(SCRIPTS)
+
+rows_inlines:
+	@tools/rows_inlines $(ORACLE) $(CORPUS)

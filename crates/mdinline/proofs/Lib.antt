@@ -5,5 +5,6 @@ pub mod FrontEnds
 pub mod ItemEnds
 pub mod JoinedTrees
 pub mod Marks
+pub mod NestedParts
 pub mod OneReading
 pub mod TailEnds

@@ -5,6 +5,7 @@ ghost use Rattle.mdtext.specs.EntityTable.{EntityTable};
 ghost use Rattle.mdinline.specs.InlineTree.{Inlines};
 ghost use Rattle.mdinline.specs.JoinedTexts.{AreJoined};
 ghost use Rattle.mdinline.specs.LinkTails.{Table};
+ghost use Rattle.mdinline.specs.Nesting.{nest, IsPartOf};
 ghost use Rattle.mdinline.specs.TextReading.{Item, IsReading};
 ghost use Rattle.mdinline.specs.TextTree.{inl, asked, Agree};
 
@@ -23,4 +24,9 @@ pub fn there_is_one_reading()
 /// In the tree of a text no text is empty, and no two stand side by side.
 pub fn texts_are_joined()
     ensures { (entities : EntityTable) (table : Table) (text : List ℕ) → AreJoined (inl entities table text) }
+{}
+
+/// Spans lie no deeper in a part than in the whole.
+pub fn parts_nest_no_deeper()
+    ensures { (part whole : Inlines) → IsPartOf part whole → nest part ≤ nest whole }
 {}

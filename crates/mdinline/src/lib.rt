@@ -24,7 +24,9 @@ pub use asked::Asked;
 pub use faults::InlineFault;
 pub use inlines::Inline;
 pub use labels::{LabelTable, Labels};
-pub use laws::{only_asked_labels_matter, texts_are_joined, there_is_one_reading};
+pub use laws::{
+    only_asked_labels_matter, parts_nest_no_deeper, texts_are_joined, there_is_one_reading,
+};
 pub use parsed::Parsed;
 pub use reading::read;
 

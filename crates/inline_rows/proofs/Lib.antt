@@ -1,0 +1,7 @@
+pub mod AngleRows
+pub mod AskedRows
+pub mod BreakRows
+pub mod CodeRows
+pub mod EmphasisRows
+pub mod EscapeRows
+pub mod LinkRows
