@@ -21,7 +21,7 @@ unfolding inline_words
 title_marks = refl
 
 -- escapes and references are replaced in destinations and titles
-escapes_in_destination : reads (codes "[a](\\*&lt; \"\\\"\")") ≡ inlines_of (link (codes "*<") (codes "\"") (inlines_of (text (codes "a") ∷ [])) ∷ [])
+escapes_in_destination : reads (codes "[a](\\*&auml; \"\\\"&quot;\")") ≡ inlines_of (link (codes "*" ++ (195 ∷ 164 ∷ [])) (codes "\"\"") (inlines_of (text (codes "a") ∷ [])) ∷ [])
 unfolding inline_words
 escapes_in_destination = refl
 

@@ -63,7 +63,7 @@ none_bare false (b ∷ rest) = by (begins_escape (b ∷ rest)) (is_one_of bracke
   where
     by : (x y z : Bool) → begins_escape (b ∷ rest) ≡ x → is_one_of brackets b ≡ y → eqb b 92 ≡ z
         → ((escaped : Bool) → bare_from escaped (take (run_after escaped brackets rest) rest) ≡ false)
-        → has_bare_bracket (take (cond x (1 + run_after true brackets rest) (cond y 0 (1 + run_after false brackets rest))) (b ∷ rest)) ≡ false
+        → has_bare_bracket (take (elim x [ true ↦ 1 + run_after true brackets rest | false ↦ elim y [ true ↦ 0 | false ↦ 1 + run_after false brackets rest ] ]) (b ∷ rest)) ≡ false
     by true y z e f g next =
         let k = run_after true brackets rest in
         let backslash : b ≡ 92 = grind (arith, nat_tests, escapes b rest e) in
