@@ -70,6 +70,10 @@ full_not_defined_asks : asks_under (((codes "a"), record { url = (codes "/a"); t
 unfolding inline_words
 full_not_defined_asks = refl
 
+long_label : reads_under (((codes "of a label of more than forty bytes, which is looked up"), record { url = (codes "/u"); title = [] }) ∷ []) (codes "[of a label of more than forty bytes, which is looked up]") ≡ inlines_of (link (codes "/u") [] (inlines_of (text (codes "of a label of more than forty bytes, which is looked up") ∷ [])) ∷ [])
+unfolding inline_words
+long_label = refl
+
 -- nothing may stand between
 space_between : reads_under (((codes "b"), record { url = (codes "/u"); title = [] }) ∷ []) (codes "[a] [b]") ≡ inlines_of (text (codes "[a] ") ∷ link (codes "/u") [] (inlines_of (text (codes "b") ∷ [])) ∷ [])
 unfolding inline_words
