@@ -7,4 +7,6 @@ pub mod JoinedTrees
 pub mod Marks
 pub mod NestedParts
 pub mod OneReading
+pub mod OpenSpans
 pub mod TailEnds
+pub mod TreeEvents

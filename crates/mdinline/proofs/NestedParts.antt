@@ -1,5 +1,5 @@
 -- A part of a tree is nested no deeper than the whole.
-use Rattle.std.proofs.Common.{◌≡◌, ◌⊎◌, inl, inr, ℕ, suc, ◌≤◌, max, ap, subst, sym, refl, arith}
+use Rattle.std.proofs.Common.{inl, inr, ◌≤◌, subst, arith}
 use Rattle.mdinline.specs.InlineTree.{Inline, Inlines, no_inlines, inline, text, code, raw, soft, hard, emph, strong, strike, link, image}
 use Rattle.mdinline.specs.Nesting.{nest, nest_of, IsPartOf, IsPartInside}
 

@@ -70,3 +70,21 @@ first_row (row ∷ rows) = row
 -- the tree of these events
 abbrev pub tree_of : List Event → Inlines
 tree_of events = first_row (rows_of events)
+
+-- and the events of a tree
+abbrev mutual
+  pub tree_events : Inlines → List Event
+  tree_events no_inlines = []
+  tree_events (inline i is) = inline_events i ++ tree_events is
+
+  pub inline_events : Inline → List Event
+  inline_events (text s) = written s
+  inline_events (code s) = CodeSpan s ∷ []
+  inline_events (raw s) = RawHtml s ∷ []
+  inline_events soft = SoftBreak ∷ []
+  inline_events hard = HardBreak ∷ []
+  inline_events (emph inside) = within Emphasis (tree_events inside)
+  inline_events (strong inside) = within StrongEmphasis (tree_events inside)
+  inline_events (strike inside) = within Strikethrough (tree_events inside)
+  inline_events (link url title inside) = within (LinkTo (record { url = url; title = title })) (tree_events inside)
+  inline_events (image url title inside) = within (ImageOf (record { url = url; title = title })) (tree_events inside)

@@ -1,6 +1,6 @@
 -- How deep spans lie in one another: emphasis, strong emphasis, strikethrough, links and images.
 use Rattle.std.specs.Prelude.{◌≡◌, ◌⊎◌, ℕ, suc, max}
-use Rattle.mdinline.specs.InlineTree.{Inline, Inlines, no_inlines, inline, text, code, raw, soft, hard, emph, strong, strike, link, image}
+use Rattle.mdinline.specs.InlineTree.{Inline, Inlines, no_inlines, inline, emph, strong, strike, link, image}
 
 -- the greatest number of spans on one way from the root down
 unfoldable mutual

@@ -1,7 +1,8 @@
 //! What holds of the readings of a text (CommonMark 6; GFM, Strikethrough), whatever reads it.
 
-ghost use Rattle.std.specs.Prelude.{◌≡◌, ℕ, ◌≤◌, List};
+ghost use Rattle.std.specs.Prelude.{◌≡◌, ℕ, ◌+◌, ◌≤◌, List, ◌++◌, length};
 ghost use Rattle.mdtext.specs.EntityTable.{EntityTable};
+ghost use Rattle.mdinline.specs.InlineEvents.{Event, rows_of, first_row, tree_of, tree_events};
 ghost use Rattle.mdinline.specs.InlineTree.{Inlines};
 ghost use Rattle.mdinline.specs.JoinedTexts.{AreJoined};
 ghost use Rattle.mdinline.specs.LinkTails.{Table};
@@ -29,4 +30,15 @@ pub fn texts_are_joined()
 /// Spans lie no deeper in a part than in the whole.
 pub fn parts_nest_no_deeper()
     ensures { (part whole : Inlines) → IsPartOf part whole → nest part ≤ nest whole }
+{}
+
+/// A tree whose texts are joined is the tree of its events.
+pub fn events_make_the_tree()
+    ensures { (tree : Inlines) → AreJoined tree → tree_of (tree_events tree) ≡ tree }
+{}
+
+/// Where each span that begins also ends, no place of the events is deeper than the tree: what is made so far at the place, in the spans that are open there.
+pub fn open_spans_nest()
+    ensures { (front rest : List Event) → length (rows_of (front ++ rest)) ≡ 1
+        → nest (first_row (rows_of rest)) + length (rows_of rest) ≤ 1 + nest (tree_of (front ++ rest)) }
 {}
