@@ -60,6 +60,10 @@ starts_within text needle h =
 pub byte_below : (text : List ℕ) (i b : ℕ) → nat_eq (slice_index text i) (suc b) ≡ true → i < length text
 byte_below text i b h = grind (arith, nat_tests, get_or_past)
 
+-- what a test gives that ends with a mark at a place
+pub when_marked : {X : Type 0} (t : Bool) (mark k : ℕ) (text : List ℕ) (x : X) (P : X → Type 0) → (k < length text → P x) → IfSome (if t && begins_with mark (drop k text) then Some x else None) P
+when_marked t mark k text x P f = when (t && begins_with mark (drop k text)) x P (λ h. f (begins_below mark k text (last t (begins_with mark (drop k text)) h)))
+
 -- what follows a front that has some bytes stands behind it
 pub behind : (text : List ℕ) (k n : ℕ) → 0 < n → n ≤ length (drop k text) → k + n ≤ length text
 behind text k n some h = let long = length-drop k text in omega arith
@@ -72,7 +76,7 @@ uri_ends text at =
     let scheme = scheme_length (drop (at + 1) text) in
     let rest = prefix_len in_uri (drop (at + 1 + scheme + 1) text) in
     let k : ℕ = at + 1 + scheme + 1 + rest in
-    when _ _ (λ end. IsEndIn text at end) (λ h. let below : k < length text = begins_below 62 k text (last _ _ h) in (omega arith, omega arith))
+    when_marked _ 62 k text _ (λ end. IsEndIn text at end) (λ below. (omega arith, omega arith))
 
 mail_ends : (text : List ℕ) (at : ℕ) → IfSome (mail_end text at) (λ end. IsEndIn text at end)
 unfolding mail_end
@@ -81,7 +85,7 @@ mail_ends text at =
     let label = domain_label_length (drop (at + 1 + name + 1) text) in
     let labels = repeats dotted_label_length (drop (at + 1 + name + 1 + label) text) in
     let k : ℕ = at + 1 + name + 1 + label + labels in
-    when _ _ (λ end. IsEndIn text at end) (λ h. let below : k < length text = begins_below 62 k text (last _ _ h) in (omega arith, omega arith))
+    when_marked _ 62 k text _ (λ end. IsEndIn text at end) (λ below. (omega arith, omega arith))
 
 auto_ends : (text : List ℕ) (at : ℕ) (mail : Bool) (r : Option ℕ) → IfSome r (λ end. IsEndIn text at end) → IfSome (auto_of mail r) (λ auto. IsEndIn text at auto.end)
 auto_ends text at mail None h = tt
@@ -123,10 +127,9 @@ open_tag_size text =
     let attributes = repeats attribute_length (drop (1 + name) text) in
     let k : ℕ = 1 + name + attributes in
     let end = open_end_length (drop k text) in
-    when _ _ (IsSizeIn text) (λ h.
-    let some : nat_lt 0 end ≡ true = last _ _ h in
-    let more : 0 < end = grind (arith, nat_tests) in
-    (omega arith, behind text k end more (open_end_within (drop k text))))
+    let found : nat_lt 0 end ≡ true → IsSizeIn text (k + end) = λ some.
+    let more : 0 < end = grind (arith, nat_tests) in (omega arith, behind text k end more (open_end_within (drop k text))) in
+    when _ _ (IsSizeIn text) (λ h. found (last _ _ h))
 
 closing_tag_size : (text : List ℕ) → IfSome (closing_tag text) (IsSizeIn text)
 unfolding closing_tag
@@ -134,7 +137,7 @@ closing_tag_size text =
     let name = tag_name_length (drop 2 text) in
     let gap = gap_length (drop (2 + name) text) in
     let k : ℕ = 2 + name + gap in
-    when _ _ (IsSizeIn text) (λ h. let below : k < length text = begins_below 62 k text (last _ _ h) in (omega arith, omega arith))
+    when_marked _ 62 k text _ (IsSizeIn text) (λ below. (omega arith, omega arith))
 
 place_within : (at : ℕ) (needle text : List ℕ) → IfSome (place_from at needle text) (λ n. n + length needle ≤ at + length text)
 place_within at needle [] = tt
@@ -197,7 +200,8 @@ IsMeaningIn text m = (0 < m.0) × (m.0 ≤ 1 + length text)
 numeric_size : (text rest : List ℕ) (begin base most : ℕ) → begin + length rest ≤ length text + 1 → IfSome (numeric begin base most rest) (IsMeaningIn text)
 numeric_size text rest begin base most room =
     let digits = prefix_len (λ b. is_digit b base) rest in
-    when _ _ (IsMeaningIn text) (λ h. let below : digits < length rest = byte_below rest digits 58 (last _ _ h) in (omega arith, omega arith))
+    let found : digits < length rest → (0 < begin + digits + 1) × (begin + digits + 1 ≤ 1 + length text) = λ below. (omega arith, omega arith) in
+    when _ _ (IsMeaningIn text) (λ h. found (byte_below rest digits 58 (last _ _ h)))
 
 named_size : (entities : EntityTable) (text : List ℕ) → IfSome (named entities text) (IsMeaningIn text)
 named_size entities text = by (nat_eq (slice_index text name) 59) (byte_below text name 58)

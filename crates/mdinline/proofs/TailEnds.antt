@@ -19,7 +19,8 @@ unfolding label_at
 label_ends text at =
     let inside = run_before (91 ∷ 93 ∷ []) (drop (at + 1) text) in
     let k : ℕ = at + 1 + inside in
-    when _ _ (λ span. IsEndIn text at (span.end + 1)) (λ h. let below : k < length text = begins_below 93 k text (last _ _ (front _ _ h)) in (omega arith, omega arith))
+    let found : k < length text → IsEndIn text at (k + 1) = λ below. (omega arith, omega arith) in
+    when _ _ (λ span. IsEndIn text at (span.end + 1)) (λ h. found (begins_below 93 k text (last _ _ (front _ _ h))))
 
 tail_to_ends : (text : List ℕ) (from at : ℕ) (d t : Option Span) → from ≤ at → IfSome (tail_to text at d t) (λ tail. IsEndIn text from tail.end)
 unfolding tail_to
