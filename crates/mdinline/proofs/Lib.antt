@@ -1,5 +1,6 @@
 pub mod AskedLabels
 pub mod Autolinks
+pub mod BalancedEvents
 pub mod FirstTargets
 pub mod FrontEnds
 pub mod ItemEnds
@@ -8,5 +9,6 @@ pub mod Marks
 pub mod NestedParts
 pub mod OneReading
 pub mod OpenSpans
+pub mod ReadingBalanced
 pub mod TailEnds
 pub mod TreeEvents

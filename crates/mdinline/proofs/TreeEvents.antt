@@ -26,7 +26,7 @@ in_turn : (f g : Inlines → Inlines) (rows : List Inlines) → in_front f (in_f
 in_turn f g [] = refl
 in_turn f g (row ∷ rows) = refl
 
-AreSome : List Inlines → Type 0
+unfoldable pub AreSome : List Inlines → Type 0
 AreSome [] = ⊥
 AreSome (row ∷ rows) = Unit {0}
 
@@ -51,7 +51,7 @@ some_after HardBreak rows h = still_some (inline hard) rows h
 some_after (Enter span) rows h = some_closed span rows h
 some_after Leave rows h = tt
 
-some_rows : (es : List Event) → AreSome (rows_of es)
+pub some_rows : (es : List Event) → AreSome (rows_of es)
 unfolding AreSome rows_of
 some_rows [] = tt
 some_rows (e ∷ es) = some_after e (rows_of es) (some_rows es)

@@ -7,8 +7,8 @@ ghost use Rattle.mdinline.specs.InlineTree.{Inlines};
 ghost use Rattle.mdinline.specs.JoinedTexts.{AreJoined};
 ghost use Rattle.mdinline.specs.LinkTails.{Table};
 ghost use Rattle.mdinline.specs.Nesting.{nest, IsPartOf};
-ghost use Rattle.mdinline.specs.TextReading.{Item, IsReading};
-ghost use Rattle.mdinline.specs.TextTree.{inl, asked, Agree};
+ghost use Rattle.mdinline.specs.TextReading.{Item, IsReading, reading};
+ghost use Rattle.mdinline.specs.TextTree.{events_of, inl, asked, Agree};
 
 /// Tables that agree on the labels that were looked up give one tree and one set of labels.
 pub fn only_asked_labels_matter()
@@ -35,6 +35,11 @@ pub fn parts_nest_no_deeper()
 /// A tree whose texts are joined is the tree of its events.
 pub fn events_make_the_tree()
     ensures { (tree : Inlines) → AreJoined tree → tree_of (tree_events tree) ≡ tree }
+{}
+
+/// Each span that begins in a text's reading also ends in it, after it began.
+pub fn spans_end()
+    ensures { (entities : EntityTable) (table : Table) (text : List ℕ) → length (rows_of (events_of (reading entities table text))) ≡ 1 }
 {}
 
 /// Where each span that begins also ends, no place of the events is deeper than the tree: what is made so far at the place, in the spans that are open there.

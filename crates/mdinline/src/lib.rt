@@ -26,7 +26,7 @@ pub use inlines::Inline;
 pub use labels::{LabelTable, Labels};
 pub use laws::{
     events_make_the_tree, only_asked_labels_matter, open_spans_nest, parts_nest_no_deeper,
-    texts_are_joined, there_is_one_reading,
+    spans_end, texts_are_joined, there_is_one_reading,
 };
 pub use parsed::Parsed;
 pub use reading::read;
