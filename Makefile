@@ -15,7 +15,7 @@ BASH_COMPLETION_DIR ?= $(PREFIX)/share/bash-completion/completions
 ZSH_COMPLETION_DIR ?= $(PREFIX)/share/zsh/site-functions
 INSTALL ?= install
 
-.PHONY: help run test build check fmt compare counts rows install uninstall
+.PHONY: help run test build check fmt compare counts rows rows_inlines install uninstall
 
 help:
 	@echo "make run                 proves, builds and runs mdrender on a page and mdpreview on a writer's few edits, and shows what goes in and out"
@@ -28,6 +28,7 @@ help:
 	@echo "make rows ORACLE=DIR CORPUS=DIR  proves rows of the definitions of PART=$(PART) from the standards' examples in CORPUS, with what ORACLE/oracle.py says of them"
 	@echo "make compare ORACLE=DIR  builds, and runs DIR/compare on the programs, with TEXTS=$(TEXTS) random texts and SCRIPTS=$(SCRIPTS) random edit scripts"
 	@echo "make counts ORACLE=DIR   compares what each edit of SCRIPTS=$(SCRIPTS) random edit scripts reads with what DIR/oracle.py allows"
+	@echo "make rows_inlines ORACLE=DIR CORPUS=DIR   computes the definition of inlines at the examples of CORPUS, as DIR/oracle.py reads them"
 
 run: build
 	@tools/show examples/page.md examples/writer.script
@@ -76,3 +77,6 @@ uninstall:
 
 rows:
 	@tools/rows $(PART) $(ORACLE) $(CORPUS)
+
+rows_inlines:
+	@tools/rows_inlines $(ORACLE) $(CORPUS)

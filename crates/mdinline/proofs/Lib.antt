@@ -1,3 +1,14 @@
+pub mod AskedLabels
 pub mod Autolinks
+pub mod BalancedEvents
 pub mod FirstTargets
+pub mod FrontEnds
+pub mod ItemEnds
+pub mod JoinedTrees
 pub mod Marks
+pub mod NestedParts
+pub mod OneReading
+pub mod OpenSpans
+pub mod ReadingBalanced
+pub mod TailEnds
+pub mod TreeEvents

@@ -9,6 +9,7 @@ mod copies;
 mod faults;
 mod inlines;
 mod labels;
+mod laws;
 mod openings;
 mod parsed;
 mod pieces;
@@ -23,6 +24,10 @@ pub use asked::Asked;
 pub use faults::InlineFault;
 pub use inlines::Inline;
 pub use labels::{LabelTable, Labels};
+pub use laws::{
+    events_make_the_tree, only_asked_labels_matter, open_spans_nest, parts_nest_no_deeper,
+    spans_end, texts_are_joined, there_is_one_reading,
+};
 pub use parsed::Parsed;
 pub use reading::read;
 

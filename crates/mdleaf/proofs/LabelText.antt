@@ -32,10 +32,15 @@ unfolding has_bare_bracket
 after_backslash [] = refl
 after_backslash (c ∷ rest) = refl
 
+-- what stands behind a byte that is no backslash
+otherwise : (t x y : Bool) → t ≡ false → elim t [ true ↦ x | false ↦ y ] ≡ y
+otherwise true x y e = cc
+otherwise false x y e = refl
+
 after_plain : (b : ℕ) (rest : List ℕ) → eqb b 92 ≡ false → eqb b 91 ≡ false → eqb b 93 ≡ false → has_bare_bracket (b ∷ rest) ≡ has_bare_bracket rest
 unfolding has_bare_bracket
 after_plain b [] e f g = rw (f, g) refl
-after_plain b (c ∷ rest) e f g = rw (e, f, g) refl
+after_plain b (c ∷ rest) e f g = otherwise (eqb b 92) (has_bare_bracket rest) (eqb b 91 || eqb b 93 || has_bare_bracket (c ∷ rest)) e ∙ rw (f, g) refl
 
 -- a backslash that escapes nothing
 no_escape : (c : ℕ) → is_ascii_punctuation c ≡ false → (eqb c 92 ≡ false) × ((eqb c 91 ≡ false) × (eqb c 93 ≡ false))
@@ -63,7 +68,7 @@ none_bare false (b ∷ rest) = by (begins_escape (b ∷ rest)) (is_one_of bracke
   where
     by : (x y z : Bool) → begins_escape (b ∷ rest) ≡ x → is_one_of brackets b ≡ y → eqb b 92 ≡ z
         → ((escaped : Bool) → bare_from escaped (take (run_after escaped brackets rest) rest) ≡ false)
-        → has_bare_bracket (take (cond x (1 + run_after true brackets rest) (cond y 0 (1 + run_after false brackets rest))) (b ∷ rest)) ≡ false
+        → has_bare_bracket (take (elim x [ true ↦ 1 + run_after true brackets rest | false ↦ elim y [ true ↦ 0 | false ↦ 1 + run_after false brackets rest ] ]) (b ∷ rest)) ≡ false
     by true y z e f g next =
         let k = run_after true brackets rest in
         let backslash : b ≡ 92 = grind (arith, nat_tests, escapes b rest e) in

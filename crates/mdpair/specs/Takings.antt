@@ -51,7 +51,8 @@ take_with c rest (Some (o, below)) other = Some (taking o c, after_taking (taken
 abbrev pub turn : List Remaining → List Remaining → Option (Taking × List Remaining)
 turn passed [] = None
 turn passed (c ∷ rest) =
-    cond c.run.can_close (take_with c rest (nearest c.run passed) (turn (c ∷ passed) rest)) (turn (c ∷ passed) rest)
+    let later = turn (c ∷ passed) rest in
+    cond c.run.can_close (take_with c rest (nearest c.run passed) later) later
 
 abbrev pub and_on : Option (Taking × List Remaining) → (List Remaining → List Taking) → List Taking
 and_on None go = []

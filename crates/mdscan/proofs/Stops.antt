@@ -12,8 +12,15 @@ from_here text at inside = rw add-one (drop-cons text at 0 inside)
 pub past_escaped : (stops text : List ℕ) (at all : ℕ) → at < length text → at + run_after true stops (drop at text) ≡ all → at + 1 + run_after false stops (drop (at + 1) text) ≡ all
 past_escaped stops text at all inside inv = let e = rw (from_here text at inside) at inv in omega arith
 
+chosen : (t u : Bool) (a b : ℕ) → elim t [ true ↦ a | false ↦ elim u [ true ↦ 0 | false ↦ b ] ] ≡ (if t then a else (if u then 0 else b))
+chosen true u a b = refl
+chosen false true a b = refl
+chosen false false a b = refl
+
 step : (stops text : List ℕ) (at : ℕ) → at < length text → run_after false stops (drop at text) ≡ (if begins_escape (drop at text) then 1 + run_after true stops (drop (at + 1) text) else (if is_one_of stops (get_or text at 0) then 0 else 1 + run_after false stops (drop (at + 1) text)))
-step stops text at inside = rw (from_here text at inside) refl
+step stops text at inside =
+    rw (from_here text at inside)
+    (chosen (begins_escape (get_or text at 0 ∷ drop (at + 1) text)) (is_one_of stops (get_or text at 0)) (1 + run_after true stops (drop (at + 1) text)) (1 + run_after false stops (drop (at + 1) text)))
 
 -- a backslash that escapes is passed
 pub past_escape : (stops text : List ℕ) (at all : ℕ) → at < length text → begins_escape (take (length text - at) (drop at text)) ≡ true → at + run_after false stops (drop at text) ≡ all → at + 1 + run_after true stops (drop (at + 1) text) ≡ all

@@ -11,13 +11,16 @@ begins_escape _ = false
 abbrev pub is_one_of : List ℕ → ℕ → Bool
 is_one_of stops b = list_any (λ stop. stop == b) stops
 
--- how many bytes stand before the first of the stops that is not escaped, where the first byte may be
+-- How many bytes stand before the first of the stops that is not escaped, where the first byte may be. (An `elim` computes the case that holds
+-- alone, an `if` both of them: over a recursion that is twice as much for each byte.)
 abbrev pub run_after : (escaped : Bool) → List ℕ → List ℕ → ℕ
 run_after escaped stops [] = 0
 run_after true stops (b ∷ rest) = 1 + run_after false stops rest
 run_after false stops (b ∷ rest) =
-    if begins_escape (b ∷ rest) then 1 + run_after true stops rest
-    else (if is_one_of stops b then 0 else 1 + run_after false stops rest)
+    elim (begins_escape (b ∷ rest)) [
+      | true ↦ 1 + run_after true stops rest
+      | false ↦ elim (is_one_of stops b) [ true ↦ 0 | false ↦ 1 + run_after false stops rest ]
+    ]
 
 -- how many bytes stand before the first of the stops that is not escaped, or in all
 unfoldable pub run_before : List ℕ → List ℕ → ℕ

@@ -26,11 +26,19 @@ abbrev pub bare_from : (escaped : Bool) → ℕ → ℕ → List ℕ → Option 
 bare_from escaped at depth [] = if_closed at depth
 bare_from true at depth (b ∷ rest) = bare_from false (at + 1) depth rest
 bare_from false at depth (b ∷ rest) =
-    if begins_escape (b ∷ rest) then bare_from true (at + 1) depth rest
-    else (if ends_bare b then if_closed at depth
-    else (if b == 40 then (if nat_lt depth 32 then bare_from false (at + 1) (depth + 1) rest else None)
-    else (if b == 41 then (if nat_lt 0 depth then bare_from false (at + 1) (depth - 1) rest else Some at)
-    else bare_from false (at + 1) depth rest)))
+    elim (begins_escape (b ∷ rest)) [
+      | true ↦ bare_from true (at + 1) depth rest
+      | false ↦ elim (ends_bare b) [
+        | true ↦ if_closed at depth
+        | false ↦ elim (b == 40) [
+          | true ↦ elim (nat_lt depth 32) [ true ↦ bare_from false (at + 1) (depth + 1) rest | false ↦ None ]
+          | false ↦ elim (b == 41) [
+            | true ↦ elim (nat_lt 0 depth) [ true ↦ bare_from false (at + 1) (depth - 1) rest | false ↦ Some at ]
+            | false ↦ bare_from false (at + 1) depth rest
+          ]
+        ]
+      ]
+    ]
 
 unfoldable pub bare_end : List ℕ → ℕ → Option ℕ
 bare_end text at = bare_from false at 0 (drop at text)

@@ -17,15 +17,20 @@ unfolding has_bare_bracket
 backslash_step [] = refl
 backslash_step (c ∷ rest) = refl
 
+-- what stands behind a byte that is no backslash
+otherwise : (t x y : Bool) → t ≡ false → elim t [ true ↦ x | false ↦ y ] ≡ y
+otherwise true x y e = cc
+otherwise false x y e = refl
+
 plain_step : (b : ℕ) (rest : List ℕ) → eqb b 92 ≡ false → eqb b 91 ≡ false → eqb b 93 ≡ false → bare_from false (b ∷ rest) ≡ bare_from false rest
 unfolding has_bare_bracket
 plain_step b [] e f g = rw (f, g) refl
-plain_step b (c ∷ rest) e f g = rw (e, f, g) refl
+plain_step b (c ∷ rest) e f g = otherwise (eqb b 92) (has_bare_bracket rest) (eqb b 91 || eqb b 93 || has_bare_bracket (c ∷ rest)) e ∙ rw (f, g) refl
 
 bracket_step : (b : ℕ) (rest : List ℕ) → eqb b 92 ≡ false → (eqb b 91 || eqb b 93) ≡ true → bare_from false (b ∷ rest) ≡ true
 unfolding has_bare_bracket
 bracket_step b [] e f = f
-bracket_step b (c ∷ rest) e f = rw (e, f) refl
+bracket_step b (c ∷ rest) e f = otherwise (eqb b 92) (has_bare_bracket rest) (eqb b 91 || eqb b 93 || has_bare_bracket (c ∷ rest)) e ∙ rw f refl
 
 no_bracket : has_bare_bracket [] ≡ false
 unfolding has_bare_bracket

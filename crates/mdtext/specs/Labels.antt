@@ -20,7 +20,7 @@ ends_word (b ∷ bs) = is_label_space b
 -- what stands between spaces, tabs and line endings
 unfoldable pub words : List ℕ → List (List ℕ)
 words [] = []
-words (b ∷ bs) = if is_label_space b then words bs else at_front_of_word b (ends_word bs) (words bs)
+words (b ∷ bs) = let rest = words bs in if is_label_space b then rest else at_front_of_word b (ends_word bs) rest
 
 -- what stands between a text and the next word: nothing before the first
 abbrev pub gap : List ℕ → List ℕ
@@ -42,7 +42,8 @@ folded text = encode_utf8_all (default_case_fold (chars text))
 unfoldable pub has_bare_bracket : List ℕ → Bool
 has_bare_bracket [] = false
 has_bare_bracket (b ∷ []) = b == 91 || b == 93
-has_bare_bracket (b ∷ c ∷ rest) = if b == 92 then has_bare_bracket rest else b == 91 || b == 93 || has_bare_bracket (c ∷ rest)
+has_bare_bracket (b ∷ c ∷ rest) =
+    elim (b == 92) [ true ↦ has_bare_bracket rest | false ↦ b == 91 || b == 93 || has_bare_bracket (c ∷ rest) ]
 
 -- the inside of a label: at most 999 characters, one of them no space, tab or line ending, and no bare bracket
 abbrev pub is_label : List ℕ → Bool

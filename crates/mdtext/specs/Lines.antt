@@ -27,8 +27,9 @@ at_front b (line ∷ lines) = (b ∷ line) ∷ lines
 unfoldable pub split_lines : List ℕ → List (List ℕ)
 split_lines [] = []
 split_lines (b ∷ bs) =
-    if b == 13 && begins_with_lf bs then split_lines bs else
-    if b == 13 || b == 10 then [] ∷ split_lines bs else at_front b (split_lines bs)
+    let rest = split_lines bs in
+    if b == 13 && begins_with_lf bs then rest else
+    if b == 13 || b == 10 then [] ∷ rest else at_front b rest
 
 -- the lines of a whole text
 abbrev pub text_lines : List ℕ → List (List ℕ)

@@ -1,0 +1,37 @@
+-- The words of the definition of inlines that a row opens, under one name.
+use Rattle.std.specs.Str.{chars}
+use Rattle.std.specs.Char.{encode_utf8}
+use Rattle.caseless.specs.Caseless.{default_case_fold}
+use Rattle.ucd_case.specs.CaseFolding.{full_folding}
+use Rattle.ucd_case.specs.FullFoldingRows.{full_folding_rows}
+use Rattle.ucd_category.specs.GeneralCategory.{general_category}
+use Rattle.ucd_category.specs.GeneralCategoryRows.{general_category_rows}
+use Rattle.ucd_table.specs.Rows.{value_in}
+use Rattle.mdtext.specs.Labels.{words, has_bare_bracket}
+use Rattle.mdtext.specs.References.{reference, meaning, unescaped_from}
+use Rattle.mdscan.specs.AutoLink.{scheme_length, uri_end, mail_marks, domain_label_length, dotted_label_length, mail_end, autolink_at}
+use Rattle.mdscan.specs.Escapes.{run_before}
+use Rattle.mdscan.specs.Gaps.{gap_length}
+use Rattle.mdscan.specs.HtmlTag.{tag_name_length, attribute_name_length, quoted_length, value_length, equals_length, value_part_length, attribute_length, open_end_length, open_tag, closing_tag}
+use Rattle.mdscan.specs.InlineTail.{tail_to, titled_tail, tail_inside, inline_tail_at}
+use Rattle.mdscan.specs.LinkDestination.{angle_destination, bare_end, destination_at}
+use Rattle.mdscan.specs.LinkLabel.{label_at}
+use Rattle.mdscan.specs.LinkTitle.{title_to, title_at}
+use Rattle.mdscan.specs.RawHtml.{place_of, delimited, comment, declaration, raw_html}
+use Rattle.mdscan.specs.Repeats.{repeats}
+use Rattle.mdpair.specs.Neighbours.{left_flanking, right_flanking, opens_between, closes_between, run_at}
+use Rattle.mdpair.specs.Takings.{takings_in, takings}
+use Rattle.mdinline.specs.AutolinkText.{without_references}
+use Rattle.mdinline.specs.CodeSpans.{code_content, code_inside}
+use Rattle.mdinline.specs.InlineEvents.{rows_of}
+use Rattle.mdinline.specs.Lexing.{escape_lexeme, lex}
+use Rattle.mdinline.specs.LineBreaks.{spaced_break, backslash_break}
+use Rattle.mdinline.specs.LinkTails.{reference_at}
+use Rattle.mdinline.specs.Nesting.{nest}
+use Rattle.mdinline.specs.Settled.{settled}
+use Rattle.mdinline.specs.TextReading.{item_at, items_from, pieces_after, asks_of}
+use Rattle.mdinline.specs.TextTree.{inl, asked}
+
+unfoldable pub inline_words : Unit {0}
+unfolding chars encode_utf8 default_case_fold full_folding full_folding_rows general_category general_category_rows value_in words has_bare_bracket reference meaning unescaped_from scheme_length uri_end mail_marks domain_label_length dotted_label_length mail_end autolink_at run_before gap_length tag_name_length attribute_name_length quoted_length value_length equals_length value_part_length attribute_length open_end_length open_tag closing_tag tail_to titled_tail tail_inside inline_tail_at angle_destination bare_end destination_at label_at title_to title_at place_of delimited comment declaration raw_html repeats left_flanking right_flanking opens_between closes_between run_at takings_in takings without_references code_content code_inside rows_of escape_lexeme lex spaced_break backslash_break reference_at nest settled item_at items_from pieces_after asks_of inl asked
+inline_words = tt

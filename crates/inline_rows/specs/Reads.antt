@@ -1,0 +1,22 @@
+-- What a row says: the tree of a text, the labels asked for, how deep it is nested.
+use Rattle.std.specs.Prelude.{ℕ, List, []}
+use Rattle.mdtext.specs.EntityTable.{builtin_table}
+use Rattle.mdinline.specs.InlineTree.{Inlines}
+use Rattle.mdinline.specs.LabelMap.{LabelMap, target_in}
+use Rattle.mdinline.specs.Nesting.{nest}
+use Rattle.mdinline.specs.TextTree.{inl, asked}
+
+abbrev pub reads_under : LabelMap → List ℕ → Inlines
+reads_under labels text = inl builtin_table (target_in labels) text
+
+abbrev pub reads : List ℕ → Inlines
+reads text = reads_under [] text
+
+abbrev pub asks_under : LabelMap → List ℕ → List (List ℕ)
+asks_under labels text = asked builtin_table (target_in labels) text
+
+abbrev pub asks : List ℕ → List (List ℕ)
+asks text = asks_under [] text
+
+abbrev pub nests : List ℕ → ℕ
+nests text = nest (reads text)

@@ -1,0 +1,35 @@
+-- Code spans (CommonMark 6.1).
+use Rattle.std.specs.Prelude.{ℕ, ◌+◌, ◌-◌, Bool, true, false, not, ◌&&◌, ◌==◌, List, [], ◌∷◌, length, take, drop, map, slice_index, Option, Some, None, option_map, if◌then◌else◌}
+use Rattle.std.specs.List.{prefix_len, list_all}
+use Rattle.mdscan.specs.Blanks.{begins_with}
+
+-- the length of the backtick string that a text begins with
+abbrev pub backticks : List ℕ → ℕ
+backticks text = prefix_len (λ b. b == 96) text
+
+-- How many bytes stand before the next backtick string of a length. Only where no backtick stands before does a string begin.
+abbrev pub before_backticks : (inside : Bool) → ℕ → List ℕ → Option ℕ
+before_backticks inside n [] = None
+before_backticks true n (b ∷ rest) = option_map (λ k. k + 1) (before_backticks (b == 96) n rest)
+before_backticks false n (b ∷ rest) =
+    if backticks (b ∷ rest) == n then Some 0 else option_map (λ k. k + 1) (before_backticks (b == 96) n rest)
+
+-- Line endings are converted to spaces.
+abbrev pub as_one_line : List ℕ → List ℕ
+as_one_line text = map (λ b. if b == 10 then 32 else b) text
+
+-- a space at both ends, and not spaces alone
+abbrev pub is_padded : List ℕ → Bool
+is_padded line = begins_with 32 line && (slice_index line (length line - 1) == 32) && not (list_all (λ b. b == 32) line)
+
+-- If the line begins and ends with a space, and does not consist of spaces alone, one space is removed from each end.
+unfoldable pub code_content : List ℕ → List ℕ
+code_content text =
+    let line = as_one_line text in
+    if is_padded line then take (length line - 2) (drop 1 line) else line
+
+-- what stands between the backtick string at the front of a text and the next one of the same length
+unfoldable pub code_inside : List ℕ → Option (List ℕ)
+code_inside text =
+    let n = backticks text in
+    option_map (λ k. take k (drop n text)) (before_backticks false n (drop n text))
