@@ -1,5 +1,5 @@
 -- Units whose inline texts were read, and their HTML.
-use Rattle.std.specs.Prelude.{◌≡◌, ℕ, List, [], false, length, sum_by, take, refl}
+use Rattle.std.specs.Prelude.{◌≡◌, ℕ, ◌+◌, ◌-◌, ◌^◌, min, List, [], false, length, sum_by, take, refl}
 use Rattle.std.specs.Coded.{Coded, code_by, coded×, coded_ℕ, coded_list}
 use Rattle.mdblock.specs.UnitTree.{FoundUnit, found_code}
 use Rattle.mdinline.specs.ParsedText.{ParsedText, parsed_code}
@@ -50,3 +50,7 @@ texts_of units = sum_by (λ (u : ReadUnit). texts_in u.found) units
 -- how many the first units have
 abbrev pub texts_before : ℕ → List HeldUnit → ℕ
 texts_before n units = sum_by (λ (u : HeldUnit). texts_in u.read.found) (take n units)
+
+-- the first line of a unit where so many lines stand before the first one: those of the units before it are added, up to the greatest number
+abbrev pub first_line : ℕ → List ReadUnit → ℕ → ℕ
+first_line head units number = min (head + sum_by (λ (u : ReadUnit). u.found.lines) (take number units)) (2 ^ 64 - 1)

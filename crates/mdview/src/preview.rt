@@ -1,10 +1,10 @@
-ghost use Rattle.std.specs.Prelude.{◌≡◌, ◌≤◌, ◌+◌, IfOk, IfErr, OnOk, List, [], map, length, slice_get, get_or, IsSome, option_map, string_bytes};
+ghost use Rattle.std.specs.Prelude.{if◌then◌else◌, nat_lt, None, Some, ◌≡◌, ◌≤◌, ◌+◌, IfOk, IfErr, OnOk, List, [], map, length, slice_get, get_or, IsSome, option_map, string_bytes};
 ghost use Rattle.mdview.specs.Document.{document, size_of};
 ghost use Rattle.mdview.specs.Edit.{Call, due, put};
 ghost use Rattle.mdview.specs.Outcome.{outcome};
 ghost use Rattle.mdview.specs.Lists.{replaced};
 ghost use Rattle.mdview.specs.Reading.{OfReading, reading_of};
-ghost use Rattle.mdview.specs.HeldUnit.{ReadUnit, texts_of};
+ghost use Rattle.mdview.specs.HeldUnit.{ReadUnit, first_line, texts_of};
 ghost use Rattle.mdview.specs.Patch.{Brings};
 ghost use Rattle.mdview.specs.Renewed.{Renews};
 
@@ -122,7 +122,9 @@ impl Preview {
     }
 
     /// The number of the first line of the unit of this number; nothing where the text has fewer units.
-    pub fn first_line(&self, i: usize) -> Option<usize> {
+    pub fn first_line(&self, i: usize) -> Option<usize>
+        ensures { result ≡ (if nat_lt i (length self.now.units) then Some (first_line self.now.head self.now.units i) else None) }
+    {
         if i < self.units.len() {
             Some(begin_of(&self.units, self.head, i))
         } else {

@@ -1,6 +1,7 @@
 //! Where an edit begins to read, and where what it reads meets the units that are held.
 
-ghost use Rattle.std.specs.Prelude.{◌≡◌, ◌≤◌, ◌<◌, IfSome, length};
+ghost use Rattle.std.specs.Prelude.{◌≡◌, ◌≤◌, ◌<◌, IfSome, length, map};
+ghost use Rattle.mdview.specs.HeldUnit.{first_line, read_of};
 
 use crate::held_units::HeldUnit;
 
@@ -48,10 +49,13 @@ pub fn resume_at(units: &[HeldUnit], head: usize, at: usize) -> Resume
 }
 
 /// The first line of the unit of this number, or the line behind the last unit.
-pub fn begin_of(units: &[HeldUnit], head: usize, number: usize) -> usize {
+pub fn begin_of(units: &[HeldUnit], head: usize, number: usize) -> usize
+    requires { number ≤ length units.now }
+    ensures { result ≡ first_line head (map read_of units.now) number }
+{
     let mut begin = head;
-    for unit in units.iter().take(number) {
-        begin = begin.saturating_add(unit.found().lines());
+    for i in 0..number {
+        begin = begin.saturating_add(units[i].found().lines());
     }
     begin
 }
