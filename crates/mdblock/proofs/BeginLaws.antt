@@ -3,21 +3,22 @@ use Rattle.std.proofs.Common.{◌≡◌, ℕ, suc, ◌+◌, ◌≤◌, ◌<◌, 
 use Rattle.std.proofs.lemmas.List.{map-append, append-nil}
 use Rattle.std.specs.Prelude.{Contains, zero, slice_index_or}
 use Rattle.mdtext.specs.EntityTable.{EntityTable}
-use Rattle.mdblock.specs.BlockLine.{BlockLine, is_blank_line}
+use Rattle.mdblock.specs.BlockLine.{BlockLine, document_line, is_blank_line}
 use Rattle.mdblock.specs.BlockStart.{Kind, begun}
 use Rattle.mdblock.specs.BlockTree.{ListKind}
-use Rattle.mdblock.specs.BlockUnits.{group_of, groups_within, found_units, visible_in, depth_of, groups}
+use Rattle.mdblock.specs.BlockUnits.{group_of, groups_within, found_units, visible_in, depth_of, groups, units, begins}
 use Rattle.mdblock.specs.Laziness.{Tip}
 use Rattle.mdblock.specs.ListGroups.{Part, Leaves, Quoted, Listed, Group, is_same_list, joined_where, joined_list, joined, grouped}
 use Rattle.mdblock.specs.Stretches.{Stretch, Step, Takes, Ends, Stops, step, is_single, Tail, Empty, Going, Over, Cut, no_lines, all_of, stretches, ended, gap_behind, first_of, tail_of, begin_where, grown, after_step, add_at, add, cut_from, cut_by, tip_within}
 use Rattle.mdblock.specs.LineSummary.{part_mark}
+use Rattle.mdblock.specs.Meetings.{shift_found, IsBeginning}
 use Rattle.mdblock.specs.UnitBegin.{is_stop, is_apart, list_mark, same_mark, tail_mark, begins_behind, begins_unit, units_of}
 use Rattle.mdblock.specs.UnitTree.{FoundUnit}
 use Rattle.mdblock.proofs.CutLaws.{cut_from-append, apart-begins}
 use Rattle.mdblock.proofs.VisibleLaws.{visible-append}
 use Rattle.mdblock.proofs.DepthLaws.{groups-deep, begins-deep}
-use Rattle.mdblock.proofs.DocumentLaws.{units-meet}
-use Rattle.mdblock.proofs.GroupLaws.{shift_found, joins, grouped-first, joined-nil}
+use Rattle.mdblock.proofs.DocumentLaws.{units-meet, map-length, document-units, document-meets}
+use Rattle.mdblock.proofs.GroupLaws.{joins, grouped-first, joined-nil}
 use Rattle.mdblock.proofs.UnitLaws.{Leads, first-leads, IsWhole, cut-whole, add-lines, cut-lines, joins-marks, part-mark, keeps, step-keeps}
 
 -- where a block begins, and whether it is an item of a list
@@ -410,3 +411,31 @@ begins-there e xs l ys b =
 pub beginning-stays : (e : EntityTable) (xs : List BlockLine) (l : BlockLine) (ys zs : List BlockLine) →
     Contains (begins_in (units_of e (xs ++ l ∷ ys))) (length xs) → Contains (begins_in (units_of e (xs ++ l ∷ zs))) (length xs)
 beginning-stays e xs l ys zs w = begins-there e xs l zs (begins-only e xs l ys w)
+
+-- the same of a document
+document-begins : (e : EntityTable) (front : List (List ℕ)) (line : List ℕ) (later : List (List ℕ)) →
+    begins e (front ++ line ∷ later) ≡ begins_in (units_of e (map document_line front ++ document_line line ∷ map document_line later))
+document-begins e front line later =
+    ap begins_in (document-units e (front ++ line ∷ later) ∙ ap (λ z. units_of e z) (map-append document_line front (line ∷ later)))
+
+pub document-only : (e : EntityTable) (front : List (List ℕ)) (line : List ℕ) (later : List (List ℕ)) →
+    Contains (begins e (front ++ line ∷ later)) (length front) → IsBeginning front line
+document-only e front line later w =
+    begins-only e (map document_line front) (document_line line) (map document_line later)
+    (subst (λ z. Contains (begins_in (units_of e (map document_line front ++ document_line line ∷ map document_line later))) z) (sym (map-length document_line front))
+    (subst (λ z. Contains z (length front)) (document-begins e front line later) w))
+
+pub document-there : (e : EntityTable) (front : List (List ℕ)) (line : List ℕ) (later : List (List ℕ)) →
+    IsBeginning front line → Contains (begins e (front ++ line ∷ later)) (length front)
+document-there e front line later b =
+    subst (λ z. Contains z (length front)) (sym (document-begins e front line later))
+    (subst (λ z. Contains (begins_in (units_of e (map document_line front ++ document_line line ∷ map document_line later))) z) (map-length document_line front)
+    (begins-there e (map document_line front) (document_line line) (map document_line later) b))
+
+-- Where a unit begins, what comes later leaves the units before it and the beginning itself.
+pub document-stays : (e : EntityTable) (front : List (List ℕ)) (line : List ℕ) (later other : List (List ℕ)) →
+    Contains (begins e (front ++ line ∷ later)) (length front) →
+    Contains (begins e (front ++ line ∷ other)) (length front)
+    × (units e (front ++ line ∷ other) ≡ units e front ++ map (shift_found (length front)) (units e (line ∷ other)))
+document-stays e front line later other w =
+    let b = document-only e front line later w in (document-there e front line other b, document-meets e front line other b)

@@ -9,7 +9,7 @@ use Rattle.mdblock.specs.UnitBegin.{is_stop, is_apart, list_mark, same_mark, tai
 use Rattle.mdtext.specs.EntityTable.{EntityTable}
 use Rattle.mdblock.specs.ContainerLines.{inner, is_bare}
 use Rattle.mdblock.specs.Laziness.{Tip, is_verbatim}
-use Rattle.mdblock.specs.Stretches.{Stretch, Step, Takes, Ends, Stops, takes_if, goes_on, closes, ends_html, is_row, is_code, fence_step, html_step, interrupted, paragraph_step, step, is_single, Tail, Empty, Going, Over, Cut, no_lines, all_of, stretches, ended, tip_at, tip_of, gap_behind, first_of, tail_of, begin_where, after_step, add_at, add, cut_from, cut_by, tip_within}
+use Rattle.mdblock.specs.Stretches.{Stretch, Step, Takes, Ends, Stops, takes_if, goes_on, closes, ends_html, is_row, is_code, fence_step, html_step, interrupted, paragraph_step, step, is_single, Tail, Empty, Going, Over, Cut, no_lines, all_of, stretches, ended, tip_at, tip_of, gap_behind, first_of, tail_of, begin_where, after_step, add_at, add, cut_from, cut_by, tip_within, cut_within}
 use Rattle.mdblock.proofs.VisibleLaws.{marker_width, inner-visible, visible-append, HasWidth, begun-width}
 
 -- ---- the cut asks only for the tips of what its containers hold
@@ -324,29 +324,55 @@ groups-agree e (suc d) = groups-next e d (groups-agree e d)
 
 -- ---- every depth that suffices
 
-groups-more : (e : EntityTable) (ls : List BlockLine) (d k : ℕ) → visible_in ls < d → groups_within e d ls ≡ groups_within e (k + d) ls
-groups-more e ls d zero h = let z : d ≡ 0 + d = omega arith in ap (λ n. groups_within e n ls) z
-groups-more e ls d (suc k) h =
-    let z : suc (k + d) ≡ suc k + d = omega arith in
-    groups-more e ls d k h ∙ (groups-agree e (k + d)).same ls (omega (arith, h)) ∙ ap (λ n. groups_within e n ls) z
+steady : {A : Type 0} (P : ℕ → A) (m k : ℕ) → ((n : ℕ) → m ≤ n → P n ≡ P (suc n)) → P m ≡ P (k + m)
+steady P m zero h = let z : m ≡ 0 + m = omega arith in ap P z
+steady P m (suc k) h = let z : suc (k + m) ≡ suc k + m = omega arith in steady P m k h ∙ h (k + m) (omega arith) ∙ ap P z
+
+-- What stays from each depth to the next is the same at all.
+at-depth : {A : Type 0} (P : ℕ → A) (m d : ℕ) → ((n : ℕ) → m ≤ n → P n ≡ P (suc n)) → m ≤ d → P d ≡ P m
+at-depth P m d h w =
+    let k = d - m in
+    let z : k + m ≡ d = omega (arith, w) in
+    sym (steady P m k h ∙ ap P z)
 
 -- Any depth above the number of characters that count gives what lines give.
 pub groups-deep : (e : EntityTable) (d : ℕ) (ls : List BlockLine) → visible_in ls < d → groups_within e d ls ≡ groups e ls
-groups-deep e d ls h =
-    let k = d - depth_of ls in
-    let z : k + depth_of ls ≡ d = omega (arith, h) in
-    sym (groups-more e ls (depth_of ls) k (omega arith) ∙ ap (λ n. groups_within e n ls) z)
-
-begins-more : (xs : List BlockLine) (l : BlockLine) (d k : ℕ) → visible_in xs ≤ d →
-    begins_behind (tip_within d) (cut_by (tip_within d) xs) l ≡ begins_behind (tip_within (k + d)) (cut_by (tip_within (k + d)) xs) l
-begins-more xs l d zero h = let z : d ≡ 0 + d = omega arith in ap (λ n. begins_behind (tip_within n) (cut_by (tip_within n) xs) l) z
-begins-more xs l d (suc k) h =
-    let z : suc (k + d) ≡ suc k + d = omega arith in
-    begins-more xs l d k h ∙ begins-next (k + d) xs l (omega (arith, h)) ∙ ap (λ n. begins_behind (tip_within n) (cut_by (tip_within n) xs) l) z
+groups-deep e d ls h = at-depth (λ n. groups_within e n ls) (depth_of ls) d (λ n w. (groups-agree e n).same ls (omega (arith, w))) (omega (arith, h))
 
 pub begins-deep : (d : ℕ) (xs : List BlockLine) (l : BlockLine) → visible_in xs < d → begins_behind (tip_within d) (cut_by (tip_within d) xs) l ≡ begins_unit xs l
 unfolding begins_unit
 begins-deep d xs l h =
-    let k = d - depth_of xs in
-    let z : k + depth_of xs ≡ d = omega (arith, h) in
-    sym (begins-more xs l (depth_of xs) k (omega arith) ∙ ap (λ n. begins_behind (tip_within n) (cut_by (tip_within n) xs) l) z)
+    at-depth (λ n. begins_behind (tip_within n) (cut_by (tip_within n) xs) l) (depth_of xs) d (λ n w. begins-next n xs l (omega (arith, w))) (omega (arith, h))
+
+pub cut-deep : (d : ℕ) (xs : List BlockLine) → visible_in xs < d → cut_within d xs ≡ cut_within (depth_of xs) xs
+cut-deep d xs h =
+    at-depth (λ n. cut_within n xs) (depth_of xs) d
+    (λ n w. let k : visible_in xs ≤ n = omega (arith, w) in cut-agrees (tips-agree n) no_lines xs (none-light n xs k)) (omega (arith, h))
+
+apart-next : (d : ℕ) (xs : List BlockLine) (l : BlockLine) → visible_in xs ≤ d →
+    is_apart (tip_within d) (cut_within d xs).tail l ≡ is_apart (tip_within (suc d)) (cut_within (suc d) xs).tail l
+apart-next d xs l h =
+    let U = tip_within (suc d) in
+    let a = tips-agree d in
+    let w = none-light d xs h in
+    ap (λ (z : Cut). is_apart (tip_within d) z.tail l) (cut-agrees a no_lines xs w)
+    ∙ apart-agrees a (cut_by U xs).tail 0 l (cut-light U d no_lines xs w).1
+
+pub apart-deep : (d : ℕ) (xs : List BlockLine) (l : BlockLine) → visible_in xs < d →
+    is_apart (tip_within d) (cut_within d xs).tail l ≡ is_apart (tip_within (depth_of xs)) (cut_within (depth_of xs) xs).tail l
+apart-deep d xs l h =
+    at-depth (λ n. is_apart (tip_within n) (cut_within n xs).tail l) (depth_of xs) d (λ n w. apart-next n xs l (omega (arith, w))) (omega (arith, h))
+
+gap-next : (d : ℕ) (xs : List BlockLine) → visible_in xs ≤ d →
+    gap_behind (tip_within d) (cut_within d xs) ≡ gap_behind (tip_within (suc d)) (cut_within (suc d) xs)
+gap-next d xs h =
+    let U = tip_within (suc d) in
+    let a = tips-agree d in
+    let w = none-light d xs h in
+    ap (λ (z : Cut). gap_behind (tip_within d) z) (cut-agrees a no_lines xs w)
+    ∙ ap (λ z. (cut_by U xs).blank && not (is_verbatim z)) (tip-agrees a (cut_by U xs).tail 0 (cut-light U d no_lines xs w).1)
+
+pub gap-deep : (d : ℕ) (xs : List BlockLine) → visible_in xs < d →
+    gap_behind (tip_within d) (cut_within d xs) ≡ gap_behind (tip_within (depth_of xs)) (cut_within (depth_of xs) xs)
+gap-deep d xs h =
+    at-depth (λ n. gap_behind (tip_within n) (cut_within n xs)) (depth_of xs) d (λ n w. gap-next n xs (omega (arith, w))) (omega (arith, h))

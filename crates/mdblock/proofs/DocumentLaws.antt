@@ -9,11 +9,11 @@ use Rattle.mdleaf.specs.LinkDefinition.{LinkDefinition}
 use Rattle.mdblock.specs.BlockLine.{BlockLine, document_line}
 use Rattle.mdblock.specs.BlockUnits.{visible_in, groups, found_units, units, definitions_of}
 use Rattle.mdblock.specs.FirstDefinitions.{first_definition}
+use Rattle.mdblock.specs.Meetings.{shift_found, IsBeginning}
 use Rattle.mdblock.specs.UnitBegin.{begins_unit, units_of}
 use Rattle.mdblock.specs.UnitTree.{FoundUnit}
 use Rattle.mdblock.proofs.VisibleLaws.{visible-append}
 use Rattle.mdblock.proofs.DepthLaws.{groups-deep, begins-deep}
-use Rattle.mdblock.proofs.GroupLaws.{shift_found}
 use Rattle.mdblock.proofs.UnitLaws.{units_within, units-split}
 
 units-deep : (e : EntityTable) (d : ℕ) (ls : List BlockLine) → visible_in ls < d → units_within e d ls ≡ units_of e ls
@@ -35,15 +35,15 @@ units-meet e xs l ys b =
     ∙ ap (λ z. units_of e xs ++ map (shift_found (length xs)) z) (units-deep e (suc d) (l ∷ ys) back)
 
 -- the same of a document
-map-length : {A B : Type 0} (f : A → B) (xs : List A) → length (map f xs) ≡ length xs
+pub map-length : {A B : Type 0} (f : A → B) (xs : List A) → length (map f xs) ≡ length xs
 map-length f [] = refl
 map-length f (x ∷ xs) = ap (λ z. suc z) (map-length f xs)
 
-document-units : (e : EntityTable) (lines : List (List ℕ)) → units e lines ≡ units_of e (map document_line lines)
+pub document-units : (e : EntityTable) (lines : List (List ℕ)) → units e lines ≡ units_of e (map document_line lines)
 document-units e lines = ap (λ z. found_units (groups e (map document_line lines)) z) (sym (map-length document_line lines))
 
 pub document-meets : (e : EntityTable) (front : List (List ℕ)) (line : List ℕ) (later : List (List ℕ)) →
-    begins_unit (map document_line front) (document_line line) ≡ true →
+    IsBeginning front line →
     units e (front ++ line ∷ later) ≡ units e front ++ map (shift_found (length front)) (units e (line ∷ later))
 document-meets e front line later b =
     let xs = map document_line front in
@@ -76,3 +76,9 @@ first-of-both (d ∷ ds) fs label = go (bytes_eq d.label label) (first-of-both d
         cond b (Some d) (first_definition (ds ++ fs) label) ≡ option_or (cond b (Some d) (first_definition ds label)) (first_definition fs label)
     go true h = refl
     go false h = h
+
+-- The table of units one after the other: of both definitions of a label the first counts.
+pub tables-append : (us vs : List FoundUnit) (label : List ℕ) →
+    first_definition (definitions_of (us ++ vs)) label ≡ option_or (first_definition (definitions_of us) label) (first_definition (definitions_of vs) label)
+tables-append us vs label =
+    ap (λ z. first_definition z label) (definitions-append us vs) ∙ first-of-both (definitions_of us) (definitions_of vs) label

@@ -4,6 +4,7 @@ use Rattle.mdblock.specs.BlockTree.{ListKind}
 use Rattle.mdblock.specs.ListGroups.{Part, Leaves, Quoted, Listed, Group, is_same_list, items_before, joined_where, joined_list, joined, grouped, part_before}
 use Rattle.mdblock.specs.NodeTree.{no_nodes, ItemNodes, unit_of}
 use Rattle.mdblock.specs.BlockUnits.{next_begin, found_units}
+use Rattle.mdblock.specs.Meetings.{shift_group, shift_group_first, shift_groups, shift_found}
 use Rattle.mdblock.specs.UnitTree.{FoundUnit}
 
 -- two neighbours are items of one list
@@ -127,17 +128,6 @@ grouped-append (a ∷ gs) g h hs e =
 
 -- ---- lines before
 
-abbrev pub shift_group : ℕ → Group → Group
-shift_group k g = record { begin = g.begin + k; gap = g.gap; part = g.part }
-
-abbrev pub shift_group_first : Bool → ℕ → Group → Group
-shift_group_first gap k g = record { begin = g.begin + k; gap = gap; part = g.part }
-
--- groups so many lines further on, the first with another mark of a gap
-abbrev pub shift_groups : Bool → ℕ → List Group → List Group
-shift_groups gap k [] = []
-shift_groups gap k (g ∷ gs) = shift_group_first gap k g ∷ map (shift_group k) gs
-
 where-shift : (same : Bool) (gap : Bool) (k : ℕ) (g : Group) (kind : ListKind) (t : Bool) (items : ItemNodes) (n : Group) (t' : Bool) (later : ItemNodes) (ns : List Group) →
     joined_where same (shift_group_first gap k g) kind t items (shift_group k n) t' later (map (shift_group k) ns)
     ≡ shift_groups gap k (joined_where same g kind t items n t' later ns)
@@ -206,10 +196,6 @@ grouped-shift gap k (g ∷ gs) =
     ∙ joined-shift gap k g g.part (grouped gs)
 
 -- ---- units
-
--- a unit so many lines further on
-abbrev pub shift_found : ℕ → FoundUnit → FoundUnit
-shift_found k f = record { begin = f.begin + k; lines = f.lines; unit = f.unit }
 
 -- the unit of a group
 abbrev found_of : ℕ → Part → (next : ℕ) → FoundUnit

@@ -5,24 +5,19 @@ use Rattle.std.proofs.lemmas.Bool.{eqb-true}
 use Rattle.std.proofs.lemmas.List.{map-append}
 use Rattle.mdtext.specs.EntityTable.{EntityTable}
 use Rattle.mdblock.specs.BlockLine.{BlockLine, is_blank_line}
+use Rattle.mdblock.specs.BlockStart.{begun}
 use Rattle.mdblock.specs.BlockTree.{ListKind, bullet, ordered}
-use Rattle.mdblock.specs.BlockUnits.{group_of, groups_within, groups, visible_in}
+use Rattle.mdblock.specs.BlockUnits.{group_of, groups_within, groups, visible_in, depth_of}
 use Rattle.mdblock.specs.ListGroups.{Part, Leaves, Quoted, Listed, Group, is_same_list, items_before, joined_where, joined_list, joined, grouped}
 use Rattle.mdblock.specs.NodeTree.{ItemNodes, no_item_nodes, item_node}
-use Rattle.mdblock.specs.Stretches.{Cut, no_lines, stretches, gap_behind, cut_by, tip_within}
-use Rattle.mdblock.specs.UnitBegin.{is_apart}
+use Rattle.mdblock.specs.Stretches.{Cut, no_lines, stretches, gap_behind, cut_by, cut_within, tip_within}
+use Rattle.mdblock.specs.Meetings.{shift_groups, merged, joins_behind, joins_list, gap_after}
+use Rattle.mdblock.specs.UnitBegin.{is_apart, list_mark, same_mark, tail_mark}
 use Rattle.mdblock.proofs.CutLaws.{cut_from-append, all_of-prepend, shift_all, moved, stretches-moved, meets}
 use Rattle.mdblock.proofs.VisibleLaws.{visible-append}
-use Rattle.mdblock.proofs.DepthLaws.{groups-deep}
-use Rattle.mdblock.proofs.GroupLaws.{joins, HasFirst, list-first, joined-apart, shift_groups, grouped-shift}
+use Rattle.mdblock.proofs.DepthLaws.{groups-deep, apart-deep, gap-deep}
+use Rattle.mdblock.proofs.GroupLaws.{joins, HasFirst, list-first, joined-apart, grouped-shift}
 use Rattle.mdblock.proofs.UnitLaws.{cut-lines, group-shift}
-
--- the last of some groups may make one list with the first of others
-abbrev pub merged : List Group → List Group → List Group
-merged [] hs = hs
-merged (g ∷ []) [] = g ∷ []
-merged (g ∷ []) (h ∷ hs) = joined g g.part (h ∷ hs)
-merged (g ∷ n ∷ gs) hs = g ∷ merged (n ∷ gs) hs
 
 abbrev of_part : ℕ → Bool → Part → Group
 of_part b gap p = record { begin = b; gap = gap; part = p }
@@ -171,3 +166,22 @@ groups-meet e d xs l ys h a b =
     ∙ groups-split e d xs l ys a b
     ∙ ap (λ z. merged z (shift_groups gap (length xs) (groups_within e (suc d) (l ∷ ys)))) (groups-deep e (suc d) xs (omega (arith, h, v)))
     ∙ ap (λ z. merged (groups e xs) (shift_groups gap (length xs) z)) (groups-deep e (suc d) (l ∷ ys) (omega (arith, h, v)))
+
+front-two : (a b c : Bool) → (a && not b && c) ≡ true → (a ≡ true) × (b ≡ false)
+front-two true false c e = (refl, refl)
+front-two true true c e = absurd (let x : ⊥ = cc in x)
+front-two false b c e = absurd (let x : ⊥ = cc in x)
+
+-- The same where a line begins an item of the list that stands last.
+pub items-meet : (e : EntityTable) (xs : List BlockLine) (l : BlockLine) (ys : List BlockLine) → joins_list xs l ≡ true →
+    groups e (xs ++ l ∷ ys) ≡ merged (groups e xs) (shift_groups (gap_after xs) (length xs) (groups e (l ∷ ys)))
+unfolding joins_list joins_behind gap_after
+items-meet e xs l ys j =
+    let all = xs ++ l ∷ ys in
+    let d = suc (visible_in all) in
+    let v = visible-append xs (l ∷ ys) in
+    let front : visible_in xs < d = omega (arith, v) in
+    let t = (cut_within (depth_of xs) xs).tail in
+    let both = front-two (is_apart (tip_within (depth_of xs)) t l) (is_blank_line l) (same_mark (tail_mark t) (list_mark (begun l))) j in
+    groups-meet e d xs l ys (omega arith) (apart-deep d xs l front ∙ both.0) both.1
+    ∙ ap (λ z. merged (groups e xs) (shift_groups z (length xs) (groups e (l ∷ ys)))) (gap-deep d xs front)

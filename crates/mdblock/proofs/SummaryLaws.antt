@@ -1,17 +1,18 @@
 -- One line more: what the lines give follows from their summary.
-use Rattle.std.proofs.Common.{◌≡◌, ℕ, zero, suc, Bool, true, false, not, ◌&&◌, List, [], ◌∷◌, ◌++◌, map, Option, Some, None, refl, sym, ◌∙◌, ap, nat_lt}
+use Rattle.std.proofs.Common.{◌≡◌, ◌≤◌, ◌<◌, ◌-◌, arith, ℕ, zero, suc, Bool, true, false, not, ◌&&◌, List, [], ◌∷◌, ◌++◌, map, Option, Some, None, refl, sym, ◌∙◌, ap, nat_lt}
 use Rattle.std.proofs.lemmas.List.{map-append, append-nil}
 use Rattle.mdtext.specs.EntityTable.{EntityTable}
 use Rattle.mdblock.specs.BlockLine.{BlockLine, is_blank_line}
 use Rattle.mdblock.specs.BlockStart.{Inside, start, Container, Kind, Paragraph, SetextHeading, Table, AtxHeading, ThematicBreak, FencedCode, IndentedCode, HtmlBlock, Holds, begun}
-use Rattle.mdblock.specs.BlockUnits.{part_at, group_of, groups_within}
+use Rattle.mdblock.specs.BlockUnits.{part_at, group_of, groups_within, groups, depth_of}
 use Rattle.mdblock.specs.ContainerLines.{opened, inside, inner, is_bare}
 use Rattle.mdblock.specs.Laziness.{Tip, Closed, is_verbatim}
 use Rattle.mdblock.specs.LineSummary.{Summary, summary, ended_block, open_leaf, open_container, no_summary, summary_tip, last_tip, container_group, closed, last_groups, ended_last, new_last, summary_gap, begin_after, leaf_after, container_after, last_after, line_added, last_at, last_of, summary_by, summary_within, is_apart_after, mark_of, begins_after}
 use Rattle.mdblock.specs.ListGroups.{Group, grouped}
 use Rattle.mdblock.specs.Stretches.{Stretch, Step, Takes, Ends, Stops, takes_if, goes_on, closes, ends_html, is_row, is_code, fence_step, html_step, interrupted, paragraph_step, step, is_single, Tail, Empty, Going, Over, Cut, no_lines, all_of, ended, tip_at, tip_of, gap_behind, first_of, tail_of, begin_where, grown, after_step, add_at, cut_from, cut_by, tip_within}
-use Rattle.mdblock.specs.UnitBegin.{is_stop, is_apart, list_mark, same_mark, tail_mark, begins_behind}
+use Rattle.mdblock.specs.UnitBegin.{is_stop, is_apart, list_mark, same_mark, tail_mark, begins_behind, begins_unit}
 use Rattle.mdblock.proofs.CutLaws.{cut_from-append}
+use Rattle.mdblock.proofs.DepthLaws.{groups-deep, begins-deep}
 use Rattle.mdblock.proofs.UnitLaws.{part-mark}
 
 -- what is known of one depth
@@ -363,3 +364,13 @@ begins-law e d xs l =
     let last = last_of e (groups_within e d) (summary_within e d) t in
     ap (λ z. z && not (is_blank_line l) && not (same_mark (tail_mark t) (list_mark (begun l)))) (of-apart (laws e d) t l)
     ∙ ap (λ z. is_apart_after last l && not (is_blank_line l) && not (same_mark z (list_mark (begun l)))) (of-mark e d t)
+
+-- ---- at a depth that suffices
+
+pub summary-gives : (e : EntityTable) (d : ℕ) (xs : List BlockLine) → depth_of xs ≤ d → closed e (summary_within e d xs) ≡ groups e xs
+summary-gives e d xs h = sym ((laws e d).reads xs) ∙ groups-deep e d xs (omega (arith, h))
+
+pub summary-begins : (e : EntityTable) (d : ℕ) (xs : List BlockLine) (l : BlockLine) → depth_of xs < d → begins_after (summary_within e d xs) l ≡ begins_unit xs l
+summary-begins e d xs l h =
+    let below : suc (d - 1) ≡ d = omega (arith, h) in
+    ap (λ n. begins_after (summary_within e n xs) l) (sym below) ∙ sym (begins-law e (d - 1) xs l) ∙ begins-deep (d - 1) xs l (omega (arith, h))

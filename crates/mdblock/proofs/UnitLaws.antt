@@ -13,7 +13,8 @@ use Rattle.mdblock.specs.LineSummary.{part_mark}
 use Rattle.mdblock.specs.UnitBegin.{is_apart, list_mark, same_mark, tail_mark, begins_behind}
 use Rattle.mdblock.specs.UnitTree.{FoundUnit}
 use Rattle.mdblock.proofs.CutLaws.{cut_from-append, all_of-prepend, shift, shift_all, moved, stretches-moved, meets}
-use Rattle.mdblock.proofs.GroupLaws.{joins, grouped-first, grouped-append, shift_group, shift_groups, grouped-shift, shift_found, found-append, found-shift}
+use Rattle.mdblock.specs.Meetings.{shift_group, shift_groups, shift_found}
+use Rattle.mdblock.proofs.GroupLaws.{joins, grouped-first, grouped-append, grouped-shift, found-append, found-shift}
 
 pub joins-marks : (p q : Part) → joins p q ≡ same_mark (part_mark p) (part_mark q)
 joins-marks (Leaves leaves) q = refl

@@ -10,6 +10,7 @@ pub mod Laziness
 pub mod LeafContents
 pub mod LineSummary
 pub mod ListGroups
+pub mod Meetings
 pub mod Nesting
 pub mod NodeTree
 pub mod Openings

@@ -5,6 +5,7 @@ mod blocks;
 mod container;
 mod faults;
 mod gathering;
+mod laws;
 mod leaf;
 mod levels;
 mod lines;
@@ -14,6 +15,10 @@ mod units;
 
 pub use blocks::{Block, Item, ListKind};
 pub use faults::BlockFault;
+pub use laws::{
+    beginnings_stay, equal_ends_give_equal_units, first_units_define, items_meet,
+    lines_before_tell_beginnings, summary_goes_on,
+};
 pub use mdleaf::Definition;
 pub use mdscan::Align;
 pub use readers::Reader;

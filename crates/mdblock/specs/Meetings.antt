@@ -1,0 +1,47 @@
+-- What lines give behind others: the same, so many lines further on; where the two meet one list may go on.
+use Rattle.std.specs.Prelude.{ℕ, ◌+◌, Bool, not, ◌&&◌, List, [], ◌∷◌, map, true, ◌≡◌}
+use Rattle.mdblock.specs.BlockLine.{BlockLine, document_line, is_blank_line}
+use Rattle.mdblock.specs.BlockStart.{begun}
+use Rattle.mdblock.specs.BlockUnits.{depth_of}
+use Rattle.mdblock.specs.Laziness.{Tip}
+use Rattle.mdblock.specs.ListGroups.{Group, joined}
+use Rattle.mdblock.specs.Stretches.{Cut, gap_behind, cut_within, tip_within}
+use Rattle.mdblock.specs.UnitBegin.{is_apart, list_mark, same_mark, tail_mark, begins_unit}
+use Rattle.mdblock.specs.UnitTree.{FoundUnit}
+
+-- a unit so many lines further on
+abbrev pub shift_found : ℕ → FoundUnit → FoundUnit
+shift_found k f = record { begin = f.begin + k; lines = f.lines; unit = f.unit }
+
+abbrev pub shift_group : ℕ → Group → Group
+shift_group k g = record { begin = g.begin + k; gap = g.gap; part = g.part }
+
+abbrev pub shift_group_first : Bool → ℕ → Group → Group
+shift_group_first gap k g = record { begin = g.begin + k; gap = gap; part = g.part }
+
+-- groups so many lines further on, the first with another mark of a gap
+abbrev pub shift_groups : Bool → ℕ → List Group → List Group
+shift_groups gap k [] = []
+shift_groups gap k (g ∷ gs) = shift_group_first gap k g ∷ map (shift_group k) gs
+
+-- Lists (CommonMark 5.3): the last of some groups may make one list with the first of others.
+abbrev pub merged : List Group → List Group → List Group
+merged [] hs = hs
+merged (g ∷ []) [] = g ∷ []
+merged (g ∷ []) (h ∷ hs) = joined g g.part (h ∷ hs)
+merged (g ∷ n ∷ gs) hs = g ∷ merged (n ∷ gs) hs
+
+-- whether a line of a document begins a unit behind these lines
+abbrev pub IsBeginning : (front : List (List ℕ)) → (line : List ℕ) → Type 0
+IsBeginning front line = begins_unit (map document_line front) (document_line line) ≡ true
+
+-- A line begins an item of the list that stands last, and so no unit.
+unfoldable pub joins_behind : (tip : List BlockLine → Tip) → Cut → BlockLine → Bool
+joins_behind tip cut l = is_apart tip cut.tail l && not (is_blank_line l) && same_mark (tail_mark cut.tail) (list_mark (begun l))
+
+unfoldable pub joins_list : (front : List BlockLine) → BlockLine → Bool
+joins_list front l = joins_behind (tip_within (depth_of front)) (cut_within (depth_of front) front) l
+
+-- there is a gap behind these lines
+unfoldable pub gap_after : (front : List BlockLine) → Bool
+gap_after front = gap_behind (tip_within (depth_of front)) (cut_within (depth_of front) front)
