@@ -4,7 +4,10 @@ pub mod DepthLaws
 pub mod DocumentLaws
 pub mod GroupLaws
 pub mod ItemLaws
+pub mod LimitLaws
 pub mod Markers
+pub mod NestingLaws
+pub mod ReaderLaws
 pub mod Skips
 pub mod SummaryLaws
 pub mod UnitLaws

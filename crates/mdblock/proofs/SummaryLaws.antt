@@ -121,7 +121,7 @@ begin-law {e = e} {d = d} h c l false =
 
 -- ---- a leaf stays one
 
-abbrev IsLeaf : Kind → Type 0
+abbrev pub IsLeaf : Kind → Type 0
 IsLeaf (Holds container) = ⊥
 IsLeaf Paragraph = Unit {0}
 IsLeaf (SetextHeading level) = Unit {0}
@@ -132,7 +132,7 @@ IsLeaf (FencedCode i m n info c) = Unit {0}
 IsLeaf IndentedCode = Unit {0}
 IsLeaf (HtmlBlock kind) = Unit {0}
 
-abbrev LeafStep : Step → Type 0
+abbrev pub LeafStep : Step → Type 0
 LeafStep (Takes kind) = IsLeaf kind
 LeafStep (Ends kind) = IsLeaf kind
 LeafStep Stops = Unit {0}
@@ -167,7 +167,7 @@ paragraph-leaf true blank k = tt
 paragraph-leaf false true k = tt
 paragraph-leaf false false k = interrupted-leaf k
 
-step-leaf : (T : List BlockLine → Tip) (k : Kind) (f : BlockLine) (r : List BlockLine) (l : BlockLine) → IsLeaf k → LeafStep (step T k f r l)
+pub step-leaf : (T : List BlockLine → Tip) (k : Kind) (f : BlockLine) (r : List BlockLine) (l : BlockLine) → IsLeaf k → LeafStep (step T k f r l)
 unfolding step
 step-leaf T (Holds container) f r l w = absurd w
 step-leaf T (FencedCode i m n info c) f r l w = fence-leaf (closes m n l) i m n info
@@ -192,7 +192,7 @@ same-step T U (SetextHeading level) f r l w = refl
 same-step T U (AtxHeading level content) f r l w = refl
 same-step T U ThematicBreak f r l w = refl
 
-leaf-last : (S : List BlockLine → Summary) (k : Kind) (s : Stretch) → IsLeaf k → last_at S k s ≡ open_leaf s
+pub leaf-last : (S : List BlockLine → Summary) (k : Kind) (s : Stretch) → IsLeaf k → last_at S k s ≡ open_leaf s
 unfolding last_at
 leaf-last S (Holds container) s w = absurd w
 leaf-last S Paragraph s w = refl
@@ -238,7 +238,7 @@ unfolding is_bare
 bare-push c f [] l = refl
 bare-push c f (x ∷ r) l = refl
 
-inner-push : (c : Container) (f : BlockLine) (r : List BlockLine) (l : BlockLine) → inner c f (r ++ l ∷ []) ≡ inner c f r ++ inside c l ∷ []
+pub inner-push : (c : Container) (f : BlockLine) (r : List BlockLine) (l : BlockLine) → inner c f (r ++ l ∷ []) ≡ inner c f r ++ inside c l ∷ []
 inner-push c f r l = ap (λ z. opened c f ∷ z) (map-append (inside c) r (l ∷ []))
 
 container-law : {e : EntityTable} {d : ℕ} (h : Laws e d) (before : List Stretch) (n : ℕ) (g : Bool) (c : Container) (f : BlockLine) (r : List BlockLine) (b : Bool) (m : ℕ) (l : BlockLine) (takes : Bool) →
@@ -329,7 +329,7 @@ at-apart h n g (FencedCode i u v info c) f r l = refl
 at-apart h n g IndentedCode f r l = refl
 at-apart h n g (HtmlBlock kind) f r l = refl
 
-of-apart : {e : EntityTable} {d : ℕ} (h : Laws e d) (t : Tail) (l : BlockLine) →
+pub of-apart : {e : EntityTable} {d : ℕ} (h : Laws e d) (t : Tail) (l : BlockLine) →
     is_apart (tip_within d) t l ≡ is_apart_after (last_of e (groups_within e d) (summary_within e d) t) l
 unfolding is_apart last_of is_apart_after
 of-apart h Empty l = refl

@@ -19,6 +19,7 @@ pub mod Positions
 pub mod Reading
 pub mod StoredBlocks
 pub mod Stretches
+pub mod SummaryDepth
 pub mod TaskItem
 pub mod UnitBegin
 pub mod UnitTree

@@ -4,7 +4,7 @@ use Rattle.std.specs.Prelude.{ℕ, zero, suc, Bool, true, false, not, ◌&&◌, 
 use Rattle.mdtext.specs.EntityTable.{EntityTable}
 use Rattle.mdblock.specs.BlockLine.{BlockLine, is_blank_line}
 use Rattle.mdblock.specs.BlockStart.{Container, Kind, Holds, begun}
-use Rattle.mdblock.specs.BlockUnits.{container_part, group_of, groups_within}
+use Rattle.mdblock.specs.BlockUnits.{container_part, group_of, groups_within, depth_of}
 use Rattle.mdblock.specs.ContainerLines.{opened, inside, inner, is_bare}
 use Rattle.mdblock.specs.Laziness.{Tip, Closed, is_verbatim}
 use Rattle.mdblock.specs.BlockTree.{ListKind}
@@ -115,6 +115,10 @@ summary_by entities inside below cut =
 unfoldable pub summary_within : EntityTable → (depth : ℕ) → List BlockLine → Summary
 summary_within entities zero ls = no_summary
 summary_within entities (suc depth) ls = summary_by entities (groups_within entities depth) (summary_within entities depth) (cut_within depth ls)
+
+-- the summary of some lines, as deep as they need
+abbrev pub summary_of : EntityTable → List BlockLine → Summary
+summary_of entities ls = summary_within entities (depth_of ls) ls
 
 -- whether a line goes on with no block
 unfoldable pub is_apart_after : Last → BlockLine → Bool
