@@ -10,7 +10,7 @@ use Rattle.mdblock.specs.BlockUnits.{visible_in, depth_of, groups_within}
 use Rattle.mdblock.specs.ContainerLines.{opened, inside, inner}
 use Rattle.mdblock.specs.Laziness.{Closed}
 use Rattle.mdblock.specs.LineSummary.{Summary, summary, Last, nothing_yet, ended_block, open_leaf, open_container, no_summary, summary_tip, last_groups, new_last, summary_gap, begin_after, leaf_after, container_after, last_after, line_added, last_at, last_of, summary_within, summary_of, is_apart_after}
-use Rattle.mdblock.specs.ListGroups.{Group}
+use Rattle.mdblock.specs.ListGroups.{Group, merged}
 use Rattle.mdblock.specs.Nesting.{deep_at, first_deep, deep_within}
 use Rattle.mdblock.specs.Stretches.{Stretch, Step, Takes, Ends, Stops, goes_on, step, is_single, Tail, Empty, Going, Over, Cut, all_of, first_of, cut_from, cut_by, tip_within}
 use Rattle.mdblock.specs.SummaryDepth.{sinks_first, sinks_later, sinks_at, sinks_by, sinks, lines_added, refused_line}
@@ -132,7 +132,7 @@ begin-shallow : {more other : Summary → BlockLine → Summary} {Held : Summary
 unfolding begin_after
 begin-shallow h e true before last b m l w = refl
 begin-shallow h e false before last b m l w =
-    ap (λ z. summary (before ++ last_groups e last) z false (suc m)) (new-shallow h e (is_single (begun l) l) (begun l) (first_of m (summary_gap last b) l) w)
+    ap (λ z. summary (merged before (last_groups e last)) z false (suc m)) (new-shallow h e (is_single (begun l) l) (begun l) (first_of m (summary_gap last b) l) w)
 
 leaf-shallow : {more other : Summary → BlockLine → Summary} {Held : Summary → Type 0} {later : Summary → BlockLine → Bool} {first : BlockLine → Bool} (h : Shallow more other Held later first)
     (e : EntityTable) (before : List Group) (s : Stretch) (b : Bool) (m : ℕ) (l : BlockLine) (st : Step) → sinks_at later first (is_stop st) (open_leaf s) l ≡ false →

@@ -10,6 +10,7 @@ use Rattle.mdblock.specs.BlockUnits.{visible, visible_in, groups_within}
 use Rattle.mdblock.specs.ContainerLines.{opened, inside, inner, is_bare}
 use Rattle.mdblock.specs.Laziness.{Tip}
 use Rattle.mdblock.specs.LineSummary.{Summary, no_summary, last_at, last_of, summary_within, is_apart_after}
+use Rattle.mdblock.specs.ListGroups.{grouped}
 use Rattle.mdblock.specs.Nesting.{deep_at, first_deep, deep_within, first_too_deep}
 use Rattle.mdblock.specs.Stretches.{Stretch, Step, Takes, Ends, Stops, takes_if, goes_on, step, is_single, Tail, Empty, Going, Over, Cut, no_lines, all_of, stretches, ended, gap_behind, first_of, tail_of, begin_where, begin, grown, after_step, add_at, add, cut_from, cut_by, tip_within, cut_within}
 use Rattle.mdblock.specs.SummaryDepth.{sinks_first, sinks_later, sinks_at, sinks_by, sinks}
@@ -279,7 +280,7 @@ next-adds {D = D} {later = later} {first = first} e d h ls l v =
 
 next : {D : List BlockLine → Option ℕ} {later : Summary → BlockLine → Bool} {first : BlockLine → Bool} (e : EntityTable) (d : ℕ) → Sinking D later first (summary_within e d) d →
     Sinking (deep_in D d) (sinks_by later first) (sinks_by later first no_summary) (summary_within e (suc d)) (suc d)
-unfolding summary_within first_deep cut_from all_of last_of
+unfolding summary_within first_deep cut_from all_of last_of grouped
 next e d h = record { opens = λ l v. next-adds e d h [] l v; adds = λ ls l v. next-adds e d h ls l v }
 
 -- the first line too deep, where containers lie in one another at most so deep

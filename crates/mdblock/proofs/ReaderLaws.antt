@@ -8,6 +8,7 @@ use Rattle.mdblock.specs.BlockStart.{Kind, Paragraph, SetextHeading, Table, AtxH
 use Rattle.mdblock.specs.BlockUnits.{visible_in, depth_of, group_of, groups_within, groups}
 use Rattle.mdblock.specs.ContainerLines.{inner, is_bare}
 use Rattle.mdblock.specs.LineSummary.{summary, ended_block, open_container, no_summary, closed, line_added, last_at, last_of, summary_by, summary_within, summary_of, begins_after}
+use Rattle.mdblock.specs.ListGroups.{grouped}
 use Rattle.mdblock.specs.Nesting.{deep_within}
 use Rattle.mdblock.specs.Stretches.{Stretch, Tail, Empty, Going, Over, Cut, no_lines, cut_by, tip_within}
 use Rattle.mdblock.specs.SummaryDepth.{sinks}
@@ -54,8 +55,8 @@ agree-next {e = e} {d = d} a = record {
       let c : Cut = cut_by U ls in
       let v = cut-light U d no_lines ls w in
       ap (λ (z : Cut). summary_by e (groups_within e d) (summary_within e d) z) (cut-agrees (tips-agree d) no_lines ls w)
-      ∙ ap (λ z. summary z (last_of e (groups_within e d) (summary_within e d) c.tail) c.blank c.lines) (map-agrees (groups-agree e d) c.before v.0)
-      ∙ ap (λ z. summary (map (group_of e (groups_within e (suc d))) c.before) z c.blank c.lines) (of-agrees a c.tail v.1);
+      ∙ ap (λ z. summary (grouped z) (last_of e (groups_within e d) (summary_within e d) c.tail) c.blank c.lines) (map-agrees (groups-agree e d) c.before v.0)
+      ∙ ap (λ z. summary (grouped (map (group_of e (groups_within e (suc d))) c.before)) z c.blank c.lines) (of-agrees a c.tail v.1);
 }
 
 summaries-agree : (e : EntityTable) (d : ℕ) → SummariesAgree e d

@@ -1,6 +1,6 @@
 -- One line more: what the lines give follows from their summary.
 use Rattle.std.proofs.Common.{◌≡◌, ℕ, zero, suc, Bool, true, false, not, ◌&&◌, List, [], ◌∷◌, ◌++◌, map, Option, Some, None, refl, sym, ◌∙◌, ap, nat_lt}
-use Rattle.std.proofs.lemmas.List.{map-append, append-nil}
+use Rattle.std.proofs.lemmas.List.{map-append}
 use Rattle.mdtext.specs.EntityTable.{EntityTable}
 use Rattle.mdblock.specs.BlockLine.{BlockLine, is_blank_line}
 use Rattle.mdblock.specs.BlockStart.{Inside, start, Container, Kind, Paragraph, SetextHeading, Table, AtxHeading, ThematicBreak, FencedCode, IndentedCode, HtmlBlock, Holds, begun}
@@ -8,10 +8,12 @@ use Rattle.mdblock.specs.BlockUnits.{part_at, group_of, groups_within}
 use Rattle.mdblock.specs.ContainerLines.{opened, inside, inner, is_bare}
 use Rattle.mdblock.specs.Laziness.{Tip, Closed, is_verbatim}
 use Rattle.mdblock.specs.LineSummary.{Summary, summary, ended_block, open_leaf, open_container, no_summary, summary_tip, last_tip, container_group, closed, last_groups, ended_last, new_last, summary_gap, begin_after, leaf_after, container_after, last_after, line_added, last_at, last_of, summary_by, summary_within, is_apart_after, mark_of, begins_after}
-use Rattle.mdblock.specs.ListGroups.{Group, grouped}
+use Rattle.mdblock.specs.ListGroups.{Group, grouped, merged}
 use Rattle.mdblock.specs.Stretches.{Stretch, Step, Takes, Ends, Stops, takes_if, goes_on, closes, ends_html, is_row, is_code, fence_step, html_step, interrupted, paragraph_step, step, is_single, Tail, Empty, Going, Over, Cut, no_lines, all_of, ended, tip_at, tip_of, gap_behind, first_of, tail_of, begin_where, grown, after_step, add_at, cut_from, cut_by, tip_within}
 use Rattle.mdblock.specs.UnitBegin.{is_stop, is_apart, list_mark, same_mark, tail_mark, begins_behind}
 use Rattle.mdblock.proofs.CutLaws.{cut_from-append}
+use Rattle.mdblock.proofs.GroupLaws.{one-group}
+use Rattle.mdblock.proofs.ItemLaws.{merged-nil, grouped-merged}
 use Rattle.mdblock.proofs.UnitLaws.{part-mark}
 
 -- what is known of one depth
@@ -68,14 +70,25 @@ at-ended h b g (FencedCode i m n info c) f r = refl
 at-ended h b g IndentedCode f r = refl
 at-ended h b g (HtmlBlock kind) f r = refl
 
+-- what the blocks of a cut give, before the last one
+abbrev over : EntityTable → (depth : ℕ) → List Stretch → List Group
+over e d before = grouped (map (group_of e (groups_within e d)) before)
+
+push-groups : (e : EntityTable) (d : ℕ) (before : List Stretch) (s : Stretch) →
+    over e d (before ++ s ∷ []) ≡ merged (over e d before) (group_of e (groups_within e d) s ∷ [])
+push-groups e d before s =
+    let G = group_of e (groups_within e d) in
+    ap grouped (map-append G before (s ∷ []))
+    ∙ grouped-merged (map G before) (G s ∷ [])
+    ∙ ap (λ z. merged (over e d before) z) (one-group (G s))
+
 of-groups : {e : EntityTable} {d : ℕ} (h : Laws e d) (before : List Stretch) (t : Tail) →
-    map (group_of e (groups_within e d)) (all_of before t) ≡ map (group_of e (groups_within e d)) before ++ last_groups e (last_of e (groups_within e d) (summary_within e d) t)
+    over e d (all_of before t) ≡ merged (over e d before) (last_groups e (last_of e (groups_within e d) (summary_within e d) t))
 unfolding all_of last_of last_groups
-of-groups {e = e} {d = d} h before Empty = sym (append-nil (map (group_of e (groups_within e d)) before))
-of-groups {e = e} {d = d} h before (Over s) = map-append (group_of e (groups_within e d)) before (s ∷ [])
+of-groups {e = e} {d = d} h before Empty = sym (merged-nil (over e d before))
+of-groups {e = e} {d = d} h before (Over s) = push-groups e d before s
 of-groups {e = e} {d = d} h before (Going s) =
-    map-append (group_of e (groups_within e d)) before (s ∷ [])
-    ∙ ap (λ z. map (group_of e (groups_within e d)) before ++ z) (sym (at-groups h s.begin s.gap s.kind s.first s.later))
+    push-groups e d before s ∙ ap (λ z. merged (over e d before) z) (sym (at-groups h s.begin s.gap s.kind s.first s.later))
 
 of-ended : {e : EntityTable} {d : ℕ} (h : Laws e d) (t : Tail) →
     last_of e (groups_within e d) (summary_within e d) (ended t) ≡ ended_last e (last_of e (groups_within e d) (summary_within e d) t)
@@ -108,16 +121,15 @@ first-last {e = e} {d = d} h b g (HtmlBlock kind) f = single-last e d (is_single
 
 begin-law : {e : EntityTable} {d : ℕ} (h : Laws e d) (c : Cut) (l : BlockLine) (blank : Bool) →
     summary_by e (groups_within e d) (summary_within e d) (begin_where blank (tip_within d) c l)
-    ≡ begin_after e (line_added e d) blank (map (group_of e (groups_within e d)) c.before) (last_of e (groups_within e d) (summary_within e d) c.tail) c.blank c.lines l
+    ≡ begin_after e (line_added e d) blank (over e d c.before) (last_of e (groups_within e d) (summary_within e d) c.tail) c.blank c.lines l
 unfolding begin_where begin_after
-begin-law {e = e} {d = d} h c l true = ap (λ z. summary (map (group_of e (groups_within e d)) c.before) z true (suc c.lines)) (of-ended h c.tail)
+begin-law {e = e} {d = d} h c l true = ap (λ z. summary (over e d c.before) z true (suc c.lines)) (of-ended h c.tail)
 begin-law {e = e} {d = d} h c l false =
-    let G = group_of e (groups_within e d) in
     let L = last_of e (groups_within e d) (summary_within e d) in
     let B = is_single (begun l) l in
     ap (λ z. summary z (L (tail_of B (first_of c.lines (gap_behind (tip_within d) c) l))) false (suc c.lines)) (of-groups h c.before c.tail)
-    ∙ ap (λ z. summary (map G c.before ++ last_groups e (L c.tail)) (L (tail_of B (first_of c.lines (c.blank && not (is_verbatim z)) l))) false (suc c.lines)) (of-tip h c.tail)
-    ∙ ap (λ z. summary (map G c.before ++ last_groups e (L c.tail)) z false (suc c.lines)) (first-last h c.lines (summary_gap (L c.tail) c.blank) (begun l) l)
+    ∙ ap (λ z. summary (merged (over e d c.before) (last_groups e (L c.tail))) (L (tail_of B (first_of c.lines (c.blank && not (is_verbatim z)) l))) false (suc c.lines)) (of-tip h c.tail)
+    ∙ ap (λ z. summary (merged (over e d c.before) (last_groups e (L c.tail))) z false (suc c.lines)) (first-last h c.lines (summary_gap (L c.tail) c.blank) (begun l) l)
 
 -- ---- a leaf stays one
 
@@ -220,16 +232,16 @@ cut_of before t b m = record { before = before; tail = t; blank = b; lines = m }
 
 leaf-law : {e : EntityTable} {d : ℕ} (h : Laws e d) (before : List Stretch) (s : Stretch) (b : Bool) (m : ℕ) (l : BlockLine) (st : Step) → IsLeaf s.kind → LeafStep st →
     summary_by e (groups_within e d) (summary_within e d) (after_step (tip_within d) (cut_of before (Going s) b m) s l st)
-    ≡ leaf_after e (line_added e d) (map (group_of e (groups_within e d)) before) s b m l st
+    ≡ leaf_after e (line_added e d) (over e d before) s b m l st
 unfolding after_step leaf_after last_of
 leaf-law {e = e} {d = d} h before s b m l (Takes kind) w v =
-    ap (λ z. summary (map (group_of e (groups_within e d)) before) z (is_blank_line l) (suc m)) (leaf-last (summary_within e d) kind (grown s kind l) v)
+    ap (λ z. summary (over e d before) z (is_blank_line l) (suc m)) (leaf-last (summary_within e d) kind (grown s kind l) v)
 leaf-law {e = e} {d = d} h before s b m l (Ends kind) w v =
-    ap (λ z. summary (map (group_of e (groups_within e d)) before) (ended_block (record { begin = s.begin; gap = s.gap; part = z })) (is_blank_line l) (suc m))
+    ap (λ z. summary (over e d before) (ended_block (record { begin = s.begin; gap = s.gap; part = z })) (is_blank_line l) (suc m))
     (leaf-part e (groups_within e d) kind s.first (s.later ++ l ∷ []) v)
 leaf-law {e = e} {d = d} h before s b m l Stops w v =
     begin-law h (cut_of before (Going s) b m) l (is_blank_line l)
-    ∙ ap (λ z. begin_after e (line_added e d) (is_blank_line l) (map (group_of e (groups_within e d)) before) z b m l) (leaf-last (summary_within e d) s.kind s w)
+    ∙ ap (λ z. begin_after e (line_added e d) (is_blank_line l) (over e d before) z b m l) (leaf-last (summary_within e d) s.kind s w)
 
 -- ---- containers
 
@@ -243,10 +255,10 @@ inner-push c f r l = ap (λ z. opened c f ∷ z) (map-append (inside c) r (l ∷
 
 container-law : {e : EntityTable} {d : ℕ} (h : Laws e d) (before : List Stretch) (n : ℕ) (g : Bool) (c : Container) (f : BlockLine) (r : List BlockLine) (b : Bool) (m : ℕ) (l : BlockLine) (takes : Bool) →
     summary_by e (groups_within e d) (summary_within e d) (after_step (tip_within d) (cut_of before (Going (of_kind n g (Holds c) f r)) b m) (of_kind n g (Holds c) f r) l (takes_if takes (Holds c)))
-    ≡ container_after e (line_added e d) takes (map (group_of e (groups_within e d)) before) n g (is_bare c f r) c (summary_within e d (inner c f r)) b m l
+    ≡ container_after e (line_added e d) takes (over e d before) n g (is_bare c f r) c (summary_within e d (inner c f r)) b m l
 unfolding after_step container_after last_of last_at
 container-law {e = e} {d = d} h before n g c f r b m l true =
-    let G = map (group_of e (groups_within e d)) before in
+    let G = over e d before in
     ap (λ z. summary G (open_container n g z c (summary_within e d (inner c f (r ++ l ∷ [])))) (is_blank_line l) (suc m)) (bare-push c f r l)
     ∙ ap (λ z. summary G (open_container n g false c z) (is_blank_line l) (suc m)) (ap (summary_within e d) (inner-push c f r l) ∙ h.adds (inner c f r) (inside c l))
 container-law h before n g c f r b m l false = begin-law h (cut_of before (Going (of_kind n g (Holds c) f r)) b m) l (is_blank_line l)
@@ -255,10 +267,10 @@ container-law h before n g c f r b m l false = begin-law h (cut_of before (Going
 
 going-law : {e : EntityTable} {d : ℕ} (h : Laws e d) (before : List Stretch) (n : ℕ) (g : Bool) (k : Kind) (f : BlockLine) (r : List BlockLine) (b : Bool) (m : ℕ) (l : BlockLine) → IsLeaf k →
     summary_by e (groups_within e d) (summary_within e d) (after_step (tip_within d) (cut_of before (Going (of_kind n g k f r)) b m) (of_kind n g k f r) l (step (tip_within d) k f r l))
-    ≡ last_after e (line_added e d) (map (group_of e (groups_within e d)) before) (last_at (summary_within e d) k (of_kind n g k f r)) b m l
+    ≡ last_after e (line_added e d) (over e d before) (last_at (summary_within e d) k (of_kind n g k f r)) b m l
 unfolding last_after
 going-law {e = e} {d = d} h before n g k f r b m l w =
-    let G = map (group_of e (groups_within e d)) before in
+    let G = over e d before in
     let s = of_kind n g k f r in
     leaf-law h before s b m l (step (tip_within d) k f r l) w (step-leaf (tip_within d) k f r l w)
     ∙ ap (λ z. leaf_after e (line_added e d) G s b m l z) (same-step (tip_within d) (λ ls. Closed) k f r l w)
@@ -266,11 +278,11 @@ going-law {e = e} {d = d} h before n g k f r b m l w =
 
 open-law : {e : EntityTable} {d : ℕ} (h : Laws e d) (before : List Stretch) (n : ℕ) (g : Bool) (k : Kind) (f : BlockLine) (r : List BlockLine) (b : Bool) (m : ℕ) (l : BlockLine) →
     summary_by e (groups_within e d) (summary_within e d) (after_step (tip_within d) (cut_of before (Going (of_kind n g k f r)) b m) (of_kind n g k f r) l (step (tip_within d) k f r l))
-    ≡ last_after e (line_added e d) (map (group_of e (groups_within e d)) before) (last_at (summary_within e d) k (of_kind n g k f r)) b m l
+    ≡ last_after e (line_added e d) (over e d before) (last_at (summary_within e d) k (of_kind n g k f r)) b m l
 unfolding last_after last_at step
 open-law {e = e} {d = d} h before n g (Holds c) f r b m l =
     container-law h before n g c f r b m l (goes_on c (is_bare c f r) (tip_within d (inner c f r)) l)
-    ∙ ap (λ z. container_after e (line_added e d) (goes_on c (is_bare c f r) z l) (map (group_of e (groups_within e d)) before) n g (is_bare c f r) c (summary_within e d (inner c f r)) b m l) (h.tips (inner c f r))
+    ∙ ap (λ z. container_after e (line_added e d) (goes_on c (is_bare c f r) z l) (over e d before) n g (is_bare c f r) c (summary_within e d (inner c f r)) b m l) (h.tips (inner c f r))
 open-law h before n g Paragraph f r b m l = going-law h before n g Paragraph f r b m l tt
 open-law h before n g (SetextHeading level) f r b m l = going-law h before n g (SetextHeading level) f r b m l tt
 open-law h before n g (Table above) f r b m l = going-law h before n g (Table above) f r b m l tt
@@ -282,18 +294,18 @@ open-law h before n g (HtmlBlock kind) f r b m l = going-law h before n g (HtmlB
 
 at-law : {e : EntityTable} {d : ℕ} (h : Laws e d) (before : List Stretch) (t : Tail) (b : Bool) (m : ℕ) (l : BlockLine) →
     summary_by e (groups_within e d) (summary_within e d) (add_at (tip_within d) (cut_of before t b m) l t)
-    ≡ last_after e (line_added e d) (map (group_of e (groups_within e d)) before) (last_of e (groups_within e d) (summary_within e d) t) b m l
+    ≡ last_after e (line_added e d) (over e d before) (last_of e (groups_within e d) (summary_within e d) t) b m l
 unfolding add_at last_after last_of
 at-law h before Empty b m l = begin-law h (cut_of before Empty b m) l (is_blank_line l)
 at-law h before (Over s) b m l = begin-law h (cut_of before (Over s) b m) l (is_blank_line l)
 at-law h before (Going s) b m l = open-law h before s.begin s.gap s.kind s.first s.later b m l
 
 next : (e : EntityTable) (d : ℕ) → Laws e d → Laws e (suc d)
-unfolding summary_within tip_within groups_within cut_from last_of closed summary_tip line_added
+unfolding summary_within tip_within groups_within cut_from last_of closed summary_tip line_added grouped
 next e d h = record {
   none = refl;
   tips = λ ls. of-tip h (cut_by (tip_within d) ls).tail;
-  reads = λ ls. let c : Cut = cut_by (tip_within d) ls in ap grouped (of-groups h c.before c.tail);
+  reads = λ ls. let c : Cut = cut_by (tip_within d) ls in of-groups h c.before c.tail;
   adds = λ ls l. let c : Cut = cut_by (tip_within d) ls in
       ap (λ (z : Cut). summary_by e (groups_within e d) (summary_within e d) z) (cut_from-append (tip_within d) no_lines ls (l ∷ []))
       ∙ at-law h c.before c.tail c.blank c.lines l;
