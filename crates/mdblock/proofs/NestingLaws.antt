@@ -17,7 +17,8 @@ use Rattle.mdblock.specs.SummaryDepth.{sinks_first, sinks_later, sinks_at, sinks
 use Rattle.mdblock.specs.UnitBegin.{is_stop, is_apart}
 use Rattle.mdblock.proofs.CutLaws.{cut_from-append, apart-begins}
 use Rattle.mdblock.proofs.DepthLaws.{IsMarked, AreLight, TailLight, room-left, all-light, cut-light, cut-light-before, none-light, cut-deep}
-use Rattle.mdblock.proofs.SummaryLaws.{IsLeaf, LeafStep, step-leaf, leaf-last, inner-push, of-apart, laws}
+use Rattle.mdblock.proofs.LeafSteps.{IsLeaf, LeafStep, step-leaf}
+use Rattle.mdblock.proofs.SummaryLaws.{leaf-last, inner-push, of-apart, laws}
 use Rattle.mdblock.proofs.UnitLaws.{cut-lines}
 use Rattle.mdblock.proofs.VisibleLaws.{inner-visible, visible-append, HasWidth, begun-width}
 

@@ -1,19 +1,20 @@
 -- One line more: what the lines give follows from their summary.
-use Rattle.std.proofs.Common.{◌≡◌, ℕ, zero, suc, Bool, true, false, not, ◌&&◌, List, [], ◌∷◌, ◌++◌, map, Option, Some, None, refl, sym, ◌∙◌, ap, nat_lt}
+use Rattle.std.proofs.Common.{◌≡◌, ℕ, zero, suc, Bool, true, false, not, ◌&&◌, List, [], ◌∷◌, ◌++◌, map, refl, sym, ◌∙◌, ap}
 use Rattle.std.proofs.lemmas.List.{map-append}
 use Rattle.mdtext.specs.EntityTable.{EntityTable}
 use Rattle.mdblock.specs.BlockLine.{BlockLine, is_blank_line}
-use Rattle.mdblock.specs.BlockStart.{Inside, start, Container, Kind, Paragraph, SetextHeading, Table, AtxHeading, ThematicBreak, FencedCode, IndentedCode, HtmlBlock, Holds, begun}
-use Rattle.mdblock.specs.BlockUnits.{part_at, group_of, groups_within}
+use Rattle.mdblock.specs.BlockStart.{Container, Kind, Paragraph, SetextHeading, Table, AtxHeading, ThematicBreak, FencedCode, IndentedCode, HtmlBlock, Holds, begun}
+use Rattle.mdblock.specs.BlockUnits.{group_of, groups_within}
 use Rattle.mdblock.specs.ContainerLines.{opened, inside, inner, is_bare}
 use Rattle.mdblock.specs.Laziness.{Tip, Closed, is_verbatim}
 use Rattle.mdblock.specs.LineSummary.{Summary, summary, ended_block, open_leaf, open_container, no_summary, summary_tip, last_tip, container_group, closed, last_groups, ended_last, new_last, summary_gap, begin_after, leaf_after, container_after, last_after, line_added, last_at, last_of, summary_by, summary_within, is_apart_after, mark_of, begins_after}
 use Rattle.mdblock.specs.ListGroups.{Group, grouped, merged}
-use Rattle.mdblock.specs.Stretches.{Stretch, Step, Takes, Ends, Stops, takes_if, goes_on, closes, ends_html, is_row, is_code, fence_step, html_step, interrupted, paragraph_step, step, is_single, Tail, Empty, Going, Over, Cut, no_lines, all_of, ended, tip_at, tip_of, gap_behind, first_of, tail_of, begin_where, grown, after_step, add_at, cut_from, cut_by, tip_within}
+use Rattle.mdblock.specs.Stretches.{Stretch, Step, Takes, Ends, Stops, takes_if, goes_on, step, is_single, Tail, Empty, Going, Over, Cut, no_lines, all_of, ended, tip_at, tip_of, gap_behind, first_of, tail_of, begin_where, grown, after_step, add_at, cut_from, cut_by, tip_within}
 use Rattle.mdblock.specs.UnitBegin.{is_stop, is_apart, list_mark, same_mark, tail_mark, begins_behind}
 use Rattle.mdblock.proofs.CutLaws.{cut_from-append}
 use Rattle.mdblock.proofs.GroupLaws.{one-group}
 use Rattle.mdblock.proofs.ItemLaws.{merged-nil, grouped-merged}
+use Rattle.mdblock.proofs.LeafSteps.{IsLeaf, LeafStep, step-leaf, leaf-part}
 use Rattle.mdblock.proofs.UnitLaws.{part-mark}
 
 -- what is known of one depth
@@ -131,66 +132,6 @@ begin-law {e = e} {d = d} h c l false =
     ∙ ap (λ z. summary (merged (over e d c.before) (last_groups e (L c.tail))) (L (tail_of B (first_of c.lines (c.blank && not (is_verbatim z)) l))) false (suc c.lines)) (of-tip h c.tail)
     ∙ ap (λ z. summary (merged (over e d c.before) (last_groups e (L c.tail))) z false (suc c.lines)) (first-last h c.lines (summary_gap (L c.tail) c.blank) (begun l) l)
 
--- ---- a leaf stays one
-
-abbrev pub IsLeaf : Kind → Type 0
-IsLeaf (Holds container) = ⊥
-IsLeaf Paragraph = Unit {0}
-IsLeaf (SetextHeading level) = Unit {0}
-IsLeaf (Table above) = Unit {0}
-IsLeaf (AtxHeading level content) = Unit {0}
-IsLeaf ThematicBreak = Unit {0}
-IsLeaf (FencedCode i m n info c) = Unit {0}
-IsLeaf IndentedCode = Unit {0}
-IsLeaf (HtmlBlock kind) = Unit {0}
-
-abbrev pub LeafStep : Step → Type 0
-LeafStep (Takes kind) = IsLeaf kind
-LeafStep (Ends kind) = IsLeaf kind
-LeafStep Stops = Unit {0}
-
-takes-leaf : (b : Bool) (k : Kind) → IsLeaf k → LeafStep (takes_if b k)
-takes-leaf true k w = w
-takes-leaf false k w = tt
-
-fence-leaf : (b : Bool) (i m n : ℕ) (info : List ℕ) → LeafStep (fence_step b (FencedCode i m n info))
-fence-leaf true i m n info = tt
-fence-leaf false i m n info = tt
-
-html-leaf : (blank ends : Bool) (kind : ℕ) → LeafStep (html_step blank ends kind)
-html-leaf true ends kind = takes-leaf (nat_lt kind 6) (HtmlBlock kind) tt
-html-leaf false true kind = tt
-html-leaf false false kind = tt
-
-interrupted-leaf : (k : Option Kind) → LeafStep (interrupted k)
-interrupted-leaf None = tt
-interrupted-leaf (Some (SetextHeading level)) = tt
-interrupted-leaf (Some (Table above)) = tt
-interrupted-leaf (Some (Holds container)) = tt
-interrupted-leaf (Some Paragraph) = tt
-interrupted-leaf (Some (AtxHeading level content)) = tt
-interrupted-leaf (Some ThematicBreak) = tt
-interrupted-leaf (Some (FencedCode i m n info c)) = tt
-interrupted-leaf (Some IndentedCode) = tt
-interrupted-leaf (Some (HtmlBlock kind)) = tt
-
-paragraph-leaf : (lazy blank : Bool) (k : Option Kind) → LeafStep (paragraph_step lazy blank k)
-paragraph-leaf true blank k = tt
-paragraph-leaf false true k = tt
-paragraph-leaf false false k = interrupted-leaf k
-
-pub step-leaf : (T : List BlockLine → Tip) (k : Kind) (f : BlockLine) (r : List BlockLine) (l : BlockLine) → IsLeaf k → LeafStep (step T k f r l)
-unfolding step
-step-leaf T (Holds container) f r l w = absurd w
-step-leaf T (FencedCode i m n info c) f r l w = fence-leaf (closes m n l) i m n info
-step-leaf T (HtmlBlock kind) f r l w = html-leaf (is_blank_line l) (ends_html kind l) kind
-step-leaf T Paragraph f r l w = paragraph-leaf l.lazy (is_blank_line l) (start Inside (f ∷ r) l)
-step-leaf T (Table above) f r l w = takes-leaf (is_row l) (Table above) tt
-step-leaf T IndentedCode f r l w = takes-leaf (is_code l) IndentedCode tt
-step-leaf T (SetextHeading level) f r l w = tt
-step-leaf T (AtxHeading level content) f r l w = tt
-step-leaf T ThematicBreak f r l w = tt
-
 -- a leaf asks for no tip
 same-step : (T U : List BlockLine → Tip) (k : Kind) (f : BlockLine) (r : List BlockLine) (l : BlockLine) → IsLeaf k → step T k f r l ≡ step U k f r l
 unfolding step
@@ -215,17 +156,6 @@ leaf-last S ThematicBreak s w = refl
 leaf-last S (FencedCode i m n info c) s w = refl
 leaf-last S IndentedCode s w = refl
 leaf-last S (HtmlBlock kind) s w = refl
-
-leaf-part : (e : EntityTable) (R : List BlockLine → List Group) (k : Kind) (f : BlockLine) (r : List BlockLine) → IsLeaf k → part_at e R k f r ≡ part_at e (λ ls. []) k f r
-leaf-part e R (Holds container) f r w = absurd w
-leaf-part e R Paragraph f r w = refl
-leaf-part e R (SetextHeading level) f r w = refl
-leaf-part e R (Table above) f r w = refl
-leaf-part e R (AtxHeading level content) f r w = refl
-leaf-part e R ThematicBreak f r w = refl
-leaf-part e R (FencedCode i m n info c) f r w = refl
-leaf-part e R IndentedCode f r w = refl
-leaf-part e R (HtmlBlock kind) f r w = refl
 
 abbrev cut_of : List Stretch → Tail → Bool → ℕ → Cut
 cut_of before t b m = record { before = before; tail = t; blank = b; lines = m }

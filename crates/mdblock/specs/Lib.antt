@@ -13,6 +13,7 @@ pub mod ListGroups
 pub mod Nesting
 pub mod NodeTree
 pub mod Openings
+pub mod OpenLeaf
 pub mod OpenPositions
 pub mod ParagraphEnd
 pub mod Positions
