@@ -2,6 +2,7 @@ mod ContainerRows
 mod DefinitionRows
 mod LeafRows
 mod ListRows
+mod NestingRows
 pub mod ReadText
 mod TableRows
 mod UnitRows

@@ -1,6 +1,6 @@
 -- The units of a text, with every word of their definition open, so that rows of them compute.
 use lib.Utf8.{encode}
-use Rattle.std.specs.Prelude.{ℕ, List, ◌++◌, Option}
+use Rattle.std.specs.Prelude.{ℕ, List, ◌++◌, map, Option}
 use Rattle.std.specs.Str.{chars}
 use Rattle.caseless.specs.Caseless.{default_case_fold}
 use Rattle.ucd_case.specs.CaseFolding.{full_folding}
@@ -34,6 +34,7 @@ use Rattle.mdleaf.specs.LeadingDefinitions.{fronts, leading_of, leading_end}
 use Rattle.mdleaf.specs.LinkDefinition.{LinkDefinition}
 use Rattle.mdleaf.specs.ParagraphText.{joined_lines, without_end_blanks}
 use Rattle.mdleaf.specs.TableRows.{row_texts, row_aligns, begins_table}
+use Rattle.mdblock.specs.BlockLine.{document_line}
 use Rattle.mdblock.specs.BlockStart.{padding, start_near, start}
 use Rattle.mdblock.specs.BlockTree.{Block}
 use Rattle.mdblock.specs.BlockUnits.{container_part, groups_within, visible, visible_in, found_units, units}
@@ -42,11 +43,13 @@ use Rattle.mdblock.specs.ContainerLines.{matches, opened, inside, is_bare}
 use Rattle.mdblock.specs.Indentation.{unindented}
 use Rattle.mdblock.specs.Laziness.{continues_lazily}
 use Rattle.mdblock.specs.LeafContents.{leaves_of}
+use Rattle.mdblock.specs.LineSummary.{no_summary, summary_tip, last_tip, closed, last_groups, ended_last, new_last, begin_after, leaf_after, container_after, last_after, line_added, is_apart_after}
 use Rattle.mdblock.specs.ListGroups.{grouped, nodes_of}
 use Rattle.mdblock.specs.Nesting.{first_deep, deep_within, first_too_deep}
 use Rattle.mdblock.specs.NodeTree.{texts_in, texts_in_items, definitions_in, definitions_in_items, placed, placed_items}
 use Rattle.mdblock.specs.ParagraphEnd.{paragraph_end, heading_end, table_end}
 use Rattle.mdblock.specs.Stretches.{step, is_single, all_of, tip_of, begin_where, after_step, add_at, cut_from, tip_within}
+use Rattle.mdblock.specs.SummaryDepth.{sinks_first, sinks_later, sinks_at, sinks_by, sinks, refused_line}
 use Rattle.mdblock.specs.TaskItem.{with_task}
 use Rattle.mdblock.specs.UnitTree.{FoundUnit}
 
@@ -76,3 +79,9 @@ units_read text = units builtin_table (text_lines text)
 unfoldable pub deep_line : (limit : ℕ) → List ℕ → Option ℕ
 unfolding units_read first_deep deep_within
 deep_line limit text = first_too_deep limit (text_lines text)
+
+-- the same, as a reader finds it that keeps the summary of the lines so far
+unfoldable pub refused : (limit : ℕ) → List ℕ → Option ℕ
+unfolding units_read summary_tip last_tip closed last_groups ended_last new_last begin_after leaf_after container_after last_after line_added is_apart_after
+    sinks_first sinks_later sinks_at sinks_by sinks refused_line
+refused limit text = refused_line builtin_table limit no_summary 0 (map document_line (text_lines text))

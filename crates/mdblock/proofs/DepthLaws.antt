@@ -1,5 +1,5 @@
 -- Any depth that suffices gives the same blocks: a container holds fewer characters than its lines have.
-use Rattle.std.proofs.Common.{◌≡◌, ℕ, zero, suc, ◌+◌, ◌-◌, ◌≤◌, ◌<◌, Bool, true, false, not, ◌&&◌, List, [], ◌∷◌, ◌++◌, map, Option, Some, None, refl, sym, ◌∙◌, ap, arith}
+use Rattle.std.proofs.Common.{◌≡◌, ℕ, zero, suc, ◌+◌, ◌-◌, ◌≤◌, ◌<◌, Bool, true, false, not, ◌&&◌, List, [], ◌∷◌, ◌++◌, map, Option, Some, None, refl, sym, ◌∙◌, ap, subst, arith}
 use Rattle.std.specs.Prelude.{nat_lt}
 use Rattle.mdblock.specs.BlockLine.{BlockLine, is_blank_line}
 use Rattle.mdblock.specs.BlockStart.{Inside, Container, Kind, Paragraph, SetextHeading, Table, AtxHeading, ThematicBreak, FencedCode, IndentedCode, HtmlBlock, Holds, start, begun}
@@ -19,7 +19,7 @@ pub record Agree (d : ℕ) (T U : List BlockLine → Tip) : Type 0 where
   pub same : (ls : List BlockLine) → visible_in ls < d → T ls ≡ U ls
 
 -- a container's first line is not blank, and has a marker
-abbrev IsMarked : Kind → BlockLine → Type 0
+abbrev pub IsMarked : Kind → BlockLine → Type 0
 IsMarked (Holds container) f = (is_blank_line f ≡ false) × (1 ≤ marker_width container)
 IsMarked Paragraph f = Unit {0}
 IsMarked (SetextHeading level) f = Unit {0}
@@ -72,15 +72,15 @@ at-agrees a (AtxHeading level content) f r w h = refl
 at-agrees a ThematicBreak f r w h = refl
 
 -- a block whose lines have at most so many characters that count, and whose marker is one
-abbrev IsLight : ℕ → Stretch → Type 0
+abbrev pub IsLight : ℕ → Stretch → Type 0
 IsLight d s = IsMarked s.kind s.first × (visible_in (s.first ∷ s.later) ≤ d)
 
-abbrev AreLight : ℕ → List Stretch → Type 0
+abbrev pub AreLight : ℕ → List Stretch → Type 0
 AreLight d [] = Unit {0}
 AreLight d (s ∷ ss) = IsLight d s × AreLight d ss
 
 -- where so many characters that count are still to come
-abbrev TailLight : ℕ → Tail → ℕ → Type 0
+abbrev pub TailLight : ℕ → Tail → ℕ → Type 0
 TailLight d Empty n = n ≤ d
 TailLight d (Going s) n = IsMarked s.kind s.first × (visible_in (s.first ∷ s.later) + n ≤ d)
 TailLight d (Over s) n = IsLight d s × (n ≤ d)
@@ -170,14 +170,14 @@ push-light : (d : ℕ) (ss : List Stretch) (s : Stretch) → AreLight d ss → I
 push-light d [] s w v = (v, tt)
 push-light d (x ∷ ss) s w v = (w.0, push-light d ss s w.1 v)
 
-all-light : (d : ℕ) (before : List Stretch) (t : Tail) (n : ℕ) → AreLight d before → TailLight d t n → AreLight d (all_of before t)
+pub all-light : (d : ℕ) (before : List Stretch) (t : Tail) (n : ℕ) → AreLight d before → TailLight d t n → AreLight d (all_of before t)
 unfolding all_of
 all-light d before Empty n w v = w
 all-light d before (Going s) n w v = push-light d before s w (v.0, omega (arith, v.1))
 all-light d before (Over s) n w v = push-light d before s w v.0
 
 -- a cut, and how many characters that count are still to come
-abbrev CutLight : ℕ → Cut → ℕ → Type 0
+abbrev pub CutLight : ℕ → Cut → ℕ → Type 0
 CutLight d c n = AreLight d c.before × TailLight d c.tail n
 
 ended-light : (d : ℕ) (t : Tail) (m n : ℕ) → TailLight d t (m + n) → TailLight d (ended t) n
@@ -185,7 +185,7 @@ ended-light d Empty m n w = omega (arith, w)
 ended-light d (Going s) m n w = ((w.0, omega (arith, w.1)), omega (arith, w.1))
 ended-light d (Over s) m n w = (w.0, omega (arith, w.1))
 
-room-left : (d : ℕ) (t : Tail) (n : ℕ) → TailLight d t n → n ≤ d
+pub room-left : (d : ℕ) (t : Tail) (n : ℕ) → TailLight d t n → n ≤ d
 room-left d Empty n w = w
 room-left d (Going s) n w = omega (arith, w.1)
 room-left d (Over s) n w = w.1
@@ -222,12 +222,18 @@ add-light T d before Empty b m l n w = begin-light T d (cut_of before Empty b m)
 add-light T d before (Over s) b m l n w = begin-light T d (cut_of before (Over s) b m) l n (is_blank_line l) refl w
 add-light T d before (Going s) b m l n w = step-light T d before s b m l n (step T s.kind s.first s.later l) (step-marked T s.kind s.first s.later l w.1.0) w
 
-cut-light : (T : List BlockLine → Tip) (d : ℕ) (c : Cut) (xs : List BlockLine) → CutLight d c (visible_in xs) → CutLight d (cut_from T c xs) 0
+-- some lines, where so many characters that count are still to come behind them
+pub cut-light-before : (T : List BlockLine → Tip) (d : ℕ) (c : Cut) (xs : List BlockLine) (n : ℕ) → CutLight d c (visible_in xs + n) → CutLight d (cut_from T c xs) n
 unfolding cut_from visible_in
-cut-light T d c [] w = w
-cut-light T d c (x ∷ xs) w = cut-light T d (add T c x) xs (add-light T d c.before c.tail c.blank c.lines x (visible_in xs) w)
+cut-light-before T d c [] n w = let e : 0 + n ≡ n = omega arith in subst (λ z. CutLight d c z) e w
+cut-light-before T d c (x ∷ xs) n w =
+    let e : visible x.line.text + visible_in xs + n ≡ visible x.line.text + (visible_in xs + n) = omega arith in
+    cut-light-before T d (add T c x) xs n (add-light T d c.before c.tail c.blank c.lines x (visible_in xs + n) (subst (λ z. CutLight d c z) e w))
 
-cut-agrees : {d : ℕ} {T U : List BlockLine → Tip} (a : Agree d T U) (c : Cut) (xs : List BlockLine) → CutLight d c (visible_in xs) → cut_from T c xs ≡ cut_from U c xs
+pub cut-light : (T : List BlockLine → Tip) (d : ℕ) (c : Cut) (xs : List BlockLine) → CutLight d c (visible_in xs) → CutLight d (cut_from T c xs) 0
+cut-light T d c xs w = let e : visible_in xs ≡ visible_in xs + 0 = omega arith in cut-light-before T d c xs 0 (subst (λ z. CutLight d c z) e w)
+
+pub cut-agrees : {d : ℕ} {T U : List BlockLine → Tip} (a : Agree d T U) (c : Cut) (xs : List BlockLine) → CutLight d c (visible_in xs) → cut_from T c xs ≡ cut_from U c xs
 unfolding cut_from visible_in
 cut-agrees a c [] w = refl
 cut-agrees {d = d} {T = T} {U = U} a c (x ∷ xs) w =
@@ -236,7 +242,7 @@ cut-agrees {d = d} {T = T} {U = U} a c (x ∷ xs) w =
 
 -- ---- depths
 
-none-light : (d : ℕ) (ls : List BlockLine) → visible_in ls ≤ d → CutLight d no_lines (visible_in ls)
+pub none-light : (d : ℕ) (ls : List BlockLine) → visible_in ls ≤ d → CutLight d no_lines (visible_in ls)
 none-light d ls h = (tt, h)
 
 tip-next : {d : ℕ} → Agree d (tip_within d) (tip_within (suc d)) → Agree (suc d) (tip_within (suc d)) (tip_within (suc (suc d)))
@@ -282,7 +288,7 @@ begins-next d xs l h =
 pub record GroupsAgree (e : EntityTable) (d : ℕ) : Type 0 where
   pub same : (ls : List BlockLine) → visible_in ls < d → groups_within e d ls ≡ groups_within e (suc d) ls
 
-part-agrees : {e : EntityTable} {d : ℕ} (a : GroupsAgree e d) (k : Kind) (f : BlockLine) (r : List BlockLine) → IsMarked k f → visible_in (f ∷ r) ≤ d →
+pub part-agrees : {e : EntityTable} {d : ℕ} (a : GroupsAgree e d) (k : Kind) (f : BlockLine) (r : List BlockLine) → IsMarked k f → visible_in (f ∷ r) ≤ d →
     part_at e (groups_within e d) k f r ≡ part_at e (groups_within e (suc d)) k f r
 part-agrees a (Holds c) f r w h = let v = inner-visible c f r w.0 w.1 in ap (λ z. container_part c z) (a.same (inner c f r) (omega (arith, h, v)))
 part-agrees a (FencedCode i mark n info closed) f r w h = refl
@@ -294,7 +300,7 @@ part-agrees a (SetextHeading level) f r w h = refl
 part-agrees a (AtxHeading level content) f r w h = refl
 part-agrees a ThematicBreak f r w h = refl
 
-map-agrees : {e : EntityTable} {d : ℕ} (a : GroupsAgree e d) (ss : List Stretch) → AreLight d ss → map (group_of e (groups_within e d)) ss ≡ map (group_of e (groups_within e (suc d))) ss
+pub map-agrees : {e : EntityTable} {d : ℕ} (a : GroupsAgree e d) (ss : List Stretch) → AreLight d ss → map (group_of e (groups_within e d)) ss ≡ map (group_of e (groups_within e (suc d))) ss
 map-agrees a [] w = refl
 map-agrees {e = e} {d = d} a (s ∷ ss) w =
     ap (λ z. record { begin = s.begin; gap = s.gap; part = z } ∷ map (group_of e (groups_within e d)) ss) (part-agrees a s.kind s.first s.later w.0.0 w.0.1)
@@ -329,7 +335,7 @@ steady P m zero h = let z : m ≡ 0 + m = omega arith in ap P z
 steady P m (suc k) h = let z : suc (k + m) ≡ suc k + m = omega arith in steady P m k h ∙ h (k + m) (omega arith) ∙ ap P z
 
 -- What stays from each depth to the next is the same at all.
-at-depth : {A : Type 0} (P : ℕ → A) (m d : ℕ) → ((n : ℕ) → m ≤ n → P n ≡ P (suc n)) → m ≤ d → P d ≡ P m
+pub at-depth : {A : Type 0} (P : ℕ → A) (m d : ℕ) → ((n : ℕ) → m ≤ n → P n ≡ P (suc n)) → m ≤ d → P d ≡ P m
 at-depth P m d h w =
     let k = d - m in
     let z : k + m ≡ d = omega (arith, w) in
@@ -339,15 +345,20 @@ at-depth P m d h w =
 pub groups-deep : (e : EntityTable) (d : ℕ) (ls : List BlockLine) → visible_in ls < d → groups_within e d ls ≡ groups e ls
 groups-deep e d ls h = at-depth (λ n. groups_within e n ls) (depth_of ls) d (λ n w. (groups-agree e n).same ls (omega (arith, w))) (omega (arith, h))
 
+cut-next : (d : ℕ) (ls : List BlockLine) → visible_in ls ≤ d → cut_within d ls ≡ cut_within (suc d) ls
+cut-next d ls h = cut-agrees (tips-agree d) no_lines ls (none-light d ls h)
+
+-- and cuts the lines alike.
+pub cut-deep : (d : ℕ) (ls : List BlockLine) → visible_in ls ≤ d → cut_within d ls ≡ cut_within (depth_of ls) ls
+cut-deep d ls h =
+    let n = visible_in ls in
+    at-depth (λ k. cut_within k ls) n d (λ k w. cut-next k ls w) h
+    ∙ sym (at-depth (λ k. cut_within k ls) n (depth_of ls) (λ k w. cut-next k ls w) (omega arith))
+
 pub begins-deep : (d : ℕ) (xs : List BlockLine) (l : BlockLine) → visible_in xs < d → begins_behind (tip_within d) (cut_by (tip_within d) xs) l ≡ begins_unit xs l
 unfolding begins_unit
 begins-deep d xs l h =
     at-depth (λ n. begins_behind (tip_within n) (cut_by (tip_within n) xs) l) (depth_of xs) d (λ n w. begins-next n xs l (omega (arith, w))) (omega (arith, h))
-
-pub cut-deep : (d : ℕ) (xs : List BlockLine) → visible_in xs < d → cut_within d xs ≡ cut_within (depth_of xs) xs
-cut-deep d xs h =
-    at-depth (λ n. cut_within n xs) (depth_of xs) d
-    (λ n w. let k : visible_in xs ≤ n = omega (arith, w) in cut-agrees (tips-agree n) no_lines xs (none-light n xs k)) (omega (arith, h))
 
 apart-next : (d : ℕ) (xs : List BlockLine) (l : BlockLine) → visible_in xs ≤ d →
     is_apart (tip_within d) (cut_within d xs).tail l ≡ is_apart (tip_within (suc d)) (cut_within (suc d) xs).tail l

@@ -103,7 +103,7 @@ some-first : (gs : List Group) (g : Group) → (n : Group) × (ns : List Group) 
 some-first [] g = let f = grouped-first g [] in (f.first, f.rest, f.is)
 some-first (a ∷ gs) g = let f = grouped-first a (gs ++ g ∷ []) in (f.first, f.rest, f.is)
 
-one-group : (g : Group) → grouped (g ∷ []) ≡ g ∷ []
+pub one-group : (g : Group) → grouped (g ∷ []) ≡ g ∷ []
 unfolding grouped
 one-group g = joined-nil g g.part
 

@@ -8,15 +8,15 @@ use Rattle.mdblock.specs.BlockLine.{BlockLine, is_blank_line}
 use Rattle.mdblock.specs.BlockStart.{begun}
 use Rattle.mdblock.specs.BlockTree.{ListKind, bullet, ordered}
 use Rattle.mdblock.specs.BlockUnits.{group_of, groups_within, groups, visible_in, depth_of}
-use Rattle.mdblock.specs.ListGroups.{Part, Leaves, Quoted, Listed, Group, is_same_list, items_before, joined_where, joined_list, joined, grouped}
+use Rattle.mdblock.specs.ListGroups.{Part, Leaves, Quoted, Listed, Group, is_same_list, items_before, joined_where, joined_list, joined, grouped, merged}
 use Rattle.mdblock.specs.NodeTree.{ItemNodes, no_item_nodes, item_node}
 use Rattle.mdblock.specs.Stretches.{Cut, no_lines, stretches, gap_behind, cut_by, cut_within, tip_within}
-use Rattle.mdblock.specs.Meetings.{shift_groups, merged, joins_behind, joins_list, gap_after}
+use Rattle.mdblock.specs.Meetings.{shift_groups, joins_behind, joins_list, gap_after}
 use Rattle.mdblock.specs.UnitBegin.{is_apart, list_mark, same_mark, tail_mark}
 use Rattle.mdblock.proofs.CutLaws.{cut_from-append, all_of-prepend, shift_all, moved, stretches-moved, meets}
 use Rattle.mdblock.proofs.VisibleLaws.{visible-append}
 use Rattle.mdblock.proofs.DepthLaws.{groups-deep, apart-deep, gap-deep}
-use Rattle.mdblock.proofs.GroupLaws.{joins, HasFirst, list-first, joined-apart, grouped-shift}
+use Rattle.mdblock.proofs.GroupLaws.{joins, HasFirst, list-first, joined-nil, joined-apart, grouped-shift}
 use Rattle.mdblock.proofs.UnitLaws.{cut-lines, group-shift}
 
 abbrev of_part : ℕ → Bool → Part → Group
@@ -76,7 +76,7 @@ two-where : (same : Bool) (b : ℕ) (gap : Bool) (kind : ListKind) (t : Bool) (i
 two-where true b gap kind t items b' gap' kind' t' items' h hs e = three-list b gap kind t items b' gap' kind' t' items' h h.part hs e
 two-where false b gap kind t items b' gap' kind' t' items' h hs e = two-apart (of_part b gap (Listed kind t items)) (Listed kind t items) b' (Listed kind' t' items') (joined_list (of_part b' gap' (Listed kind' t' items')) kind' t' items' h h.part hs) (list-first b' gap' kind' t' items' h h.part hs) e
 
-merged-nil : (gs : List Group) → merged gs [] ≡ gs
+pub merged-nil : (gs : List Group) → merged gs [] ≡ gs
 merged-nil [] = refl
 merged-nil (g ∷ []) = refl
 merged-nil (g ∷ n ∷ gs) = ap (λ z. g ∷ z) (merged-nil (n ∷ gs))
@@ -130,6 +130,77 @@ pub grouped-merged : (gs hs : List Group) → grouped (gs ++ hs) ≡ merged (gro
 unfolding grouped
 grouped-merged [] hs = refl
 grouped-merged (g ∷ gs) hs = ap (λ z. joined g g.part z) (grouped-merged gs hs) ∙ joined-merged g (grouped gs) (grouped hs)
+
+-- ---- lists that are joined as their items come
+
+-- no two neighbours are items of one list
+abbrev Parts : Part → List Group → Type 0
+Parts p [] = Unit {0}
+Parts p (h ∷ hs) = joins p h.part ≡ false
+
+abbrev pub IsJoined : List Group → Type 0
+IsJoined [] = Unit {0}
+IsJoined (g ∷ gs) = Parts g.part gs × IsJoined gs
+
+leaf-parts : (leaves : _) (gs : List Group) → Parts (Leaves leaves) gs
+leaf-parts leaves [] = tt
+leaf-parts leaves (g ∷ gs) = refl
+
+quote-parts : (nodes : _) (gs : List Group) → Parts (Quoted nodes) gs
+quote-parts nodes [] = tt
+quote-parts nodes (g ∷ gs) = refl
+
+-- a list that another goes on with joins what that one does
+list-joins : (kind kind' : ListKind) (t t' : Bool) (items items' : ItemNodes) (p : Part) → is_same_list kind kind' ≡ true →
+    joins (Listed kind' t' items') p ≡ joins (Listed kind t items) p
+list-joins kind kind' t t' items items' (Leaves leaves) e = refl
+list-joins kind kind' t t' items items' (Quoted nodes) e = refl
+list-joins kind kind' t t' items items' (Listed kind'' t'' items'') e = same-list kind kind' kind'' e
+
+list-parts : (kind kind' : ListKind) (t t' : Bool) (items items' : ItemNodes) (gs : List Group) → is_same_list kind kind' ≡ true →
+    Parts (Listed kind' t' items') gs → Parts (Listed kind t items) gs
+list-parts kind kind' t t' items items' [] e w = tt
+list-parts kind kind' t t' items items' (g ∷ gs) e w = sym (list-joins kind kind' t t' items items' g.part e) ∙ w
+
+where-joined : (same : Bool) (b : ℕ) (gap : Bool) (kind : ListKind) (t : Bool) (items : ItemNodes) (b' : ℕ) (gap' : Bool) (kind' : ListKind) (t' : Bool) (items' : ItemNodes) (gs : List Group) →
+    is_same_list kind kind' ≡ same → Parts (Listed kind' t' items') gs → IsJoined gs →
+    IsJoined (joined_where same (of_part b gap (Listed kind t items)) kind t items (of_part b' gap' (Listed kind' t' items')) t' items' gs)
+where-joined true b gap kind t items b' gap' kind' t' items' gs e w v =
+    (list-parts kind kind' (t && not gap' && t') t' (items_before items items') items' gs e w, v)
+where-joined false b gap kind t items b' gap' kind' t' items' gs e w v = (e, (w, v))
+
+part-joined : (b : ℕ) (gap : Bool) (kind : ListKind) (t : Bool) (items : ItemNodes) (b' : ℕ) (gap' : Bool) (q : Part) (gs : List Group) → Parts q gs → IsJoined gs →
+    IsJoined (joined_list (of_part b gap (Listed kind t items)) kind t items (of_part b' gap' q) q gs)
+part-joined b gap kind t items b' gap' (Leaves leaves) gs w v = (refl, (w, v))
+part-joined b gap kind t items b' gap' (Quoted nodes) gs w v = (refl, (w, v))
+part-joined b gap kind t items b' gap' (Listed kind' t' items') gs w v = where-joined (is_same_list kind kind') b gap kind t items b' gap' kind' t' items' gs refl w v
+
+joined-is : (b : ℕ) (gap : Bool) (p : Part) (gs : List Group) → IsJoined gs → IsJoined (joined (of_part b gap p) p gs)
+joined-is b gap (Leaves leaves) gs w = (leaf-parts leaves gs, w)
+joined-is b gap (Quoted nodes) gs w = (quote-parts nodes gs, w)
+joined-is b gap (Listed kind t items) [] w = (tt, tt)
+joined-is b gap (Listed kind t items) (h ∷ hs) w = part-joined b gap kind t items h.begin h.gap h.part hs w.0 w.1
+
+pub grouped-joined : (gs : List Group) → IsJoined (grouped gs)
+unfolding grouped
+grouped-joined [] = tt
+grouped-joined (g ∷ gs) = joined-is g.begin g.gap g.part (grouped gs) (grouped-joined gs)
+
+parted : (g : Group) (gs : List Group) → Parts g.part gs → joined g g.part gs ≡ g ∷ gs
+parted g [] w = joined-nil g g.part
+parted g (h ∷ hs) w = joined-apart g g.part h hs w
+
+joined-stays : (gs : List Group) → IsJoined gs → grouped gs ≡ gs
+unfolding grouped
+joined-stays [] w = refl
+joined-stays (g ∷ gs) w = ap (λ z. joined g g.part z) (joined-stays gs w.1) ∙ parted g gs w.0
+
+-- Groups may be joined as they come.
+pub grouped-again : (gs : List Group) → grouped (grouped gs) ≡ grouped gs
+grouped-again gs = joined-stays (grouped gs) (grouped-joined gs)
+
+pub grouped-so-far : (gs hs : List Group) → grouped (grouped gs ++ hs) ≡ grouped (gs ++ hs)
+grouped-so-far gs hs = grouped-merged (grouped gs) hs ∙ ap (λ z. merged z (grouped hs)) (grouped-again gs) ∙ sym (grouped-merged gs hs)
 
 groups-split : (e : EntityTable) (d : ℕ) (xs : List BlockLine) (l : BlockLine) (ys : List BlockLine) →
     is_apart (tip_within d) (cut_by (tip_within d) xs).tail l ≡ true → is_blank_line l ≡ false →

@@ -4,8 +4,14 @@ pub mod DepthLaws
 pub mod DocumentLaws
 pub mod GroupLaws
 pub mod ItemLaws
+pub mod LeafSteps
+pub mod LimitLaws
 pub mod Markers
+pub mod NestingLaws
+pub mod OpenLeafLaws
+pub mod ReaderLaws
 pub mod Skips
+pub mod StartKinds
 pub mod SummaryLaws
 pub mod UnitLaws
 pub mod VisibleLaws

@@ -1,18 +1,20 @@
 -- One line more: what the lines give follows from their summary.
-use Rattle.std.proofs.Common.{◌≡◌, ◌≤◌, ◌<◌, ◌-◌, arith, ℕ, zero, suc, Bool, true, false, not, ◌&&◌, List, [], ◌∷◌, ◌++◌, map, Option, Some, None, refl, sym, ◌∙◌, ap, nat_lt}
-use Rattle.std.proofs.lemmas.List.{map-append, append-nil}
+use Rattle.std.proofs.Common.{◌≡◌, ℕ, zero, suc, Bool, true, false, not, ◌&&◌, List, [], ◌∷◌, ◌++◌, map, refl, sym, ◌∙◌, ap}
+use Rattle.std.proofs.lemmas.List.{map-append}
 use Rattle.mdtext.specs.EntityTable.{EntityTable}
 use Rattle.mdblock.specs.BlockLine.{BlockLine, is_blank_line}
-use Rattle.mdblock.specs.BlockStart.{Inside, start, Container, Kind, Paragraph, SetextHeading, Table, AtxHeading, ThematicBreak, FencedCode, IndentedCode, HtmlBlock, Holds, begun}
-use Rattle.mdblock.specs.BlockUnits.{part_at, group_of, groups_within, groups, depth_of}
+use Rattle.mdblock.specs.BlockStart.{Container, Kind, Paragraph, SetextHeading, Table, AtxHeading, ThematicBreak, FencedCode, IndentedCode, HtmlBlock, Holds, begun}
+use Rattle.mdblock.specs.BlockUnits.{group_of, groups_within}
 use Rattle.mdblock.specs.ContainerLines.{opened, inside, inner, is_bare}
 use Rattle.mdblock.specs.Laziness.{Tip, Closed, is_verbatim}
 use Rattle.mdblock.specs.LineSummary.{Summary, summary, ended_block, open_leaf, open_container, no_summary, summary_tip, last_tip, container_group, closed, last_groups, ended_last, new_last, summary_gap, begin_after, leaf_after, container_after, last_after, line_added, last_at, last_of, summary_by, summary_within, is_apart_after, mark_of, begins_after}
-use Rattle.mdblock.specs.ListGroups.{Group, grouped}
-use Rattle.mdblock.specs.Stretches.{Stretch, Step, Takes, Ends, Stops, takes_if, goes_on, closes, ends_html, is_row, is_code, fence_step, html_step, interrupted, paragraph_step, step, is_single, Tail, Empty, Going, Over, Cut, no_lines, all_of, ended, tip_at, tip_of, gap_behind, first_of, tail_of, begin_where, grown, after_step, add_at, cut_from, cut_by, tip_within}
-use Rattle.mdblock.specs.UnitBegin.{is_stop, is_apart, list_mark, same_mark, tail_mark, begins_behind, begins_unit}
+use Rattle.mdblock.specs.ListGroups.{Group, grouped, merged}
+use Rattle.mdblock.specs.Stretches.{Stretch, Step, Takes, Ends, Stops, takes_if, goes_on, step, is_single, Tail, Empty, Going, Over, Cut, no_lines, all_of, ended, tip_at, tip_of, gap_behind, first_of, tail_of, begin_where, grown, after_step, add_at, cut_from, cut_by, tip_within}
+use Rattle.mdblock.specs.UnitBegin.{is_stop, is_apart, list_mark, same_mark, tail_mark, begins_behind}
 use Rattle.mdblock.proofs.CutLaws.{cut_from-append}
-use Rattle.mdblock.proofs.DepthLaws.{groups-deep, begins-deep}
+use Rattle.mdblock.proofs.GroupLaws.{one-group}
+use Rattle.mdblock.proofs.ItemLaws.{merged-nil, grouped-merged}
+use Rattle.mdblock.proofs.LeafSteps.{IsLeaf, LeafStep, step-leaf, leaf-part}
 use Rattle.mdblock.proofs.UnitLaws.{part-mark}
 
 -- what is known of one depth
@@ -69,14 +71,25 @@ at-ended h b g (FencedCode i m n info c) f r = refl
 at-ended h b g IndentedCode f r = refl
 at-ended h b g (HtmlBlock kind) f r = refl
 
+-- what the blocks of a cut give, before the last one
+abbrev over : EntityTable → (depth : ℕ) → List Stretch → List Group
+over e d before = grouped (map (group_of e (groups_within e d)) before)
+
+push-groups : (e : EntityTable) (d : ℕ) (before : List Stretch) (s : Stretch) →
+    over e d (before ++ s ∷ []) ≡ merged (over e d before) (group_of e (groups_within e d) s ∷ [])
+push-groups e d before s =
+    let G = group_of e (groups_within e d) in
+    ap grouped (map-append G before (s ∷ []))
+    ∙ grouped-merged (map G before) (G s ∷ [])
+    ∙ ap (λ z. merged (over e d before) z) (one-group (G s))
+
 of-groups : {e : EntityTable} {d : ℕ} (h : Laws e d) (before : List Stretch) (t : Tail) →
-    map (group_of e (groups_within e d)) (all_of before t) ≡ map (group_of e (groups_within e d)) before ++ last_groups e (last_of e (groups_within e d) (summary_within e d) t)
+    over e d (all_of before t) ≡ merged (over e d before) (last_groups e (last_of e (groups_within e d) (summary_within e d) t))
 unfolding all_of last_of last_groups
-of-groups {e = e} {d = d} h before Empty = sym (append-nil (map (group_of e (groups_within e d)) before))
-of-groups {e = e} {d = d} h before (Over s) = map-append (group_of e (groups_within e d)) before (s ∷ [])
+of-groups {e = e} {d = d} h before Empty = sym (merged-nil (over e d before))
+of-groups {e = e} {d = d} h before (Over s) = push-groups e d before s
 of-groups {e = e} {d = d} h before (Going s) =
-    map-append (group_of e (groups_within e d)) before (s ∷ [])
-    ∙ ap (λ z. map (group_of e (groups_within e d)) before ++ z) (sym (at-groups h s.begin s.gap s.kind s.first s.later))
+    push-groups e d before s ∙ ap (λ z. merged (over e d before) z) (sym (at-groups h s.begin s.gap s.kind s.first s.later))
 
 of-ended : {e : EntityTable} {d : ℕ} (h : Laws e d) (t : Tail) →
     last_of e (groups_within e d) (summary_within e d) (ended t) ≡ ended_last e (last_of e (groups_within e d) (summary_within e d) t)
@@ -109,76 +122,15 @@ first-last {e = e} {d = d} h b g (HtmlBlock kind) f = single-last e d (is_single
 
 begin-law : {e : EntityTable} {d : ℕ} (h : Laws e d) (c : Cut) (l : BlockLine) (blank : Bool) →
     summary_by e (groups_within e d) (summary_within e d) (begin_where blank (tip_within d) c l)
-    ≡ begin_after e (line_added e d) blank (map (group_of e (groups_within e d)) c.before) (last_of e (groups_within e d) (summary_within e d) c.tail) c.blank c.lines l
+    ≡ begin_after e (line_added e d) blank (over e d c.before) (last_of e (groups_within e d) (summary_within e d) c.tail) c.blank c.lines l
 unfolding begin_where begin_after
-begin-law {e = e} {d = d} h c l true = ap (λ z. summary (map (group_of e (groups_within e d)) c.before) z true (suc c.lines)) (of-ended h c.tail)
+begin-law {e = e} {d = d} h c l true = ap (λ z. summary (over e d c.before) z true (suc c.lines)) (of-ended h c.tail)
 begin-law {e = e} {d = d} h c l false =
-    let G = group_of e (groups_within e d) in
     let L = last_of e (groups_within e d) (summary_within e d) in
     let B = is_single (begun l) l in
     ap (λ z. summary z (L (tail_of B (first_of c.lines (gap_behind (tip_within d) c) l))) false (suc c.lines)) (of-groups h c.before c.tail)
-    ∙ ap (λ z. summary (map G c.before ++ last_groups e (L c.tail)) (L (tail_of B (first_of c.lines (c.blank && not (is_verbatim z)) l))) false (suc c.lines)) (of-tip h c.tail)
-    ∙ ap (λ z. summary (map G c.before ++ last_groups e (L c.tail)) z false (suc c.lines)) (first-last h c.lines (summary_gap (L c.tail) c.blank) (begun l) l)
-
--- ---- a leaf stays one
-
-abbrev IsLeaf : Kind → Type 0
-IsLeaf (Holds container) = ⊥
-IsLeaf Paragraph = Unit {0}
-IsLeaf (SetextHeading level) = Unit {0}
-IsLeaf (Table above) = Unit {0}
-IsLeaf (AtxHeading level content) = Unit {0}
-IsLeaf ThematicBreak = Unit {0}
-IsLeaf (FencedCode i m n info c) = Unit {0}
-IsLeaf IndentedCode = Unit {0}
-IsLeaf (HtmlBlock kind) = Unit {0}
-
-abbrev LeafStep : Step → Type 0
-LeafStep (Takes kind) = IsLeaf kind
-LeafStep (Ends kind) = IsLeaf kind
-LeafStep Stops = Unit {0}
-
-takes-leaf : (b : Bool) (k : Kind) → IsLeaf k → LeafStep (takes_if b k)
-takes-leaf true k w = w
-takes-leaf false k w = tt
-
-fence-leaf : (b : Bool) (i m n : ℕ) (info : List ℕ) → LeafStep (fence_step b (FencedCode i m n info))
-fence-leaf true i m n info = tt
-fence-leaf false i m n info = tt
-
-html-leaf : (blank ends : Bool) (kind : ℕ) → LeafStep (html_step blank ends kind)
-html-leaf true ends kind = takes-leaf (nat_lt kind 6) (HtmlBlock kind) tt
-html-leaf false true kind = tt
-html-leaf false false kind = tt
-
-interrupted-leaf : (k : Option Kind) → LeafStep (interrupted k)
-interrupted-leaf None = tt
-interrupted-leaf (Some (SetextHeading level)) = tt
-interrupted-leaf (Some (Table above)) = tt
-interrupted-leaf (Some (Holds container)) = tt
-interrupted-leaf (Some Paragraph) = tt
-interrupted-leaf (Some (AtxHeading level content)) = tt
-interrupted-leaf (Some ThematicBreak) = tt
-interrupted-leaf (Some (FencedCode i m n info c)) = tt
-interrupted-leaf (Some IndentedCode) = tt
-interrupted-leaf (Some (HtmlBlock kind)) = tt
-
-paragraph-leaf : (lazy blank : Bool) (k : Option Kind) → LeafStep (paragraph_step lazy blank k)
-paragraph-leaf true blank k = tt
-paragraph-leaf false true k = tt
-paragraph-leaf false false k = interrupted-leaf k
-
-step-leaf : (T : List BlockLine → Tip) (k : Kind) (f : BlockLine) (r : List BlockLine) (l : BlockLine) → IsLeaf k → LeafStep (step T k f r l)
-unfolding step
-step-leaf T (Holds container) f r l w = absurd w
-step-leaf T (FencedCode i m n info c) f r l w = fence-leaf (closes m n l) i m n info
-step-leaf T (HtmlBlock kind) f r l w = html-leaf (is_blank_line l) (ends_html kind l) kind
-step-leaf T Paragraph f r l w = paragraph-leaf l.lazy (is_blank_line l) (start Inside (f ∷ r) l)
-step-leaf T (Table above) f r l w = takes-leaf (is_row l) (Table above) tt
-step-leaf T IndentedCode f r l w = takes-leaf (is_code l) IndentedCode tt
-step-leaf T (SetextHeading level) f r l w = tt
-step-leaf T (AtxHeading level content) f r l w = tt
-step-leaf T ThematicBreak f r l w = tt
+    ∙ ap (λ z. summary (merged (over e d c.before) (last_groups e (L c.tail))) (L (tail_of B (first_of c.lines (c.blank && not (is_verbatim z)) l))) false (suc c.lines)) (of-tip h c.tail)
+    ∙ ap (λ z. summary (merged (over e d c.before) (last_groups e (L c.tail))) z false (suc c.lines)) (first-last h c.lines (summary_gap (L c.tail) c.blank) (begun l) l)
 
 -- a leaf asks for no tip
 same-step : (T U : List BlockLine → Tip) (k : Kind) (f : BlockLine) (r : List BlockLine) (l : BlockLine) → IsLeaf k → step T k f r l ≡ step U k f r l
@@ -193,7 +145,7 @@ same-step T U (SetextHeading level) f r l w = refl
 same-step T U (AtxHeading level content) f r l w = refl
 same-step T U ThematicBreak f r l w = refl
 
-leaf-last : (S : List BlockLine → Summary) (k : Kind) (s : Stretch) → IsLeaf k → last_at S k s ≡ open_leaf s
+pub leaf-last : (S : List BlockLine → Summary) (k : Kind) (s : Stretch) → IsLeaf k → last_at S k s ≡ open_leaf s
 unfolding last_at
 leaf-last S (Holds container) s w = absurd w
 leaf-last S Paragraph s w = refl
@@ -205,32 +157,21 @@ leaf-last S (FencedCode i m n info c) s w = refl
 leaf-last S IndentedCode s w = refl
 leaf-last S (HtmlBlock kind) s w = refl
 
-leaf-part : (e : EntityTable) (R : List BlockLine → List Group) (k : Kind) (f : BlockLine) (r : List BlockLine) → IsLeaf k → part_at e R k f r ≡ part_at e (λ ls. []) k f r
-leaf-part e R (Holds container) f r w = absurd w
-leaf-part e R Paragraph f r w = refl
-leaf-part e R (SetextHeading level) f r w = refl
-leaf-part e R (Table above) f r w = refl
-leaf-part e R (AtxHeading level content) f r w = refl
-leaf-part e R ThematicBreak f r w = refl
-leaf-part e R (FencedCode i m n info c) f r w = refl
-leaf-part e R IndentedCode f r w = refl
-leaf-part e R (HtmlBlock kind) f r w = refl
-
 abbrev cut_of : List Stretch → Tail → Bool → ℕ → Cut
 cut_of before t b m = record { before = before; tail = t; blank = b; lines = m }
 
 leaf-law : {e : EntityTable} {d : ℕ} (h : Laws e d) (before : List Stretch) (s : Stretch) (b : Bool) (m : ℕ) (l : BlockLine) (st : Step) → IsLeaf s.kind → LeafStep st →
     summary_by e (groups_within e d) (summary_within e d) (after_step (tip_within d) (cut_of before (Going s) b m) s l st)
-    ≡ leaf_after e (line_added e d) (map (group_of e (groups_within e d)) before) s b m l st
+    ≡ leaf_after e (line_added e d) (over e d before) s b m l st
 unfolding after_step leaf_after last_of
 leaf-law {e = e} {d = d} h before s b m l (Takes kind) w v =
-    ap (λ z. summary (map (group_of e (groups_within e d)) before) z (is_blank_line l) (suc m)) (leaf-last (summary_within e d) kind (grown s kind l) v)
+    ap (λ z. summary (over e d before) z (is_blank_line l) (suc m)) (leaf-last (summary_within e d) kind (grown s kind l) v)
 leaf-law {e = e} {d = d} h before s b m l (Ends kind) w v =
-    ap (λ z. summary (map (group_of e (groups_within e d)) before) (ended_block (record { begin = s.begin; gap = s.gap; part = z })) (is_blank_line l) (suc m))
+    ap (λ z. summary (over e d before) (ended_block (record { begin = s.begin; gap = s.gap; part = z })) (is_blank_line l) (suc m))
     (leaf-part e (groups_within e d) kind s.first (s.later ++ l ∷ []) v)
 leaf-law {e = e} {d = d} h before s b m l Stops w v =
     begin-law h (cut_of before (Going s) b m) l (is_blank_line l)
-    ∙ ap (λ z. begin_after e (line_added e d) (is_blank_line l) (map (group_of e (groups_within e d)) before) z b m l) (leaf-last (summary_within e d) s.kind s w)
+    ∙ ap (λ z. begin_after e (line_added e d) (is_blank_line l) (over e d before) z b m l) (leaf-last (summary_within e d) s.kind s w)
 
 -- ---- containers
 
@@ -239,15 +180,15 @@ unfolding is_bare
 bare-push c f [] l = refl
 bare-push c f (x ∷ r) l = refl
 
-inner-push : (c : Container) (f : BlockLine) (r : List BlockLine) (l : BlockLine) → inner c f (r ++ l ∷ []) ≡ inner c f r ++ inside c l ∷ []
+pub inner-push : (c : Container) (f : BlockLine) (r : List BlockLine) (l : BlockLine) → inner c f (r ++ l ∷ []) ≡ inner c f r ++ inside c l ∷ []
 inner-push c f r l = ap (λ z. opened c f ∷ z) (map-append (inside c) r (l ∷ []))
 
 container-law : {e : EntityTable} {d : ℕ} (h : Laws e d) (before : List Stretch) (n : ℕ) (g : Bool) (c : Container) (f : BlockLine) (r : List BlockLine) (b : Bool) (m : ℕ) (l : BlockLine) (takes : Bool) →
     summary_by e (groups_within e d) (summary_within e d) (after_step (tip_within d) (cut_of before (Going (of_kind n g (Holds c) f r)) b m) (of_kind n g (Holds c) f r) l (takes_if takes (Holds c)))
-    ≡ container_after e (line_added e d) takes (map (group_of e (groups_within e d)) before) n g (is_bare c f r) c (summary_within e d (inner c f r)) b m l
+    ≡ container_after e (line_added e d) takes (over e d before) n g (is_bare c f r) c (summary_within e d (inner c f r)) b m l
 unfolding after_step container_after last_of last_at
 container-law {e = e} {d = d} h before n g c f r b m l true =
-    let G = map (group_of e (groups_within e d)) before in
+    let G = over e d before in
     ap (λ z. summary G (open_container n g z c (summary_within e d (inner c f (r ++ l ∷ [])))) (is_blank_line l) (suc m)) (bare-push c f r l)
     ∙ ap (λ z. summary G (open_container n g false c z) (is_blank_line l) (suc m)) (ap (summary_within e d) (inner-push c f r l) ∙ h.adds (inner c f r) (inside c l))
 container-law h before n g c f r b m l false = begin-law h (cut_of before (Going (of_kind n g (Holds c) f r)) b m) l (is_blank_line l)
@@ -256,10 +197,10 @@ container-law h before n g c f r b m l false = begin-law h (cut_of before (Going
 
 going-law : {e : EntityTable} {d : ℕ} (h : Laws e d) (before : List Stretch) (n : ℕ) (g : Bool) (k : Kind) (f : BlockLine) (r : List BlockLine) (b : Bool) (m : ℕ) (l : BlockLine) → IsLeaf k →
     summary_by e (groups_within e d) (summary_within e d) (after_step (tip_within d) (cut_of before (Going (of_kind n g k f r)) b m) (of_kind n g k f r) l (step (tip_within d) k f r l))
-    ≡ last_after e (line_added e d) (map (group_of e (groups_within e d)) before) (last_at (summary_within e d) k (of_kind n g k f r)) b m l
+    ≡ last_after e (line_added e d) (over e d before) (last_at (summary_within e d) k (of_kind n g k f r)) b m l
 unfolding last_after
 going-law {e = e} {d = d} h before n g k f r b m l w =
-    let G = map (group_of e (groups_within e d)) before in
+    let G = over e d before in
     let s = of_kind n g k f r in
     leaf-law h before s b m l (step (tip_within d) k f r l) w (step-leaf (tip_within d) k f r l w)
     ∙ ap (λ z. leaf_after e (line_added e d) G s b m l z) (same-step (tip_within d) (λ ls. Closed) k f r l w)
@@ -267,11 +208,11 @@ going-law {e = e} {d = d} h before n g k f r b m l w =
 
 open-law : {e : EntityTable} {d : ℕ} (h : Laws e d) (before : List Stretch) (n : ℕ) (g : Bool) (k : Kind) (f : BlockLine) (r : List BlockLine) (b : Bool) (m : ℕ) (l : BlockLine) →
     summary_by e (groups_within e d) (summary_within e d) (after_step (tip_within d) (cut_of before (Going (of_kind n g k f r)) b m) (of_kind n g k f r) l (step (tip_within d) k f r l))
-    ≡ last_after e (line_added e d) (map (group_of e (groups_within e d)) before) (last_at (summary_within e d) k (of_kind n g k f r)) b m l
+    ≡ last_after e (line_added e d) (over e d before) (last_at (summary_within e d) k (of_kind n g k f r)) b m l
 unfolding last_after last_at step
 open-law {e = e} {d = d} h before n g (Holds c) f r b m l =
     container-law h before n g c f r b m l (goes_on c (is_bare c f r) (tip_within d (inner c f r)) l)
-    ∙ ap (λ z. container_after e (line_added e d) (goes_on c (is_bare c f r) z l) (map (group_of e (groups_within e d)) before) n g (is_bare c f r) c (summary_within e d (inner c f r)) b m l) (h.tips (inner c f r))
+    ∙ ap (λ z. container_after e (line_added e d) (goes_on c (is_bare c f r) z l) (over e d before) n g (is_bare c f r) c (summary_within e d (inner c f r)) b m l) (h.tips (inner c f r))
 open-law h before n g Paragraph f r b m l = going-law h before n g Paragraph f r b m l tt
 open-law h before n g (SetextHeading level) f r b m l = going-law h before n g (SetextHeading level) f r b m l tt
 open-law h before n g (Table above) f r b m l = going-law h before n g (Table above) f r b m l tt
@@ -283,18 +224,18 @@ open-law h before n g (HtmlBlock kind) f r b m l = going-law h before n g (HtmlB
 
 at-law : {e : EntityTable} {d : ℕ} (h : Laws e d) (before : List Stretch) (t : Tail) (b : Bool) (m : ℕ) (l : BlockLine) →
     summary_by e (groups_within e d) (summary_within e d) (add_at (tip_within d) (cut_of before t b m) l t)
-    ≡ last_after e (line_added e d) (map (group_of e (groups_within e d)) before) (last_of e (groups_within e d) (summary_within e d) t) b m l
+    ≡ last_after e (line_added e d) (over e d before) (last_of e (groups_within e d) (summary_within e d) t) b m l
 unfolding add_at last_after last_of
 at-law h before Empty b m l = begin-law h (cut_of before Empty b m) l (is_blank_line l)
 at-law h before (Over s) b m l = begin-law h (cut_of before (Over s) b m) l (is_blank_line l)
 at-law h before (Going s) b m l = open-law h before s.begin s.gap s.kind s.first s.later b m l
 
 next : (e : EntityTable) (d : ℕ) → Laws e d → Laws e (suc d)
-unfolding summary_within tip_within groups_within cut_from last_of closed summary_tip line_added
+unfolding summary_within tip_within groups_within cut_from last_of closed summary_tip line_added grouped
 next e d h = record {
   none = refl;
   tips = λ ls. of-tip h (cut_by (tip_within d) ls).tail;
-  reads = λ ls. let c : Cut = cut_by (tip_within d) ls in ap grouped (of-groups h c.before c.tail);
+  reads = λ ls. let c : Cut = cut_by (tip_within d) ls in of-groups h c.before c.tail;
   adds = λ ls l. let c : Cut = cut_by (tip_within d) ls in
       ap (λ (z : Cut). summary_by e (groups_within e d) (summary_within e d) z) (cut_from-append (tip_within d) no_lines ls (l ∷ []))
       ∙ at-law h c.before c.tail c.blank c.lines l;
@@ -330,7 +271,7 @@ at-apart h n g (FencedCode i u v info c) f r l = refl
 at-apart h n g IndentedCode f r l = refl
 at-apart h n g (HtmlBlock kind) f r l = refl
 
-of-apart : {e : EntityTable} {d : ℕ} (h : Laws e d) (t : Tail) (l : BlockLine) →
+pub of-apart : {e : EntityTable} {d : ℕ} (h : Laws e d) (t : Tail) (l : BlockLine) →
     is_apart (tip_within d) t l ≡ is_apart_after (last_of e (groups_within e d) (summary_within e d) t) l
 unfolding is_apart last_of is_apart_after
 of-apart h Empty l = refl
@@ -364,13 +305,3 @@ begins-law e d xs l =
     let last = last_of e (groups_within e d) (summary_within e d) t in
     ap (λ z. z && not (is_blank_line l) && not (same_mark (tail_mark t) (list_mark (begun l)))) (of-apart (laws e d) t l)
     ∙ ap (λ z. is_apart_after last l && not (is_blank_line l) && not (same_mark z (list_mark (begun l)))) (of-mark e d t)
-
--- ---- at a depth that suffices
-
-pub summary-gives : (e : EntityTable) (d : ℕ) (xs : List BlockLine) → depth_of xs ≤ d → closed e (summary_within e d xs) ≡ groups e xs
-summary-gives e d xs h = sym ((laws e d).reads xs) ∙ groups-deep e d xs (omega (arith, h))
-
-pub summary-begins : (e : EntityTable) (d : ℕ) (xs : List BlockLine) (l : BlockLine) → depth_of xs < d → begins_after (summary_within e d xs) l ≡ begins_unit xs l
-summary-begins e d xs l h =
-    let below : suc (d - 1) ≡ d = omega (arith, h) in
-    ap (λ n. begins_after (summary_within e n xs) l) (sym below) ∙ sym (begins-law e (d - 1) xs l) ∙ begins-deep (d - 1) xs l (omega (arith, h))

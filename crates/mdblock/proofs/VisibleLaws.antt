@@ -1,28 +1,18 @@
 -- A container holds fewer visible characters than its lines have, since its marker is one.
-use Rattle.std.proofs.Common.{◌≡◌, ℕ, zero, suc, ◌+◌, ◌-◌, ◌≤◌, ◌<◌, Bool, true, false, ◌&&◌, ◌||◌, List, [], ◌∷◌, ◌++◌, length, map, drop, replicate, Option, Some, None, refl, sym, ◌∙◌, ap, subst, arith}
-use Rattle.std.specs.Prelude.{unwrap_or, nat_lt, nat_le, ◌==◌, min, cond}
+use Rattle.std.proofs.Common.{◌≡◌, ℕ, zero, suc, ◌+◌, ◌-◌, ◌≤◌, ◌<◌, Bool, true, false, ◌&&◌, List, [], ◌∷◌, ◌++◌, map, drop, replicate, Option, Some, None, refl, sym, ◌∙◌, ap, subst, arith}
+use Rattle.std.specs.Prelude.{nat_le, ◌==◌, min, cond}
 use Rattle.std.specs.Char.{is_ascii_digit}
 use Rattle.std.specs.List.{prefix_len}
-use Rattle.std.specs.Option.{option_or, option_map}
 use Rattle.mdtext.specs.Columns.{indent, strip_at, width, is_space_or_tab}
 use Rattle.mdscan.specs.Blanks.{is_blank, is_blank_text}
-use Rattle.mdscan.specs.declared.atx_headings.AtxLine.{AtxLine}
-use Rattle.mdscan.specs.declared.fences.FenceLine.{FenceLine}
 use Rattle.mdscan.specs.declared.list_markers.Marker.{Marker}
-use Rattle.mdscan.specs.AtxHeading.{atx_heading}
-use Rattle.mdscan.specs.BlockQuote.{is_quote_marker}
-use Rattle.mdscan.specs.CodeFence.{opening_fence}
-use Rattle.mdscan.specs.HtmlBlock.{html_kind}
-use Rattle.mdscan.specs.SetextHeading.{underline_level}
-use Rattle.mdscan.specs.Spans.{part}
-use Rattle.mdscan.specs.ThematicBreak.{is_thematic_break}
-use Rattle.mdleaf.specs.TableRows.{begins_table}
 use Rattle.mdscan.specs.ListMarker.{bullet as bullet_marker, ordered as marker_of, is_ordered, ordered_marker, marker}
-use Rattle.mdblock.specs.BlockLine.{BlockLine, indentation, rest, is_blank_line, without_columns, behind_marker}
-use Rattle.mdblock.specs.BlockStart.{Mode, Free, Container, Quote, Item, Kind, Paragraph, SetextHeading, Table, AtxHeading, ThematicBreak, FencedCode, IndentedCode, HtmlBlock, Holds, padding, is_free, is_inside, underlines, last_text, may_begin_item, begins_quote, begins_atx, begins_fence, html_by, begins_html, begins_underline, begins_break, item_of, item_by, begins_item, begins_rows, start_near, start_at, start_where, start, begun}
+use Rattle.mdblock.specs.BlockLine.{BlockLine, rest, is_blank_line, without_columns, behind_marker}
+use Rattle.mdblock.specs.BlockStart.{Free, Container, Quote, Item, Kind, Paragraph, SetextHeading, Table, AtxHeading, ThematicBreak, FencedCode, IndentedCode, HtmlBlock, Holds, padding, begun}
 use Rattle.mdblock.specs.BlockUnits.{visible, visible_in}
 use Rattle.mdblock.specs.ContainerLines.{matches, unquoted, opened, taken_off, inside_where, inside, inner}
 use Rattle.mdblock.specs.Indentation.{unindented}
+use Rattle.mdblock.proofs.StartKinds.{Kinds, begun-kinds}
 
 -- ---- what a container takes off a line
 
@@ -152,29 +142,6 @@ HasWidth (FencedCode i mark n info closed) = Unit {0}
 HasWidth IndentedCode = Unit {0}
 HasWidth (HtmlBlock kind) = Unit {0}
 
-abbrev AllWidth : Option Kind → Type 0
-AllWidth None = Unit {0}
-AllWidth (Some k) = HasWidth k
-
-nothing : Unit {0}
-nothing = tt
-
-or-width : (p q : Option Kind) → AllWidth p → AllWidth q → AllWidth (option_or p q)
-or-width None q v w = w
-or-width (Some k) q v w = v
-
-if-width : (b : Bool) (p : Option Kind) → AllWidth p → AllWidth (cond b p None)
-if-width true p w = w
-if-width false p w = tt
-
-map-width : {A : Type 0} (f : A → Kind) (o : Option A) → ((a : A) → HasWidth (f a)) → AllWidth (option_map f o)
-map-width f None w = tt
-map-width f (Some a) w = w a
-
-html-width : (free : Bool) (o : Option ℕ) → AllWidth (html_by free o)
-html-width free None = tt
-html-width free (Some kind) = if-width (nat_lt kind 7 || free) (Some (HtmlBlock kind)) tt
-
 MarkerWide : Option Marker → Type 0
 MarkerWide None = Unit {0}
 MarkerWide (Some m) = 1 ≤ m.width
@@ -196,54 +163,22 @@ marker-wide text = go _ (ordered-wide text)
     go true h = let one : 1 ≤ 1 = omega arith in one
     go false h = h
 
-item-width : (mode : Mode) (l : BlockLine) (o : Option Marker) → MarkerWide o → AllWidth (item_by mode l o)
+wide-at : (o : Option Marker) (m : Marker) → MarkerWide o → o ≡ Some m → 1 ≤ m.width
 unfolding MarkerWide
-item-width mode l None w = tt
-item-width mode l (Some m) w = if-width (may_begin_item mode m (behind_marker l m.width)) (Some (Holds (item_of l m))) w
-
-quote-width : (l : BlockLine) → AllWidth (begins_quote l)
-quote-width l = if-width (is_quote_marker (rest l)) (Some (Holds Quote)) (let h : 1 ≤ 1 = omega arith in h)
-
-atx-width : (l : BlockLine) → AllWidth (begins_atx l)
-atx-width l = map-width (λ (heading : AtxLine). AtxHeading heading.level (part (rest l) heading.content)) (atx_heading (rest l)) (λ _. nothing)
-
-fence-width : (l : BlockLine) → AllWidth (begins_fence l)
-fence-width l = map-width (λ (fence : FenceLine). FencedCode (indentation l) fence.mark fence.length (part (rest l) fence.info) false) (opening_fence (rest l)) (λ _. nothing)
-
-underline-width : (mode : Mode) (p : List BlockLine) (l : BlockLine) → AllWidth (begins_underline mode p l)
-underline-width mode p l =
-    if-width (underlines mode p) (option_map SetextHeading (underline_level (rest l))) (map-width SetextHeading (underline_level (rest l)) (λ _. nothing))
-
-rows-width : (mode : Mode) (p : List BlockLine) (l : BlockLine) → AllWidth (begins_rows mode p l)
-rows-width mode p l = if-width (is_inside mode && begins_table (last_text p) (rest l)) (Some (Table (length p))) tt
-
-near-width : (mode : Mode) (p : List BlockLine) (l : BlockLine) → AllWidth (start_near mode p l)
-unfolding start_near
-near-width mode p l =
-    or-width (begins_quote l) _ (quote-width l)
-    (or-width (begins_atx l) _ (atx-width l)
-    (or-width (begins_fence l) _ (fence-width l)
-    (or-width (begins_html mode l) _ (html-width (is_free mode) (html_kind (rest l)))
-    (or-width (begins_underline mode p l) _ (underline-width mode p l)
-    (or-width (begins_break l) _ (if-width (is_thematic_break (rest l)) (Some ThematicBreak) tt)
-    (or-width (begins_item mode l) _ (item-width mode l (marker (rest l)) (marker-wide (rest l)))
-    (rows-width mode p l)))))))
-
-at-width : (near : Bool) (mode : Mode) (p : List BlockLine) (l : BlockLine) → AllWidth (start_at near mode p l)
-at-width true mode p l = near-width mode p l
-at-width false mode p l = if-width (is_free mode) (Some IndentedCode) tt
-
-start-width : (mode : Mode) (p : List BlockLine) (l : BlockLine) → AllWidth (start mode p l)
-unfolding start
-start-width mode p l = go (is_blank_line l)
-  where
-    go : (blank : Bool) → AllWidth (start_where blank mode p l)
-    go true = tt
-    go false = at-width (nat_le (indentation l) 3) mode p l
+wide-at o m w e = subst (λ z. MarkerWide z) e w
 
 pub begun-width : (l : BlockLine) → HasWidth (begun l)
-begun-width l = go (start Free [] l) (start-width Free [] l)
+begun-width l = begun-kinds (λ k. HasWidth k) l widths tt
   where
-    go : (k : Option Kind) → AllWidth k → HasWidth (unwrap_or k Paragraph)
-    go None w = tt
-    go (Some k) w = w
+    widths : Kinds (λ k. HasWidth k) Free [] l
+    widths = record {
+      quote = omega arith;
+      atx = λ level content. tt;
+      fence = λ i mark n info. tt;
+      html = λ kind. tt;
+      underline = λ level. tt;
+      break = tt;
+      item = λ m e. wide-at (marker (rest l)) m (marker-wide (rest l)) e;
+      rows = λ e. tt;
+      code = tt;
+    }

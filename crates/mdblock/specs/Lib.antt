@@ -14,12 +14,14 @@ pub mod Meetings
 pub mod Nesting
 pub mod NodeTree
 pub mod Openings
+pub mod OpenLeaf
 pub mod OpenPositions
 pub mod ParagraphEnd
 pub mod Positions
 pub mod Reading
 pub mod StoredBlocks
 pub mod Stretches
+pub mod SummaryDepth
 pub mod TaskItem
 pub mod UnitBegin
 pub mod UnitTree

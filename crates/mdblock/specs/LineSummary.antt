@@ -1,14 +1,15 @@
--- What has to be kept of some lines so that one line more can be read: the blocks that are over, as what they give, and
--- the last one. Of a container nothing is kept but the same of what it holds; of a leaf, its lines.
-use Rattle.std.specs.Prelude.{ℕ, zero, suc, Bool, true, false, not, ◌&&◌, List, [], ◌∷◌, ◌++◌, map, Option, Some, None}
+-- What has to be kept of some lines so that one line more can be read: the blocks that are over, as what they give, where
+-- items are joined to lists as they come; and the last one. Of a container nothing is kept but the same of what it holds;
+-- of a leaf, its lines.
+use Rattle.std.specs.Prelude.{ℕ, zero, suc, Bool, true, false, not, ◌&&◌, List, [], ◌∷◌, map, Option, Some, None}
 use Rattle.mdtext.specs.EntityTable.{EntityTable}
 use Rattle.mdblock.specs.BlockLine.{BlockLine, is_blank_line}
 use Rattle.mdblock.specs.BlockStart.{Container, Kind, Holds, begun}
-use Rattle.mdblock.specs.BlockUnits.{container_part, group_of, groups_within}
+use Rattle.mdblock.specs.BlockUnits.{container_part, group_of, groups_within, depth_of}
 use Rattle.mdblock.specs.ContainerLines.{opened, inside, inner, is_bare}
 use Rattle.mdblock.specs.Laziness.{Tip, Closed, is_verbatim}
 use Rattle.mdblock.specs.BlockTree.{ListKind}
-use Rattle.mdblock.specs.ListGroups.{Part, Leaves, Quoted, Listed, Group, grouped}
+use Rattle.mdblock.specs.ListGroups.{Part, Leaves, Quoted, Listed, Group, grouped, merged}
 use Rattle.mdblock.specs.UnitBegin.{is_stop, list_mark, same_mark}
 use Rattle.mdblock.specs.Stretches.{Stretch, Step, Takes, Ends, Stops, goes_on, step, is_single, Tail, Empty, Going, Over, Cut, tip_at, first_of, grown, cut_within}
 
@@ -45,7 +46,7 @@ container_group begin gap container groups = record { begin = begin; gap = gap; 
 -- what the lines give
 unfoldable mutual
   pub closed : EntityTable → Summary → List Group
-  closed entities (summary before last blank lines) = grouped (before ++ last_groups entities last)
+  closed entities (summary before last blank lines) = merged before (last_groups entities last)
 
   pub last_groups : EntityTable → Last → List Group
   last_groups entities nothing_yet = []
@@ -73,7 +74,7 @@ summary_gap last blank = blank && not (is_verbatim (last_tip last))
 unfoldable pub begin_after : EntityTable → (more : Summary → BlockLine → Summary) → (blank_line : Bool) → List Group → Last → (blank : Bool) → (lines : ℕ) → BlockLine → Summary
 begin_after entities more true before last blank lines l = summary before (ended_last entities last) true (suc lines)
 begin_after entities more false before last blank lines l =
-    summary (before ++ last_groups entities last) (new_last entities more (is_single (begun l) l) (begun l) (first_of lines (summary_gap last blank) l)) false (suc lines)
+    summary (merged before (last_groups entities last)) (new_last entities more (is_single (begun l) l) (begun l) (first_of lines (summary_gap last blank) l)) false (suc lines)
 
 unfoldable pub leaf_after : EntityTable → (more : Summary → BlockLine → Summary) → List Group → Stretch → (blank : Bool) → (lines : ℕ) → BlockLine → Step → Summary
 leaf_after entities more before s blank lines l (Takes kind) = summary before (open_leaf (grown s kind l)) (is_blank_line l) (suc lines)
@@ -110,11 +111,15 @@ last_of entities inside below (Over s) = ended_block (group_of entities inside s
 
 abbrev pub summary_by : EntityTable → (inside : List BlockLine → List Group) → (below : List BlockLine → Summary) → Cut → Summary
 summary_by entities inside below cut =
-    summary (map (group_of entities inside) cut.before) (last_of entities inside below cut.tail) cut.blank cut.lines
+    summary (grouped (map (group_of entities inside) cut.before)) (last_of entities inside below cut.tail) cut.blank cut.lines
 
 unfoldable pub summary_within : EntityTable → (depth : ℕ) → List BlockLine → Summary
 summary_within entities zero ls = no_summary
 summary_within entities (suc depth) ls = summary_by entities (groups_within entities depth) (summary_within entities depth) (cut_within depth ls)
+
+-- the summary of some lines, as deep as they need
+abbrev pub summary_of : EntityTable → List BlockLine → Summary
+summary_of entities ls = summary_within entities (depth_of ls) ls
 
 -- whether a line goes on with no block
 unfoldable pub is_apart_after : Last → BlockLine → Bool

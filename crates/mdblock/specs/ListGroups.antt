@@ -55,6 +55,13 @@ unfoldable pub grouped : List Group → List Group
 grouped [] = []
 grouped (g ∷ gs) = joined g g.part (grouped gs)
 
+-- Groups behind others, where both are joined: one list may go on where they meet.
+abbrev pub merged : List Group → List Group → List Group
+merged [] hs = hs
+merged (g ∷ []) [] = g ∷ []
+merged (g ∷ []) (h ∷ hs) = joined g g.part (h ∷ hs)
+merged (g ∷ n ∷ gs) hs = g ∷ merged (n ∷ gs) hs
+
 -- An item makes its list loose if there is a gap before one of its direct children other than the first. Here a
 -- definition counts as a child.
 abbrev pub is_tight_inside : List Group → Bool

@@ -4,7 +4,7 @@ use Rattle.mdblock.specs.BlockLine.{BlockLine, document_line, is_blank_line}
 use Rattle.mdblock.specs.BlockStart.{begun}
 use Rattle.mdblock.specs.BlockUnits.{depth_of}
 use Rattle.mdblock.specs.Laziness.{Tip}
-use Rattle.mdblock.specs.ListGroups.{Group, joined}
+use Rattle.mdblock.specs.ListGroups.{Group}
 use Rattle.mdblock.specs.Stretches.{Cut, gap_behind, cut_within, tip_within}
 use Rattle.mdblock.specs.UnitBegin.{is_apart, list_mark, same_mark, tail_mark, begins_unit}
 use Rattle.mdblock.specs.UnitTree.{FoundUnit}
@@ -23,13 +23,6 @@ shift_group_first gap k g = record { begin = g.begin + k; gap = gap; part = g.pa
 abbrev pub shift_groups : Bool → ℕ → List Group → List Group
 shift_groups gap k [] = []
 shift_groups gap k (g ∷ gs) = shift_group_first gap k g ∷ map (shift_group k) gs
-
--- Lists (CommonMark 5.3): the last of some groups may make one list with the first of others.
-abbrev pub merged : List Group → List Group → List Group
-merged [] hs = hs
-merged (g ∷ []) [] = g ∷ []
-merged (g ∷ []) (h ∷ hs) = joined g g.part (h ∷ hs)
-merged (g ∷ n ∷ gs) hs = g ∷ merged (n ∷ gs) hs
 
 -- whether a line of a document begins a unit behind these lines
 abbrev pub IsBeginning : (front : List (List ℕ)) → (line : List ℕ) → Type 0

@@ -1,13 +1,16 @@
 //! What holds of the blocks of a document (CommonMark 3 to 5; GFM, Tables), whatever reads them.
 
-ghost use Rattle.std.specs.Prelude.{◌≡◌, ℕ, ◌<◌, ◌≤◌, true, List, [], ◌∷◌, ◌++◌, length, map, Contains};
+ghost use Rattle.std.specs.Prelude.{◌≡◌, ℕ, suc, true, Some, None, if◌then◌else◌, List, [], ◌∷◌, ◌++◌, length, map, Contains};
 ghost use Rattle.std.specs.Option.{option_or};
 ghost use Rattle.mdtext.specs.EntityTable.{EntityTable};
 ghost use Rattle.mdblock.specs.BlockLine.{BlockLine};
-ghost use Rattle.mdblock.specs.BlockUnits.{begins, definitions_of, depth_of, groups, units};
+ghost use Rattle.mdblock.specs.BlockUnits.{begins, definitions_of, groups, units};
 ghost use Rattle.mdblock.specs.FirstDefinitions.{first_definition};
-ghost use Rattle.mdblock.specs.LineSummary.{begins_after, closed, line_added, summary_within};
-ghost use Rattle.mdblock.specs.Meetings.{IsBeginning, gap_after, joins_list, merged, shift_found, shift_groups};
+ghost use Rattle.mdblock.specs.LineSummary.{begins_after, closed, line_added, no_summary, summary_of};
+ghost use Rattle.mdblock.specs.ListGroups.{merged};
+ghost use Rattle.mdblock.specs.Meetings.{IsBeginning, gap_after, joins_list, shift_found, shift_groups};
+ghost use Rattle.mdblock.specs.Nesting.{deep_within, first_too_deep};
+ghost use Rattle.mdblock.specs.SummaryDepth.{lines_added, refused_line, sinks};
 ghost use Rattle.mdblock.specs.UnitBegin.{begins_unit};
 ghost use Rattle.mdblock.specs.UnitTree.{FoundUnit};
 
@@ -44,15 +47,25 @@ pub fn items_meet()
         → groups entities (front ++ line ∷ later) ≡ merged (groups entities front) (shift_groups (gap_after front) (length front) (groups entities (line ∷ later))) }
 {}
 
-/// The summary of some lines tells what they give, and whether the next line begins a unit; with it, it is the summary of
-/// one line more. Of a container it keeps the summary of what it holds alone.
+/// The summary of some lines tells what they give, whether the next line begins a unit, and whether it is the first on which
+/// a container begins that lies in too many others; where it is not, the summary of the lines with it follows. Of a
+/// container a summary keeps that of what it holds alone.
 pub fn summary_goes_on()
-    ensures gives { (entities : EntityTable) (depth : ℕ) (front : List BlockLine) → depth_of front ≤ depth
-        → closed entities (summary_within entities depth front) ≡ groups entities front }
-    ensures begins { (entities : EntityTable) (depth : ℕ) (front : List BlockLine) (line : BlockLine) → depth_of front < depth
-        → begins_after (summary_within entities depth front) line ≡ begins_unit front line }
-    ensures adds { (entities : EntityTable) (depth : ℕ) (front : List BlockLine) (line : BlockLine)
-        → summary_within entities depth (front ++ line ∷ []) ≡ line_added entities depth (summary_within entities depth front) line }
+    ensures none { (entities : EntityTable) → summary_of entities [] ≡ no_summary }
+    ensures gives { (entities : EntityTable) (front : List BlockLine) → closed entities (summary_of entities front) ≡ groups entities front }
+    ensures begins { (entities : EntityTable) (front : List BlockLine) (line : BlockLine) → begins_after (summary_of entities front) line ≡ begins_unit front line }
+    ensures sinks { (entities : EntityTable) (limit : ℕ) (front : List BlockLine) (line : BlockLine)
+        → deep_within limit (front ++ line ∷ []) ≡ option_or (deep_within limit front) (if sinks limit (summary_of entities front) line then Some (length front) else None) }
+    ensures adds { (entities : EntityTable) (limit : ℕ) (front : List BlockLine) (line : BlockLine) → deep_within limit (front ++ line ∷ []) ≡ None
+        → summary_of entities (front ++ line ∷ []) ≡ line_added entities (suc limit) (summary_of entities front) line }
+{}
+
+/// A reader that keeps a summary alone, and allows so many containers to be open, holds that of its lines, and refuses the
+/// first line on which a container begins that lies in too many others, whatever comes later.
+pub fn reader_refuses_the_first_too_deep()
+    ensures holds { (entities : EntityTable) (limit : ℕ) (lines : List BlockLine) → deep_within limit lines ≡ None → lines_added entities limit no_summary lines ≡ summary_of entities lines }
+    ensures refuses { (entities : EntityTable) (limit : ℕ) (lines : List BlockLine) → refused_line entities limit no_summary 0 lines ≡ deep_within limit lines }
+    ensures stays { (limit : ℕ) (lines more : List (List ℕ)) (n : ℕ) → first_too_deep limit lines ≡ Some n → first_too_deep limit (lines ++ more) ≡ Some n }
 {}
 
 /// Of units one after the other, the definition of a label that counts is the first units', where they have one.

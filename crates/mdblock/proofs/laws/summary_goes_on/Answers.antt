@@ -1,11 +1,19 @@
-use Rattle.mdblock.proofs.SummaryLaws.{summary-gives, summary-begins, laws}
+use Rattle.std.proofs.Common.{sym}
+use Rattle.mdblock.proofs.LimitLaws.{summary-limited}
+use Rattle.mdblock.proofs.ReaderLaws.{summary-none, summary-closed, summary-begins, summary-sinks}
 use Rattle.mdblock.proofs.laws.summary_goes_on.Goals as goal
 
+pub returns-clause-none : goal.returns-clause-none
+returns-clause-none c = λ entities. summary-none entities
+
 pub returns-clause-gives : goal.returns-clause-gives
-returns-clause-gives c = λ entities depth front enough. summary-gives entities depth front enough
+returns-clause-gives c = λ entities front. sym (summary-closed entities front)
 
 pub returns-clause-begins : goal.returns-clause-begins
-returns-clause-begins c = λ entities depth front line enough. summary-begins entities depth front line enough
+returns-clause-begins c = λ entities front line. sym (summary-begins entities front line)
+
+pub returns-clause-sinks : goal.returns-clause-sinks
+returns-clause-sinks c = λ entities limit front line. summary-sinks entities limit front line
 
 pub returns-clause-adds : goal.returns-clause-adds
-returns-clause-adds c = λ entities depth front line. (laws entities depth).adds front line
+returns-clause-adds c = λ entities limit front line fits. summary-limited entities limit front line fits
