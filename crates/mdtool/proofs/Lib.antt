@@ -8,7 +8,7 @@ pub mod Searches
 pub mod StepEnds
 pub mod Texts
 pub mod CommandReading
-pub mod Brought
+pub mod PatchLine
 pub mod ServeRuns
 pub mod ServeEnds
 pub mod Rows

@@ -11,6 +11,7 @@ mod endings;
 mod entity_tables;
 mod fault;
 mod header;
+mod marks;
 mod memory;
 mod programs;
 mod replies;

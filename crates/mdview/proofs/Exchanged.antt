@@ -1,7 +1,7 @@
 -- What is held after an exchange.
-use Rattle.std.proofs.Common.{◌≡◌, ℕ, suc, [], ◌∷◌, ◌+◌, ◌-◌, ◌^◌, ◌≤◌, ◌<◌, true, false, Bool, List, ◌++◌, length, map, take, drop, slice_get, refl, ap, ◌∙◌, sym, arith, nat_lt, option_map}
-use Rattle.std.specs.Prelude.{◌==◌, if◌then◌else◌, min, sum_by}
-use Rattle.std.specs.List.{All, list_any}
+use Rattle.std.proofs.Common.{◌≡◌, ℕ, suc, [], ◌∷◌, ◌+◌, ◌-◌, ◌^◌, ◌≤◌, ◌<◌, true, false, List, ◌++◌, length, map, take, drop, slice_get, refl, ap, ◌∙◌, sym, arith, nat_lt, option_map}
+use Rattle.std.specs.Prelude.{◌==◌, sum_by}
+use Rattle.std.specs.List.{All}
 use Rattle.std.proofs.lemmas.Bool.{eqb-true, eq-eqb}
 use Rattle.std.proofs.lemmas.Bool.Decides.{nat_tests}
 use Rattle.std.proofs.lemmas.List.{length-map}

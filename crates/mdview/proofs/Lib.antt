@@ -1,4 +1,4 @@
-pub mod Rotation
+pub mod Replacements
 pub mod Sizes
 pub mod Due
 pub mod Runs

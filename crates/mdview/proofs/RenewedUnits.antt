@@ -1,5 +1,5 @@
 -- What stays, and what holds, where units are read again.
-use Rattle.std.proofs.Common.{◌≡◌, ℕ, zero, suc, Bool, true, false, List, [], ◌∷◌, length, map, slice_get, refl, ap, ◌∙◌, sym, arith, subst, get_or}
+use Rattle.std.proofs.Common.{◌≡◌, ℕ, zero, suc, Bool, true, false, List, [], ◌∷◌, map, slice_get, refl, ◌∙◌, sym, arith, subst}
 use Rattle.std.specs.Prelude.{◌==◌, ◌||◌, IfSome}
 use Rattle.std.specs.List.{All, list_any}
 use Rattle.std.proofs.lemmas.Bool.{true≢false, eq-eqb}
@@ -7,7 +7,7 @@ use Rattle.mdblock.specs.UnitTree.{FoundUnit}
 use Rattle.mdhtml.specs.declared.options.Options.{Options}
 use Rattle.mdview.specs.declared.readings.Again.{Again}
 use Rattle.mdview.specs.HeldUnit.{HeldUnit, IsRendered, found_in}
-use Rattle.mdview.specs.Renewed.{map_at, renewed, all_renewed, Fits, IsWritten}
+use Rattle.mdview.specs.Renewed.{map_at, renewed, all_renewed, IsWritten}
 use Rattle.mdview.proofs.MemberChanges.{map-changed, others_stay, all_first, all_rest}
 
 pub renewed_first : (units : List HeldUnit) (one : Again) (again : List Again) → all_renewed units (one ∷ again) ≡ all_renewed (map_at (renewed one) one.unit units) again

@@ -7,7 +7,6 @@ use Rattle.mdview.specs.Edit.{Call, put, due}
 use Rattle.mdview.specs.Outcome.{outcome_due}
 use Rattle.mdview.specs.Reading.{Reading, read, nested, too_deep, starved}
 use Rattle.mdview.specs.Run.{Turn, held_after, after, read_last, lines_after, units_after, Units}
-use Rattle.mdview.specs.HeldUnit.{ReadUnit}
 
 step : (entities : List (List ℕ × List ℕ)) (options : Options) (lines : List (List ℕ)) (units : Units) (call : Call) (due' : Option EditFault) (reading : Reading)
     → (outcome_due due' (document entities options lines units.0 units.1) call reading).1

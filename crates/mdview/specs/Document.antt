@@ -1,5 +1,5 @@
 -- What a preview holds.
-use Rattle.std.specs.Prelude.{ℕ, List, ◌+◌, Option, Some, None, if◌then◌else◌, length, map, nat_lt, sum_by, take}
+use Rattle.std.specs.Prelude.{ℕ, List, ◌+◌, length, map, sum_by}
 use Rattle.mdhtml.specs.declared.options.Options.{Options}
 use Rattle.mdview.specs.HeldUnit.{ReadUnit, unit_piece}
 

@@ -1,5 +1,5 @@
 -- What a patch says of the pieces.
-use Rattle.std.specs.Prelude.{◌≡◌, ℕ, ◌+◌, ◌-◌, Bool, ◌||◌, ◌&&◌, not, List, [], length, map, if◌then◌else◌, ◌==◌, nat_lt, get_or}
+use Rattle.std.specs.Prelude.{◌≡◌, ℕ, ◌+◌, ◌-◌, Bool, ◌||◌, ◌&&◌, not, List, length, map, if◌then◌else◌, ◌==◌, nat_lt, get_or}
 use Rattle.std.specs.List.{list_any, range_with_len}
 use Rattle.mdview.specs.Stretch.{Stretch}
 

@@ -5,7 +5,7 @@ use Rattle.mdblock.specs.UnitTree.{FoundUnit}
 use Rattle.mdhtml.specs.declared.options.Options.{Options}
 use Rattle.mdview.specs.declared.readings.Again.{Again}
 use Rattle.mdview.specs.declared.renewals.Renewal.{Renewal}
-use Rattle.mdview.specs.HeldUnit.{HeldUnit, IsRendered, found_in, unit_piece}
+use Rattle.mdview.specs.HeldUnit.{HeldUnit, IsRendered, unit_piece}
 use Rattle.mdview.specs.Stretch.{Stretch}
 
 -- the list with its i-th member changed, if it has one

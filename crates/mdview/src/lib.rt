@@ -15,6 +15,7 @@ mod pieces;
 mod preview;
 mod readings;
 mod renewals;
+mod replacing;
 mod resuming;
 mod stretches;
 #[cfg(test)]

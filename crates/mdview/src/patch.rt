@@ -38,10 +38,11 @@ impl Patch {
     fn brings(&self, i: usize) -> bool
         ensures { result ≡ brings self.now i }
     {
-        self.is_new(i) || self.again.contains(&i)
+        self.adds(i) || self.again.contains(&i)
     }
 
-    fn is_new(&self, i: usize) -> bool
+    /// Whether piece `i` is one of the `added` new ones.
+    pub fn adds(&self, i: usize) -> bool
         ensures { result ≡ (not (nat_lt i self.now.first) && nat_lt i (self.now.first + self.now.added)) }
     {
         i >= self.first && i - self.first < self.added

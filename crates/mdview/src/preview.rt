@@ -9,7 +9,7 @@ ghost use Rattle.mdview.specs.Patch.{Brings};
 ghost use Rattle.mdview.specs.Renewed.{Renews};
 
 use crate::clean::clean_lines;
-use crate::exchange::{exchange, replace};
+use crate::exchange::exchange;
 use crate::fault::EditFault;
 use crate::held_labels::HeldLabels;
 use crate::held_units::HeldUnit;
@@ -18,6 +18,7 @@ use crate::new_text::NewText;
 use crate::patch::Patch;
 use crate::pieces::Pieces;
 use crate::renewals::{Held, Renewal};
+use crate::replacing::replace;
 use crate::resuming::begin_of;
 use mdblock::Unit;
 use mdhtml::Options;

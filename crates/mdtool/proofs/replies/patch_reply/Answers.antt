@@ -1,7 +1,7 @@
 use Rattle.std.proofs.Common.{ap, ◌∙◌, arith}
 use Rattle.std.proofs.lemmas.Result.{IfOk-weaker}
 use Rattle.mdtool.specs.Replies.{patch_line}
-use Rattle.mdtool.proofs.Brought.{patch_printed}
+use Rattle.mdtool.proofs.PatchLine.{patch_printed}
 use Rattle.mdtool.proofs.replies.patch_reply.Goals as goal
 
 pub returns : goal.returns

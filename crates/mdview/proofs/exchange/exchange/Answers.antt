@@ -1,4 +1,4 @@
-use Rattle.std.proofs.Common.{◌≡◌, arith, length, vec_len}
+use Rattle.std.proofs.Common.{arith}
 use Rattle.mdview.proofs.exchange.exchange.Goals as goal
 
 pub replace-requires-clause-within : goal.replace-requires-clause-within

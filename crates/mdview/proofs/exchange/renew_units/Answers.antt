@@ -1,6 +1,5 @@
-use Rattle.std.proofs.Common.{arith, ◌≡◌, ◌∷◌, List, ap, map, sym, ◌∙◌, subst, refl}
+use Rattle.std.proofs.Common.{arith, ap, map, sym, ◌∙◌, subst, refl}
 use Rattle.std.specs.List.{All}
-use Rattle.mdview.specs.declared.readings.Again.{Again}
 use Rattle.mdview.specs.HeldUnit.{found_in}
 use Rattle.mdview.specs.Renewed.{Fits, all_renewed, renewed}
 use Rattle.mdview.proofs.MemberChanges.{all_first, all_rest, map-changed}

@@ -1,4 +1,4 @@
-use Rattle.std.proofs.Common.{◌≡◌, ◌+◌, ◌-◌, ◌++◌, map, take, drop, length, ap, ◌∙◌, sym, length-drop, arith, string_bytes, refl}
+use Rattle.std.proofs.Common.{◌≡◌, ◌+◌, ◌-◌, ◌++◌, map, take, drop, length, ap, ◌∙◌, length-drop, arith, string_bytes, refl}
 use Rattle.std.specs.List.{take-map, drop-map}
 use Rattle.std.proofs.lemmas.List.{take_all}
 use Rattle.mdview.proofs.new_text.NewText.new.Goals as goal

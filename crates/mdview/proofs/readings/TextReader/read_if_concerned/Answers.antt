@@ -1,8 +1,8 @@
-use Rattle.std.proofs.Common.{arith, map, sym, ap}
+use Rattle.std.proofs.Common.{map}
 use Rattle.mdview.specs.HeldUnit.{found_in}
 use Rattle.mdview.specs.Renewed.{Fits, IsWritten}
 use Rattle.mdview.proofs.MemberChanges.{all_more}
-use Rattle.mdview.proofs.Texts.{fits_at, texts_next, written_at}
+use Rattle.mdview.proofs.Texts.{fits_at, written_at}
 use Rattle.mdview.proofs.readings.TextReader.read_if_concerned.Goals as goal
 
 pub returns-clause-fits : goal.returns-clause-fits

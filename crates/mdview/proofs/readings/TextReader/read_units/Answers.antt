@@ -1,4 +1,4 @@
-use Rattle.std.proofs.Common.{arith, ◌∙◌, sym}
+use Rattle.std.proofs.Common.{arith, ◌∙◌}
 use Rattle.mdview.specs.HeldUnit.{IsRendered}
 use Rattle.mdview.proofs.MemberChanges.{all_more}
 use Rattle.mdview.proofs.Texts.{texts_more}
