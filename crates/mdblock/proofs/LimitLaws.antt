@@ -1,23 +1,23 @@
 -- Lines with no container too many need no more depth than the limit.
-use Rattle.std.proofs.Common.{◌≡◌, ℕ, zero, suc, ◌+◌, ◌≤◌, Bool, true, false, not, List, [], ◌∷◌, ◌++◌, length, Option, Some, None, refl, sym, ◌∙◌, ap, subst, append_assoc, arith}
+use Rattle.std.proofs.Common.{◌≡◌, ℕ, zero, suc, ◌+◌, ◌≤◌, Bool, true, false, not, List, [], ◌∷◌, ◌++◌, length, map, Option, Some, None, refl, sym, ◌∙◌, ap, subst, append_assoc, arith}
 use Rattle.std.proofs.lemmas.List.{append-nil, length-append}
 use Rattle.std.specs.Option.{option_or}
 use Rattle.std.specs.Prelude.{if◌then◌else◌}
 use Rattle.mdtext.specs.EntityTable.{EntityTable}
-use Rattle.mdblock.specs.BlockLine.{BlockLine, is_blank_line}
+use Rattle.mdblock.specs.BlockLine.{BlockLine, document_line, is_blank_line}
 use Rattle.mdblock.specs.BlockStart.{Container, Kind, Holds, begun}
-use Rattle.mdblock.specs.BlockUnits.{visible_in, depth_of, groups_within}
+use Rattle.mdblock.specs.BlockUnits.{visible_in, depth_of, groups_within, found_units, units}
 use Rattle.mdblock.specs.ContainerLines.{opened, inside, inner}
-use Rattle.mdblock.specs.LineSummary.{Summary, summary, Last, nothing_yet, ended_block, open_leaf, open_container, no_summary, summary_tip, last_groups, new_last, summary_gap, begin_after, leaf_after, container_after, last_after, line_added, last_at, last_of, summary_within, summary_of, is_apart_after}
+use Rattle.mdblock.specs.LineSummary.{Summary, summary, Last, nothing_yet, ended_block, open_leaf, open_container, no_summary, summary_tip, closed, last_groups, new_last, summary_gap, begin_after, leaf_after, container_after, last_after, line_added, last_at, last_of, summary_within, summary_of, is_apart_after}
 use Rattle.mdblock.specs.ListGroups.{Group, merged}
-use Rattle.mdblock.specs.Nesting.{deep_at, first_deep, deep_within}
+use Rattle.mdblock.specs.Nesting.{deep_at, first_deep, deep_within, first_too_deep}
 use Rattle.mdblock.specs.OpenLeaf.{OpenLeaf, Turn, Continues, Closes, Parts, turn_at, is_parted}
 use Rattle.mdblock.specs.Stretches.{Stretch, goes_on, is_single, Tail, Empty, Going, Over, Cut, all_of, cut_from, cut_by, tip_within}
 use Rattle.mdblock.specs.SummaryDepth.{sinks_first, sinks_later, sinks_at, sinks_by, sinks, lines_added, refused_line}
 use Rattle.mdblock.proofs.LeafSteps.{Sort, is_container, is_leaf, sort_of}
 use Rattle.mdblock.proofs.NestingLaws.{moved_on, stretch_deep, push-deep, deep_in, deep_to, deep-agrees, deep-stays}
 use Rattle.mdblock.proofs.SummaryLaws.{leaf-last, new-leaf}
-use Rattle.mdblock.proofs.ReaderLaws.{summary-none, summary-added, summary-sinks}
+use Rattle.mdblock.proofs.ReaderLaws.{summary-none, summary-closed, summary-added, summary-sinks}
 
 -- ---- no more containers are open
 
@@ -239,3 +239,10 @@ refused-from e limit ls (l ∷ more) w = go (sinks limit (summary_of e ls) l) re
 -- It refuses exactly the first line with a container too many.
 pub refused-first : (e : EntityTable) (limit : ℕ) (ls : List BlockLine) → refused_line e limit no_summary 0 ls ≡ deep_within limit ls
 refused-first e limit ls = ap (λ z. refused_line e limit z 0 ls) (sym (summary-none e)) ∙ refused-from e limit [] ls (none-deep limit)
+
+-- and the units of a document so far are what it holds.
+pub units-limited : (e : EntityTable) (limit : ℕ) (lines : List (List ℕ)) → first_too_deep limit lines ≡ None →
+    units e lines ≡ found_units (closed e (lines_added e limit no_summary (map document_line lines))) (length lines)
+units-limited e limit lines w =
+    let ls = map document_line lines in
+    ap (λ z. found_units z (length lines)) (summary-closed e ls ∙ ap (closed e) (sym (lines-limited e limit ls w)))
