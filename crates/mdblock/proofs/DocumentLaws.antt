@@ -9,11 +9,10 @@ use Rattle.mdleaf.specs.LinkDefinition.{LinkDefinition}
 use Rattle.mdblock.specs.BlockLine.{BlockLine, document_line}
 use Rattle.mdblock.specs.BlockUnits.{visible_in, groups, found_units, units, definitions_of}
 use Rattle.mdblock.specs.FirstDefinitions.{first_definition}
-use Rattle.mdblock.specs.UnitBegin.{begins_unit, units_of}
+use Rattle.mdblock.specs.UnitBegin.{begins_unit, units_of, shift_found}
 use Rattle.mdblock.specs.UnitTree.{FoundUnit}
 use Rattle.mdblock.proofs.VisibleLaws.{visible-append}
 use Rattle.mdblock.proofs.DepthLaws.{groups-deep, begins-deep}
-use Rattle.mdblock.proofs.GroupLaws.{shift_found}
 use Rattle.mdblock.proofs.UnitLaws.{units_within, units-split}
 
 units-deep : (e : EntityTable) (d : ℕ) (ls : List BlockLine) → visible_in ls < d → units_within e d ls ≡ units_of e ls
@@ -39,7 +38,7 @@ map-length : {A B : Type 0} (f : A → B) (xs : List A) → length (map f xs) �
 map-length f [] = refl
 map-length f (x ∷ xs) = ap (λ z. suc z) (map-length f xs)
 
-document-units : (e : EntityTable) (lines : List (List ℕ)) → units e lines ≡ units_of e (map document_line lines)
+pub document-units : (e : EntityTable) (lines : List (List ℕ)) → units e lines ≡ units_of e (map document_line lines)
 document-units e lines = ap (λ z. found_units (groups e (map document_line lines)) z) (sym (map-length document_line lines))
 
 pub document-meets : (e : EntityTable) (front : List (List ℕ)) (line : List ℕ) (later : List (List ℕ)) →

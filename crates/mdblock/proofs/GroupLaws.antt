@@ -4,6 +4,7 @@ use Rattle.mdblock.specs.BlockTree.{ListKind}
 use Rattle.mdblock.specs.ListGroups.{Part, Leaves, Quoted, Listed, Group, is_same_list, items_before, joined_where, joined_list, joined, grouped, part_before}
 use Rattle.mdblock.specs.NodeTree.{no_nodes, ItemNodes, unit_of}
 use Rattle.mdblock.specs.BlockUnits.{next_begin, found_units}
+use Rattle.mdblock.specs.UnitBegin.{shift_found}
 use Rattle.mdblock.specs.UnitTree.{FoundUnit}
 
 -- two neighbours are items of one list
@@ -206,10 +207,6 @@ grouped-shift gap k (g ∷ gs) =
     ∙ joined-shift gap k g g.part (grouped gs)
 
 -- ---- units
-
--- a unit so many lines further on
-abbrev pub shift_found : ℕ → FoundUnit → FoundUnit
-shift_found k f = record { begin = f.begin + k; lines = f.lines; unit = f.unit }
 
 -- the unit of a group
 abbrev found_of : ℕ → Part → (next : ℕ) → FoundUnit

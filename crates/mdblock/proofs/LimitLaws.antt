@@ -40,18 +40,18 @@ unfolding Fits
 none-fits zero = tt
 none-fits (suc limit) = tt
 
-or-first : (a b : Option ℕ) → option_or a b ≡ None → a ≡ None
+pub or-first : (a b : Option ℕ) → option_or a b ≡ None → a ≡ None
 or-first None b e = refl
 or-first (Some n) b e = absurd (let x : ⊥ = cc in x)
 
-or-second : (a b : Option ℕ) → option_or a b ≡ None → b ≡ None
+pub or-second : (a b : Option ℕ) → option_or a b ≡ None → b ≡ None
 or-second None b e = e
 or-second (Some n) b e = absurd (let x : ⊥ = cc in x)
 
 abbrev of_kind : ℕ → Bool → Kind → BlockLine → List BlockLine → Stretch
 of_kind b g k f r = record { begin = b; gap = g; kind = k; first = f; later = r }
 
-moved-none : (n : ℕ) (o : Option ℕ) → moved_on n o ≡ None → o ≡ None
+pub moved-none : (n : ℕ) (o : Option ℕ) → moved_on n o ≡ None → o ≡ None
 moved-none n None e = refl
 moved-none n (Some m) e = absurd (let x : ⊥ = cc in x)
 
@@ -165,7 +165,7 @@ limit-suffices e (suc limit) (suc k) s l h f w =
     } in
     added-shallow e (suc limit) (suc k) inner s l f w
 
-if-none : (b : Bool) (n : ℕ) → (if b then Some n else None) ≡ None → b ≡ false
+pub if-none : (b : Bool) (n : ℕ) → (if b then Some n else None) ≡ None → b ≡ false
 if-none true n e = absurd (let x : ⊥ = cc in x)
 if-none false n e = refl
 
@@ -184,17 +184,17 @@ summary-limited e limit ls l w =
 -- ---- all lines
 
 -- lines before which there is no container too many
-front-none : (limit : ℕ) (ls more : List BlockLine) → deep_within limit (ls ++ more) ≡ None → deep_within limit ls ≡ None
+pub front-none : (limit : ℕ) (ls more : List BlockLine) → deep_within limit (ls ++ more) ≡ None → deep_within limit ls ≡ None
 front-none limit ls more w = go (deep_within limit ls) refl
   where
     go : (o : Option ℕ) → deep_within limit ls ≡ o → o ≡ None
     go None e = refl
     go (Some n) e = absurd (let f = deep-stays limit ls more n e in let x : ⊥ = cc in x)
 
-next-line : (ls : List BlockLine) (l : BlockLine) (more : List BlockLine) → (ls ++ l ∷ []) ++ more ≡ ls ++ l ∷ more
+pub next-line : (ls : List BlockLine) (l : BlockLine) (more : List BlockLine) → (ls ++ l ∷ []) ++ more ≡ ls ++ l ∷ more
 next-line ls l more = append_assoc ls (l ∷ []) more
 
-one-longer : (ls : List BlockLine) (l : BlockLine) → length (ls ++ l ∷ []) ≡ suc (length ls)
+pub one-longer : (ls : List BlockLine) (l : BlockLine) → length (ls ++ l ∷ []) ≡ suc (length ls)
 one-longer ls l = let p = length-append ls (l ∷ []) in omega (arith, p)
 
 lines-from : (e : EntityTable) (limit : ℕ) (ls more : List BlockLine) → deep_within limit (ls ++ more) ≡ None → lines_added e limit (summary_of e ls) more ≡ summary_of e (ls ++ more)
@@ -210,7 +210,7 @@ lines-from e limit ls (l ∷ more) w =
 pub lines-limited : (e : EntityTable) (limit : ℕ) (ls : List BlockLine) → deep_within limit ls ≡ None → lines_added e limit no_summary ls ≡ summary_of e ls
 lines-limited e limit ls w = ap (λ z. lines_added e limit z ls) (sym (summary-none e)) ∙ lines-from e limit [] ls w
 
-none-deep : (limit : ℕ) → deep_within limit [] ≡ None
+pub none-deep : (limit : ℕ) → deep_within limit [] ≡ None
 unfolding deep_within first_deep cut_from all_of
 none-deep zero = refl
 none-deep (suc limit) = refl

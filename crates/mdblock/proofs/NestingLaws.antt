@@ -28,14 +28,14 @@ or-none : (o : Option ℕ) → option_or o None ≡ o
 or-none None = refl
 or-none (Some n) = refl
 
-or-assoc : (a b c : Option ℕ) → option_or (option_or a b) c ≡ option_or a (option_or b c)
+pub or-assoc : (a b c : Option ℕ) → option_or (option_or a b) c ≡ option_or a (option_or b c)
 or-assoc None b c = refl
 or-assoc (Some n) b c = refl
 
 abbrev pub moved_on : ℕ → Option ℕ → Option ℕ
 moved_on n o = option_map (λ line. n + line) o
 
-or-moved : (n : ℕ) (a b : Option ℕ) → moved_on n (option_or a b) ≡ option_or (moved_on n a) (moved_on n b)
+pub or-moved : (n : ℕ) (a b : Option ℕ) → moved_on n (option_or a b) ≡ option_or (moved_on n a) (moved_on n b)
 or-moved n None b = refl
 or-moved n (Some m) b = refl
 
