@@ -4,5 +4,6 @@ mod LeafRows
 mod ListRows
 mod NestingRows
 pub mod ReadText
+mod SummaryRows
 mod TableRows
 mod UnitRows

@@ -1,6 +1,6 @@
 -- The units of a text, with every word of their definition open, so that rows of them compute.
 use lib.Utf8.{encode}
-use Rattle.std.specs.Prelude.{ℕ, List, ◌++◌, map, Option}
+use Rattle.std.specs.Prelude.{ℕ, List, ◌++◌, length, map, Option}
 use Rattle.std.specs.Str.{chars}
 use Rattle.caseless.specs.Caseless.{default_case_fold}
 use Rattle.ucd_case.specs.CaseFolding.{full_folding}
@@ -47,9 +47,10 @@ use Rattle.mdblock.specs.LineSummary.{no_summary, summary_tip, last_tip, closed,
 use Rattle.mdblock.specs.ListGroups.{grouped, nodes_of}
 use Rattle.mdblock.specs.Nesting.{first_deep, deep_within, first_too_deep}
 use Rattle.mdblock.specs.NodeTree.{texts_in, texts_in_items, definitions_in, definitions_in_items, placed, placed_items}
+use Rattle.mdblock.specs.OpenLeaf.{open_leaves, leaf_from, turn_at}
 use Rattle.mdblock.specs.ParagraphEnd.{paragraph_end, heading_end, table_end}
 use Rattle.mdblock.specs.Stretches.{step, is_single, all_of, tip_of, begin_where, after_step, add_at, cut_from, tip_within}
-use Rattle.mdblock.specs.SummaryDepth.{sinks_first, sinks_later, sinks_at, sinks_by, sinks, refused_line}
+use Rattle.mdblock.specs.SummaryDepth.{sinks_first, sinks_later, sinks_at, sinks_by, sinks, lines_added, refused_line}
 use Rattle.mdblock.specs.TaskItem.{with_task}
 use Rattle.mdblock.specs.UnitTree.{FoundUnit}
 
@@ -83,5 +84,12 @@ deep_line limit text = first_too_deep limit (text_lines text)
 -- the same, as a reader finds it that keeps the summary of the lines so far
 unfoldable pub refused : (limit : ℕ) → List ℕ → Option ℕ
 unfolding units_read summary_tip last_tip closed last_groups ended_last new_last begin_after leaf_after container_after last_after line_added is_apart_after
-    sinks_first sinks_later sinks_at sinks_by sinks refused_line
+    open_leaves leaf_from turn_at sinks_first sinks_later sinks_at sinks_by sinks refused_line
 refused limit text = refused_line builtin_table limit no_summary 0 (map document_line (text_lines text))
+
+-- the units of a text as this reader finds them
+unfoldable pub units_kept : List ℕ → List FoundUnit
+unfolding refused lines_added
+units_kept text =
+    let lines = map document_line (text_lines text) in
+    found_units (closed builtin_table (lines_added builtin_table 64 no_summary lines)) (length lines)

@@ -1,7 +1,7 @@
 -- A unit begins only at a line that begins one behind the lines before it.
 use Rattle.std.proofs.Common.{◌≡◌, ℕ, suc, ◌+◌, ◌≤◌, ◌<◌, Bool, true, false, not, ◌&&◌, List, [], ◌∷◌, ◌++◌, length, map, Option, Some, None, refl, sym, ◌∙◌, ap, subst, append_assoc, arith}
 use Rattle.std.proofs.lemmas.List.{map-append, append-nil}
-use Rattle.std.specs.Prelude.{Contains, zero, slice_index_or}
+use Rattle.std.specs.Prelude.{Contains, zero, slice_index_or, if◌then◌else◌}
 use Rattle.mdtext.specs.EntityTable.{EntityTable}
 use Rattle.mdblock.specs.BlockLine.{BlockLine, document_line, is_blank_line}
 use Rattle.mdblock.specs.BlockStart.{Kind, begun}
@@ -11,8 +11,8 @@ use Rattle.mdblock.specs.Laziness.{Tip}
 use Rattle.mdblock.specs.ListGroups.{Part, Leaves, Quoted, Listed, Group, is_same_list, joined_where, joined_list, joined, grouped}
 use Rattle.mdblock.specs.Stretches.{Stretch, Step, Takes, Ends, Stops, step, is_single, Tail, Empty, Going, Over, Cut, no_lines, all_of, stretches, ended, gap_behind, first_of, tail_of, begin_where, grown, after_step, add_at, add, cut_from, cut_by, tip_within}
 use Rattle.mdblock.specs.LineSummary.{part_mark}
-use Rattle.mdblock.specs.Meetings.{shift_found, IsBeginning}
-use Rattle.mdblock.specs.UnitBegin.{is_stop, is_apart, list_mark, same_mark, tail_mark, begins_behind, begins_unit, units_of}
+use Rattle.mdblock.specs.Meetings.{IsBeginning}
+use Rattle.mdblock.specs.UnitBegin.{is_stop, is_apart, list_mark, same_mark, tail_mark, begins_behind, begins_unit, units_of, shift_found}
 use Rattle.mdblock.specs.UnitTree.{FoundUnit}
 use Rattle.mdblock.proofs.CutLaws.{cut_from-append, apart-begins}
 use Rattle.mdblock.proofs.VisibleLaws.{visible-append}
@@ -348,7 +348,7 @@ behind-first : (xs ys : List ℕ) (n : ℕ) → Contains (xs ++ n ∷ ys) n
 behind-first [] ys n = (0, omega arith, refl)
 behind-first (x ∷ xs) ys n = let w = behind-first xs ys n in (suc w.0, omega (arith, w.1), w.2)
 
-abbrev begins_in : List FoundUnit → List ℕ
+abbrev pub begins_in : List FoundUnit → List ℕ
 begins_in us = map (λ f. f.begin) us
 
 record BeginsAt (n : ℕ) (ns : List ℕ) : Type 0 where
@@ -411,6 +411,64 @@ begins-there e xs l ys b =
 pub beginning-stays : (e : EntityTable) (xs : List BlockLine) (l : BlockLine) (ys zs : List BlockLine) →
     Contains (begins_in (units_of e (xs ++ l ∷ ys))) (length xs) → Contains (begins_in (units_of e (xs ++ l ∷ zs))) (length xs)
 beginning-stays e xs l ys zs w = begins-there e xs l zs (begins-only e xs l ys w)
+
+-- ---- line by line
+
+with_begin : Bool → ℕ → List ℕ → List ℕ
+with_begin true n ns = ns ++ n ∷ []
+with_begin false n ns = ns
+
+begin-if : (b : Bool) (n : ℕ) (ns : List ℕ) → with_begin b n ns ≡ (if b then ns ++ n ∷ [] else ns)
+unfolding with_begin
+begin-if true n ns = refl
+begin-if false n ns = refl
+
+push-starts : (o : List Mark) (n : ℕ) (m : Option ListKind) (same : Bool) → same_mark (last_mark None o) m ≡ same →
+    starts None (o ++ (n, m) ∷ []) ≡ with_begin (not same) n (starts None o)
+unfolding starts with_begin
+push-starts o n m true e = starts-append None o ((n, m) ∷ []) ∙ ap (λ z. starts None o ++ unless z n []) e ∙ append-nil (starts None o)
+push-starts o n m false e = starts-append None o ((n, m) ∷ []) ∙ ap (λ z. starts None o ++ unless z n []) e
+
+line-starts : (T : List BlockLine → Tip) (c : Cut) (l : BlockLine) (apart blank same : Bool) →
+    is_apart T c.tail l ≡ apart → is_blank_line l ≡ blank → same_mark (tail_mark c.tail) (list_mark (begun l)) ≡ same → IsWhole c.before c.tail →
+    starts None (outline (stretches (add T c l))) ≡ with_begin (apart && not blank && not same) c.lines (starts None (outline (stretches c)))
+unfolding begin_where with_begin
+line-starts T c l false blank same a b s w = ap (starts None) (stays T c.before c.tail c.blank c.lines l a)
+line-starts T c l true true same a b s w =
+    ap (λ (z : Cut). starts None (outline (stretches z))) (apart-begins T c l c.tail a ∙ ap (λ z. begin_where z T c l) b)
+    ∙ ap (starts None) (ended-outline c.before c.tail)
+line-starts T c l true false same a b s w =
+    let m = list_mark (begun l) in
+    let last : same_mark (last_mark None (outline (stretches c))) m ≡ same = ap (λ z. same_mark z m) (last-is c.before c.tail w) ∙ s in
+    ap (λ (z : Cut). starts None (outline (stretches z))) (apart-begins T c l c.tail a ∙ ap (λ z. begin_where z T c l) b)
+    ∙ ap (starts None) (tail-outline (stretches c) (is_single (begun l) l) (first_of c.lines (gap_behind T c) l))
+    ∙ push-starts (outline (stretches c)) c.lines m same last
+
+begins-at : (e : EntityTable) (d : ℕ) (xs : List BlockLine) → visible_in xs ≤ d → begins_in (units_of e xs) ≡ starts None (outline (stretches (cut_by (tip_within d) xs)))
+unfolding groups_within
+begins-at e d xs h =
+    found-begins (groups e xs) (length xs)
+    ∙ ap begins_of (sym (groups-deep e (suc d) xs (omega (arith, h))))
+    ∙ groups-begin e (groups_within e d) (stretches (cut_by (tip_within d) xs))
+
+-- With one line more a unit more begins, and begins there, exactly if the line begins one behind those before it.
+pub begins-next : (e : EntityTable) (xs : List BlockLine) (l : BlockLine) →
+    begins_in (units_of e (xs ++ l ∷ [])) ≡ (if begins_unit xs l then begins_in (units_of e xs) ++ length xs ∷ [] else begins_in (units_of e xs))
+unfolding begins_behind cut_from with_begin
+begins-next e xs l =
+    let all = xs ++ l ∷ [] in
+    let d = suc (visible_in all) in
+    let T = tip_within d in
+    let c : Cut = cut_by T xs in
+    let v = visible-append xs (l ∷ []) in
+    let n : c.lines ≡ length xs = cut-lines T no_lines xs ∙ (let z : 0 + length xs ≡ length xs = omega arith in z) in
+    begins-at e d all (omega arith)
+    ∙ ap (λ (z : Cut). starts None (outline (stretches z))) (cut_from-append T no_lines xs (l ∷ []))
+    ∙ line-starts T c l (is_apart T c.tail l) (is_blank_line l) (same_mark (tail_mark c.tail) (list_mark (begun l))) refl refl refl (cut-whole T no_lines xs refl)
+    ∙ ap (λ z. with_begin z c.lines (starts None (outline (stretches c)))) (begins-deep d xs l (omega (arith, v)))
+    ∙ ap (λ z. with_begin (begins_unit xs l) z (starts None (outline (stretches c)))) n
+    ∙ ap (λ z. with_begin (begins_unit xs l) (length xs) z) (sym (begins-at e d xs (omega (arith, v))))
+    ∙ begin-if (begins_unit xs l) (length xs) (begins_in (units_of e xs))
 
 -- the same of a document
 document-begins : (e : EntityTable) (front : List (List ℕ)) (line : List ℕ) (later : List (List ℕ)) →

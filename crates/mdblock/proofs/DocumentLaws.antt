@@ -9,8 +9,8 @@ use Rattle.mdleaf.specs.LinkDefinition.{LinkDefinition}
 use Rattle.mdblock.specs.BlockLine.{BlockLine, document_line}
 use Rattle.mdblock.specs.BlockUnits.{visible_in, groups, found_units, units, definitions_of}
 use Rattle.mdblock.specs.FirstDefinitions.{first_definition}
-use Rattle.mdblock.specs.Meetings.{shift_found, IsBeginning}
-use Rattle.mdblock.specs.UnitBegin.{begins_unit, units_of}
+use Rattle.mdblock.specs.Meetings.{IsBeginning}
+use Rattle.mdblock.specs.UnitBegin.{begins_unit, units_of, shift_found}
 use Rattle.mdblock.specs.UnitTree.{FoundUnit}
 use Rattle.mdblock.proofs.VisibleLaws.{visible-append}
 use Rattle.mdblock.proofs.DepthLaws.{groups-deep, begins-deep}

@@ -4,7 +4,8 @@ use Rattle.mdblock.specs.BlockTree.{ListKind}
 use Rattle.mdblock.specs.ListGroups.{Part, Leaves, Quoted, Listed, Group, is_same_list, items_before, joined_where, joined_list, joined, grouped, part_before}
 use Rattle.mdblock.specs.NodeTree.{no_nodes, ItemNodes, unit_of}
 use Rattle.mdblock.specs.BlockUnits.{next_begin, found_units}
-use Rattle.mdblock.specs.Meetings.{shift_group, shift_group_first, shift_groups, shift_found}
+use Rattle.mdblock.specs.Meetings.{shift_group, shift_group_first, shift_groups}
+use Rattle.mdblock.specs.UnitBegin.{shift_found}
 use Rattle.mdblock.specs.UnitTree.{FoundUnit}
 
 -- two neighbours are items of one list

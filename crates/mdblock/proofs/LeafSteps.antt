@@ -1,12 +1,9 @@
 -- What is known of the leaves of a cut, line by line.
 use Rattle.std.proofs.Common.{◌≡◌, ℕ, ◌≤◌, Bool, true, false, List, [], ◌∷◌, ◌++◌, length, Option, Some, None, refl, arith, nat_lt}
 use Rattle.std.proofs.lemmas.List.{length-append}
-use Rattle.mdtext.specs.EntityTable.{EntityTable}
 use Rattle.mdblock.specs.BlockLine.{BlockLine, is_blank_line}
-use Rattle.mdblock.specs.BlockStart.{Free, Inside, Kind, Paragraph, SetextHeading, Table, AtxHeading, ThematicBreak, FencedCode, IndentedCode, HtmlBlock, Holds, start, begun}
-use Rattle.mdblock.specs.BlockUnits.{part_at}
+use Rattle.mdblock.specs.BlockStart.{Free, Inside, Container, Kind, Paragraph, SetextHeading, Table, AtxHeading, ThematicBreak, FencedCode, IndentedCode, HtmlBlock, Holds, start, begun}
 use Rattle.mdblock.specs.Laziness.{Tip}
-use Rattle.mdblock.specs.ListGroups.{Group}
 use Rattle.mdblock.specs.ContainerLines.{inner, is_bare}
 use Rattle.mdblock.specs.Stretches.{Stretch, Step, Takes, Ends, Stops, takes_if, goes_on, closes, ends_html, is_row, is_code, fence_step, html_step, interrupted, paragraph_step, step, is_single, Tail, Empty, Going, Over, Cut, ended, gap_behind, first_of, tail_of, begin_where, after_step, add_at, add, cut_from}
 use Rattle.mdblock.proofs.StartKinds.{Kinds, IfBegun, start-kinds, begun-kinds}
@@ -23,6 +20,22 @@ IsLeaf ThematicBreak = Unit {0}
 IsLeaf (FencedCode i m n info c) = Unit {0}
 IsLeaf IndentedCode = Unit {0}
 IsLeaf (HtmlBlock kind) = Unit {0}
+
+-- a kind is a container or a leaf
+pub data Sort : Kind → Type 0 where
+  is_container : {c : Container} → Sort (Holds c)
+  is_leaf : {k : Kind} → IsLeaf k → Sort k
+
+pub sort_of : (k : Kind) → Sort k
+sort_of (Holds c) = is_container
+sort_of Paragraph = is_leaf tt
+sort_of (SetextHeading level) = is_leaf tt
+sort_of (Table above) = is_leaf tt
+sort_of (AtxHeading level content) = is_leaf tt
+sort_of ThematicBreak = is_leaf tt
+sort_of (FencedCode i m n info c) = is_leaf tt
+sort_of IndentedCode = is_leaf tt
+sort_of (HtmlBlock kind) = is_leaf tt
 
 abbrev pub LeafStep : Step → Type 0
 LeafStep (Takes kind) = IsLeaf kind
@@ -70,17 +83,6 @@ step-leaf T IndentedCode f r l w = takes-leaf (is_code l) IndentedCode tt
 step-leaf T (SetextHeading level) f r l w = tt
 step-leaf T (AtxHeading level content) f r l w = tt
 step-leaf T ThematicBreak f r l w = tt
-
-pub leaf-part : (e : EntityTable) (R : List BlockLine → List Group) (k : Kind) (f : BlockLine) (r : List BlockLine) → IsLeaf k → part_at e R k f r ≡ part_at e (λ ls. []) k f r
-leaf-part e R (Holds container) f r w = absurd w
-leaf-part e R Paragraph f r w = refl
-leaf-part e R (SetextHeading level) f r w = refl
-leaf-part e R (Table above) f r w = refl
-leaf-part e R (AtxHeading level content) f r w = refl
-leaf-part e R ThematicBreak f r w = refl
-leaf-part e R (FencedCode i m n info c) f r w = refl
-leaf-part e R IndentedCode f r w = refl
-leaf-part e R (HtmlBlock kind) f r w = refl
 
 -- ---- a table has its first two rows, and fenced code that lines may go on with has no closing fence
 

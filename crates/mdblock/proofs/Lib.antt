@@ -8,11 +8,13 @@ pub mod LeafSteps
 pub mod LimitLaws
 pub mod Markers
 pub mod NestingLaws
+pub mod NestingMeets
 pub mod OpenLeafLaws
 pub mod ReaderLaws
 pub mod Skips
 pub mod StartKinds
 pub mod SummaryLaws
 pub mod UnitLaws
+pub mod UnitReaderLaws
 pub mod VisibleLaws
 pub mod Within

@@ -1,29 +1,30 @@
 -- Lines with no container too many need no more depth than the limit.
-use Rattle.std.proofs.Common.{◌≡◌, ℕ, zero, suc, ◌+◌, ◌≤◌, Bool, true, false, not, List, [], ◌∷◌, ◌++◌, length, Option, Some, None, refl, sym, ◌∙◌, ap, append_assoc, arith}
+use Rattle.std.proofs.Common.{◌≡◌, ℕ, zero, suc, ◌+◌, ◌≤◌, Bool, true, false, not, List, [], ◌∷◌, ◌++◌, length, map, Option, Some, None, refl, sym, ◌∙◌, ap, subst, append_assoc, arith}
 use Rattle.std.proofs.lemmas.List.{append-nil, length-append}
 use Rattle.std.specs.Option.{option_or}
 use Rattle.std.specs.Prelude.{if◌then◌else◌}
 use Rattle.mdtext.specs.EntityTable.{EntityTable}
-use Rattle.mdblock.specs.BlockLine.{BlockLine, is_blank_line}
-use Rattle.mdblock.specs.BlockStart.{Container, Kind, Paragraph, SetextHeading, Table, AtxHeading, ThematicBreak, FencedCode, IndentedCode, HtmlBlock, Holds, begun}
-use Rattle.mdblock.specs.BlockUnits.{visible_in, depth_of, groups_within}
+use Rattle.mdblock.specs.BlockLine.{BlockLine, document_line, is_blank_line}
+use Rattle.mdblock.specs.BlockStart.{Container, Kind, Holds, begun}
+use Rattle.mdblock.specs.BlockUnits.{visible_in, depth_of, groups_within, found_units, units}
 use Rattle.mdblock.specs.ContainerLines.{opened, inside, inner}
-use Rattle.mdblock.specs.Laziness.{Closed}
-use Rattle.mdblock.specs.LineSummary.{Summary, summary, Last, nothing_yet, ended_block, open_leaf, open_container, no_summary, summary_tip, last_groups, new_last, summary_gap, begin_after, leaf_after, container_after, last_after, line_added, last_at, last_of, summary_within, summary_of, is_apart_after}
+use Rattle.mdblock.specs.LineSummary.{Summary, summary, Last, nothing_yet, ended_block, open_leaf, open_container, no_summary, summary_tip, closed, last_groups, new_last, summary_gap, begin_after, leaf_after, container_after, last_after, line_added, last_at, last_of, summary_within, summary_of, is_apart_after}
 use Rattle.mdblock.specs.ListGroups.{Group, merged}
-use Rattle.mdblock.specs.Nesting.{deep_at, first_deep, deep_within}
-use Rattle.mdblock.specs.Stretches.{Stretch, Step, Takes, Ends, Stops, goes_on, step, is_single, Tail, Empty, Going, Over, Cut, all_of, first_of, cut_from, cut_by, tip_within}
+use Rattle.mdblock.specs.Nesting.{deep_at, first_deep, deep_within, first_too_deep}
+use Rattle.mdblock.specs.OpenLeaf.{OpenLeaf, Turn, Continues, Closes, Parts, turn_at, is_parted}
+use Rattle.mdblock.specs.Stretches.{Stretch, goes_on, is_single, Tail, Empty, Going, Over, Cut, all_of, cut_from, cut_by, tip_within}
 use Rattle.mdblock.specs.SummaryDepth.{sinks_first, sinks_later, sinks_at, sinks_by, sinks, lines_added, refused_line}
-use Rattle.mdblock.specs.UnitBegin.{is_stop}
+use Rattle.mdblock.proofs.LeafSteps.{Sort, is_container, is_leaf, sort_of}
 use Rattle.mdblock.proofs.NestingLaws.{moved_on, stretch_deep, push-deep, deep_in, deep_to, deep-agrees, deep-stays}
-use Rattle.mdblock.proofs.ReaderLaws.{summary-none, summary-added, summary-sinks}
+use Rattle.mdblock.proofs.SummaryLaws.{leaf-last, new-leaf}
+use Rattle.mdblock.proofs.ReaderLaws.{summary-none, summary-closed, summary-added, summary-sinks}
 
 -- ---- no more containers are open
 
 abbrev LastFits : (Summary → Type 0) → Last → Type 0
 LastFits Held nothing_yet = Unit {0}
 LastFits Held (ended_block g) = Unit {0}
-LastFits Held (open_leaf s) = Unit {0}
+LastFits Held (open_leaf begin gap leaf) = Unit {0}
 LastFits Held (open_container begin gap bare container inner) = Held inner
 
 abbrev FitsBy : (Summary → Type 0) → Summary → Type 0
@@ -39,15 +40,18 @@ unfolding Fits
 none-fits zero = tt
 none-fits (suc limit) = tt
 
-or-first : (a b : Option ℕ) → option_or a b ≡ None → a ≡ None
+pub or-first : (a b : Option ℕ) → option_or a b ≡ None → a ≡ None
 or-first None b e = refl
 or-first (Some n) b e = absurd (let x : ⊥ = cc in x)
 
-or-second : (a b : Option ℕ) → option_or a b ≡ None → b ≡ None
+pub or-second : (a b : Option ℕ) → option_or a b ≡ None → b ≡ None
 or-second None b e = e
 or-second (Some n) b e = absurd (let x : ⊥ = cc in x)
 
-moved-none : (n : ℕ) (o : Option ℕ) → moved_on n o ≡ None → o ≡ None
+abbrev of_kind : ℕ → Bool → Kind → BlockLine → List BlockLine → Stretch
+of_kind b g k f r = record { begin = b; gap = g; kind = k; first = f; later = r }
+
+pub moved-none : (n : ℕ) (o : Option ℕ) → moved_on n o ≡ None → o ≡ None
 moved-none n None e = refl
 moved-none n (Some m) e = absurd (let x : ⊥ = cc in x)
 
@@ -55,18 +59,11 @@ moved-none n (Some m) e = absurd (let x : ⊥ = cc in x)
 record Fitting (D : List BlockLine → Option ℕ) (S : List BlockLine → Summary) (Held : Summary → Type 0) : Type 0 where
   fits : (ls : List BlockLine) → D ls ≡ None → Held (S ls)
 
-at-fits : {D : List BlockLine → Option ℕ} {S : List BlockLine → Summary} {Held : Summary → Type 0} (h : Fitting D S Held) (k : Kind) (s : Stretch) →
-    deep_at D k s.first s.later ≡ None → LastFits Held (last_at S k s)
+at-fits : {D : List BlockLine → Option ℕ} {S : List BlockLine → Summary} {Held : Summary → Type 0} (h : Fitting D S Held) (n : ℕ) (g : Bool) (k : Kind) (f : BlockLine) (r : List BlockLine) → Sort k →
+    deep_at D k f r ≡ None → LastFits Held (last_at S k (of_kind n g k f r))
 unfolding last_at
-at-fits h (Holds c) s e = h.fits (inner c s.first s.later) e
-at-fits h Paragraph s e = tt
-at-fits h (SetextHeading level) s e = tt
-at-fits h (Table above) s e = tt
-at-fits h (AtxHeading level content) s e = tt
-at-fits h ThematicBreak s e = tt
-at-fits h (FencedCode i m n info c) s e = tt
-at-fits h IndentedCode s e = tt
-at-fits h (HtmlBlock kind) s e = tt
+at-fits h n g (Holds c) f r is_container e = h.fits (inner c f r) e
+at-fits {S = S} {Held = Held} h n g k f r (is_leaf w) e = subst (λ z. LastFits Held z) (sym (leaf-last S k (of_kind n g k f r) w)) tt
 
 of-fits : {D : List BlockLine → Option ℕ} {Held : Summary → Type 0} (e : EntityTable) (d : ℕ) (h : Fitting D (summary_within e d) Held) (before : List Stretch) (t : Tail) →
     first_deep D (all_of before t) ≡ None → LastFits Held (last_of e (groups_within e d) (summary_within e d) t)
@@ -74,7 +71,7 @@ unfolding all_of last_of
 of-fits e d h before Empty w = tt
 of-fits e d h before (Over s) w = tt
 of-fits {D = D} e d h before (Going s) w =
-    at-fits h s.kind s (moved-none s.begin (deep_at D s.kind s.first s.later) (or-second (first_deep D before) (stretch_deep D s) (sym (push-deep D before s) ∙ w)))
+    at-fits h s.begin s.gap s.kind s.first s.later (sort_of s.kind) (moved-none s.begin (deep_at D s.kind s.first s.later) (or-second (first_deep D before) (stretch_deep D s) (sym (push-deep D before s) ∙ w)))
 
 next-fits : {D : List BlockLine → Option ℕ} {Held : Summary → Type 0} (e : EntityTable) (d : ℕ) → Fitting D (summary_within e d) Held →
     Fitting (deep_in D d) (summary_within e (suc d)) (FitsBy Held)
@@ -106,25 +103,11 @@ record Shallow (more other : Summary → BlockLine → Summary) (Held : Summary 
   firsts : (l : BlockLine) → first l ≡ false → more no_summary l ≡ other no_summary l
 
 new-shallow : {more other : Summary → BlockLine → Summary} {Held : Summary → Type 0} {later : Summary → BlockLine → Bool} {first : BlockLine → Bool} (h : Shallow more other Held later first)
-    (e : EntityTable) (single : Bool) (k : Kind) (s : Stretch) → sinks_first first k s.first ≡ false → new_last e more single k s ≡ new_last e other single k s
+    (e : EntityTable) (single : Bool) (n : ℕ) (g : Bool) (k : Kind) (f : BlockLine) (r : List BlockLine) → Sort k → sinks_first first k f ≡ false →
+    new_last e more single k (of_kind n g k f r) ≡ new_last e other single k (of_kind n g k f r)
 unfolding new_last sinks_first
-new-shallow h e b (Holds c) s w = ap (λ z. open_container s.begin s.gap (is_blank_line (opened c s.first)) c z) (h.firsts (opened c s.first) w)
-new-shallow h e true Paragraph s w = refl
-new-shallow h e true (SetextHeading level) s w = refl
-new-shallow h e true (Table above) s w = refl
-new-shallow h e true (AtxHeading level content) s w = refl
-new-shallow h e true ThematicBreak s w = refl
-new-shallow h e true (FencedCode i m n info c) s w = refl
-new-shallow h e true IndentedCode s w = refl
-new-shallow h e true (HtmlBlock kind) s w = refl
-new-shallow h e false Paragraph s w = refl
-new-shallow h e false (SetextHeading level) s w = refl
-new-shallow h e false (Table above) s w = refl
-new-shallow h e false (AtxHeading level content) s w = refl
-new-shallow h e false ThematicBreak s w = refl
-new-shallow h e false (FencedCode i m n info c) s w = refl
-new-shallow h e false IndentedCode s w = refl
-new-shallow h e false (HtmlBlock kind) s w = refl
+new-shallow h e b n g (Holds c) f r is_container w = ap (λ z. open_container n g (is_blank_line (opened c f)) c z) (h.firsts (opened c f) w)
+new-shallow {more = more} {other = other} h e b n g k f r (is_leaf u) w = new-leaf e more b k (of_kind n g k f r) u ∙ sym (new-leaf e other b k (of_kind n g k f r) u)
 
 begin-shallow : {more other : Summary → BlockLine → Summary} {Held : Summary → Type 0} {later : Summary → BlockLine → Bool} {first : BlockLine → Bool} (h : Shallow more other Held later first)
     (e : EntityTable) (blank : Bool) (before : List Group) (last : Last) (b : Bool) (m : ℕ) (l : BlockLine) → sinks_first first (begun l) l ≡ false →
@@ -132,15 +115,15 @@ begin-shallow : {more other : Summary → BlockLine → Summary} {Held : Summary
 unfolding begin_after
 begin-shallow h e true before last b m l w = refl
 begin-shallow h e false before last b m l w =
-    ap (λ z. summary (merged before (last_groups e last)) z false (suc m)) (new-shallow h e (is_single (begun l) l) (begun l) (first_of m (summary_gap last b) l) w)
+    ap (λ z. summary (merged before (last_groups e last)) z false (suc m)) (new-shallow h e (is_single (begun l) l) m (summary_gap last b) (begun l) l [] (sort_of (begun l)) w)
 
 leaf-shallow : {more other : Summary → BlockLine → Summary} {Held : Summary → Type 0} {later : Summary → BlockLine → Bool} {first : BlockLine → Bool} (h : Shallow more other Held later first)
-    (e : EntityTable) (before : List Group) (s : Stretch) (b : Bool) (m : ℕ) (l : BlockLine) (st : Step) → sinks_at later first (is_stop st) (open_leaf s) l ≡ false →
-    leaf_after e more before s b m l st ≡ leaf_after e other before s b m l st
+    (e : EntityTable) (before : List Group) (n : ℕ) (g : Bool) (leaf : OpenLeaf) (b : Bool) (m : ℕ) (l : BlockLine) (t : Turn) → sinks_at later first (is_parted t) (open_leaf n g leaf) l ≡ false →
+    leaf_after e more before n g leaf b m l t ≡ leaf_after e other before n g leaf b m l t
 unfolding leaf_after sinks_at
-leaf-shallow h e before s b m l (Takes kind) w = refl
-leaf-shallow h e before s b m l (Ends kind) w = refl
-leaf-shallow h e before s b m l Stops w = begin-shallow h e (is_blank_line l) before (open_leaf s) b m l w
+leaf-shallow h e before n g leaf b m l (Continues next) w = refl
+leaf-shallow h e before n g leaf b m l (Closes next) w = refl
+leaf-shallow h e before n g leaf b m l Parts w = begin-shallow h e (is_blank_line l) before (open_leaf n g leaf) b m l w
 
 container-shallow : {more other : Summary → BlockLine → Summary} {Held : Summary → Type 0} {later : Summary → BlockLine → Bool} {first : BlockLine → Bool} (h : Shallow more other Held later first)
     (e : EntityTable) (takes : Bool) (before : List Group) (n : ℕ) (g bare : Bool) (c : Container) (inner : Summary) (b : Bool) (m : ℕ) (l : BlockLine) →
@@ -157,7 +140,7 @@ last-shallow : {more other : Summary → BlockLine → Summary} {Held : Summary 
 unfolding last_after sinks_at is_apart_after
 last-shallow h e before nothing_yet b m l f w = begin-shallow h e (is_blank_line l) before nothing_yet b m l w
 last-shallow h e before (ended_block g) b m l f w = begin-shallow h e (is_blank_line l) before (ended_block g) b m l w
-last-shallow h e before (open_leaf s) b m l f w = leaf-shallow h e before s b m l (step (λ ls. Closed) s.kind s.first s.later l) w
+last-shallow h e before (open_leaf n g leaf) b m l f w = leaf-shallow h e before n g leaf b m l (turn_at leaf l) w
 last-shallow h e before (open_container n g bare c inner) b m l f w =
     container-shallow h e (goes_on c bare (summary_tip inner) l) before n g bare c inner b m l f w
 
@@ -182,7 +165,7 @@ limit-suffices e (suc limit) (suc k) s l h f w =
     } in
     added-shallow e (suc limit) (suc k) inner s l f w
 
-if-none : (b : Bool) (n : ℕ) → (if b then Some n else None) ≡ None → b ≡ false
+pub if-none : (b : Bool) (n : ℕ) → (if b then Some n else None) ≡ None → b ≡ false
 if-none true n e = absurd (let x : ⊥ = cc in x)
 if-none false n e = refl
 
@@ -201,17 +184,17 @@ summary-limited e limit ls l w =
 -- ---- all lines
 
 -- lines before which there is no container too many
-front-none : (limit : ℕ) (ls more : List BlockLine) → deep_within limit (ls ++ more) ≡ None → deep_within limit ls ≡ None
+pub front-none : (limit : ℕ) (ls more : List BlockLine) → deep_within limit (ls ++ more) ≡ None → deep_within limit ls ≡ None
 front-none limit ls more w = go (deep_within limit ls) refl
   where
     go : (o : Option ℕ) → deep_within limit ls ≡ o → o ≡ None
     go None e = refl
     go (Some n) e = absurd (let f = deep-stays limit ls more n e in let x : ⊥ = cc in x)
 
-next-line : (ls : List BlockLine) (l : BlockLine) (more : List BlockLine) → (ls ++ l ∷ []) ++ more ≡ ls ++ l ∷ more
+pub next-line : (ls : List BlockLine) (l : BlockLine) (more : List BlockLine) → (ls ++ l ∷ []) ++ more ≡ ls ++ l ∷ more
 next-line ls l more = append_assoc ls (l ∷ []) more
 
-one-longer : (ls : List BlockLine) (l : BlockLine) → length (ls ++ l ∷ []) ≡ suc (length ls)
+pub one-longer : (ls : List BlockLine) (l : BlockLine) → length (ls ++ l ∷ []) ≡ suc (length ls)
 one-longer ls l = let p = length-append ls (l ∷ []) in omega (arith, p)
 
 lines-from : (e : EntityTable) (limit : ℕ) (ls more : List BlockLine) → deep_within limit (ls ++ more) ≡ None → lines_added e limit (summary_of e ls) more ≡ summary_of e (ls ++ more)
@@ -227,7 +210,7 @@ lines-from e limit ls (l ∷ more) w =
 pub lines-limited : (e : EntityTable) (limit : ℕ) (ls : List BlockLine) → deep_within limit ls ≡ None → lines_added e limit no_summary ls ≡ summary_of e ls
 lines-limited e limit ls w = ap (λ z. lines_added e limit z ls) (sym (summary-none e)) ∙ lines-from e limit [] ls w
 
-none-deep : (limit : ℕ) → deep_within limit [] ≡ None
+pub none-deep : (limit : ℕ) → deep_within limit [] ≡ None
 unfolding deep_within first_deep cut_from all_of
 none-deep zero = refl
 none-deep (suc limit) = refl
@@ -256,3 +239,10 @@ refused-from e limit ls (l ∷ more) w = go (sinks limit (summary_of e ls) l) re
 -- It refuses exactly the first line with a container too many.
 pub refused-first : (e : EntityTable) (limit : ℕ) (ls : List BlockLine) → refused_line e limit no_summary 0 ls ≡ deep_within limit ls
 refused-first e limit ls = ap (λ z. refused_line e limit z 0 ls) (sym (summary-none e)) ∙ refused-from e limit [] ls (none-deep limit)
+
+-- and the units of a document so far are what it holds.
+pub units-limited : (e : EntityTable) (limit : ℕ) (lines : List (List ℕ)) → first_too_deep limit lines ≡ None →
+    units e lines ≡ found_units (closed e (lines_added e limit no_summary (map document_line lines))) (length lines)
+units-limited e limit lines w =
+    let ls = map document_line lines in
+    ap (λ z. found_units z (length lines)) (summary-closed e ls ∙ ap (closed e) (sym (lines-limited e limit ls w)))

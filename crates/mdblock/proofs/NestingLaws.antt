@@ -17,7 +17,7 @@ use Rattle.mdblock.specs.SummaryDepth.{sinks_first, sinks_later, sinks_at, sinks
 use Rattle.mdblock.specs.UnitBegin.{is_stop, is_apart}
 use Rattle.mdblock.proofs.CutLaws.{cut_from-append, apart-begins}
 use Rattle.mdblock.proofs.DepthLaws.{IsMarked, AreLight, TailLight, room-left, all-light, cut-light, cut-light-before, none-light, cut-deep}
-use Rattle.mdblock.proofs.LeafSteps.{IsLeaf, LeafStep, step-leaf}
+use Rattle.mdblock.proofs.LeafSteps.{IsLeaf, Sort, is_container, is_leaf, sort_of, LeafStep, step-leaf, cut-made}
 use Rattle.mdblock.proofs.SummaryLaws.{leaf-last, inner-push, of-apart, laws}
 use Rattle.mdblock.proofs.UnitLaws.{cut-lines}
 use Rattle.mdblock.proofs.VisibleLaws.{inner-visible, visible-append, HasWidth, begun-width}
@@ -28,14 +28,14 @@ or-none : (o : Option ℕ) → option_or o None ≡ o
 or-none None = refl
 or-none (Some n) = refl
 
-or-assoc : (a b c : Option ℕ) → option_or (option_or a b) c ≡ option_or a (option_or b c)
+pub or-assoc : (a b c : Option ℕ) → option_or (option_or a b) c ≡ option_or a (option_or b c)
 or-assoc None b c = refl
 or-assoc (Some n) b c = refl
 
 abbrev pub moved_on : ℕ → Option ℕ → Option ℕ
 moved_on n o = option_map (λ line. n + line) o
 
-or-moved : (n : ℕ) (a b : Option ℕ) → moved_on n (option_or a b) ≡ option_or (moved_on n a) (moved_on n b)
+pub or-moved : (n : ℕ) (a b : Option ℕ) → moved_on n (option_or a b) ≡ option_or (moved_on n a) (moved_on n b)
 or-moved n None b = refl
 or-moved n (Some m) b = refl
 
@@ -175,20 +175,13 @@ leaf-sinks D later S T before s b m l w e =
     ∙ ap (λ z. option_or (first_deep D (all_of before (Going s))) (line_if (sinks_later later z l) m)) (sym (leaf-last S s.kind s w))
 
 stay-sinks : {D : List BlockLine → Option ℕ} {later : Summary → BlockLine → Bool} {first : BlockLine → Bool} {S : List BlockLine → Summary} {d : ℕ} (h : Sinking D later first S d)
-    (T : List BlockLine → Tip) (before : List Stretch) (n : ℕ) (g : Bool) (k : Kind) (f : BlockLine) (r : List BlockLine) (b : Bool) (m : ℕ) (l : BlockLine) →
+    (T : List BlockLine → Tip) (before : List Stretch) (n : ℕ) (g : Bool) (k : Kind) (f : BlockLine) (r : List BlockLine) (b : Bool) (m : ℕ) (l : BlockLine) → Sort k →
     is_stop (step T k f r l) ≡ false → IsMarked k f → visible_in (f ∷ r ++ l ∷ []) ≤ d → n + suc (length r) ≡ m →
     first_deep D (stretches (after_step T (cut_of before (Going (of_kind n g k f r)) b m) (of_kind n g k f r) l (step T k f r l)))
     ≡ option_or (first_deep D (all_of before (Going (of_kind n g k f r)))) (line_if (sinks_later later (last_at S k (of_kind n g k f r)) l) m)
 unfolding sinks_later last_at step
-stay-sinks h T before n g (Holds c) f r b m l e w v q = container-stays h T before n g c f r b m l (goes_on c (is_bare c f r) (T (inner c f r)) l) e w v q
-stay-sinks {D = D} {later = later} {S = S} h T before n g Paragraph f r b m l e w v q = leaf-sinks D later S T before (of_kind n g Paragraph f r) b m l tt e
-stay-sinks {D = D} {later = later} {S = S} h T before n g (SetextHeading level) f r b m l e w v q = leaf-sinks D later S T before (of_kind n g (SetextHeading level) f r) b m l tt e
-stay-sinks {D = D} {later = later} {S = S} h T before n g (Table above) f r b m l e w v q = leaf-sinks D later S T before (of_kind n g (Table above) f r) b m l tt e
-stay-sinks {D = D} {later = later} {S = S} h T before n g (AtxHeading level content) f r b m l e w v q = leaf-sinks D later S T before (of_kind n g (AtxHeading level content) f r) b m l tt e
-stay-sinks {D = D} {later = later} {S = S} h T before n g ThematicBreak f r b m l e w v q = leaf-sinks D later S T before (of_kind n g ThematicBreak f r) b m l tt e
-stay-sinks {D = D} {later = later} {S = S} h T before n g (FencedCode i x y info c) f r b m l e w v q = leaf-sinks D later S T before (of_kind n g (FencedCode i x y info c) f r) b m l tt e
-stay-sinks {D = D} {later = later} {S = S} h T before n g IndentedCode f r b m l e w v q = leaf-sinks D later S T before (of_kind n g IndentedCode f r) b m l tt e
-stay-sinks {D = D} {later = later} {S = S} h T before n g (HtmlBlock kind) f r b m l e w v q = leaf-sinks D later S T before (of_kind n g (HtmlBlock kind) f r) b m l tt e
+stay-sinks h T before n g (Holds c) f r b m l is_container e w v q = container-stays h T before n g c f r b m l (goes_on c (is_bare c f r) (T (inner c f r)) l) e w v q
+stay-sinks {D = D} {later = later} {S = S} h T before n g k f r b m l (is_leaf u) e w v q = leaf-sinks D later S T before (of_kind n g k f r) b m l u e
 
 -- ---- a block that lines may go on with reaches to the last line
 
@@ -244,7 +237,7 @@ going-sinks e d h before (Over s) b m l a w q = absurd (let x : ⊥ = cc in x)
 going-sinks e d h before (Going s) b m l a w q =
     let v = visible-append (s.first ∷ s.later) (l ∷ []) in
     let o = one-visible l in
-    stay-sinks h (tip_within d) before s.begin s.gap s.kind s.first s.later b m l a w.0 (omega (arith, v, o, w.1)) q
+    stay-sinks h (tip_within d) before s.begin s.gap s.kind s.first s.later b m l (sort_of s.kind) a w.0 (omega (arith, v, o, w.1)) q
 
 add-sinks : {D : List BlockLine → Option ℕ} {later : Summary → BlockLine → Bool} {first : BlockLine → Bool} (e : EntityTable) (d : ℕ) (h : Sinking D later first (summary_within e d) d)
     (before : List Stretch) (t : Tail) (b : Bool) (m : ℕ) (l : BlockLine) (apart : Bool) → is_apart (tip_within d) t l ≡ apart → TailLight d t (visible l.line.text) → Reaches t m →
@@ -276,7 +269,7 @@ next-adds {D = D} {later = later} {first = first} e d h ls l v =
     let n : c.lines ≡ length ls = cut-lines T no_lines ls ∙ (let z : 0 + length ls ≡ length ls = omega arith in z) in
     ap (λ (z : Cut). first_deep D (stretches z)) (cut_from-append T no_lines ls (l ∷ []))
     ∙ add-sinks e d h c.before c.tail c.blank c.lines l (is_apart T c.tail l) refl w.1 (cut-reaches T no_lines ls tt)
-    ∙ ap (λ z. option_or (deep_in D d ls) (line_if (sinks_at later first z last l) c.lines)) (of-apart (laws e d) c.tail l)
+    ∙ ap (λ z. option_or (deep_in D d ls) (line_if (sinks_at later first z last l) c.lines)) (of-apart (laws e d) c.tail l (cut-made T no_lines ls tt))
     ∙ ap (λ z. option_or (deep_in D d ls) (line_if (sinks_at later first (is_apart_after last l) last l) z)) n
 
 next : {D : List BlockLine → Option ℕ} {later : Summary → BlockLine → Bool} {first : BlockLine → Bool} (e : EntityTable) (d : ℕ) → Sinking D later first (summary_within e d) d →

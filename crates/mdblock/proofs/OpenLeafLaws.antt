@@ -23,11 +23,14 @@ use Rattle.mdleaf.specs.ParagraphText.{joined_lines}
 use Rattle.mdleaf.specs.TableRows.{row_aligns, row_texts, begins_table}
 use Rattle.mdblock.specs.BlockLine.{BlockLine, indentation, rest, is_blank_line, behind_marker}
 use Rattle.mdblock.specs.BlockStart.{Mode, Inside, Quote, Kind, Paragraph, SetextHeading, Table, AtxHeading, ThematicBreak, FencedCode, IndentedCode, HtmlBlock, Holds, begins_quote, begins_atx, begins_fence, html_by, begins_html, underlines, begins_break, item_of, may_begin_item, item_by, begins_item, last_text, start_near, start_at, start_where, start}
+use Rattle.mdblock.specs.BlockUnits.{part_at}
 use Rattle.mdblock.specs.Laziness.{Tip, Closed}
 use Rattle.mdblock.specs.LeafContents.{without_last, code_text, fenced_lines, without_end_blank_lines, leaves_of}
-use Rattle.mdblock.specs.OpenLeaf.{open_text, open_table, open_fence, open_code, open_html, done_heading, open_tip, text_leaves, open_leaves, row_of, table_from, end_blank_lines, leaf_from, Turn, Continues, Closes, Parts, continues_if, text_more, level_under, near_turn, text_turn, html_turn, code_line, code_more, fence_turn, turn_at}
+use Rattle.mdblock.specs.ListGroups.{Leaves, Group}
+use Rattle.mdblock.specs.OpenLeaf.{open_text, open_table, open_fence, open_code, open_html, done_heading, open_tip, text_leaves, open_leaves, row_of, table_from, end_blank_lines, leaf_from, Turn, Continues, Closes, Parts, continues_if, text_more, level_under, near_turn, text_turn, html_turn, code_line, code_more, fence_turn, turn_at, is_parted}
 use Rattle.mdblock.specs.ParagraphEnd.{paragraph_end, heading_end, rows_end, table_end}
 use Rattle.mdblock.specs.Stretches.{Step, Takes, Ends, Stops, takes_if, closes, ends_html, fence_step, html_step, interrupted, paragraph_step, is_row, is_code, step, tip_at}
+use Rattle.mdblock.specs.UnitBegin.{is_stop}
 use Rattle.mdblock.proofs.LeafSteps.{IsLeaf, IsMade}
 
 -- ---- at its end
@@ -50,6 +53,17 @@ leaf-leaves e ThematicBreak f r w = refl
 leaf-leaves e (FencedCode i m n info c) f r w = refl
 leaf-leaves e IndentedCode f r w = refl
 leaf-leaves e (HtmlBlock kind) f r w = refl
+
+pub leaf-part : (e : EntityTable) (R : List BlockLine → List Group) (k : Kind) (f : BlockLine) (r : List BlockLine) → IsLeaf k → part_at e R k f r ≡ Leaves (open_leaves e (leaf_from k f r))
+leaf-part e R (Holds container) f r w = absurd w
+leaf-part e R Paragraph f r w = ap Leaves (leaf-leaves e Paragraph f r tt)
+leaf-part e R (SetextHeading level) f r w = ap Leaves (leaf-leaves e (SetextHeading level) f r tt)
+leaf-part e R (Table above) f r w = ap Leaves (leaf-leaves e (Table above) f r tt)
+leaf-part e R (AtxHeading level content) f r w = ap Leaves (leaf-leaves e (AtxHeading level content) f r tt)
+leaf-part e R ThematicBreak f r w = ap Leaves (leaf-leaves e ThematicBreak f r tt)
+leaf-part e R (FencedCode i m n info c) f r w = ap Leaves (leaf-leaves e (FencedCode i m n info c) f r tt)
+leaf-part e R IndentedCode f r w = ap Leaves (leaf-leaves e IndentedCode f r tt)
+leaf-part e R (HtmlBlock kind) f r w = ap Leaves (leaf-leaves e (HtmlBlock kind) f r tt)
 
 -- ---- the contents of one line more
 
@@ -320,3 +334,9 @@ leaf-turn T (FencedCode i m n info closed) f r l w v =
 leaf-turn T IndentedCode f r l w v =
     if-turned f (r ++ l ∷ []) (is_code l) IndentedCode ∙ ap (continues_if (is_code l)) (code-law (is_blank_line l) (f ∷ r) l refl)
 leaf-turn T (HtmlBlock kind) f r l w v = html-law f r l (is_blank_line l) (ends_html kind l) kind
+
+-- whether the leaf is over before the line
+pub turned-parts : (f : BlockLine) (r : List BlockLine) (st : Step) → is_stop st ≡ is_parted (turned f r st)
+turned-parts f r (Takes kind) = refl
+turned-parts f r (Ends kind) = refl
+turned-parts f r Stops = refl

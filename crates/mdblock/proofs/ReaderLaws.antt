@@ -1,10 +1,10 @@
 -- What a reader has to keep of the lines so far, one line after the other: their summary, whatever the depth.
-use Rattle.std.proofs.Common.{◌≡◌, ℕ, zero, suc, ◌≤◌, ◌<◌, List, [], ◌∷◌, ◌++◌, length, map, Some, None, refl, sym, ◌∙◌, ap, arith}
+use Rattle.std.proofs.Common.{◌≡◌, ℕ, zero, suc, ◌≤◌, ◌<◌, Bool, List, [], ◌∷◌, ◌++◌, length, map, Some, None, refl, sym, ◌∙◌, ap, arith}
 use Rattle.std.specs.Option.{option_or}
 use Rattle.std.specs.Prelude.{if◌then◌else◌}
 use Rattle.mdtext.specs.EntityTable.{EntityTable}
 use Rattle.mdblock.specs.BlockLine.{BlockLine}
-use Rattle.mdblock.specs.BlockStart.{Kind, Paragraph, SetextHeading, Table, AtxHeading, ThematicBreak, FencedCode, IndentedCode, HtmlBlock, Holds}
+use Rattle.mdblock.specs.BlockStart.{Kind, Holds}
 use Rattle.mdblock.specs.BlockUnits.{visible_in, depth_of, group_of, groups_within, groups}
 use Rattle.mdblock.specs.ContainerLines.{inner, is_bare}
 use Rattle.mdblock.specs.LineSummary.{summary, ended_block, open_container, no_summary, closed, line_added, last_at, last_of, summary_by, summary_within, summary_of, begins_after}
@@ -14,8 +14,9 @@ use Rattle.mdblock.specs.Stretches.{Stretch, Tail, Empty, Going, Over, Cut, no_l
 use Rattle.mdblock.specs.SummaryDepth.{sinks}
 use Rattle.mdblock.specs.UnitBegin.{begins_unit}
 use Rattle.mdblock.proofs.DepthLaws.{at-depth, IsMarked, TailLight, tips-agree, cut-agrees, cut-light, none-light, groups-agree, part-agrees, map-agrees, begins-deep}
+use Rattle.mdblock.proofs.LeafSteps.{Sort, is_container, is_leaf, sort_of}
 use Rattle.mdblock.proofs.NestingLaws.{deep-next}
-use Rattle.mdblock.proofs.SummaryLaws.{laws, begins-law}
+use Rattle.mdblock.proofs.SummaryLaws.{leaf-last, laws, begins-law}
 use Rattle.mdblock.proofs.VisibleLaws.{inner-visible, visible-append}
 
 -- ---- every depth that suffices
@@ -23,26 +24,22 @@ use Rattle.mdblock.proofs.VisibleLaws.{inner-visible, visible-append}
 record SummariesAgree (e : EntityTable) (d : ℕ) : Type 0 where
   same : (ls : List BlockLine) → visible_in ls < d → summary_within e d ls ≡ summary_within e (suc d) ls
 
-at-agrees : {e : EntityTable} {d : ℕ} (a : SummariesAgree e d) (k : Kind) (s : Stretch) → IsMarked k s.first → visible_in (s.first ∷ s.later) ≤ d →
-    last_at (summary_within e d) k s ≡ last_at (summary_within e (suc d)) k s
+abbrev of_kind : ℕ → Bool → Kind → BlockLine → List BlockLine → Stretch
+of_kind b g k f r = record { begin = b; gap = g; kind = k; first = f; later = r }
+
+at-agrees : {e : EntityTable} {d : ℕ} (a : SummariesAgree e d) (n : ℕ) (g : Bool) (k : Kind) (f : BlockLine) (r : List BlockLine) → Sort k → IsMarked k f → visible_in (f ∷ r) ≤ d →
+    last_at (summary_within e d) k (of_kind n g k f r) ≡ last_at (summary_within e (suc d)) k (of_kind n g k f r)
 unfolding last_at
-at-agrees a (Holds c) s w v =
-    let u = inner-visible c s.first s.later w.0 w.1 in
-    ap (λ z. open_container s.begin s.gap (is_bare c s.first s.later) c z) (a.same (inner c s.first s.later) (omega (arith, u, v)))
-at-agrees a Paragraph s w v = refl
-at-agrees a (SetextHeading level) s w v = refl
-at-agrees a (Table above) s w v = refl
-at-agrees a (AtxHeading level content) s w v = refl
-at-agrees a ThematicBreak s w v = refl
-at-agrees a (FencedCode i m n info c) s w v = refl
-at-agrees a IndentedCode s w v = refl
-at-agrees a (HtmlBlock kind) s w v = refl
+at-agrees a n g (Holds c) f r is_container w v =
+    let u = inner-visible c f r w.0 w.1 in ap (λ z. open_container n g (is_bare c f r) c z) (a.same (inner c f r) (omega (arith, u, v)))
+at-agrees {e = e} {d = d} a n g k f r (is_leaf u) w v =
+    leaf-last (summary_within e d) k (of_kind n g k f r) u ∙ sym (leaf-last (summary_within e (suc d)) k (of_kind n g k f r) u)
 
 of-agrees : {e : EntityTable} {d : ℕ} (a : SummariesAgree e d) (t : Tail) → TailLight d t 0 →
     last_of e (groups_within e d) (summary_within e d) t ≡ last_of e (groups_within e (suc d)) (summary_within e (suc d)) t
 unfolding last_of
 of-agrees a Empty w = refl
-of-agrees a (Going s) w = at-agrees a s.kind s w.0 (omega (arith, w.1))
+of-agrees a (Going s) w = at-agrees a s.begin s.gap s.kind s.first s.later (sort_of s.kind) w.0 (omega (arith, w.1))
 of-agrees {e = e} {d = d} a (Over s) w = ap (λ z. ended_block (record { begin = s.begin; gap = s.gap; part = z })) (part-agrees (groups-agree e d) s.kind s.first s.later w.0.0 w.0.1)
 
 agree-next : {e : EntityTable} {d : ℕ} → SummariesAgree e d → SummariesAgree e (suc d)

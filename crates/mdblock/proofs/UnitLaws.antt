@@ -10,10 +10,10 @@ use Rattle.mdblock.specs.Laziness.{Tip}
 use Rattle.mdblock.specs.ListGroups.{Part, Leaves, Quoted, Listed, Group, grouped}
 use Rattle.mdblock.specs.Stretches.{Stretch, Step, Takes, Ends, Stops, takes_if, fence_step, html_step, interrupted, paragraph_step, step, is_single, Tail, Empty, Going, Over, Cut, no_lines, all_of, stretches, ended, gap_behind, first_of, tail_of, begin_where, grown, after_step, add_at, add, cut_from, cut_by, tip_within}
 use Rattle.mdblock.specs.LineSummary.{part_mark}
-use Rattle.mdblock.specs.UnitBegin.{is_apart, list_mark, same_mark, tail_mark, begins_behind}
+use Rattle.mdblock.specs.UnitBegin.{is_apart, list_mark, same_mark, tail_mark, begins_behind, shift_found}
 use Rattle.mdblock.specs.UnitTree.{FoundUnit}
 use Rattle.mdblock.proofs.CutLaws.{cut_from-append, all_of-prepend, shift, shift_all, moved, stretches-moved, meets}
-use Rattle.mdblock.specs.Meetings.{shift_group, shift_groups, shift_found}
+use Rattle.mdblock.specs.Meetings.{shift_group, shift_groups}
 use Rattle.mdblock.proofs.GroupLaws.{joins, grouped-first, grouped-append, grouped-shift, found-append, found-shift}
 
 pub joins-marks : (p q : Part) → joins p q ≡ same_mark (part_mark p) (part_mark q)
@@ -316,7 +316,7 @@ both-lengths (x ∷ xs) ys =
     let e : suc (length ys + length xs) ≡ length ys + suc (length xs) = omega arith in
     ap (λ z. suc z) a ∙ e
 
-three-facts : (a b c : Bool) → (a && not b && not c) ≡ true → (a ≡ true) × (b ≡ false) × (c ≡ false)
+pub three-facts : (a b c : Bool) → (a && not b && not c) ≡ true → (a ≡ true) × (b ≡ false) × (c ≡ false)
 three-facts true false false e = (refl, refl, refl)
 three-facts true false true e = absurd (let x : ⊥ = cc in x)
 three-facts true true c e = absurd (let x : ⊥ = cc in x)

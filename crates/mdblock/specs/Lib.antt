@@ -24,5 +24,6 @@ pub mod Stretches
 pub mod SummaryDepth
 pub mod TaskItem
 pub mod UnitBegin
+pub mod UnitReader
 pub mod UnitTree
 pub use Rattle.mdleaf.specs.LinkDefinition

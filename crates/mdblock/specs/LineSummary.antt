@@ -1,6 +1,5 @@
 -- What has to be kept of some lines so that one line more can be read: the blocks that are over, as what they give, where
--- items are joined to lists as they come; and the last one. Of a container nothing is kept but the same of what it holds;
--- of a leaf, its lines.
+-- items are joined to lists as they come; and the last one. Of a container nothing is kept but the same of what it holds.
 use Rattle.std.specs.Prelude.{ℕ, zero, suc, Bool, true, false, not, ◌&&◌, List, [], ◌∷◌, map, Option, Some, None}
 use Rattle.mdtext.specs.EntityTable.{EntityTable}
 use Rattle.mdblock.specs.BlockLine.{BlockLine, is_blank_line}
@@ -10,8 +9,9 @@ use Rattle.mdblock.specs.ContainerLines.{opened, inside, inner, is_bare}
 use Rattle.mdblock.specs.Laziness.{Tip, Closed, is_verbatim}
 use Rattle.mdblock.specs.BlockTree.{ListKind}
 use Rattle.mdblock.specs.ListGroups.{Part, Leaves, Quoted, Listed, Group, grouped, merged}
-use Rattle.mdblock.specs.UnitBegin.{is_stop, list_mark, same_mark}
-use Rattle.mdblock.specs.Stretches.{Stretch, Step, Takes, Ends, Stops, goes_on, step, is_single, Tail, Empty, Going, Over, Cut, tip_at, first_of, grown, cut_within}
+use Rattle.mdblock.specs.OpenLeaf.{OpenLeaf, open_tip, open_leaves, leaf_from, Turn, Continues, Closes, Parts, turn_at, is_parted}
+use Rattle.mdblock.specs.UnitBegin.{list_mark, same_mark}
+use Rattle.mdblock.specs.Stretches.{Stretch, goes_on, is_single, Tail, Empty, Going, Over, Cut, first_of, cut_within}
 
 mutual
   pub data Summary : Type 0 where
@@ -20,7 +20,7 @@ mutual
   pub data Last : Type 0 where
     nothing_yet : Last
     ended_block : Group → Last
-    open_leaf : Stretch → Last
+    open_leaf : (begin : ℕ) → (gap : Bool) → OpenLeaf → Last
     open_container : (begin : ℕ) → (gap bare : Bool) → Container → Summary → Last
 
 abbrev pub no_summary : Summary
@@ -34,11 +34,11 @@ unfoldable mutual
   pub last_tip : Last → Tip
   last_tip nothing_yet = Closed
   last_tip (ended_block g) = Closed
-  last_tip (open_leaf s) = tip_at (λ ls. Closed) s.kind s.first s.later
+  last_tip (open_leaf begin gap leaf) = open_tip leaf
   last_tip (open_container begin gap bare container inner) = summary_tip inner
 
-abbrev pub leaf_group : EntityTable → Stretch → Group
-leaf_group entities s = group_of entities (λ ls. []) s
+abbrev pub leaf_group : EntityTable → (begin : ℕ) → (gap : Bool) → OpenLeaf → Group
+leaf_group entities begin gap leaf = record { begin = begin; gap = gap; part = Leaves (open_leaves entities leaf) }
 
 abbrev pub container_group : (begin : ℕ) → (gap : Bool) → Container → List Group → Group
 container_group begin gap container groups = record { begin = begin; gap = gap; part = container_part container groups }
@@ -51,21 +51,21 @@ unfoldable mutual
   pub last_groups : EntityTable → Last → List Group
   last_groups entities nothing_yet = []
   last_groups entities (ended_block g) = g ∷ []
-  last_groups entities (open_leaf s) = leaf_group entities s ∷ []
+  last_groups entities (open_leaf begin gap leaf) = leaf_group entities begin gap leaf ∷ []
   last_groups entities (open_container begin gap bare container inner) = container_group begin gap container (closed entities inner) ∷ []
 
 unfoldable pub ended_last : EntityTable → Last → Last
 ended_last entities nothing_yet = nothing_yet
 ended_last entities (ended_block g) = ended_block g
-ended_last entities (open_leaf s) = ended_block (leaf_group entities s)
+ended_last entities (open_leaf begin gap leaf) = ended_block (leaf_group entities begin gap leaf)
 ended_last entities (open_container begin gap bare container inner) = ended_block (container_group begin gap container (closed entities inner))
 
 -- a block that begins with this line, where `more` reads one line more in a container
 unfoldable pub new_last : EntityTable → (more : Summary → BlockLine → Summary) → (single : Bool) → Kind → Stretch → Last
 new_last entities more single (Holds container) s =
     open_container s.begin s.gap (is_blank_line (opened container s.first)) container (more no_summary (opened container s.first))
-new_last entities more true kind s = ended_block (leaf_group entities s)
-new_last entities more false kind s = open_leaf s
+new_last entities more true kind s = ended_block (leaf_group entities s.begin s.gap (leaf_from kind s.first []))
+new_last entities more false kind s = open_leaf s.begin s.gap (leaf_from kind s.first [])
 
 abbrev pub summary_gap : Last → (blank : Bool) → Bool
 summary_gap last blank = blank && not (is_verbatim (last_tip last))
@@ -76,10 +76,10 @@ begin_after entities more true before last blank lines l = summary before (ended
 begin_after entities more false before last blank lines l =
     summary (merged before (last_groups entities last)) (new_last entities more (is_single (begun l) l) (begun l) (first_of lines (summary_gap last blank) l)) false (suc lines)
 
-unfoldable pub leaf_after : EntityTable → (more : Summary → BlockLine → Summary) → List Group → Stretch → (blank : Bool) → (lines : ℕ) → BlockLine → Step → Summary
-leaf_after entities more before s blank lines l (Takes kind) = summary before (open_leaf (grown s kind l)) (is_blank_line l) (suc lines)
-leaf_after entities more before s blank lines l (Ends kind) = summary before (ended_block (leaf_group entities (grown s kind l))) (is_blank_line l) (suc lines)
-leaf_after entities more before s blank lines l Stops = begin_after entities more (is_blank_line l) before (open_leaf s) blank lines l
+unfoldable pub leaf_after : EntityTable → (more : Summary → BlockLine → Summary) → List Group → (begin : ℕ) → (gap : Bool) → OpenLeaf → (blank : Bool) → (lines : ℕ) → BlockLine → Turn → Summary
+leaf_after entities more before begin gap leaf blank lines l (Continues next) = summary before (open_leaf begin gap next) (is_blank_line l) (suc lines)
+leaf_after entities more before begin gap leaf blank lines l (Closes next) = summary before (ended_block (leaf_group entities begin gap next)) (is_blank_line l) (suc lines)
+leaf_after entities more before begin gap leaf blank lines l Parts = begin_after entities more (is_blank_line l) before (open_leaf begin gap leaf) blank lines l
 
 unfoldable pub container_after : EntityTable → (more : Summary → BlockLine → Summary) → (takes : Bool) → List Group → (begin : ℕ) → (gap bare : Bool) → Container → Summary → (blank : Bool) → (lines : ℕ) → BlockLine → Summary
 container_after entities more true before begin gap bare container inner blank lines l =
@@ -90,7 +90,7 @@ container_after entities more false before begin gap bare container inner blank 
 unfoldable pub last_after : EntityTable → (more : Summary → BlockLine → Summary) → List Group → Last → (blank : Bool) → (lines : ℕ) → BlockLine → Summary
 last_after entities more before nothing_yet blank lines l = begin_after entities more (is_blank_line l) before nothing_yet blank lines l
 last_after entities more before (ended_block g) blank lines l = begin_after entities more (is_blank_line l) before (ended_block g) blank lines l
-last_after entities more before (open_leaf s) blank lines l = leaf_after entities more before s blank lines l (step (λ ls. Closed) s.kind s.first s.later l)
+last_after entities more before (open_leaf begin gap leaf) blank lines l = leaf_after entities more before begin gap leaf blank lines l (turn_at leaf l)
 last_after entities more before (open_container begin gap bare container inner) blank lines l =
     container_after entities more (goes_on container bare (summary_tip inner) l) before begin gap bare container inner blank lines l
 
@@ -102,7 +102,7 @@ line_added entities (suc depth) (summary before last blank lines) l = last_after
 -- the summary of some lines
 unfoldable pub last_at : (below : List BlockLine → Summary) → Kind → Stretch → Last
 last_at below (Holds container) s = open_container s.begin s.gap (is_bare container s.first s.later) container (below (inner container s.first s.later))
-last_at below kind s = open_leaf s
+last_at below kind s = open_leaf s.begin s.gap (leaf_from kind s.first s.later)
 
 unfoldable pub last_of : EntityTable → (inside : List BlockLine → List Group) → (below : List BlockLine → Summary) → Tail → Last
 last_of entities inside below Empty = nothing_yet
@@ -125,7 +125,7 @@ summary_of entities ls = summary_within entities (depth_of ls) ls
 unfoldable pub is_apart_after : Last → BlockLine → Bool
 is_apart_after nothing_yet l = true
 is_apart_after (ended_block g) l = true
-is_apart_after (open_leaf s) l = is_stop (step (λ ls. Closed) s.kind s.first s.later l)
+is_apart_after (open_leaf begin gap leaf) l = is_parted (turn_at leaf l)
 is_apart_after (open_container begin gap bare container inner) l = not (goes_on container bare (summary_tip inner) l)
 
 abbrev pub part_mark : Part → Option ListKind
@@ -137,7 +137,7 @@ part_mark (Listed kind tight items) = Some kind
 unfoldable pub mark_of : Last → Option ListKind
 mark_of nothing_yet = None
 mark_of (ended_block g) = part_mark g.part
-mark_of (open_leaf s) = None
+mark_of (open_leaf begin gap leaf) = None
 mark_of (open_container begin gap bare container inner) = list_mark (Holds container)
 
 -- whether a line begins a unit behind the lines of a summary

@@ -7,12 +7,8 @@ use Rattle.mdblock.specs.Laziness.{Tip}
 use Rattle.mdblock.specs.ListGroups.{Group}
 use Rattle.mdblock.specs.Stretches.{Cut, gap_behind, cut_within, tip_within}
 use Rattle.mdblock.specs.UnitBegin.{is_apart, list_mark, same_mark, tail_mark, begins_unit}
-use Rattle.mdblock.specs.UnitTree.{FoundUnit}
 
--- a unit so many lines further on
-abbrev pub shift_found : ℕ → FoundUnit → FoundUnit
-shift_found k f = record { begin = f.begin + k; lines = f.lines; unit = f.unit }
-
+-- a group so many lines further on
 abbrev pub shift_group : ℕ → Group → Group
 shift_group k g = record { begin = g.begin + k; gap = g.gap; part = g.part }
 

@@ -111,6 +111,9 @@ after_underline l = option_or (begins_break l) (begins_item Inside l)
 abbrev pub level_under : (text : List ℕ) → BlockLine → Option ℕ
 level_under text l = if not (is_definitions_alone (without_end_blanks text)) then underline_level (rest l) else None
 
+-- A line behind a paragraph with an indentation of at most three columns, by the first start that fits: an underline makes a
+-- heading of it (CommonMark 4.3), a delimiter row a table of its last line (GFM Tables), any other ends it, and with none it
+-- goes on (CommonMark 4.8).
 abbrev pub near_turn : (text last above : List ℕ) → (before : Option Kind) → (level : Option ℕ) → (after : Option Kind) → (delimits : Bool) → BlockLine → Turn
 near_turn text last above (Some kind) level after delimits l = Parts
 near_turn text last above None (Some level) after delimits l = Closes (done_heading level text)
@@ -126,6 +129,7 @@ text_turn text last above false false true l =
     near_turn text last above (before_underline l) (level_under text l) (after_underline l) (begins_table last (rest l)) l
 text_turn text last above false false false l = Continues (text_more text l)
 
+-- HTML block (CommonMark 4.6)
 abbrev pub html_turn : (blank ends : Bool) → (kind : ℕ) → (text : List ℕ) → Turn
 html_turn true ends kind text = continues_if (nat_lt kind 6) (open_html kind text)
 html_turn false true kind text = Closes (open_html kind text)
@@ -134,14 +138,17 @@ html_turn false false kind text = Continues (open_html kind text)
 abbrev pub code_line : (columns : ℕ) → BlockLine → List ℕ
 code_line columns l = (without_columns l columns).line.text ++ 10 ∷ []
 
+-- Indented code (CommonMark 4.4): blank lines are part of it where another line follows.
 abbrev pub code_more : (blank : Bool) → (body blanks line : List ℕ) → OpenLeaf
 code_more true body blanks line = open_code body (blanks ++ line)
 code_more false body blanks line = open_code (body ++ blanks ++ line) []
 
+-- Fenced code (CommonMark 4.5)
 abbrev pub fence_turn : (closed : Bool) → (indentation mark length : ℕ) → (info body line : List ℕ) → Turn
 fence_turn true indentation mark length info body line = Closes (open_fence indentation mark length info body)
 fence_turn false indentation mark length info body line = Continues (open_fence indentation mark length info (body ++ line))
 
+-- what one line more makes of an open leaf
 unfoldable pub turn_at : OpenLeaf → BlockLine → Turn
 turn_at (open_text text last above) l = text_turn text last above l.lazy (is_blank_line l) (nat_le (indentation l) 3) l
 turn_at (open_table above aligns head rows) l = continues_if (is_row l) (open_table above aligns head (rows ++ row_of aligns (rest l) ∷ []))

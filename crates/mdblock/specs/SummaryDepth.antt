@@ -1,4 +1,5 @@
--- Whether a line begins a container too many, as the summary of the lines before it tells.
+-- Whether a line begins a container too many, as the summary of the lines before it tells. The limit is ours, since the
+-- standard has none.
 use Rattle.std.specs.Prelude.{ℕ, zero, suc, Bool, true, false, List, [], ◌∷◌, Option, Some, None, if◌then◌else◌}
 use Rattle.mdtext.specs.EntityTable.{EntityTable}
 use Rattle.mdblock.specs.BlockLine.{BlockLine}

@@ -1,5 +1,5 @@
 -- Whether a line begins a unit behind others: it goes on with no block, and is no item of the list that stands last.
-use Rattle.std.specs.Prelude.{Bool, true, false, not, ◌&&◌, List, length, Option, Some, None}
+use Rattle.std.specs.Prelude.{ℕ, ◌+◌, Bool, true, false, not, ◌&&◌, List, length, Option, Some, None}
 use Rattle.mdtext.specs.EntityTable.{EntityTable}
 use Rattle.mdblock.specs.BlockLine.{BlockLine, is_blank_line}
 use Rattle.mdblock.specs.BlockStart.{Item, Kind, Holds, begun}
@@ -46,3 +46,7 @@ begins_unit front l = begins_behind (tip_within (depth_of front)) (cut_within (d
 -- the units of some lines
 abbrev pub units_of : EntityTable → List BlockLine → List FoundUnit
 units_of entities ls = found_units (groups entities ls) (length ls)
+
+-- a unit so many lines further on
+abbrev pub shift_found : ℕ → FoundUnit → FoundUnit
+shift_found k f = record { begin = f.begin + k; lines = f.lines; unit = f.unit }

@@ -1,17 +1,18 @@
 //! What holds of the blocks of a document (CommonMark 3 to 5; GFM, Tables), whatever reads them.
 
-ghost use Rattle.std.specs.Prelude.{◌≡◌, ℕ, suc, true, Some, None, if◌then◌else◌, List, [], ◌∷◌, ◌++◌, length, map, Contains};
+ghost use Rattle.std.specs.Prelude.{◌≡◌, ◌≤◌, ℕ, suc, true, Some, None, if◌then◌else◌, List, [], ◌∷◌, ◌++◌, length, map, Contains};
 ghost use Rattle.std.specs.Option.{option_or};
 ghost use Rattle.mdtext.specs.EntityTable.{EntityTable};
-ghost use Rattle.mdblock.specs.BlockLine.{BlockLine};
+ghost use Rattle.mdblock.specs.BlockLine.{BlockLine, document_line};
 ghost use Rattle.mdblock.specs.BlockUnits.{begins, definitions_of, groups, units};
 ghost use Rattle.mdblock.specs.FirstDefinitions.{first_definition};
 ghost use Rattle.mdblock.specs.LineSummary.{begins_after, closed, line_added, no_summary, summary_of};
 ghost use Rattle.mdblock.specs.ListGroups.{merged};
-ghost use Rattle.mdblock.specs.Meetings.{IsBeginning, gap_after, joins_list, shift_found, shift_groups};
+ghost use Rattle.mdblock.specs.Meetings.{IsBeginning, gap_after, joins_list, shift_groups};
 ghost use Rattle.mdblock.specs.Nesting.{deep_within, first_too_deep};
 ghost use Rattle.mdblock.specs.SummaryDepth.{lines_added, refused_line, sinks};
-ghost use Rattle.mdblock.specs.UnitBegin.{begins_unit};
+ghost use Rattle.mdblock.specs.UnitBegin.{begins_unit, shift_found, units_of};
+ghost use Rattle.mdblock.specs.UnitReader.{lines_held, summary_held, unit_fault, units_handed};
 ghost use Rattle.mdblock.specs.UnitTree.{FoundUnit};
 
 /// Where a unit begins, it begins whatever comes later; the units before it are those of the lines before it alone, and
@@ -66,6 +67,18 @@ pub fn reader_refuses_the_first_too_deep()
     ensures holds { (entities : EntityTable) (limit : ℕ) (lines : List BlockLine) → deep_within limit lines ≡ None → lines_added entities limit no_summary lines ≡ summary_of entities lines }
     ensures refuses { (entities : EntityTable) (limit : ℕ) (lines : List BlockLine) → refused_line entities limit no_summary 0 lines ≡ deep_within limit lines }
     ensures stays { (limit : ℕ) (lines more : List (List ℕ)) (n : ℕ) → first_too_deep limit lines ≡ Some n → first_too_deep limit (lines ++ more) ≡ Some n }
+{}
+
+/// A reader that keeps the summary of the lines from the last unit's first line on, and hands that unit out when the line has
+/// come that begins the next one: all that it hands out are the document's units, it refuses the first line on which a
+/// container begins that lies in too many others, and it holds one unit at most.
+pub fn reader_hands_out_the_units()
+    ensures units { (entities : EntityTable) (limit : ℕ) (lines : List (List ℕ)) → first_too_deep limit lines ≡ None
+        → units_handed entities limit 0 0 no_summary (map document_line lines) ≡ units entities lines }
+    ensures refuses { (entities : EntityTable) (limit : ℕ) (lines : List BlockLine) → unit_fault entities limit 0 no_summary lines ≡ deep_within limit lines }
+    ensures holds { (entities : EntityTable) (limit : ℕ) (lines : List BlockLine) → deep_within limit lines ≡ None
+        → summary_held entities limit no_summary lines ≡ summary_of entities (lines_held [] lines) }
+    ensures one { (entities : EntityTable) (lines : List BlockLine) → length (units_of entities (lines_held [] lines)) ≤ 1 }
 {}
 
 /// Of units one after the other, the definition of a label that counts is the first units', where they have one.

@@ -17,7 +17,8 @@ pub use blocks::{Block, Item, ListKind};
 pub use faults::BlockFault;
 pub use laws::{
     beginnings_stay, equal_ends_give_equal_units, first_units_define, items_meet,
-    lines_before_tell_beginnings, reader_refuses_the_first_too_deep, summary_goes_on,
+    lines_before_tell_beginnings, reader_hands_out_the_units, reader_refuses_the_first_too_deep,
+    summary_goes_on,
 };
 pub use mdleaf::Definition;
 pub use mdscan::Align;
