@@ -1,6 +1,7 @@
 pub mod BareBrackets
 pub mod EntityMembers
 pub mod FirstPlaces
+pub mod Lanes
 pub mod Indents
 pub mod LabelWords
 pub mod LineEnds

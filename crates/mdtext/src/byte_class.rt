@@ -3,6 +3,7 @@ ghost use Rattle.std.specs.Prelude.{◌≡◌, ◌≤◌, [], ◌∷◌, length}
 ghost use Rattle.std.specs.List.{position_or_len};
 ghost use Rattle.mdtext.specs.ByteClass.{in_class};
 
+use crate::byte_lanes::first_of_many;
 use memchr::{memchr, memchr2};
 use std::marker::Model;
 
@@ -42,13 +43,6 @@ impl Class {
     {
         &self.bytes[..self.len]
     }
-
-    #[inline(always)]
-    fn has(&self, byte: u8) -> bool
-        ensures { result ≡ in_class self.now byte }
-    {
-        self.as_slice().iter().any(|b| byte == *b)
-    }
 }
 
 /// The first position whose byte is in the class, or the length. It takes no memory.
@@ -59,7 +53,7 @@ pub fn first_special(bytes: &[u8], class: &Class) -> usize
     match class.as_slice() {
         [one] => first_of_one(bytes, *one),
         [one, other] => first_of_two(bytes, *one, *other),
-        _ => first_of_many(bytes, class),
+        members => first_of_many(bytes, members),
     }
 }
 
@@ -77,17 +71,4 @@ fn first_of_two(bytes: &[u8], one: u8, other: u8) -> usize
     ensures { result ≡ position_or_len (in_class (one ∷ other ∷ [])) bytes.now }
 {
     memchr2(one, other, bytes).unwrap_or(bytes.len())
-}
-
-// With the bytes of a class known where it is called, each is compared directly.
-#[inline(always)]
-fn first_of_many(bytes: &[u8], class: &Class) -> usize
-    ensures { result ≡ position_or_len (in_class class.now) bytes.now }
-{
-    for (i, b) in bytes.iter().enumerate() {
-        if class.has(*b) {
-            return i;
-        }
-    }
-    bytes.len()
 }

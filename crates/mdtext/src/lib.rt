@@ -16,6 +16,7 @@ pub use self::urls::escape_url;
 use std::alloc::AllocError;
 
 mod byte_class;
+mod byte_lanes;
 mod characters;
 mod counters;
 mod cursor;

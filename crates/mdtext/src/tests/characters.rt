@@ -53,6 +53,20 @@ fn first_special_byte(rt: HostRuntime) {
 }
 
 #[test]
+fn first_special_at_each_place(rt: HostRuntime) {
+    let class = Class::of(b"&<>\"");
+    let mut bytes = [b'a'; 100];
+    for len in 0..101 {
+        assert_eq!(rt; first_special(&bytes[..len], &class), len);
+        for place in 0..len {
+            bytes[place] = b'<';
+            assert_eq!(rt; first_special(&bytes[..len], &class), place);
+            bytes[place] = b'a';
+        }
+    }
+}
+
+#[test]
 fn tally_counts_each_by_itself(rt: HostRuntime) {
     let mut tally = Tally::new();
     tally.line();

@@ -1,0 +1,65 @@
+-- A class among 32 bytes at a time.
+use Rattle.std.proofs.Common.{◌≡◌, ℕ, ◌+◌, ◌<◌, ◌≤◌, zero, suc, max, Bool, true, false, cond, not, ◌||◌, List, [], ◌∷◌, length, take, drop, map, get_or, refl, ap, sym, ◌∙◌, arith, eqb}
+use Rattle.std.specs.Int.{bit_at}
+use Rattle.std.specs.Int.RustNames.{bit_or}
+use Rattle.std.specs.Simd.Lanes.{mask_l}
+use Rattle.std.specs.List.{position_or_len, slice_range}
+use Rattle.std.proofs.lemmas.Nat.Bits.{bit_at_or, same_from_bits}
+use Rattle.std.proofs.lemmas.Simd.{bit_mask_l}
+use Rattle.std.proofs.lemmas.List.Folds.{prefix_len-append}
+use Rattle.std.proofs.lemmas.List.{take-append-drop, drop-drop, length-take-le}
+use Rattle.std.proofs.lemmas.List.Sums.{prefix_len-le-length}
+use Rattle.std.proofs.Common.{length-drop}
+
+pub no_marks : (xs : List ℕ) → 0 ≡ mask_l (map (λ _. false) xs)
+no_marks [] = refl
+no_marks (x ∷ xs) = omega (arith, no_marks xs)
+
+either_bit : (a b : Bool) → max (cond a 1 0) (cond b 1 0) ≡ cond (a || b) 1 0
+either_bit true true = refl
+either_bit true false = refl
+either_bit false true = refl
+either_bit false false = refl
+
+either_at : (p q r : ℕ → Bool) → ((x : ℕ) → r x ≡ (p x || q x)) → (xs : List ℕ) (i : ℕ)
+    → max (cond (get_or (map p xs) i false) 1 0) (cond (get_or (map q xs) i false) 1 0) ≡ cond (get_or (map r xs) i false) 1 0
+either_at p q r h [] i = refl
+either_at p q r h (x ∷ xs) zero = either_bit (p x) (q x) ∙ ap (λ b. cond b 1 0) (sym (h x))
+either_at p q r h (x ∷ xs) (suc i) = either_at p q r h xs i
+
+both : (a b c d : ℕ) → a ≡ c → b ≡ d → max a b ≡ max c d
+both a b c d e f = rw (e, f) refl
+
+-- the marks of two tests together
+pub either_marks : (p q r : ℕ → Bool) → ((x : ℕ) → r x ≡ (p x || q x)) → (xs : List ℕ) → bit_or (mask_l (map p xs)) (mask_l (map q xs)) ≡ mask_l (map r xs)
+either_marks p q r h xs =
+    same_from_bits (bit_or (mask_l (map p xs)) (mask_l (map q xs))) (mask_l (map r xs)) (λ i.
+    let a : bit_at (mask_l (map p xs)) i ≡ cond (get_or (map p xs) i false) 1 0 = bit_mask_l (map p xs) i in
+    let b : bit_at (mask_l (map q xs)) i ≡ cond (get_or (map q xs) i false) 1 0 = bit_mask_l (map q xs) i in
+    bit_at_or (mask_l (map p xs)) (mask_l (map q xs)) i ∙ both _ _ _ _ a b ∙ either_at p q r h xs i ∙ sym (bit_mask_l (map r xs) i))
+
+-- the next w bytes
+abbrev block : List ℕ → ℕ → ℕ → List ℕ
+block bytes at w = take w (drop at bytes)
+
+pub block_is : (bytes : List ℕ) (at w : ℕ) → slice_range bytes at (at + w) ≡ block bytes at w
+block_is bytes at w = ap (λ n. take n (drop at bytes)) (omega arith)
+
+pub length-block : (bytes : List ℕ) (at w : ℕ) → at + w ≤ length bytes → length (block bytes at w) ≡ w
+length-block bytes at w h = length-take-le w (drop at bytes) (omega (arith, length-drop at bytes))
+
+cut : (p : ℕ → Bool) (bytes : List ℕ) (at w n : ℕ) → at + w ≤ length bytes → n ≡ position_or_len p (slice_range bytes at (at + w))
+    → position_or_len p (drop at bytes) ≡ cond (eqb n w) (w + position_or_len p (drop (at + w) bytes)) n
+cut p bytes at w n h e =
+    let here : position_or_len p (block bytes at w) ≡ n = ap (position_or_len p) (sym (block_is bytes at w)) ∙ sym e in
+    ap (position_or_len p) (sym (take-append-drop w (drop at bytes))) ∙ prefix_len-append (λ x. not (p x)) (block bytes at w) (drop w (drop at bytes))
+    ∙ rw (here, length-block bytes at w h, drop-drop w at bytes) refl
+
+pub found_here : (p : ℕ → Bool) (bytes : List ℕ) (at w n : ℕ) → at + w ≤ length bytes → n ≡ position_or_len p (slice_range bytes at (at + w)) → n < w → at + position_or_len p (drop at bytes) ≡ at + n
+found_here p bytes at w n h e small = ap (λ k. at + k) (cut p bytes at w n h e ∙ grind (arith, small))
+
+pub not_here : (p : ℕ → Bool) (bytes : List ℕ) (at w n : ℕ) → at + w ≤ length bytes → n ≡ position_or_len p (slice_range bytes at (at + w)) → w ≤ n → at + position_or_len p (drop at bytes) ≡ at + w + position_or_len p (drop (at + w) bytes)
+not_here p bytes at w n h e large =
+    let within : n ≤ w = omega (arith, e, ap (position_or_len p) (block_is bytes at w), prefix_len-le-length (λ x. not (p x)) (block bytes at w), length-block bytes at w h) in
+    let all : position_or_len p (drop at bytes) ≡ w + position_or_len p (drop (at + w) bytes) = cut p bytes at w n h e ∙ grind (arith, within, large) in
+    omega (arith, all)

@@ -1,0 +1,23 @@
+use Rattle.std.proofs.Common.{◌≡◌, ◌∙◌, sym, ap, drop, arith, not}
+use Rattle.std.proofs.lemmas.List.Sums.{prefix_len-le-length}
+use Rattle.std.proofs.lemmas.List.{take_rest}
+use Rattle.std.specs.List.{position_or_len}
+use Rattle.mdtext.specs.ByteClass.{in_class}
+use Rattle.mdtext.proofs.Lanes.{found_here, not_here}
+use Rattle.mdtext.proofs.byte_lanes.first_of_many.Goals as goal
+
+pub returns-then-stop-lt32 : goal.returns-then-stop-lt32
+returns-then-stop-lt32 c =
+    sym (found_here _ c.args.bytes.now _ 32 _ (omega (arith, c.loop-at-test.true)) c.first_in_block-stop.ensures c.if-stop-lt32.true) ∙ c.loop-at.invariant.none_before
+
+pub loop-at-preserved : goal.loop-at-preserved
+loop-at-preserved c = record {
+  small = c.loop-at.invariant.small;
+  within = omega (arith, c.loop-at-test.true);
+  none_before = sym (not_here _ c.args.bytes.now _ 32 _ (omega (arith, c.loop-at-test.true)) c.first_in_block-stop.ensures c.if-stop-lt32.false) ∙ c.loop-at.invariant.none_before;
+}
+
+pub overflow_add-result-2 : goal.overflow_add-result-2
+overflow_add-result-2 c =
+    let here : c.first_of_few.result ≡ position_or_len (in_class c.args.class.now) (drop c.loop-at.at c.args.bytes.now) = c.first_of_few.ensures ∙ ap (position_or_len _) (take_rest c.args.bytes.now c.loop-at.at) in
+    omega (arith, here, c.loop-at.invariant.none_before, prefix_len-le-length (λ x. not (in_class c.args.class.now x)) c.args.bytes.now, c.loop-at.invariant.small)

@@ -1,0 +1,79 @@
+//! The first place of one of many bytes, 32 places at a time.
+
+ghost use Rattle.std.specs.Prelude.{◌≡◌, ◌≤◌, ◌+◌, ◌==◌, length, map, slice_range};
+ghost use Rattle.std.specs.List.{position_or_len};
+ghost use Rattle.std.specs.Simd.Lanes.{mask_l};
+ghost use Rattle.mdtext.specs.ByteClass.{in_class};
+
+use std::simd::prelude::*;
+
+/// The first position of one of these bytes, or the length.
+#[inline(always)]
+pub(crate) fn first_of_many(bytes: &[u8], class: &[u8]) -> usize
+    ensures { result ≡ position_or_len (in_class class.now) bytes.now }
+{
+    let len = bytes.len();
+    let mut at = 0;
+    while len - at >= 32 {
+        let stop = first_in_block(bytes, at, class);
+        if stop < 32 {
+            return at + stop;
+        }
+        at += 32;
+    }
+    at + first_of_few(&bytes[at..], class)
+}
+
+#[inline(always)]
+fn first_in_block(bytes: &[u8], at: usize, class: &[u8]) -> usize
+    requires { at + 32 ≤ length bytes.now }
+    ensures { result ≡ position_or_len (in_class class.now) (slice_range bytes.now at (at + 32)) }
+{
+    let marks = marks(u8x32::from_slice(&bytes[at..]), class);
+    if marks == 0 {
+        32
+    } else {
+        marks.trailing_zeros() as usize
+    }
+}
+
+/// Bit k is set where byte k is in the class.
+#[inline(always)]
+fn marks(block: u8x32, class: &[u8]) -> u64
+    requires { length block ≡ 32 }
+    ensures { result ≡ mask_l (map (in_class class.now) block) }
+{
+    let mut marks = 0;
+    for byte in class {
+        marks |= equal(block, *byte);
+    }
+    marks
+}
+
+#[inline(always)]
+fn equal(block: u8x32, byte: u8) -> u64
+    requires { length block ≡ 32 }
+    ensures { result ≡ mask_l (map (λ x. x == byte) block) }
+{
+    block.simd_eq(u8x32::splat(byte)).to_bitmask()
+}
+
+/// The same of less than 32 bytes.
+#[inline(always)]
+fn first_of_few(bytes: &[u8], class: &[u8]) -> usize
+    ensures { result ≡ position_or_len (in_class class.now) bytes.now }
+{
+    for (i, byte) in bytes.iter().enumerate() {
+        if is_among(class, *byte) {
+            return i;
+        }
+    }
+    bytes.len()
+}
+
+#[inline(always)]
+fn is_among(class: &[u8], byte: u8) -> bool
+    ensures { result ≡ in_class class.now byte }
+{
+    class.iter().any(|b| byte == *b)
+}
