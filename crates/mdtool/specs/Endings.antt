@@ -1,5 +1,5 @@
 -- What a program says when it stops, and its status.
-use Rattle.std.specs.Prelude.{ℕ, List, [], ◌∷◌, ◌++◌, codes, decimal, string_bytes}
+use Rattle.std.specs.Prelude.{◌≡◌, ℕ, List, [], ◌∷◌, ◌++◌, codes, decimal, string_bytes}
 use Rattle.mdview.specs.declared.fault.EditFault.{EditFault}
 use Rattle.mdview.specs.declared.fault.EditFault.TheVariants.{OutOfRange, BreakInLine, TooManyLines, TooLarge, NestedTooDeep, InlineTooDeep}
 use Rattle.mdview.specs.declared.fault.EditFault.TheVariants.{NoMemory as EditNoMemory}
@@ -77,3 +77,15 @@ status_of (Words NotUnderstood) = 2
 status_of (Words WordNoMemory) = 1
 status_of (NotOpened name) = 1
 status_of (Tool fault) = tool_status_of fault
+
+-- a file of this name was not opened, or there was no memory to say so
+abbrev pub IsNotOpened : List ℕ → Stop → Type 0
+IsNotOpened name (NotOpened other) = string_bytes other ≡ name
+IsNotOpened name (Tool ToolNoMemory) = Unit {0}
+IsNotOpened name (Tool Read) = ⊥
+IsNotOpened name (Tool Write) = ⊥
+IsNotOpened name (Tool (Refused fault)) = ⊥
+IsNotOpened name (Tool (BadCommand line)) = ⊥
+IsNotOpened name (Tool (Truncated line)) = ⊥
+IsNotOpened name (Tool (Table fault)) = ⊥
+IsNotOpened name (Words fault) = ⊥

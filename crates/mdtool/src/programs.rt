@@ -1,5 +1,6 @@
 //! What the programs do around their engines: words, files, endings.
-ghost use Rattle.std.specs.Prelude.{◌≡◌, IfOk};
+ghost use Rattle.std.specs.Prelude.{◌≡◌, IfErr, IfOk};
+ghost use Rattle.mdtool.specs.Endings.{IsNotOpened};
 
 use crate::device::Feed;
 use crate::endings::ending;
@@ -67,7 +68,8 @@ pub fn entities_of(rt: &HostRuntime, words: &Words) -> Result<Entities, Stop> {
 
 /// The file of this name, as a feed.
 pub fn opened(rt: &HostRuntime, name: &str) -> Result<ReadFeed<File>, Stop>
-    ensures { IfOk result (λ feed. ⟦<ReadFeed<File> as Feed>⟧.failures feed ≡ 0) }
+    ensures feed { IfOk result (λ feed. ⟦<ReadFeed<File> as Feed>⟧.failures feed ≡ 0) }
+    ensures stop { IfErr result (IsNotOpened name.now) }
 {
     match File::open(rt, name) {
         Ok(file) => Ok(ReadFeed::new(file)),
@@ -75,7 +77,9 @@ pub fn opened(rt: &HostRuntime, name: &str) -> Result<ReadFeed<File>, Stop>
     }
 }
 
-fn not_opened(rt: &HostRuntime, name: &str) -> Stop {
+fn not_opened(rt: &HostRuntime, name: &str) -> Stop
+    ensures { IsNotOpened name.now result }
+{
     match String::from_str(rt.alloc(), name) {
         Ok(name) => Stop::NotOpened(name),
         Err(_) => Stop::Tool(ToolFault::NoMemory),

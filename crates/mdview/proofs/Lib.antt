@@ -9,3 +9,4 @@ pub mod Targets
 pub mod Texts
 pub mod Splices
 pub mod Exchanged
+pub mod LineEndings

@@ -4,15 +4,14 @@ ghost use Rattle.mdtext.specs.Lines.{without_nul};
 ghost use Rattle.mdview.specs.Document.{size_of};
 ghost use Rattle.mdview.specs.Edit.{has_line_ending, first_with_ending};
 
-use mdtext::clean_len;
+use mdtext::{Class, clean_len, first_special};
 
 /// Whether a line ending stands in the line.
 pub fn has_line_break(line: &str) -> bool
     ensures { result ≡ has_line_ending line.now }
 {
-    line.as_bytes()
-        .iter()
-        .any(|byte| *byte == b'\n' || *byte == b'\r')
+    let bytes = line.as_bytes();
+    first_special(bytes, &Class::of(b"\n\r")) < bytes.len()
 }
 
 /// The first line that holds a line ending.
