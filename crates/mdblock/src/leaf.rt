@@ -1,6 +1,7 @@
 //! Blocks that hold no other blocks: what begins each, which lines it takes, what it keeps, and what it is at its end.
 
 ghost use Rattle.std.specs.Prelude.{◌≡◌, ◌≤◌, ℕ, IfOk, IfSome, None, Some, length};
+ghost use Rattle.mdblock.specs.BlockLine.{rest};
 ghost use Rattle.mdblock.specs.BlockView.{block_view};
 ghost use Rattle.mdblock.specs.Positions.{BlockIn};
 ghost use Rattle.mdblock.specs.OpenPositions.{LeafIn, StepIn};
@@ -48,7 +49,7 @@ impl Leaf {
         line: Line,
         gathering: &mut Gathering,
     ) -> Result<Step, AllocError>
-        requires { IfSome opening (λ o. IsOpeningOf line.text.now o) }
+        requires { IfSome opening (λ o. IsOpeningOf (rest line) o) }
         ensures within { IfOk result (λ step. StepIn (length gathering.new.texts.items) step) }
         ensures grows { length gathering.old.texts.items ≤ length gathering.new.texts.items }
     {

@@ -1,6 +1,7 @@
 //! The block that a line begins, by the order in which the constructs are tried.
 
 ghost use Rattle.std.specs.Prelude.{◌≡◌, IfSome};
+ghost use Rattle.mdblock.specs.BlockLine.{rest};
 ghost use Rattle.mdblock.specs.Openings.{IsOpeningOf};
 
 use crate::lines::Line;
@@ -34,7 +35,7 @@ pub(crate) enum Opening {
 
 /// The block that a line begins, but for setext underlines and tables, which need the paragraph before.
 pub(crate) fn start(line: &Line, mode: Mode) -> Option<Opening>
-    ensures { IfSome result (λ opening. IsOpeningOf line.now.text.now opening) }
+    ensures { IfSome result (λ opening. IsOpeningOf (rest line.now) opening) }
 {
     if line.is_blank() {
         return None;

@@ -2,6 +2,7 @@
 
 ghost use Rattle.std.specs.Prelude.{◌≡◌, ℕ, IfSome, OnOk};
 ghost use Rattle.mdtext.specs.Columns.{AreMarks};
+ghost use Rattle.mdblock.specs.BlockLine.{rest};
 ghost use Rattle.mdblock.specs.BlockView.{block_view, blocks_view, items_view};
 ghost use Rattle.mdblock.specs.Positions.{BlockIn, BlocksIn, ItemsIn};
 
@@ -52,7 +53,7 @@ impl OpenList {
 
     /// The marker of the list's next item, where a line begins one.
     pub(crate) fn next(&self, line: &Line) -> Option<Marker>
-        ensures { IfSome result (λ marker. AreMarks marker.width line.now.text.now) }
+        ensures { IfSome result (λ marker. AreMarks marker.width (rest line.now)) }
     {
         match start(line, Mode::Free) {
             Some(Opening::Item(marker)) => {
@@ -98,7 +99,7 @@ impl OpenList {
 
 /// Takes an item's marker and the columns after it off its first line, and answers the columns that its other lines need.
 pub(crate) fn take_marker(line: &mut Line, marker: Marker) -> usize
-    requires { AreMarks marker.width line.old.text.now }
+    requires { AreMarks marker.width (rest line.old) }
 {
     let before = line.indent().saturating_add(marker.width);
     line.take_mark(marker.width);

@@ -2,6 +2,7 @@
 
 ghost use Rattle.std.specs.Prelude.{◌≡◌, IsTrue};
 ghost use Rattle.mdtext.specs.Columns.{AreMarks};
+ghost use Rattle.mdblock.specs.BlockLine.{rest};
 
 use crate::lines::Line;
 use mdscan::quote_marker;
@@ -9,14 +10,14 @@ use mdscan::quote_marker;
 /// Whether a line has the marker of a block quote, which no lazy line has.
 #[tactic(auto, using(crate::proofs::Markers::quote_mark))]
 pub(crate) fn matches(line: &Line) -> bool
-    ensures { IsTrue result → AreMarks 1 line.now.text.now }
+    ensures { IsTrue result → AreMarks 1 (rest line.now) }
 {
     !line.is_lazy() && line.is_near_margin() && quote_marker(line.text())
 }
 
 /// Takes the marker off, and one column of space or tab after it.
 pub(crate) fn take_marker(line: &mut Line)
-    requires { AreMarks 1 line.old.text.now }
+    requires { AreMarks 1 (rest line.old) }
 {
     line.take_mark(1);
     line.take_columns(1);

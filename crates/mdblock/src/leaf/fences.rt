@@ -2,6 +2,7 @@
 
 ghost use Rattle.std.specs.Prelude.{ℕ, IfOk};
 ghost use Rattle.mdscan.specs.Spans.{IsSpanOf};
+ghost use Rattle.mdblock.specs.BlockLine.{rest};
 ghost use Rattle.mdblock.specs.BlockView.{block_view};
 ghost use Rattle.mdblock.specs.OpenPositions.{StepIn};
 ghost use Rattle.mdblock.specs.Positions.{BlockIn};
@@ -30,7 +31,7 @@ pub(crate) fn begin(
     line: &Line,
     gathering: &Gathering,
 ) -> Result<Step, AllocError>
-    requires { IsSpanOf line.now.text.now fence.info }
+    requires { IsSpanOf (rest line.now) fence.info }
     ensures { (n : ℕ) → IfOk result (λ step. StepIn n step) }
 {
     let text = line.text();
