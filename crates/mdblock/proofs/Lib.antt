@@ -6,6 +6,7 @@ pub mod GroupLaws
 pub mod ItemLaws
 pub mod Markers
 pub mod Skips
+pub mod StartLaws
 pub mod SummaryLaws
 pub mod UnitLaws
 pub mod VisibleLaws

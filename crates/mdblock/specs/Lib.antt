@@ -12,11 +12,13 @@ pub mod LineSummary
 pub mod ListGroups
 pub mod Nesting
 pub mod NodeTree
+pub mod OpeningKind
 pub mod Openings
 pub mod OpenPositions
 pub mod ParagraphEnd
 pub mod Positions
 pub mod Reading
+pub mod StartParts
 pub mod StoredBlocks
 pub mod Stretches
 pub mod TaskItem

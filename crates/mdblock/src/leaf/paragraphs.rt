@@ -58,21 +58,22 @@ impl Paragraph {
             return Turn::Ends;
         }
         if line.is_near_margin() {
-            return self.turn_at_margin(line.text());
+            return self.turn_at_margin(line);
         }
         Turn::Continues
     }
 
-    fn turn_at_margin(&self, text: &str) -> Turn {
-        if before_underline(text, Mode::Inside).is_some() {
+    fn turn_at_margin(&self, line: &Line) -> Turn {
+        if before_underline(line, Mode::Inside).is_some() {
             return Turn::Ends;
         }
+        let text = line.text();
         if let Some(level) = setext(text) {
             if !is_only_definitions(self.text.as_str()) {
                 return Turn::Underlines(level);
             }
         }
-        if after_underline(text, Mode::Inside).is_some() {
+        if after_underline(line, Mode::Inside).is_some() {
             return Turn::Ends;
         }
         if may_delimit(text) && begins_table(last_line(self.text.as_str()), text) {
