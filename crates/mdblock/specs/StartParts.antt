@@ -1,6 +1,6 @@
 -- What a line begins by itself, in two parts: a setext underline is tried between them, and a delimiter row after them
 -- (CommonMark 4, 5; GFM Tables).
-use Rattle.std.specs.Prelude.{ℕ, Bool, true, false, nat_le, Option, Some, None}
+use Rattle.std.specs.Prelude.{Bool, true, false, nat_le, Option, None}
 use Rattle.std.specs.Option.{option_or}
 use Rattle.mdblock.specs.BlockLine.{BlockLine, indentation, is_blank_line}
 use Rattle.mdblock.specs.BlockStart.{Mode, Kind, begins_quote, begins_atx, begins_fence, begins_html, begins_break, begins_item, start_far}
