@@ -3,6 +3,7 @@ pub mod CutLaws
 pub mod DepthLaws
 pub mod DocumentLaws
 pub mod GroupLaws
+pub mod HtmlEnds
 pub mod ItemLaws
 pub mod Markers
 pub mod Skips

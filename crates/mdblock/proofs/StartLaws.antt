@@ -2,7 +2,7 @@
 -- between the two parts of that.
 use Rattle.std.proofs.Common.{◌≡◌, Bool, true, false, List, Option, Some, None, refl, ap, sym, ◌∙◌}
 use Rattle.std.specs.Prelude.{nat_le}
-use Rattle.std.specs.Option.{option_or}
+use Rattle.std.specs.Option.{option_or, option_map, is_none}
 use Rattle.mdblock.specs.BlockLine.{BlockLine, indentation, is_blank_line}
 use Rattle.mdblock.specs.BlockStart.{Mode, Free, Inside, Lazy, Kind, is_inside, begins_quote, begins_atx, begins_fence, begins_html, begins_underline, begins_break, begins_item, begins_rows, start_near, start_at, start_where, start}
 use Rattle.mdblock.specs.StartParts.{start_before_underline, start_after_underline, start_alone_near, start_alone_at, start_alone_where, start_alone}
@@ -51,3 +51,11 @@ unfolding start start_alone
 starts_alone Free h paragraph l = sym (where_alone Free paragraph l refl refl (is_blank_line l))
 starts_alone Inside h paragraph l = cc
 starts_alone Lazy h paragraph l = sym (where_alone Lazy paragraph l refl refl (is_blank_line l))
+
+pub none_mapped : {A B : Type 0} (f : A → B) (o : Option A) → is_none (option_map f o) ≡ is_none o
+none_mapped f None = refl
+none_mapped f (Some x) = refl
+
+-- no opening is found where none begins
+pub none_begins : {A : Type 0} (f : A → Kind) (o : Option A) (k : Option Kind) → option_map f o ≡ k → is_none o ≡ is_none k
+none_begins f o k e = sym (none_mapped f o) ∙ ap is_none e

@@ -1,11 +1,12 @@
 //! Fenced code (CommonMark 4.5).
 
-ghost use Rattle.std.specs.Prelude.{ℕ, IfOk};
+ghost use Rattle.std.specs.Prelude.{◌≡◌, ℕ, IfOk};
 ghost use Rattle.mdscan.specs.Spans.{IsSpanOf};
 ghost use Rattle.mdblock.specs.BlockLine.{rest};
 ghost use Rattle.mdblock.specs.BlockView.{block_view};
 ghost use Rattle.mdblock.specs.OpenPositions.{StepIn};
 ghost use Rattle.mdblock.specs.Positions.{BlockIn};
+ghost use Rattle.mdblock.specs.Stretches.{closes};
 
 use crate::blocks::Block;
 use crate::gathering::Gathering;
@@ -46,11 +47,18 @@ pub(crate) fn begin(
 }
 
 impl Fence {
+    /// Whether a line is the closing fence.
+    fn closes(&self, line: &Line) -> bool
+        ensures { result ≡ closes self.now.mark self.now.length line.now }
+    {
+        line.is_near_margin() && fence_end(line.text(), self.mark, self.length)
+    }
+
     /// Reads a line: what closes the code, or a line of it.
     pub(crate) fn add(mut self, mut line: Line) -> Result<Step, AllocError>
         ensures { (n : ℕ) → IfOk result (λ step. StepIn n step) }
     {
-        if line.is_near_margin() && fence_end(line.text(), self.mark, self.length) {
+        if self.closes(&line) {
             return Ok(over(self.end()));
         }
         line.take_columns(self.indent);

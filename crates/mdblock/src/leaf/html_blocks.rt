@@ -1,9 +1,11 @@
 //! HTML blocks (CommonMark 4.6).
 
-ghost use Rattle.std.specs.Prelude.{ℕ, IfOk};
+ghost use Rattle.std.specs.Prelude.{◌≡◌, ℕ, ◌||◌, nat_lt, not, IfOk};
+ghost use Rattle.mdblock.specs.BlockLine.{is_blank_line};
 ghost use Rattle.mdblock.specs.BlockView.{block_view};
 ghost use Rattle.mdblock.specs.OpenPositions.{StepIn};
 ghost use Rattle.mdblock.specs.Positions.{BlockIn};
+ghost use Rattle.mdblock.specs.Stretches.{ends_html};
 
 use crate::blocks::Block;
 use crate::leaf::{Leaf, Step, going, over};
@@ -29,7 +31,9 @@ pub(crate) fn begin(kind: u8, line: &Line, alloc: Global) -> Result<Step, AllocE
 
 impl HtmlBlock {
     /// Whether a line goes on with the block.
-    pub(crate) fn takes(&self, line: &Line) -> bool {
+    pub(crate) fn takes(&self, line: &Line) -> bool
+        ensures { result ≡ (nat_lt self.now.kind 6 || not (is_blank_line line.now)) }
+    {
         self.kind < 6 || !line.is_blank()
     }
 
@@ -42,11 +46,18 @@ impl HtmlBlock {
         Ok(self.after(line))
     }
 
+    /// Whether a line holds what ends the block.
+    fn ends(&self, line: &Line) -> bool
+        ensures { result ≡ ends_html self.now.kind line.now }
+    {
+        html_end(self.kind, line.whole())
+    }
+
     /// What a line that was read leaves: it may be the last one.
     fn after(self, line: &Line) -> Step
         ensures { (n : ℕ) → StepIn n result }
     {
-        if html_end(self.kind, line.whole()) {
+        if self.ends(line) {
             over(self.end())
         } else {
             going(Leaf::Html(self))

@@ -1,9 +1,10 @@
 //! Indented code (CommonMark 4.4).
 
-ghost use Rattle.std.specs.Prelude.{ℕ, IfOk};
+ghost use Rattle.std.specs.Prelude.{◌≡◌, ℕ, IfOk};
 ghost use Rattle.mdblock.specs.BlockView.{block_view};
 ghost use Rattle.mdblock.specs.OpenPositions.{StepIn};
 ghost use Rattle.mdblock.specs.Positions.{BlockIn};
+ghost use Rattle.mdblock.specs.Stretches.{is_code};
 
 use crate::blocks::Block;
 use crate::leaf::{Leaf, Step, going};
@@ -29,8 +30,10 @@ pub(crate) fn begin(line: Line, alloc: Global) -> Result<Step, AllocError>
 }
 
 /// Whether a line goes on with indented code.
-pub(crate) fn takes(line: &Line) -> bool {
-    line.is_blank() || !line.is_near_margin()
+pub(crate) fn takes(line: &Line) -> bool
+    ensures { result ≡ is_code line.now }
+{
+    line.is_blank() || line.indent() >= 4
 }
 
 impl IndentedCode {
