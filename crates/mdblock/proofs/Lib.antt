@@ -5,7 +5,10 @@ pub mod DocumentLaws
 pub mod GroupLaws
 pub mod HtmlEnds
 pub mod ItemLaws
+pub mod LeafLaws
 pub mod Markers
+pub mod ParagraphLaws
+pub mod RowStarts
 pub mod Skips
 pub mod StartLaws
 pub mod SummaryLaws

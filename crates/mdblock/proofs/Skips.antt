@@ -19,11 +19,11 @@ at_most_or_more m n = by_test (nat_le m n) refl where
 drop_one : (n b : ℕ) (bs : List ℕ) → drop (1 + n) (b ∷ bs) ≡ drop n bs
 drop_one n b bs = let e : 1 + n ≡ suc n = omega arith in rw e refl
 
-unindented_blank : (b : ℕ) (bs : List ℕ) → is_space_or_tab b ≡ true → unindented (b ∷ bs) ≡ unindented bs
+pub unindented_blank : (b : ℕ) (bs : List ℕ) → is_space_or_tab b ≡ true → unindented (b ∷ bs) ≡ unindented bs
 unfolding unindented
 unindented_blank b bs h = rw h (drop_one (prefix_len is_space_or_tab bs) b bs)
 
-unindented_other : (b : ℕ) (bs : List ℕ) → is_space_or_tab b ≡ false → unindented (b ∷ bs) ≡ b ∷ bs
+pub unindented_other : (b : ℕ) (bs : List ℕ) → is_space_or_tab b ≡ false → unindented (b ∷ bs) ≡ b ∷ bs
 unfolding unindented
 unindented_other b bs h = rw h refl
 
@@ -31,7 +31,7 @@ blank_indents : (column b : ℕ) (bs : List ℕ) → is_space_or_tab b ≡ false
 unfolding indent_at
 blank_indents column b bs h = rw h refl
 
-is_bool : (t : Bool) → (t ≡ true) ⊎ (t ≡ false)
+pub is_bool : (t : Bool) → (t ≡ true) ⊎ (t ≡ false)
 is_bool true = inl refl
 is_bool false = inr refl
 
@@ -99,7 +99,7 @@ ends_here : (column left columns : ℕ) (rest : List ℕ) → columns ≡ left �
 ends_here column left columns rest e same =
     rw (lands column left columns rest (omega (arith, e))) (record { whole = omega (arith, e); text = sym same })
 
-unindented_nil : unindented [] ≡ []
+pub unindented_nil : unindented [] ≡ []
 unfolding unindented
 unindented_nil = refl
 

@@ -14,8 +14,11 @@ pub mod Nesting
 pub mod NodeTree
 pub mod OpeningKind
 pub mod Openings
+pub mod OpenLeaves
 pub mod OpenPositions
 pub mod ParagraphEnd
+pub mod ParagraphLines
+pub mod ParagraphTurns
 pub mod Positions
 pub mod Reading
 pub mod StartParts

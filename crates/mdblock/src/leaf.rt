@@ -1,9 +1,15 @@
 //! Blocks that hold no other blocks: what begins each, which lines it takes, what it keeps, and what it is at its end.
 
-ghost use Rattle.std.specs.Prelude.{◌≡◌, ◌≤◌, ℕ, IfOk, IfSome, None, Some, length};
-ghost use Rattle.mdblock.specs.BlockLine.{rest};
+ghost use Rattle.std.specs.Prelude.{◌≡◌, ◌≤◌, ℕ, List, IfOk, IfSome, None, Some, length, not};
+ghost use Rattle.mdtext.specs.EntityTable.{EntityTable};
+ghost use Rattle.mdblock.specs.BlockLine.{BlockLine, rest};
+ghost use Rattle.mdblock.specs.BlockStart.{Kind};
 ghost use Rattle.mdblock.specs.BlockView.{block_view};
+ghost use Rattle.mdblock.specs.Laziness.{Tip};
+ghost use Rattle.mdblock.specs.OpenLeaves.{IsLeafOf};
 ghost use Rattle.mdblock.specs.Positions.{BlockIn};
+ghost use Rattle.mdblock.specs.Stretches.{step};
+ghost use Rattle.mdblock.specs.UnitBegin.{is_stop};
 ghost use Rattle.mdblock.specs.OpenPositions.{LeafIn, StepIn};
 ghost use Rattle.mdblock.specs.Openings.{IsOpeningOf};
 
@@ -68,7 +74,9 @@ impl Leaf {
     }
 
     /// Whether the leaf takes a line, all of whose containers match it.
-    pub(crate) fn takes(&self, line: &Line) -> bool {
+    pub(crate) fn takes(&self, line: &Line) -> bool
+        ensures { (entities : EntityTable) (kind : Kind) (first : BlockLine) (later : List BlockLine) → IsLeafOf entities self.now kind first later → (tip : List BlockLine → Tip) → result ≡ not (is_stop (step tip kind first later line.now)) }
+    {
         match self {
             Leaf::Paragraph(paragraph) => paragraph.takes(line),
             Leaf::Fence(_) => true,

@@ -1,8 +1,9 @@
 //! A line, as what is left of it where its containers end.
 
-ghost use Rattle.std.specs.Prelude.{◌≡◌, ℕ, ◌+◌, ◌*◌, ◌^◌, ◌<◌, ◌≤◌, ◌++◌, length, nat_le, replicate, string_bytes, true, OnOk};
+ghost use Rattle.std.specs.Prelude.{◌≡◌, ℕ, ◌+◌, ◌-◌, ◌*◌, ◌^◌, ◌<◌, ◌≤◌, ◌++◌, length, nat_le, replicate, string_bytes, true, OnOk};
 ghost use Rattle.std.specs.Str.{IsCharBoundary};
-ghost use Rattle.std.specs.List.{prefix_len};
+ghost use Rattle.std.specs.List.{prefix_len, suffix_len};
+ghost use Rattle.mdscan.specs.Blanks.{is_blank};
 ghost use Rattle.mdtext.specs.Columns.{AreMarks, is_space_or_tab};
 ghost use Rattle.mdblock.specs.BlockLine.{document_line, indentation, rest, is_blank_line, without_columns, as_lazy, behind_marker};
 ghost use Rattle.mdblock.specs.Indentation.{unindented};
@@ -153,14 +154,20 @@ fn leading_blanks(text: &[u8]) -> usize
 /// How many bytes a text has without the spaces and tabs at its end.
 pub(crate) fn trimmed_length(text: &str) -> usize
     ensures boundary { IsCharBoundary text.now result }
+    ensures value { result ≡ length text.now - suffix_len is_blank text.now }
 {
-    let blanks = text
-        .as_bytes()
-        .iter()
+    text.len() - trailing_blanks(text.as_bytes())
+}
+
+/// How many of the last bytes are spaces or tabs.
+fn trailing_blanks(text: &[u8]) -> usize
+    ensures count { result ≡ suffix_len is_blank text.now }
+    ensures within { result ≤ length text.now }
+{
+    text.iter()
         .rev()
         .take_while(|byte| is_space_or_tab(**byte))
-        .count();
-    text.len() - blanks
+        .count()
 }
 
 fn is_space_or_tab(byte: u8) -> bool

@@ -1,0 +1,43 @@
+-- What an open leaf holds of its lines (CommonMark 4.4, 4.5, 4.6, 4.8; GFM Tables).
+use Rattle.std.specs.Prelude.{◌≡◌, ℕ, ◌-◌, List, ◌∷◌, length, map, drop, string_bytes}
+use Rattle.std.specs.List.{suffix_len}
+use Rattle.mdtext.specs.EntityTable.{EntityTable}
+use Rattle.mdleaf.specs.CodeLanguage.{code_language}
+use Rattle.mdleaf.specs.ParagraphText.{joined_lines}
+use Rattle.mdblock.specs.BlockLine.{BlockLine, is_blank_line}
+use Rattle.mdblock.specs.BlockStart.{Kind, Paragraph, FencedCode, IndentedCode, HtmlBlock, Table}
+use Rattle.mdblock.specs.LeafContents.{code_text, without_end_blank_lines}
+use Rattle.mdblock.specs.ParagraphLines.{HoldsLines}
+use Rattle.mdblock.specs.declared.leaf.fences.Fence.{Fence}
+use Rattle.mdblock.specs.declared.leaf.html_blocks.HtmlBlock as html
+use Rattle.mdblock.specs.declared.leaf.indented_code.IndentedCode as code
+use Rattle.mdblock.specs.declared.leaf.Leaf.{Leaf}
+use Rattle.mdblock.specs.declared.leaf.Leaf.TheVariants as leaf
+
+-- the blank lines at the end
+abbrev pub end_blank_lines : List BlockLine → List BlockLine
+end_blank_lines ls = drop (length ls - suffix_len is_blank_line ls) ls
+
+pub record IsFenceOf (entities : EntityTable) (indentation mark length : ℕ) (info : List ℕ) (later : List BlockLine) (f : Fence) : Type 0 where
+  pub mark_is : f.mark ≡ mark
+  pub length_is : f.length ≡ length
+  pub indentation_is : f.indent ≡ indentation
+  pub language : string_bytes f.lang ≡ code_language entities info
+  pub body : string_bytes f.body ≡ code_text indentation later
+
+pub record IsHtmlOf (kind : ℕ) (lines : List BlockLine) (h : html.HtmlBlock) : Type 0 where
+  pub kind_is : h.kind ≡ kind
+  pub body : string_bytes h.body ≡ joined_lines (map (λ l. l.line.text) lines)
+
+pub record IsCodeOf (lines : List BlockLine) (c : code.IndentedCode) : Type 0 where
+  pub body : string_bytes c.body ≡ code_text 4 (without_end_blank_lines lines)
+  pub blanks : string_bytes c.blanks ≡ code_text 4 (end_blank_lines lines)
+
+-- A table's cells are handed in as they are read, so of one nothing is said here.
+abbrev pub IsLeafOf : EntityTable → Leaf → Kind → (first : BlockLine) → (later : List BlockLine) → Type 0
+IsLeafOf entities (leaf.Paragraph p) Paragraph first later = HoldsLines (first ∷ later) p
+IsLeafOf entities (leaf.Fence f) (FencedCode indentation mark length info closed) first later = IsFenceOf entities indentation mark length info later f
+IsLeafOf entities (leaf.Html h) (HtmlBlock kind) first later = IsHtmlOf kind (first ∷ later) h
+IsLeafOf entities (leaf.Code c) IndentedCode first later = IsCodeOf (first ∷ later) c
+IsLeafOf entities (leaf.Table t) (Table above) first later = Unit {0}
+IsLeafOf entities leaf kind first later = ⊥
