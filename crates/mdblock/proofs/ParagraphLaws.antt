@@ -1,6 +1,7 @@
 -- What an open paragraph's text tells of its lines, and what a line does to it.
 use Rattle.std.proofs.Common.{◌≡◌, ℕ, zero, suc, ◌+◌, ◌-◌, ◌<◌, ◌≤◌, Bool, true, false, List, [], ◌∷◌, ◌++◌, append_assoc, length, length-append, map, take, drop, Option, Some, None, refl, ap, sym, ◌∙◌, subst, arith, cond, nat_le}
 use Rattle.std.proofs.Math.Seq.{drop-append-add, drop-nil, get_or-append_seam}
+use Rattle.std.proofs.lemmas.List.{map-append}
 use Rattle.std.proofs.lemmas.Str.{IsCharBoundary-start, IsCharBoundary-after_ascii, IsCharBoundary-before_ascii}
 use Rattle.std.specs.List.{slice_index, suffix_len}
 use Rattle.std.specs.Option.{option_or, option_map, is_some}
@@ -16,17 +17,10 @@ use Rattle.mdblock.specs.StartParts.{start_before_underline, start_after_underli
 use Rattle.mdblock.specs.Stretches.{Takes, Ends, Stops, interrupted, paragraph_step}
 use Rattle.mdblock.specs.declared.starts.Opening.{Opening}
 use Rattle.mdblock.specs.declared.starts.Opening.TheVariants as o
+use Rattle.mdblock.proofs.LeafTexts.{joined_more, joined_one, joined_next}
 use Rattle.mdblock.proofs.StartLaws.{near_in_parts}
 
 -- ---- the text
-
-joined_more : (l m : BlockLine) (ls : List BlockLine) → joined_lines (map rest (l ∷ m ∷ ls)) ≡ rest l ++ 10 ∷ joined_lines (map rest (m ∷ ls))
-unfolding joined_lines
-joined_more l m ls = refl
-
-joined_one : (l : BlockLine) → joined_lines (map rest (l ∷ [])) ≡ rest l
-unfolding joined_lines
-joined_one l = refl
 
 joined_none : joined_lines (map rest []) ≡ []
 unfolding joined_lines
@@ -34,9 +28,9 @@ joined_none = refl
 
 last_within : (lines : List BlockLine) → length (last_text lines) ≤ length (joined_lines (map rest lines))
 last_within [] = rw joined_none (omega arith)
-last_within (l ∷ []) = rw (joined_one l) (omega arith)
+last_within (l ∷ []) = rw (joined_one (rest l)) (omega arith)
 last_within (l ∷ m ∷ ls) =
-    let more : length (joined_lines (map rest (l ∷ m ∷ ls))) ≡ length (rest l) + suc (length (joined_lines (map rest (m ∷ ls)))) = ap length (joined_more l m ls) ∙ length-append (rest l) (10 ∷ joined_lines (map rest (m ∷ ls))) in
+    let more : length (joined_lines (map rest (l ∷ m ∷ ls))) ≡ length (rest l) + suc (length (joined_lines (map rest (m ∷ ls)))) = ap length (joined_more (rest l) (rest m) (map rest ls)) ∙ length-append (rest l) (10 ∷ joined_lines (map rest (m ∷ ls))) in
     omega (arith, more, last_within (m ∷ ls))
 
 drop_nothing : (n : ℕ) (a : List ℕ) → n ≡ 0 → drop n a ≡ a
@@ -45,14 +39,14 @@ drop_nothing n a e = ap (λ k. drop k a) e
 from_last : (lines : List BlockLine) (k : ℕ) → k + length (last_text lines) ≡ length (joined_lines (map rest lines)) → drop k (joined_lines (map rest lines)) ≡ last_text lines
 from_last [] k h = rw joined_none (drop-nil k)
 from_last (l ∷ []) k h =
-    let same : length (joined_lines (map rest (l ∷ []))) ≡ length (rest l) = ap length (joined_one l) in
-    drop_nothing k _ (omega (arith, h, same)) ∙ joined_one l
+    let same : length (joined_lines (map rest (l ∷ []))) ≡ length (rest l) = ap length (joined_one (rest l)) in
+    drop_nothing k _ (omega (arith, h, same)) ∙ joined_one (rest l)
 from_last (l ∷ m ∷ ls) k h =
-    let more : length (joined_lines (map rest (l ∷ m ∷ ls))) ≡ length (rest l) + suc (length (joined_lines (map rest (m ∷ ls)))) = ap length (joined_more l m ls) ∙ length-append (rest l) (10 ∷ joined_lines (map rest (m ∷ ls))) in
+    let more : length (joined_lines (map rest (l ∷ m ∷ ls))) ≡ length (rest l) + suc (length (joined_lines (map rest (m ∷ ls)))) = ap length (joined_more (rest l) (rest m) (map rest ls)) ∙ length-append (rest l) (10 ∷ joined_lines (map rest (m ∷ ls))) in
     let within = last_within (m ∷ ls) in
     let j : ℕ = k - suc (length (rest l)) in
     let here : k ≡ length (rest l) + suc j = omega (arith, h, more, within) in
-    ap (drop k) (joined_more l m ls) ∙ ap (λ n. drop n (rest l ++ 10 ∷ joined_lines (map rest (m ∷ ls)))) here
+    ap (drop k) (joined_more (rest l) (rest m) (map rest ls)) ∙ ap (λ n. drop n (rest l ++ 10 ∷ joined_lines (map rest (m ∷ ls)))) here
     ∙ drop-append-add (rest l) (10 ∷ joined_lines (map rest (m ∷ ls))) (suc j)
     ∙ from_last (m ∷ ls) j (omega (arith, h, more, within, here))
 
@@ -61,14 +55,10 @@ pub last_is : (lines : List BlockLine) (held : HeldText) → HoldsLines lines he
 last_is lines held h = ap (drop held.last) h.whole ∙ from_last lines held.last (h.last_one ∙ ap length h.whole)
 
 pub first_line : (l : BlockLine) (text : List ℕ) → text ≡ rest l → HoldsLines (l ∷ []) (record { text = text; last = 0 })
-first_line l text e = record { whole = e ∙ sym (joined_one l); last_one = omega (arith, ap length e) }
+first_line l text e = record { whole = e ∙ sym (joined_one (rest l)); last_one = omega (arith, ap length e) }
 
-joined_next : (first : BlockLine) (later : List BlockLine) (l : BlockLine) → joined_lines (map rest (first ∷ later ++ l ∷ [])) ≡ joined_lines (map rest (first ∷ later)) ++ 10 ∷ rest l
-joined_next first [] l = joined_more first l [] ∙ ap (λ t. rest first ++ 10 ∷ t) (joined_one l) ∙ ap (λ t. t ++ 10 ∷ rest l) (sym (joined_one first))
-joined_next first (m ∷ ls) l =
-    joined_more first m (ls ++ l ∷ []) ∙ ap (λ t. rest first ++ 10 ∷ t) (joined_next m ls l)
-    ∙ sym (append_assoc (rest first) (10 ∷ joined_lines (map rest (m ∷ ls))) (10 ∷ rest l))
-    ∙ ap (λ t. t ++ 10 ∷ rest l) (sym (joined_more first m ls))
+lines_next : (first : BlockLine) (later : List BlockLine) (l : BlockLine) → joined_lines (map rest (first ∷ later ++ l ∷ [])) ≡ joined_lines (map rest (first ∷ later)) ++ 10 ∷ rest l
+lines_next first later l = ap (λ ts. joined_lines (rest first ∷ ts)) (map-append rest later (l ∷ [])) ∙ joined_next (rest first) (map rest later) (rest l)
 
 last_next : (first : BlockLine) (later : List BlockLine) (l : BlockLine) → last_text (first ∷ later ++ l ∷ []) ≡ rest l
 last_next first [] l = refl
@@ -80,7 +70,7 @@ pub next_line : (first : BlockLine) (later : List BlockLine) (l : BlockLine) (he
 next_line first later l held new h e a =
     let long : length new.text ≡ length held.text + suc (length (rest l)) = ap length e ∙ length-append held.text (10 ∷ rest l) in
     record {
-      whole = e ∙ ap (λ t. t ++ 10 ∷ rest l) h.whole ∙ sym (joined_next first later l);
+      whole = e ∙ ap (λ t. t ++ 10 ∷ rest l) h.whole ∙ sym (lines_next first later l);
       last_one = omega (arith, long, a, ap length (last_next first later l));
     }
 

@@ -1,11 +1,14 @@
 -- What an open leaf holds of its lines (CommonMark 4.4, 4.5, 4.6, 4.8; GFM Tables).
-use Rattle.std.specs.Prelude.{◌≡◌, ℕ, ◌-◌, List, ◌∷◌, length, map, drop, string_bytes}
+use Rattle.std.specs.Prelude.{◌≡◌, ℕ, ◌-◌, Bool, true, false, List, [], ◌∷◌, ◌++◌, length, map, drop, None, string_bytes}
 use Rattle.std.specs.List.{suffix_len}
+use Rattle.std.specs.Option.{MatchOption}
 use Rattle.mdtext.specs.EntityTable.{EntityTable}
 use Rattle.mdleaf.specs.CodeLanguage.{code_language}
 use Rattle.mdleaf.specs.ParagraphText.{joined_lines}
 use Rattle.mdblock.specs.BlockLine.{BlockLine, is_blank_line}
 use Rattle.mdblock.specs.BlockStart.{Kind, Paragraph, FencedCode, IndentedCode, HtmlBlock, Table}
+use Rattle.mdblock.specs.BlockTree.{Block, code_block, html_block}
+use Rattle.mdblock.specs.BlockView.{block_view}
 use Rattle.mdblock.specs.LeafContents.{code_text, without_end_blank_lines}
 use Rattle.mdblock.specs.ParagraphLines.{HoldsLines}
 use Rattle.mdblock.specs.declared.leaf.fences.Fence.{Fence}
@@ -13,6 +16,7 @@ use Rattle.mdblock.specs.declared.leaf.html_blocks.HtmlBlock as html
 use Rattle.mdblock.specs.declared.leaf.indented_code.IndentedCode as code
 use Rattle.mdblock.specs.declared.leaf.Leaf.{Leaf}
 use Rattle.mdblock.specs.declared.leaf.Leaf.TheVariants as leaf
+use Rattle.mdblock.specs.declared.leaf.Step.{Step}
 
 -- the blank lines at the end
 abbrev pub end_blank_lines : List BlockLine → List BlockLine
@@ -41,3 +45,33 @@ IsLeafOf entities (leaf.Html h) (HtmlBlock kind) first later = IsHtmlOf kind (fi
 IsLeafOf entities (leaf.Code c) IndentedCode first later = IsCodeOf (first ∷ later) c
 IsLeafOf entities (leaf.Table t) (Table above) first later = Unit {0}
 IsLeafOf entities leaf kind first later = ⊥
+
+-- a line leaves an open leaf, and nothing that is over
+pub record IsGoing (P : Leaf → Type 0) (s : Step) : Type 0 where
+  pub nothing_over : s.over ≡ None
+  pub going : MatchOption s.going ⊥ P
+
+-- a line leaves a block that is over, and nothing that is open
+pub record IsOver (block : Block) (s : Step) : Type 0 where
+  pub over : MatchOption s.over ⊥ (λ found. block_view found ≡ block)
+  pub nothing_going : s.going ≡ None
+
+abbrev pub IsHtmlLeaf : (kind : ℕ) → (lines : List BlockLine) → Leaf → Type 0
+IsHtmlLeaf kind lines (leaf.Html h) = IsHtmlOf kind lines h
+IsHtmlLeaf kind lines leaf = ⊥
+
+abbrev pub IsHtmlStep : (ends : Bool) → (kind : ℕ) → (lines : List BlockLine) → Step → Type 0
+IsHtmlStep true kind lines s = IsOver (html_block (joined_lines (map (λ l. l.line.text) lines))) s
+IsHtmlStep false kind lines s = IsGoing (IsHtmlLeaf kind lines) s
+
+abbrev pub IsCodeLeaf : (lines : List BlockLine) → Leaf → Type 0
+IsCodeLeaf lines (leaf.Code c) = IsCodeOf lines c
+IsCodeLeaf lines leaf = ⊥
+
+abbrev pub IsFenceLeaf : EntityTable → (indentation mark length : ℕ) → (info : List ℕ) → (later : List BlockLine) → Leaf → Type 0
+IsFenceLeaf entities indentation mark length info later (leaf.Fence f) = IsFenceOf entities indentation mark length info later f
+IsFenceLeaf entities indentation mark length info later leaf = ⊥
+
+abbrev pub IsFenceStep : (closed : Bool) → EntityTable → (indentation mark length : ℕ) → (info : List ℕ) → (later : List BlockLine) → BlockLine → Step → Type 0
+IsFenceStep true entities indentation mark length info later l s = IsOver (code_block (code_language entities info) (code_text indentation later)) s
+IsFenceStep false entities indentation mark length info later l s = IsGoing (IsFenceLeaf entities indentation mark length info (later ++ l ∷ [])) s

@@ -30,7 +30,9 @@ impl<'e> Gathering<'e> {
         self.alloc
     }
 
-    pub(crate) fn entities(&self) -> &'e Entities {
+    pub(crate) fn entities(&self) -> &'e Entities
+        ensures { result.now ≡ self.now.entities.now }
+    {
         self.entities
     }
 
