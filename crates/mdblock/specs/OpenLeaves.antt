@@ -6,11 +6,12 @@ use Rattle.mdtext.specs.EntityTable.{EntityTable}
 use Rattle.mdleaf.specs.CodeLanguage.{code_language}
 use Rattle.mdleaf.specs.ParagraphText.{joined_lines}
 use Rattle.mdblock.specs.BlockLine.{BlockLine, is_blank_line}
-use Rattle.mdblock.specs.BlockStart.{Kind, Paragraph, FencedCode, IndentedCode, HtmlBlock, Table}
-use Rattle.mdblock.specs.BlockTree.{Block, code_block, html_block}
+use Rattle.mdblock.specs.BlockStart.{Kind, Paragraph, AtxHeading, ThematicBreak, FencedCode, IndentedCode, HtmlBlock, Table}
+use Rattle.mdblock.specs.BlockTree.{Block, heading, thematic_break, code_block, html_block}
 use Rattle.mdblock.specs.BlockView.{block_view}
 use Rattle.mdblock.specs.LeafContents.{code_text, without_end_blank_lines}
 use Rattle.mdblock.specs.ParagraphLines.{HoldsLines}
+use Rattle.mdblock.specs.Stretches.{ends_html}
 use Rattle.mdblock.specs.declared.leaf.fences.Fence.{Fence}
 use Rattle.mdblock.specs.declared.leaf.html_blocks.HtmlBlock as html
 use Rattle.mdblock.specs.declared.leaf.indented_code.IndentedCode as code
@@ -75,3 +76,22 @@ IsFenceLeaf entities indentation mark length info later leaf = ⊥
 abbrev pub IsFenceStep : (closed : Bool) → EntityTable → (indentation mark length : ℕ) → (info : List ℕ) → (later : List BlockLine) → BlockLine → Step → Type 0
 IsFenceStep true entities indentation mark length info later l s = IsOver (code_block (code_language entities info) (code_text indentation later)) s
 IsFenceStep false entities indentation mark length info later l s = IsGoing (IsFenceLeaf entities indentation mark length info (later ++ l ∷ [])) s
+
+abbrev pub IsParagraphLeaf : (lines : List BlockLine) → Leaf → Type 0
+IsParagraphLeaf lines (leaf.Paragraph p) = HoldsLines lines p
+IsParagraphLeaf lines leaf = ⊥
+
+-- What the first line of a leaf leaves, where so many texts are handed in before it.
+abbrev pub IsBegun : EntityTable → (texts : ℕ) → Kind → (first : BlockLine) → Step → Type 0
+IsBegun entities texts Paragraph first s = IsGoing (IsParagraphLeaf (first ∷ [])) s
+IsBegun entities texts (AtxHeading level content) first s = IsOver (heading level texts) s
+IsBegun entities texts ThematicBreak first s = IsOver thematic_break s
+IsBegun entities texts (FencedCode indentation mark length info closed) first s = IsGoing (IsFenceLeaf entities indentation mark length info []) s
+IsBegun entities texts IndentedCode first s = IsGoing (IsCodeLeaf (first ∷ [])) s
+IsBegun entities texts (HtmlBlock kind) first s = IsHtmlStep (ends_html kind first) kind (first ∷ []) s
+IsBegun entities texts kind first s = Unit {0}
+
+-- and the texts that are handed in with it
+abbrev pub begun_texts : Kind → List (List ℕ)
+begun_texts (AtxHeading level content) = content ∷ []
+begun_texts kind = []

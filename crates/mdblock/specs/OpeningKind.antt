@@ -1,8 +1,9 @@
 -- The block that an opening of a line begins.
-use Rattle.std.specs.Prelude.{false}
+use Rattle.std.specs.Prelude.{false, Option, unwrap_or}
+use Rattle.std.specs.Option.{option_map}
 use Rattle.mdscan.specs.Spans.{part}
 use Rattle.mdblock.specs.BlockLine.{BlockLine, indentation, rest}
-use Rattle.mdblock.specs.BlockStart.{Mode, Free, Inside, Lazy, Quote, Kind, AtxHeading, ThematicBreak, FencedCode, IndentedCode, HtmlBlock, Holds, item_of}
+use Rattle.mdblock.specs.BlockStart.{Mode, Free, Inside, Lazy, Quote, Kind, Paragraph, AtxHeading, ThematicBreak, FencedCode, IndentedCode, HtmlBlock, Holds, item_of}
 use Rattle.mdblock.specs.declared.starts.Mode as m
 use Rattle.mdblock.specs.declared.starts.Mode.TheVariants as mv
 use Rattle.mdblock.specs.declared.starts.Opening.{Opening}
@@ -21,3 +22,7 @@ kind_of_opening l (o.Html kind) = HtmlBlock kind
 kind_of_opening l o.Break = ThematicBreak
 kind_of_opening l (o.Item marker) = Holds (item_of l marker)
 kind_of_opening l o.Code = IndentedCode
+
+-- a line without an opening begins a paragraph
+abbrev pub opened_kind : BlockLine → Option Opening → Kind
+opened_kind l opening = unwrap_or (option_map (kind_of_opening l) opening) Paragraph

@@ -1,6 +1,6 @@
 //! What the leaves of a unit hand in as they close.
 
-ghost use Rattle.std.specs.Prelude.{◌≡◌, ◌<◌, ◌≤◌, IfOk, OnOk, length};
+ghost use Rattle.std.specs.Prelude.{◌≡◌, ◌<◌, ◌≤◌, [], ◌∷◌, ◌++◌, IfOk, OnOk, length};
 ghost use Rattle.mdblock.specs.Positions.{CellsIn};
 
 use mdleaf::{Definition, leading_definitions};
@@ -40,6 +40,8 @@ impl<'e> Gathering<'e> {
     pub(crate) fn text(&mut self, text: String) -> Result<usize, AllocError>
         ensures within { IfOk result (λ position. position < length self.new.texts.items) }
         ensures grows { length self.old.texts.items ≤ length self.new.texts.items }
+        ensures position { IfOk result (λ position. position ≡ length self.old.texts.items) }
+        ensures texts { OnOk result (self.new.texts.items ≡ self.old.texts.items ++ text ∷ []) }
     {
         let position = self.texts.len();
         self.texts.push(text)?;

@@ -1,12 +1,13 @@
 //! Blocks that hold no other blocks: what begins each, which lines it takes, what it keeps, and what it is at its end.
 
-ghost use Rattle.std.specs.Prelude.{◌≡◌, ◌≤◌, ℕ, List, IfOk, IfSome, None, Some, length, not};
+ghost use Rattle.std.specs.Prelude.{◌≡◌, ◌≤◌, ℕ, List, ◌++◌, IfOk, IfSome, OnOk, None, Some, length, map, not, string_bytes};
 ghost use Rattle.mdtext.specs.EntityTable.{EntityTable};
 ghost use Rattle.mdblock.specs.BlockLine.{BlockLine, rest};
 ghost use Rattle.mdblock.specs.BlockStart.{Kind};
 ghost use Rattle.mdblock.specs.BlockView.{block_view};
 ghost use Rattle.mdblock.specs.Laziness.{Tip};
-ghost use Rattle.mdblock.specs.OpenLeaves.{IsLeafOf};
+ghost use Rattle.mdblock.specs.OpenLeaves.{IsBegun, begun_texts, IsLeafOf, IsOver};
+ghost use Rattle.mdblock.specs.OpeningKind.{opened_kind};
 ghost use Rattle.mdblock.specs.Positions.{BlockIn};
 ghost use Rattle.mdblock.specs.Stretches.{step};
 ghost use Rattle.mdblock.specs.UnitBegin.{is_stop};
@@ -58,6 +59,8 @@ impl Leaf {
         requires { IfSome opening (λ o. IsOpeningOf (rest line) o) }
         ensures within { IfOk result (λ step. StepIn (length gathering.new.texts.items) step) }
         ensures grows { length gathering.old.texts.items ≤ length gathering.new.texts.items }
+        ensures step { IfOk result (λ step. IsBegun gathering.old.entities.now (length gathering.old.texts.items) (opened_kind line.entry opening) line.entry step) }
+        ensures texts { OnOk result (map string_bytes gathering.new.texts.items ≡ map string_bytes gathering.old.texts.items ++ begun_texts (opened_kind line.entry opening)) }
     {
         match opening {
             Some(Opening::Heading(heading)) => {

@@ -1,18 +1,19 @@
 //! Paragraphs (CommonMark 4.8), and what becomes of their lines.
 
-ghost use Rattle.std.specs.Prelude.{◌≡◌, ◌+◌, ◌≤◌, ℕ, not, List, ◌∷◌, ◌++◌, IfOk, IfSome, length, drop};
+ghost use Rattle.std.specs.Prelude.{◌≡◌, ◌+◌, ◌≤◌, ℕ, not, List, [], ◌∷◌, ◌++◌, IfOk, IfSome, length, drop};
 ghost use Rattle.std.specs.Option.{option_map};
 ghost use Rattle.std.specs.Str.{IsCharBoundary};
 ghost use Rattle.mdleaf.specs.ParagraphText.{is_definitions_alone, without_end_blanks};
 ghost use Rattle.mdleaf.specs.TableRows.{begins_table};
 ghost use Rattle.mdblock.specs.BlockLine.{BlockLine, rest, is_blank_line};
-ghost use Rattle.mdblock.specs.BlockStart.{Inside, SetextHeading, begins_underline, last_text, start, start_near};
+ghost use Rattle.mdblock.specs.BlockStart.{Paragraph as ParagraphKind, Inside, SetextHeading, begins_underline, last_text, start, start_near};
 ghost use Rattle.mdblock.specs.BlockView.{block_view};
 ghost use Rattle.mdblock.specs.Positions.{BlockIn};
+ghost use Rattle.mdblock.specs.OpenLeaves.{IsGoing, IsParagraphLeaf};
 ghost use Rattle.mdblock.specs.OpenPositions.{StepIn};
 ghost use Rattle.mdblock.specs.ParagraphLines.{HoldsLines};
 ghost use Rattle.mdblock.specs.ParagraphTurns.{turn_step, begins_row};
-ghost use Rattle.mdblock.specs.Stretches.{paragraph_step, interrupted};
+ghost use Rattle.mdblock.specs.Stretches.{Takes, paragraph_step, interrupted};
 ghost use Rattle.mdblock.specs.UnitBegin.{is_stop};
 
 use crate::blocks::Block;
@@ -60,7 +61,8 @@ enum Turn {
 
 /// The paragraph that a line begins.
 pub(crate) fn begin(line: &Line, alloc: Global) -> Result<Step, AllocError>
-    ensures { (n : ℕ) → IfOk result (λ step. StepIn n step) }
+    ensures within { (n : ℕ) → IfOk result (λ step. StepIn n step) }
+    ensures step { IfOk result (λ step. IsGoing (IsParagraphLeaf (line.now ∷ [])) step) }
 {
     Ok(going(Leaf::Paragraph(Paragraph {
         text: String::from_str(alloc, line.text())?,
@@ -155,6 +157,7 @@ impl Paragraph {
     ) -> Result<Step, AllocError>
         ensures within { IfOk result (λ step. StepIn (length gathering.new.texts.items) step) }
         ensures grows { length gathering.old.texts.items ≤ length gathering.new.texts.items }
+        ensures goes { (begin : BlockLine) (later : List BlockLine) → HoldsLines (begin ∷ later) self → paragraph_step line.now.lazy (is_blank_line line.now) (start Inside (begin ∷ later) line.now) ≡ Takes ParagraphKind → IfOk result (λ step. IsGoing (IsParagraphLeaf (begin ∷ later ++ line.now ∷ [])) step) }
     {
         match self.turn(line) {
             Turn::Underlines(level) => {
