@@ -6,6 +6,7 @@ pub mod GroupLaws
 pub mod HtmlEnds
 pub mod ItemLaws
 pub mod LeafLaws
+pub mod LeafSteps
 pub mod LeafTexts
 pub mod Markers
 pub mod ParagraphLaws

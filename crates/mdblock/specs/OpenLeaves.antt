@@ -9,9 +9,9 @@ use Rattle.mdblock.specs.BlockLine.{BlockLine, is_blank_line}
 use Rattle.mdblock.specs.BlockStart.{Kind, Paragraph, AtxHeading, ThematicBreak, FencedCode, IndentedCode, HtmlBlock, Table}
 use Rattle.mdblock.specs.BlockTree.{Block, heading, thematic_break, code_block, html_block}
 use Rattle.mdblock.specs.BlockView.{block_view}
-use Rattle.mdblock.specs.LeafContents.{code_text, without_end_blank_lines}
+use Rattle.mdblock.specs.LeafContents.{code_text, without_last, without_end_blank_lines}
 use Rattle.mdblock.specs.ParagraphLines.{HoldsLines}
-use Rattle.mdblock.specs.Stretches.{ends_html}
+use Rattle.mdblock.specs.Stretches.{Step as LineStep, Takes, Ends, Stops, ends_html}
 use Rattle.mdblock.specs.declared.leaf.fences.Fence.{Fence}
 use Rattle.mdblock.specs.declared.leaf.html_blocks.HtmlBlock as html
 use Rattle.mdblock.specs.declared.leaf.indented_code.IndentedCode as code
@@ -95,3 +95,23 @@ IsBegun entities texts kind first s = Unit {0}
 abbrev pub begun_texts : Kind → List (List ℕ)
 begun_texts (AtxHeading level content) = content ∷ []
 begun_texts kind = []
+
+-- What a later line leaves of a leaf: a kind that takes it goes on, and one that it ends is over. Of headings and tables
+-- nothing is said here, since texts are handed in with them.
+abbrev pub IsGrown : EntityTable → Kind → (first : BlockLine) → (later : List BlockLine) → Step → Type 0
+IsGrown entities Paragraph first later s = IsGoing (IsParagraphLeaf (first ∷ later)) s
+IsGrown entities (FencedCode indentation mark length info closed) first later s = IsGoing (IsFenceLeaf entities indentation mark length info later) s
+IsGrown entities IndentedCode first later s = IsGoing (IsCodeLeaf (first ∷ later)) s
+IsGrown entities (HtmlBlock kind) first later s = IsGoing (IsHtmlLeaf kind (first ∷ later)) s
+IsGrown entities kind first later s = Unit {0}
+
+abbrev pub IsEnded : EntityTable → Kind → (first : BlockLine) → (later : List BlockLine) → Step → Type 0
+IsEnded entities (FencedCode indentation mark length info closed) first later s = IsOver (code_block (code_language entities info) (code_text indentation (without_last later))) s
+IsEnded entities (HtmlBlock kind) first later s = IsOver (html_block (joined_lines (map (λ l. l.line.text) (first ∷ later)))) s
+IsEnded entities kind first later s = Unit {0}
+
+-- a line that the leaf does not take is not read by it
+abbrev pub IsLeft : EntityTable → LineStep → (first : BlockLine) → (later : List BlockLine) → Step → Type 0
+IsLeft entities (Takes kind) first later s = IsGrown entities kind first later s
+IsLeft entities (Ends kind) first later s = IsEnded entities kind first later s
+IsLeft entities Stops first later s = Unit {0}

@@ -1,12 +1,12 @@
 //! Blocks that hold no other blocks: what begins each, which lines it takes, what it keeps, and what it is at its end.
 
-ghost use Rattle.std.specs.Prelude.{◌≡◌, ◌≤◌, ℕ, List, ◌++◌, IfOk, IfSome, OnOk, None, Some, length, map, not, string_bytes};
+ghost use Rattle.std.specs.Prelude.{◌≡◌, ◌≤◌, ℕ, List, [], ◌∷◌, ◌++◌, IfOk, IfSome, OnOk, None, Some, length, map, not, string_bytes};
 ghost use Rattle.mdtext.specs.EntityTable.{EntityTable};
 ghost use Rattle.mdblock.specs.BlockLine.{BlockLine, rest};
 ghost use Rattle.mdblock.specs.BlockStart.{Kind};
 ghost use Rattle.mdblock.specs.BlockView.{block_view};
 ghost use Rattle.mdblock.specs.Laziness.{Tip};
-ghost use Rattle.mdblock.specs.OpenLeaves.{IsBegun, begun_texts, IsLeafOf, IsOver};
+ghost use Rattle.mdblock.specs.OpenLeaves.{IsBegun, begun_texts, IsLeafOf, IsLeft, IsOver};
 ghost use Rattle.mdblock.specs.OpeningKind.{opened_kind};
 ghost use Rattle.mdblock.specs.Positions.{BlockIn};
 ghost use Rattle.mdblock.specs.Stretches.{step};
@@ -99,6 +99,7 @@ impl Leaf {
         requires { LeafIn (length gathering.old.texts.items) self }
         ensures within { IfOk result (λ step. StepIn (length gathering.new.texts.items) step) }
         ensures grows { length gathering.old.texts.items ≤ length gathering.new.texts.items }
+        ensures step { (entities : EntityTable) (kind : Kind) (begin : BlockLine) (later : List BlockLine) → IsLeafOf entities self kind begin later → (tip : List BlockLine → Tip) → IfOk result (IsLeft entities (step tip kind begin later line.entry) begin (later ++ line.entry ∷ [])) }
     {
         match self {
             Leaf::Paragraph(paragraph) => paragraph.add(&line, first, gathering),
