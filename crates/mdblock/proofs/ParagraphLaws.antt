@@ -76,6 +76,10 @@ next_line first later l held new h e a =
 
 -- ---- where it may be cut
 
+pub cut_is : (text held front : List ℕ) (n : ℕ) → n ≡ length text - suffix_len is_blank text → front ≡ take n held → text ≡ held → front ≡ without_end_blanks held
+unfolding without_end_blanks
+cut_is text held front n e f h = f ∙ ap (λ k. take k held) (e ∙ ap (λ t. length t - suffix_len is_blank t) h)
+
 pub trimmed_is : (text held front : List ℕ) (n : ℕ) → n ≡ length text - suffix_len is_blank text → front ≡ take (n - 0) text → text ≡ held → front ≡ without_end_blanks held
 unfolding without_end_blanks
 trimmed_is text held front n e f h = let all : n - 0 ≡ n = omega arith in f ∙ ap (λ k. take k text) (all ∙ e) ∙ ap (λ t. take (length t - suffix_len is_blank t) t) h

@@ -5,6 +5,7 @@ pub mod BlockUnits
 pub mod BlockView
 pub mod ContainerLines
 pub mod FirstDefinitions
+pub mod HandedIn
 pub mod Indentation
 pub mod Laziness
 pub mod LeafContents

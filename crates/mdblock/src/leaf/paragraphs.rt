@@ -1,15 +1,19 @@
 //! Paragraphs (CommonMark 4.8), and what becomes of their lines.
 
-ghost use Rattle.std.specs.Prelude.{◌≡◌, ◌+◌, ◌≤◌, ℕ, not, List, [], ◌∷◌, ◌++◌, IfOk, IfSome, length, drop};
+ghost use Rattle.std.specs.Prelude.{◌≡◌, ◌+◌, ◌≤◌, ℕ, not, List, [], ◌∷◌, ◌++◌, IfOk, IfSome, OnOk, length, drop, string_bytes};
 ghost use Rattle.std.specs.Option.{option_map};
 ghost use Rattle.std.specs.Str.{IsCharBoundary};
-ghost use Rattle.mdleaf.specs.ParagraphText.{is_definitions_alone, without_end_blanks};
+ghost use Rattle.mdleaf.specs.ParagraphText.{is_definitions_alone, behind_definitions, without_end_blanks};
+ghost use Rattle.mdleaf.specs.LeadingDefinitions.{leading_of};
 ghost use Rattle.mdleaf.specs.TableRows.{begins_table};
 ghost use Rattle.mdblock.specs.BlockLine.{BlockLine, rest, is_blank_line};
 ghost use Rattle.mdblock.specs.BlockStart.{Paragraph as ParagraphKind, Inside, SetextHeading, begins_underline, last_text, start, start_near};
+ghost use Rattle.mdblock.specs.BlockTree.{heading as heading_block};
 ghost use Rattle.mdblock.specs.BlockView.{block_view};
+ghost use Rattle.mdblock.specs.HandedIn.{definitions_of, texts_of, taken, left_behind, IsHandedIn};
+ghost use Rattle.mdblock.specs.NodeTree.{paragraph_leaf};
 ghost use Rattle.mdblock.specs.Positions.{BlockIn};
-ghost use Rattle.mdblock.specs.OpenLeaves.{IsGoing, IsParagraphLeaf};
+ghost use Rattle.mdblock.specs.OpenLeaves.{IsGoing, IsOver, IsParagraphLeaf};
 ghost use Rattle.mdblock.specs.OpenPositions.{StepIn};
 ghost use Rattle.mdblock.specs.ParagraphLines.{HoldsLines};
 ghost use Rattle.mdblock.specs.ParagraphTurns.{turn_step, begins_row};
@@ -148,6 +152,18 @@ impl Paragraph {
         &text[self.last..]
     }
 
+    /// The heading that an underline makes of the paragraph.
+    fn turn_into_heading(self, level: u8, gathering: &mut Gathering) -> Result<Step, AllocError>
+        ensures within { IfOk result (λ step. StepIn (length gathering.new.texts.items) step) }
+        ensures grows { length gathering.old.texts.items ≤ length gathering.new.texts.items }
+        ensures step { IfOk result (λ step. IsOver (heading_block level (length gathering.old.texts.items)) step) }
+        ensures texts { OnOk result (texts_of gathering.new ≡ texts_of gathering.old ++ behind_definitions (without_end_blanks self.text) ∷ []) }
+        ensures found { OnOk result (definitions_of gathering.new ≡ definitions_of gathering.old ++ leading_of gathering.old.entities.now (without_end_blanks self.text)) }
+    {
+        let text = content(self.text, gathering)?;
+        setext_heading(level, text, gathering)
+    }
+
     /// Reads a line that the paragraph takes.
     pub(crate) fn add(
         self,
@@ -160,10 +176,7 @@ impl Paragraph {
         ensures goes { (begin : BlockLine) (later : List BlockLine) → HoldsLines (begin ∷ later) self → paragraph_step line.now.lazy (is_blank_line line.now) (start Inside (begin ∷ later) line.now) ≡ Takes ParagraphKind → IfOk result (λ step. IsGoing (IsParagraphLeaf (begin ∷ later ++ line.now ∷ [])) step) }
     {
         match self.turn(line) {
-            Turn::Underlines(level) => {
-                let text = content(self.text, gathering)?;
-                setext_heading(level, text, gathering)
-            }
+            Turn::Underlines(level) => self.turn_into_heading(level, gathering),
             Turn::Delimits => self.turn_into_table(line.text(), first, gathering),
             Turn::Ends | Turn::Continues => Ok(going(Leaf::Paragraph(self.with_line(line)?))),
         }
@@ -213,6 +226,8 @@ impl Paragraph {
     ) -> Result<Option<Block>, AllocError>
         ensures within { IfOk result (λ found. IfSome found (λ block. BlockIn (length gathering.new.texts.items) (block_view block))) }
         ensures grows { length gathering.old.texts.items ≤ length gathering.new.texts.items }
+        ensures left { IfOk result (λ found. IsHandedIn (left_behind first (behind_definitions (without_end_blanks self.text))) (texts_of gathering.old) (texts_of gathering.new) found) }
+        ensures found { OnOk result (definitions_of gathering.new ≡ definitions_of gathering.old ++ leading_of gathering.old.entities.now (without_end_blanks self.text)) }
     {
         let mut text = content(self.text, gathering)?;
         if text.is_empty() {
@@ -233,7 +248,9 @@ fn may_delimit(text: &str) -> bool
 
 /// What is left of a paragraph's text after its definitions (CommonMark 4.7), without spaces and tabs at its end.
 fn content(mut text: String, gathering: &mut Gathering) -> Result<String, AllocError>
-    ensures { gathering.new.texts ≡ gathering.old.texts }
+    ensures texts { gathering.new.texts ≡ gathering.old.texts }
+    ensures left { IfOk result (λ rest. string_bytes rest ≡ behind_definitions (without_end_blanks (string_bytes text))) }
+    ensures found { OnOk result (definitions_of gathering.new ≡ definitions_of gathering.old ++ leading_of gathering.old.entities.now (without_end_blanks (string_bytes text))) }
 {
     let length = trimmed_length(text.as_str());
     text.truncate(length);
@@ -242,7 +259,9 @@ fn content(mut text: String, gathering: &mut Gathering) -> Result<String, AllocE
 }
 
 /// Takes a task marker off the first text of an item, and says whether it is ticked (GFM 5.3).
-fn take_task(text: &mut String, first: bool) -> Result<Option<bool>, AllocError> {
+fn take_task(text: &mut String, first: bool) -> Result<Option<bool>, AllocError>
+    ensures { IfOk result (λ task. paragraph_leaf task (string_bytes text.new) ≡ taken first (string_bytes text.old)) }
+{
     if !first {
         return Ok(None);
     }
