@@ -5,6 +5,7 @@ pub mod DocumentLaws
 pub mod GroupLaws
 pub mod HtmlEnds
 pub mod ItemLaws
+pub mod LeafEndings
 pub mod LeafLaws
 pub mod LeafSteps
 pub mod LeafTexts

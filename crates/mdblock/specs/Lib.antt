@@ -9,6 +9,7 @@ pub mod HandedIn
 pub mod Indentation
 pub mod Laziness
 pub mod LeafContents
+pub mod LeafEnds
 pub mod LineSummary
 pub mod ListGroups
 pub mod Nesting
