@@ -1,12 +1,13 @@
 -- Columns that are skipped leave the text behind the indentation as it is.
-use Rattle.std.proofs.Common.{◌≡◌, ℕ, zero, suc, ◌+◌, ◌-◌, ◌<◌, ◌≤◌, Bool, true, false, List, [], ◌∷◌, length, drop, refl, ap, sym, ◌∙◌, arith, add-one, subst, ◌⊎◌, inl, inr, nat_le}
+use Rattle.std.proofs.Common.{◌≡◌, ℕ, zero, suc, ◌+◌, ◌-◌, ◌*◌, ◌^◌, ◌<◌, ◌≤◌, ◌==◌, Bool, true, false, List, [], ◌∷◌, ◌++◌, length, drop, length-drop, min, replicate, refl, ap, sym, ◌∙◌, arith, add-one, subst, ◌⊎◌, inl, inr, nat_le}
 use Rattle.std.proofs.lemmas.Bool.Decides.{nat_tests}
 use Rattle.std.proofs.lemmas.Str.{IsCharBoundary-start, IsCharBoundary-after_ascii}
 use Rattle.std.proofs.lemmas.List.Sums.{prefix_len-le-length, prefix_len_passes}
-use Rattle.std.specs.List.{prefix_len}
+use Rattle.std.specs.List.{prefix_len, list_all}
 use Rattle.std.specs.Str.{IsUtf8, IsCharBoundary}
-use Rattle.mdtext.specs.Columns.{Place, is_space_or_tab, width, indent_at, indent, line_at, skip_from, skip}
+use Rattle.mdtext.specs.Columns.{Line, Place, is_space_or_tab, width, indent_at, indent, strip_at, strip, line_at, skip_from, skip}
 use Rattle.mdtext.proofs.Indents.{steps, lands, indent_nil, indent_spaces, width_bounds}
+use Rattle.mdscan.specs.Blanks.{is_blank}
 use Rattle.mdblock.specs.Indentation.{unindented}
 
 at_most_or_more : (m n : ℕ) → (m ≤ n) ⊎ (n < m)
@@ -18,11 +19,11 @@ at_most_or_more m n = by_test (nat_le m n) refl where
 drop_one : (n b : ℕ) (bs : List ℕ) → drop (1 + n) (b ∷ bs) ≡ drop n bs
 drop_one n b bs = let e : 1 + n ≡ suc n = omega arith in rw e refl
 
-unindented_blank : (b : ℕ) (bs : List ℕ) → is_space_or_tab b ≡ true → unindented (b ∷ bs) ≡ unindented bs
+pub unindented_blank : (b : ℕ) (bs : List ℕ) → is_space_or_tab b ≡ true → unindented (b ∷ bs) ≡ unindented bs
 unfolding unindented
 unindented_blank b bs h = rw h (drop_one (prefix_len is_space_or_tab bs) b bs)
 
-unindented_other : (b : ℕ) (bs : List ℕ) → is_space_or_tab b ≡ false → unindented (b ∷ bs) ≡ b ∷ bs
+pub unindented_other : (b : ℕ) (bs : List ℕ) → is_space_or_tab b ≡ false → unindented (b ∷ bs) ≡ b ∷ bs
 unfolding unindented
 unindented_other b bs h = rw h refl
 
@@ -30,7 +31,7 @@ blank_indents : (column b : ℕ) (bs : List ℕ) → is_space_or_tab b ≡ false
 unfolding indent_at
 blank_indents column b bs h = rw h refl
 
-is_bool : (t : Bool) → (t ≡ true) ⊎ (t ≡ false)
+pub is_bool : (t : Bool) → (t ≡ true) ⊎ (t ≡ false)
 is_bool true = inl refl
 is_bool false = inr refl
 
@@ -50,9 +51,45 @@ skipped column left columns (b ∷ bs) h = elim (at_most_or_more columns left) [
       ∙ sym (unindented_blank b bs blank)
 ]
 
+-- spaces in front go with the indentation
+pub unindented_spaces : (n : ℕ) (text : List ℕ) → unindented (replicate n 32 ++ text) ≡ unindented text
+unindented_spaces zero text = refl
+unindented_spaces (suc n) text = unindented_blank 32 (replicate n 32 ++ text) refl ∙ unindented_spaces n text
+
+pub unindented_line : (place : Place) → unindented (line_at place).text ≡ unindented place.rest
+unindented_line place = unindented_spaces place.left place.rest
+
 -- the text behind the indentation stays
-pub text_stays : (place : Place) (columns : ℕ) → columns ≤ indent (line_at place) → unindented (skip place columns).rest ≡ unindented place.rest
-text_stays place columns h = skipped place.column place.left columns place.rest (omega (arith, h, indent_spaces place.column place.left place.rest))
+pub text_stays : (place : Place) (columns : ℕ) → columns ≤ indent (line_at place) → unindented (line_at (skip place columns)).text ≡ unindented (line_at place).text
+text_stays place columns h =
+    unindented_line (skip place columns)
+    ∙ skipped place.column place.left columns place.rest (omega (arith, h, indent_spaces place.column place.left place.rest))
+    ∙ sym (unindented_line place)
+
+-- how far a line reaches at most, each byte being counted as a tab
+abbrev pub reach : Place → ℕ
+reach place = place.column + place.left + 4 * length place.rest
+
+reach_from : (column left columns : ℕ) (rest : List ℕ) → columns ≤ left + indent_at (column + left) rest → reach (skip_from column left columns rest) ≤ column + left + 4 * length rest
+reach_from column left columns [] h =
+    let few = lands column left columns [] (omega (arith, h, indent_nil (column + left))) in
+    let same : reach (skip_from column left columns []) ≡ column + columns + (left - columns) + 4 * 0 = ap (λ (p : Place). reach p) few in
+    omega (arith, same, h, indent_nil (column + left))
+reach_from column left columns (b ∷ bs) h = elim (at_most_or_more columns left) [
+  | inl few ↦
+      let same : reach (skip_from column left columns (b ∷ bs)) ≡ column + columns + (left - columns) + 4 * length (b ∷ bs) = ap (λ (p : Place). reach p) (lands column left columns (b ∷ bs) few) in
+      omega (arith, same, few)
+  | inr many ↦
+      let s = steps column left columns (b ∷ bs) many h in
+      let bounds = width_bounds (column + left) b in
+      let same : reach (skip_from column left columns (b ∷ bs)) ≡ reach (skip_from (column + left) (width (column + left) b) (columns - left) bs) = ap (λ (p : Place). reach p) s.place in
+      let next = reach_from (column + left) (width (column + left) b) (columns - left) bs (omega (arith, h, s.indent, many)) in
+      omega (arith, same, next, bounds.1)
+]
+
+-- columns that are skipped reach no further
+pub reach_stays : (place : Place) (columns : ℕ) → columns ≤ indent (line_at place) → reach (skip place columns) ≤ reach place
+reach_stays place columns h = reach_from place.column place.left columns place.rest (omega (arith, h, indent_spaces place.column place.left place.rest))
 
 pub record IsAtText (rest : List ℕ) (place : Place) : Type 0 where
   pub whole : place.left ≡ 0
@@ -62,7 +99,7 @@ ends_here : (column left columns : ℕ) (rest : List ℕ) → columns ≡ left �
 ends_here column left columns rest e same =
     rw (lands column left columns rest (omega (arith, e))) (record { whole = omega (arith, e); text = sym same })
 
-unindented_nil : unindented [] ≡ []
+pub unindented_nil : unindented [] ≡ []
 unfolding unindented
 unindented_nil = refl
 
@@ -86,6 +123,85 @@ all_skipped column left columns (b ∷ bs) e = elim (is_bool (is_space_or_tab b)
 -- behind the whole indentation the text begins
 pub at_text : (place : Place) (columns : ℕ) → columns ≡ indent (line_at place) → IsAtText place.rest (skip place columns)
 at_text place columns e = all_skipped place.column place.left columns place.rest (e ∙ indent_spaces place.column place.left place.rest)
+
+column_from : (column left columns : ℕ) (rest : List ℕ) → columns ≤ left + indent_at (column + left) rest → (skip_from column left columns rest).column ≡ column + columns
+column_from column left columns [] h = ap (λ (p : Place). p.column) (lands column left columns [] (omega (arith, h, indent_nil (column + left))))
+column_from column left columns (b ∷ bs) h = elim (at_most_or_more columns left) [
+  | inl few ↦ ap (λ (p : Place). p.column) (lands column left columns (b ∷ bs) few)
+  | inr many ↦
+      let s = steps column left columns (b ∷ bs) many h in
+      let next = column_from (column + left) (width (column + left) b) (columns - left) bs (omega (arith, h, s.indent, many)) in
+      ap (λ (p : Place). p.column) s.place ∙ next ∙ omega (arith, many)
+]
+
+-- the indentation and then a mark taken off
+pub mark_taken : (old skipped marked : Place) (columns width : ℕ) → columns ≡ indent (line_at old) → skipped ≡ skip old columns
+    → marked ≡ record { column = skipped.column + width; left = 0; rest = drop width skipped.rest }
+    → line_at marked ≡ record { column = old.column + indent (line_at old) + width; text = drop width (unindented (line_at old).text) }
+mark_taken old skipped marked columns width e s m =
+    let t = at_text old columns e in
+    let there = column_from old.column old.left columns old.rest (omega (arith, e, indent_spaces old.column old.left old.rest)) in
+    let column : skipped.column + width ≡ old.column + indent (line_at old) + width = ap (λ (p : Place). p.column + width) s ∙ ap (λ c. c + width) (there ∙ ap (λ n. old.column + n) e) in
+    let text : drop width skipped.rest ≡ drop width (unindented (line_at old).text) = ap (λ (p : Place). drop width p.rest) s ∙ ap (drop width) (t.text ∙ sym (unindented_line old)) in
+    ap line_at m ∙ ap (λ c. record { column = c; text = drop width skipped.rest }) column ∙ ap (λ r. record { column = old.column + indent (line_at old) + width; text = r }) text
+
+indent_at_within : (column : ℕ) (rest : List ℕ) → indent_at column rest ≤ 4 * length rest
+indent_at_within column [] = omega (arith, indent_nil column)
+indent_at_within column (b ∷ bs) = elim (is_bool (is_space_or_tab b)) [
+  | inl is ↦
+      let bounds = width_bounds column b in
+      let next = indent_at_within (column + width column b) bs in
+      omega (arith, indent_is column b bs is, next, bounds.1)
+  | inr other ↦ omega (arith, blank_indents column b bs other)
+]
+
+-- the indentation is a part of what the line reaches
+pub indent_within : (place : Place) → place.column + indent (line_at place) ≤ reach place
+indent_within place = omega (arith, indent_spaces place.column place.left place.rest, indent_at_within (place.column + place.left) place.rest)
+
+-- what a line keeps of its text and its length, where columns are taken off
+pub columns_taken : (old new : Place) (text : List ℕ) (columns : ℕ) → columns ≤ indent (line_at old) → new ≡ skip old columns
+    → text ≡ unindented (line_at old).text → old.column + old.left + 4 * length old.rest + 3 < 2 ^ 64
+    → (text ≡ unindented (line_at new).text) × (new.column + new.left + 4 * length new.rest + 3 < 2 ^ 64)
+columns_taken old new text columns h e t short =
+    let less = reach_stays old columns h in
+    let same : reach new ≡ reach (skip old columns) = ap (λ (p : Place). reach p) e in
+    (t ∙ sym (text_stays old columns h) ∙ ap (λ (p : Place). unindented (line_at p).text) (sym e), omega (arith, less, same, short))
+
+-- the text stands where all indentation is skipped
+pub text_is_there : (old new : Place) (columns : ℕ) → columns ≡ indent (line_at old) → new ≡ skip old columns → new.rest ≡ unindented (line_at old).text
+text_is_there old new columns e n = ap (λ (p : Place). p.rest) n ∙ (at_text old columns e).text ∙ sym (unindented_line old)
+
+-- the same where a mark is taken off
+pub mark_kept : (old skipped marked : Place) (columns width : ℕ) (text : List ℕ) → columns ≡ indent (line_at old) → skipped ≡ skip old columns
+    → marked ≡ record { column = skipped.column + width; left = 0; rest = drop width skipped.rest } → width ≤ length skipped.rest
+    → text ≡ unindented marked.rest → old.column + old.left + 4 * length old.rest + 3 < 2 ^ 64
+    → (text ≡ unindented (line_at marked).text) × (marked.column + marked.left + 4 * length marked.rest + 3 < 2 ^ 64)
+mark_kept old skipped marked columns width text e s m within t short =
+    let less = reach_stays old columns (omega (arith, e)) in
+    let same : reach skipped ≡ reach (skip old columns) = ap (λ (p : Place). reach p) s in
+    let there : reach marked ≡ skipped.column + width + 0 + 4 * length (drop width skipped.rest) = ap (λ (p : Place). reach p) m in
+    (t ∙ sym (unindented_line marked), omega (arith, less, same, there, length-drop width skipped.rest, within, short))
+
+-- as many columns as there are at most are all that is taken
+pub strip_most : (line : Line) (columns taken : ℕ) → taken ≡ min columns (indent line) → strip line taken ≡ strip line columns
+strip_most line columns taken e =
+    let same : min taken (indent line) ≡ min columns (indent line) = omega (arith, e) in
+    ap (λ n. record { column = line.column + n; text = strip_at line.column n line.text }) same
+
+never_empty : (n : ℕ) → false ≡ (suc n == 0)
+never_empty n = grind (arith, nat_tests)
+
+blank_front : (b : ℕ) (bs : List ℕ) → is_space_or_tab b ≡ true → list_all is_blank (b ∷ bs) ≡ list_all is_blank bs
+blank_front b bs h = rw h refl
+
+-- a text is blank where nothing is left without its indentation
+pub blank_text : (text : List ℕ) → list_all is_blank text ≡ (length (unindented text) == 0)
+blank_text [] = rw unindented_nil refl
+blank_text (b ∷ bs) = elim (is_bool (is_space_or_tab b)) [
+  | inl is ↦ blank_front b bs is ∙ blank_text bs ∙ ap (λ t. length t == 0) (sym (unindented_blank b bs is))
+  | inr other ↦ rw (unindented_other b bs other) (rw other (never_empty (length bs)))
+]
 
 ascii : (b : ℕ) → is_space_or_tab b ≡ true → b < 128
 ascii b e = grind (arith, nat_tests)

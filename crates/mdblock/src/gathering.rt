@@ -1,6 +1,9 @@
 //! What the leaves of a unit hand in as they close.
 
-ghost use Rattle.std.specs.Prelude.{◌≡◌, ◌<◌, ◌≤◌, IfOk, OnOk, length};
+ghost use Rattle.std.specs.Prelude.{◌≡◌, ◌<◌, ◌≤◌, [], ◌∷◌, ◌++◌, IfOk, OnOk, length, string_bytes};
+ghost use Rattle.mdleaf.specs.LeadingDefinitions.{leading_of};
+ghost use Rattle.mdleaf.specs.ParagraphText.{behind_definitions};
+ghost use Rattle.mdblock.specs.HandedIn.{definitions_of};
 ghost use Rattle.mdblock.specs.Positions.{CellsIn};
 
 use mdleaf::{Definition, leading_definitions};
@@ -30,7 +33,9 @@ impl<'e> Gathering<'e> {
         self.alloc
     }
 
-    pub(crate) fn entities(&self) -> &'e Entities {
+    pub(crate) fn entities(&self) -> &'e Entities
+        ensures { result.now ≡ self.now.entities.now }
+    {
         self.entities
     }
 
@@ -38,6 +43,10 @@ impl<'e> Gathering<'e> {
     pub(crate) fn text(&mut self, text: String) -> Result<usize, AllocError>
         ensures within { IfOk result (λ position. position < length self.new.texts.items) }
         ensures grows { length self.old.texts.items ≤ length self.new.texts.items }
+        ensures position { IfOk result (λ position. position ≡ length self.old.texts.items) }
+        ensures texts { OnOk result (self.new.texts.items ≡ self.old.texts.items ++ text ∷ []) }
+        ensures definitions { self.new.definitions ≡ self.old.definitions }
+        ensures entities { self.new.entities.now ≡ self.old.entities.now }
     {
         let position = self.texts.len();
         self.texts.push(text)?;
@@ -58,7 +67,10 @@ impl<'e> Gathering<'e> {
 
     /// Takes the definitions at the front of a paragraph's text in, and leaves the text behind them.
     pub(crate) fn definitions(&mut self, text: &mut String) -> Result<(), AllocError>
-        ensures { self.new.texts ≡ self.old.texts }
+        ensures texts { self.new.texts ≡ self.old.texts }
+        ensures entities { self.new.entities.now ≡ self.old.entities.now }
+        ensures left { OnOk result (string_bytes text.new ≡ behind_definitions (string_bytes text.old)) }
+        ensures found { OnOk result (definitions_of self.new ≡ definitions_of self.old ++ leading_of self.old.entities.now (string_bytes text.old)) }
     {
         let mut leading = leading_definitions(self.alloc, text.as_str(), self.entities)?;
         self.definitions.append(&mut leading.definitions)?;

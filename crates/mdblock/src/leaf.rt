@@ -1,8 +1,18 @@
 //! Blocks that hold no other blocks: what begins each, which lines it takes, what it keeps, and what it is at its end.
 
-ghost use Rattle.std.specs.Prelude.{◌≡◌, ◌≤◌, ℕ, IfOk, IfSome, None, Some, length};
+ghost use Rattle.std.specs.Prelude.{◌≡◌, ◌≤◌, ℕ, List, [], ◌∷◌, ◌++◌, IfOk, IfSome, OnOk, None, Some, length, map, not, string_bytes};
+ghost use Rattle.mdtext.specs.EntityTable.{EntityTable};
+ghost use Rattle.mdblock.specs.BlockLine.{BlockLine, rest};
+ghost use Rattle.mdblock.specs.BlockStart.{Kind};
 ghost use Rattle.mdblock.specs.BlockView.{block_view};
+ghost use Rattle.mdblock.specs.HandedIn.{texts_of, definitions_of};
+ghost use Rattle.mdblock.specs.Laziness.{Tip};
+ghost use Rattle.mdblock.specs.LeafEnds.{IsEndOf, end_definitions};
+ghost use Rattle.mdblock.specs.OpenLeaves.{IsBegun, begun_texts, IsLeafOf, IsLeft, IsOver};
+ghost use Rattle.mdblock.specs.OpeningKind.{opened_kind};
 ghost use Rattle.mdblock.specs.Positions.{BlockIn};
+ghost use Rattle.mdblock.specs.Stretches.{step};
+ghost use Rattle.mdblock.specs.UnitBegin.{is_stop};
 ghost use Rattle.mdblock.specs.OpenPositions.{LeafIn, StepIn};
 ghost use Rattle.mdblock.specs.Openings.{IsOpeningOf};
 
@@ -48,9 +58,11 @@ impl Leaf {
         line: Line,
         gathering: &mut Gathering,
     ) -> Result<Step, AllocError>
-        requires { IfSome opening (λ o. IsOpeningOf line.text.now o) }
+        requires { IfSome opening (λ o. IsOpeningOf (rest line) o) }
         ensures within { IfOk result (λ step. StepIn (length gathering.new.texts.items) step) }
         ensures grows { length gathering.old.texts.items ≤ length gathering.new.texts.items }
+        ensures step { IfOk result (λ step. IsBegun gathering.old.entities.now (length gathering.old.texts.items) (opened_kind line.entry opening) line.entry step) }
+        ensures texts { OnOk result (map string_bytes gathering.new.texts.items ≡ map string_bytes gathering.old.texts.items ++ begun_texts (opened_kind line.entry opening)) }
     {
         match opening {
             Some(Opening::Heading(heading)) => {
@@ -67,7 +79,9 @@ impl Leaf {
     }
 
     /// Whether the leaf takes a line, all of whose containers match it.
-    pub(crate) fn takes(&self, line: &Line) -> bool {
+    pub(crate) fn takes(&self, line: &Line) -> bool
+        ensures { (entities : EntityTable) (kind : Kind) (first : BlockLine) (later : List BlockLine) → IsLeafOf entities self.now kind first later → (tip : List BlockLine → Tip) → result ≡ not (is_stop (step tip kind first later line.now)) }
+    {
         match self {
             Leaf::Paragraph(paragraph) => paragraph.takes(line),
             Leaf::Fence(_) => true,
@@ -87,6 +101,7 @@ impl Leaf {
         requires { LeafIn (length gathering.old.texts.items) self }
         ensures within { IfOk result (λ step. StepIn (length gathering.new.texts.items) step) }
         ensures grows { length gathering.old.texts.items ≤ length gathering.new.texts.items }
+        ensures step { (entities : EntityTable) (kind : Kind) (begin : BlockLine) (later : List BlockLine) → IsLeafOf entities self kind begin later → (tip : List BlockLine → Tip) → IfOk result (IsLeft entities (step tip kind begin later line.entry) begin (later ++ line.entry ∷ [])) }
     {
         match self {
             Leaf::Paragraph(paragraph) => paragraph.add(&line, first, gathering),
@@ -106,6 +121,8 @@ impl Leaf {
         requires { LeafIn (length gathering.old.texts.items) self }
         ensures within { IfOk result (λ found. IfSome found (λ block. BlockIn (length gathering.new.texts.items) (block_view block))) }
         ensures grows { length gathering.old.texts.items ≤ length gathering.new.texts.items }
+        ensures left { (kind : Kind) (begin : BlockLine) (later : List BlockLine) → IsLeafOf gathering.old.entities.now self kind begin later → IfOk result (IsEndOf gathering.old.entities.now first kind begin later (texts_of gathering.old) (texts_of gathering.new)) }
+        ensures found { (kind : Kind) (begin : BlockLine) (later : List BlockLine) → IsLeafOf gathering.old.entities.now self kind begin later → OnOk result (definitions_of gathering.new ≡ definitions_of gathering.old ++ end_definitions gathering.old.entities.now kind begin later) }
     {
         match self {
             Leaf::Paragraph(paragraph) => paragraph.end(first, gathering),

@@ -2,6 +2,7 @@
 
 ghost use Rattle.std.specs.Prelude.{◌≡◌, ◌+◌, ◌≤◌, ℕ, List, IfOk, IfSome, OnOk, length};
 ghost use Rattle.mdtext.specs.Columns.{AreMarks};
+ghost use Rattle.mdblock.specs.BlockLine.{rest};
 ghost use Rattle.mdblock.specs.BlockView.{block_view, blocks_view, items_view};
 ghost use Rattle.mdblock.specs.OpenPositions.{LevelIn, StepIn, IsPlaceOf};
 ghost use Rattle.mdblock.specs.Openings.{IsOpeningOf};
@@ -88,7 +89,7 @@ impl Level {
 
     /// What a line is to the open block.
     pub(crate) fn place(&self, line: &Line) -> Place
-        ensures { IsPlaceOf line.now.text.now result }
+        ensures { IsPlaceOf (rest line.now) result }
     {
         match &self.last {
             Spine::Shut => matched_if(line.is_lazy()),
@@ -110,7 +111,7 @@ impl Level {
 
     /// What a line is to the list whose last item holds these blocks.
     fn place_in(&self, list: &OpenList, line: &Line) -> Place
-        ensures { IsPlaceOf line.now.text.now result }
+        ensures { IsPlaceOf (rest line.now) result }
     {
         if line.is_lazy() {
             return Place::Lazy;
@@ -209,7 +210,7 @@ impl Level {
         gathering: &mut Gathering,
     ) -> Result<(), BlockFault>
         requires level { LevelIn (length gathering.old.texts.items) self.old }
-        requires place { IsPlaceOf line.text.now place }
+        requires place { IsPlaceOf (rest line) place }
         ensures within { OnOk result (LevelIn (length gathering.new.texts.items) self.new) }
         ensures grows { length gathering.old.texts.items ≤ length gathering.new.texts.items }
     {
@@ -234,7 +235,7 @@ impl Level {
         gathering: &mut Gathering,
     ) -> Result<(), BlockFault>
         requires level { LevelIn (length gathering.old.texts.items) self.old }
-        requires place { IsPlaceOf line.text.now place }
+        requires place { IsPlaceOf (rest line) place }
         ensures within { OnOk result (LevelIn (length gathering.new.texts.items) self.new) }
         ensures grows { length gathering.old.texts.items ≤ length gathering.new.texts.items }
     {
@@ -393,7 +394,7 @@ fn enter_item(
 ) -> Result<Entry, AllocError>
     requires inner { LevelIn (length gathering.old.texts.items) inner.old }
     requires list { ItemsIn (length gathering.old.texts.items) (items_view list.old.items.items) }
-    requires place { IsPlaceOf line.old.text.now place }
+    requires place { IsPlaceOf (rest line.old) place }
     ensures inner { IfOk result (λ _. LevelIn (length gathering.new.texts.items) inner.new) }
     ensures list { IfOk result (λ _. ItemsIn (length gathering.new.texts.items) (items_view list.new.items.items)) }
     ensures grows { length gathering.old.texts.items ≤ length gathering.new.texts.items }

@@ -1,13 +1,16 @@
 //! A line, as what is left of it where its containers end.
 
-ghost use Rattle.std.specs.Prelude.{◌≡◌, ◌*◌, ◌^◌, ◌<◌, ◌≤◌, length, true};
+ghost use Rattle.std.specs.Prelude.{◌≡◌, ℕ, ◌+◌, ◌-◌, ◌*◌, ◌^◌, ◌<◌, ◌≤◌, ◌++◌, length, nat_le, replicate, string_bytes, true, OnOk};
 ghost use Rattle.std.specs.Str.{IsCharBoundary};
-ghost use Rattle.std.specs.List.{prefix_len};
+ghost use Rattle.std.specs.List.{prefix_len, suffix_len};
+ghost use Rattle.mdscan.specs.Blanks.{is_blank};
 ghost use Rattle.mdtext.specs.Columns.{AreMarks, is_space_or_tab};
+ghost use Rattle.mdblock.specs.BlockLine.{document_line, indentation, rest, is_blank_line, without_columns, as_lazy, behind_marker};
 ghost use Rattle.mdblock.specs.Indentation.{unindented};
 
 use mdtext::Cursor;
 use std::alloc::AllocError;
+use std::marker::Model;
 
 /// A line whose first containers have taken their marks and columns.
 #[derive(Debug, Drop)]
@@ -15,13 +18,26 @@ pub(crate) struct Line<'a> {
     cursor: Cursor<'a>,
     text: &'a str,
     lazy: bool,
-    ghost is_rest: { text.now ≡ unindented cursor.rest },
+}
+
+impl<'a> Model for Line<'a> {
+    ghost use Rattle.std.specs.Prelude.{◌≡◌, ◌+◌, ◌*◌, ◌<◌, ◌^◌, length};
+    ghost use Rattle.mdtext.specs.Columns.{line_at};
+    ghost use Rattle.mdblock.specs.BlockLine.{BlockLine};
+    ghost use Rattle.mdblock.specs.Indentation.{unindented};
+
+    ghost Value = { BlockLine };
+
+    ghost view = { λ l. record { line = line_at l.cursor; lazy = l.lazy } };
+
+    ghost invariant = { λ l. (l.text.now ≡ unindented (line_at l.cursor).text) × (l.cursor.column + l.cursor.left + 4 * length l.cursor.rest + 3 < 2 ^ 64) };
 }
 
 impl<'a> Line<'a> {
     /// A whole line.
     pub(crate) fn new(text: &'a str) -> Line<'a>
         requires { 4 * length text.now < 2 ^ 64 }
+        ensures { result ≡ document_line text.now }
     {
         Line {
             cursor: Cursor::new(text),
@@ -31,65 +47,91 @@ impl<'a> Line<'a> {
     }
 
     /// Whether nothing but spaces and tabs stand there (CommonMark 2.1).
-    pub(crate) fn is_blank(&self) -> bool {
+    #[tactic(auto, using(crate::proofs::Skips::blank_text))]
+    pub(crate) fn is_blank(&self) -> bool
+        ensures { result ≡ is_blank_line self.now }
+    {
         self.text.is_empty()
     }
 
     /// The columns of spaces and tabs before the first other character (CommonMark 2.2).
-    pub(crate) fn indent(&self) -> usize {
+    pub(crate) fn indent(&self) -> usize
+        ensures value { result ≡ indentation self.now }
+        ensures short { self.now.line.column + result + 3 < 2 ^ 64 }
+    {
         self.cursor.indent()
     }
 
     /// Whether a block other than indented code may begin there.
-    pub(crate) fn is_near_margin(&self) -> bool {
-        self.cursor.indent() < 4
+    pub(crate) fn is_near_margin(&self) -> bool
+        ensures { result ≡ nat_le (indentation self.now) 3 }
+    {
+        self.cursor.indent() <= 3
     }
 
     /// The text without its indentation.
     pub(crate) fn text(&self) -> &'a str
-        ensures { result.now ≡ self.now.text.now }
+        ensures { result.now ≡ rest self.now }
     {
         self.text
     }
 
     /// The text with its indentation, but for columns that are left of a tab.
-    pub(crate) fn whole(&self) -> &'a str {
+    pub(crate) fn whole(&self) -> &'a str
+        ensures { (columns : ℕ) × (self.now.line.text ≡ replicate columns 32 ++ result.now) }
+    {
         self.cursor.rest()
     }
 
     /// Whether a container around does not match the line, so that it continues the open paragraph (CommonMark 5.1).
-    pub(crate) fn is_lazy(&self) -> bool {
+    pub(crate) fn is_lazy(&self) -> bool
+        ensures { result ≡ self.now.lazy }
+    {
         self.lazy
     }
 
     /// Says that a container around does not match the line.
-    pub(crate) fn make_lazy(&mut self) {
+    pub(crate) fn make_lazy(&mut self)
+        ensures { self.new ≡ as_lazy self.old }
+    {
         self.lazy = true;
     }
 
     /// Takes columns of indentation off, or all where there are fewer.
-    #[tactic(auto, using(crate::proofs::Skips::text_stays))]
-    pub(crate) fn take_columns(&mut self, columns: usize) {
+    pub(crate) fn take_columns(&mut self, columns: usize)
+        ensures { self.new ≡ without_columns self.old columns }
+    {
         self.cursor.skip_columns(columns.min(self.cursor.indent()));
     }
 
-    /// Takes the indentation and a mark of `width` bytes off.
+    /// Takes the indentation and a mark of `width` bytes off, which no lazy line has.
     #[tactic(auto, using(crate::proofs::Skips::at_text))]
     pub(crate) fn take_mark(&mut self, width: usize)
-        requires { AreMarks width self.old.text.now }
+        requires { AreMarks width (rest self.old) }
+        ensures { self.new ≡ behind_marker self.old width }
     {
         self.cursor.skip_columns(self.cursor.indent());
         self.cursor.skip_mark(width);
         self.text = without_indentation(self.cursor.rest());
+        self.lazy = false;
     }
 
     /// Appends the text with its indentation: spaces stand for columns that are left of a tab.
-    pub(crate) fn push_to(&self, out: &mut String) -> Result<(), AllocError> {
-        for _ in 0..self.cursor.left() {
-            out.push_str(" ")?;
-        }
+    pub(crate) fn push_to(&self, out: &mut String) -> Result<(), AllocError>
+        ensures { OnOk result (string_bytes out.new ≡ string_bytes out.old ++ self.now.line.text) }
+    {
+        push_spaces(out, self.cursor.left())?;
         out.push_str(self.cursor.rest())
     }
+}
+
+fn push_spaces(out: &mut String, count: usize) -> Result<(), AllocError>
+    ensures { OnOk result (string_bytes out.new ≡ string_bytes out.old ++ replicate count 32) }
+{
+    for _ in 0..count {
+        out.push_str(" ")?;
+    }
+    Ok(())
 }
 
 /// A text without the spaces and tabs at its beginning.
@@ -112,14 +154,20 @@ fn leading_blanks(text: &[u8]) -> usize
 /// How many bytes a text has without the spaces and tabs at its end.
 pub(crate) fn trimmed_length(text: &str) -> usize
     ensures boundary { IsCharBoundary text.now result }
+    ensures value { result ≡ length text.now - suffix_len is_blank text.now }
 {
-    let blanks = text
-        .as_bytes()
-        .iter()
+    text.len() - trailing_blanks(text.as_bytes())
+}
+
+/// How many of the last bytes are spaces or tabs.
+fn trailing_blanks(text: &[u8]) -> usize
+    ensures count { result ≡ suffix_len is_blank text.now }
+    ensures within { result ≤ length text.now }
+{
+    text.iter()
         .rev()
         .take_while(|byte| is_space_or_tab(**byte))
-        .count();
-    text.len() - blanks
+        .count()
 }
 
 fn is_space_or_tab(byte: u8) -> bool

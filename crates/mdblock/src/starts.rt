@@ -1,7 +1,13 @@
 //! The block that a line begins, by the order in which the constructs are tried.
 
-ghost use Rattle.std.specs.Prelude.{◌≡◌, IfSome};
+ghost use Rattle.std.specs.Prelude.{◌≡◌, IfSome, drop, false, [], List};
+ghost use Rattle.std.specs.Option.{option_map};
+ghost use Rattle.mdscan.specs.Blanks.{is_blank, is_blank_text};
+ghost use Rattle.mdblock.specs.BlockLine.{BlockLine, rest, behind_marker};
+ghost use Rattle.mdblock.specs.BlockStart.{is_free, is_inside, begins_html, begins_item, may_begin_item, start};
+ghost use Rattle.mdblock.specs.OpeningKind.{mode_view, kind_of_opening};
 ghost use Rattle.mdblock.specs.Openings.{IsOpeningOf};
+ghost use Rattle.mdblock.specs.StartParts.{start_before_underline, start_after_underline, start_alone_near, start_alone};
 
 use crate::lines::Line;
 use mdscan::{
@@ -19,6 +25,20 @@ pub(crate) enum Mode {
     Lazy,
 }
 
+impl Mode {
+    fn is_free(self) -> bool
+        ensures { result ≡ is_free (mode_view self) }
+    {
+        matches!(self, Mode::Free)
+    }
+
+    fn is_inside(self) -> bool
+        ensures { result ≡ is_inside (mode_view self) }
+    {
+        matches!(self, Mode::Inside)
+    }
+}
+
 /// The block that a line begins, paragraphs apart.
 #[derive(Clone, Copy, Debug, PartialEq, Eq)]
 pub(crate) enum Opening {
@@ -33,35 +53,42 @@ pub(crate) enum Opening {
 }
 
 /// The block that a line begins, but for setext underlines and tables, which need the paragraph before.
+#[tactic(auto, using(crate::proofs::StartLaws::starts_alone), unfolding(crate::specs::StartParts::start_alone))]
 pub(crate) fn start(line: &Line, mode: Mode) -> Option<Opening>
-    ensures { IfSome result (λ opening. IsOpeningOf line.now.text.now opening) }
+    ensures parts { IfSome result (λ opening. IsOpeningOf (rest line.now) opening) }
+    ensures kind { option_map (kind_of_opening line.now) result ≡ start_alone (mode_view mode) line.now }
+    ensures alone { is_inside (mode_view mode) ≡ false → option_map (kind_of_opening line.now) result ≡ start (mode_view mode) [] line.now }
 {
     if line.is_blank() {
         return None;
     }
     if line.is_near_margin() {
-        return at_margin(line.text(), mode);
+        return at_margin(line, mode);
     }
-    if mode == Mode::Free {
+    if mode.is_free() {
         return Some(Opening::Code);
     }
     None
 }
 
-fn at_margin(text: &str, mode: Mode) -> Option<Opening>
-    ensures { IfSome result (λ opening. IsOpeningOf text.now opening) }
+#[tactic(auto, unfolding(crate::specs::StartParts::start_alone_near))]
+fn at_margin(line: &Line, mode: Mode) -> Option<Opening>
+    ensures parts { IfSome result (λ opening. IsOpeningOf (rest line.now) opening) }
+    ensures kind { option_map (kind_of_opening line.now) result ≡ start_alone_near (mode_view mode) line.now }
 {
-    match before_underline(text, mode) {
+    match before_underline(line, mode) {
         Some(opening) => Some(opening),
-        None => after_underline(text, mode),
+        None => after_underline(line, mode),
     }
 }
 
 /// The constructs that are tried before the setext underline.
-#[tactic(auto, using(crate::proofs::Markers::quote_mark))]
-pub(crate) fn before_underline(text: &str, mode: Mode) -> Option<Opening>
-    ensures { IfSome result (λ opening. IsOpeningOf text.now opening) }
+#[tactic(auto, using(crate::proofs::Markers::quote_mark), unfolding(crate::specs::StartParts::start_before_underline))]
+pub(crate) fn before_underline(line: &Line, mode: Mode) -> Option<Opening>
+    ensures parts { IfSome result (λ opening. IsOpeningOf (rest line.now) opening) }
+    ensures kind { option_map (kind_of_opening line.now) result ≡ start_before_underline (mode_view mode) line.now }
 {
+    let text = line.text();
     if quote_marker(text) {
         return Some(Opening::Quote);
     }
@@ -71,16 +98,17 @@ pub(crate) fn before_underline(text: &str, mode: Mode) -> Option<Opening>
     if let Some(fence) = fence(text) {
         return Some(Opening::Fence(fence));
     }
-    html(text, mode)
+    html(line, mode)
 }
 
 /// An HTML block (CommonMark 4.6): the seventh kind begins only where no paragraph is open.
-fn html(text: &str, mode: Mode) -> Option<Opening>
-    ensures { IfSome result (λ opening. IsOpeningOf text.now opening) }
+fn html(line: &Line, mode: Mode) -> Option<Opening>
+    ensures parts { IfSome result (λ opening. IsOpeningOf (rest line.now) opening) }
+    ensures kind { option_map (kind_of_opening line.now) result ≡ begins_html (mode_view mode) line.now }
 {
-    match html_start(text) {
+    match html_start(line.text()) {
         Some(kind) => {
-            if kind < 7 || mode == Mode::Free {
+            if kind < 7 || mode.is_free() {
                 return Some(Opening::Html(kind));
             }
             None
@@ -90,15 +118,25 @@ fn html(text: &str, mode: Mode) -> Option<Opening>
 }
 
 /// The constructs that are tried after the setext underline.
-pub(crate) fn after_underline(text: &str, mode: Mode) -> Option<Opening>
-    ensures { IfSome result (λ opening. IsOpeningOf text.now opening) }
+#[tactic(auto, unfolding(crate::specs::StartParts::start_after_underline))]
+pub(crate) fn after_underline(line: &Line, mode: Mode) -> Option<Opening>
+    ensures parts { IfSome result (λ opening. IsOpeningOf (rest line.now) opening) }
+    ensures kind { option_map (kind_of_opening line.now) result ≡ start_after_underline (mode_view mode) line.now }
 {
-    if thematic(text) {
+    if thematic(line.text()) {
         return Some(Opening::Break);
     }
-    match list_marker(text) {
+    item(line, mode)
+}
+
+/// An item of a list (CommonMark 5.2).
+fn item(line: &Line, mode: Mode) -> Option<Opening>
+    ensures parts { IfSome result (λ opening. IsOpeningOf (rest line.now) opening) }
+    ensures kind { option_map (kind_of_opening line.now) result ≡ begins_item (mode_view mode) line.now }
+{
+    match list_marker(line.text()) {
         Some(marker) => {
-            if mode != Mode::Inside || interrupts(text, marker) {
+            if may_begin_item(line, mode, marker) {
                 return Some(Opening::Item(marker));
             }
             None
@@ -107,12 +145,24 @@ pub(crate) fn after_underline(text: &str, mode: Mode) -> Option<Opening>
     }
 }
 
-/// Whether an item may interrupt a paragraph (CommonMark 5.2): something follows its marker, and its number is 1.
-fn interrupts(text: &str, marker: Marker) -> bool {
-    let follows = text
-        .as_bytes()
-        .iter()
-        .skip(marker.width)
-        .any(|byte| *byte != b' ' && *byte != b'\t');
-    follows && marker.start.unwrap_or(1) == 1
+/// Whether an item may begin where a paragraph may be open (CommonMark 5.2): it interrupts one only where something
+/// follows its marker and its number is 1.
+fn may_begin_item(line: &Line, mode: Mode, marker: Marker) -> bool
+    ensures { result ≡ may_begin_item (mode_view mode) marker (behind_marker line.now marker.width) }
+{
+    !mode.is_inside()
+        || (!is_blank_from(line.text().as_bytes(), marker.width) && marker.start.unwrap_or(1) == 1)
+}
+
+/// Whether nothing but spaces and tabs stand from a place on.
+fn is_blank_from(text: &[u8], at: usize) -> bool
+    ensures { result ≡ is_blank_text (drop at text.now) }
+{
+    text.iter().skip(at).all(|byte| is_blank(*byte))
+}
+
+fn is_blank(byte: u8) -> bool
+    ensures { result ≡ is_blank byte }
+{
+    byte == b' ' || byte == b'\t'
 }

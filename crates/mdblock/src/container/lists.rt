@@ -1,9 +1,14 @@
 //! Lists and their items (CommonMark 5.2, 5.3).
 
-ghost use Rattle.std.specs.Prelude.{◌≡◌, ℕ, IfSome, OnOk};
+ghost use Rattle.std.specs.Prelude.{◌≡◌, ℕ, ◌+◌, ◌^◌, ◌<◌, ◌&&◌, ◌||◌, nat_le, is_some, true, Some, IfSome, OnOk};
 ghost use Rattle.mdtext.specs.Columns.{AreMarks};
-ghost use Rattle.mdblock.specs.BlockView.{block_view, blocks_view, items_view};
+ghost use Rattle.mdblock.specs.BlockLine.{rest, indentation, without_columns};
+ghost use Rattle.mdblock.specs.BlockStart.{Item as ItemWith, Holds, padding, item_of, begun};
+ghost use Rattle.mdblock.specs.BlockView.{kind_view, block_view, blocks_view, items_view};
+ghost use Rattle.mdblock.specs.ContainerLines.{opened};
+ghost use Rattle.mdblock.specs.ListGroups.{kind_of, is_same_list};
 ghost use Rattle.mdblock.specs.Positions.{BlockIn, BlocksIn, ItemsIn};
+ghost use Rattle.mdblock.specs.UnitBegin.{list_mark, same_mark};
 
 use crate::blocks::{Block, Item, ListKind};
 use crate::lines::Line;
@@ -17,42 +22,53 @@ pub(crate) struct OpenList {
     kind: ListKind,
     loose: bool,
     items: Vec<Item>,
-    open: bool,
+    item_open: bool,
     needed: usize,
 }
 
 impl OpenList {
     /// The list that an item begins, with the columns that the item's later lines need.
     pub(crate) fn new(alloc: Global, marker: Marker, needed: usize) -> OpenList
-        ensures { (n : ℕ) → ItemsIn n (items_view result.items.items) }
+        ensures within { (n : ℕ) → ItemsIn n (items_view result.items.items) }
+        ensures kind { kind_view result.kind ≡ kind_of marker }
+        ensures needed { result.needed ≡ needed }
+        ensures open { result.item_open ≡ true }
     {
         OpenList {
             kind: kind_of(marker),
             loose: false,
             items: Vec::new(alloc),
-            open: true,
+            item_open: true,
             needed,
         }
     }
 
     /// Whether its last item is open.
-    pub(crate) fn is_open(&self) -> bool {
-        self.open
+    pub(crate) fn is_open(&self) -> bool
+        ensures { result ≡ self.now.item_open }
+    {
+        self.item_open
     }
 
     /// Whether a line that is not blank has the columns that the open item needs.
-    pub(crate) fn matches(&self, line: &Line) -> bool {
-        self.open && line.indent() >= self.needed
+    pub(crate) fn matches(&self, line: &Line) -> bool
+        ensures { result ≡ (self.now.item_open && nat_le self.now.needed (indentation line.now)) }
+    {
+        self.item_open && line.indent() >= self.needed
     }
 
     /// Takes the columns off a line of the open item.
-    pub(crate) fn enter(&self, line: &mut Line) {
+    pub(crate) fn enter(&self, line: &mut Line)
+        ensures { line.new ≡ without_columns line.old self.now.needed }
+    {
         line.take_columns(self.needed);
     }
 
     /// The marker of the list's next item, where a line begins one.
     pub(crate) fn next(&self, line: &Line) -> Option<Marker>
-        ensures { IfSome result (λ marker. AreMarks marker.width line.now.text.now) }
+        ensures marks { IfSome result (λ marker. AreMarks marker.width (rest line.now)) }
+        ensures begins { IfSome result (λ marker. begun line.now ≡ Holds (item_of line.now marker)) }
+        ensures same { is_some result ≡ same_mark (Some (kind_view self.now.kind)) (list_mark (begun line.now)) }
     {
         match start(line, Mode::Free) {
             Some(Opening::Item(marker)) => {
@@ -67,9 +83,9 @@ impl OpenList {
 
     /// Begins the next item; a gap before it makes the list loose.
     pub(crate) fn begin(&mut self, needed: usize, gap: bool)
-        ensures { self.new.items ≡ self.old.items }
+        ensures { self.new ≡ record self.old { item_open = true; needed = needed; loose = self.old.loose || gap } }
     {
-        self.open = true;
+        self.item_open = true;
         self.needed = needed;
         self.loose = self.loose || gap;
     }
@@ -80,7 +96,7 @@ impl OpenList {
     {
         self.items.push(Item { blocks })?;
         self.loose = self.loose || gap;
-        self.open = false;
+        self.item_open = false;
         Ok(())
     }
 
@@ -97,26 +113,36 @@ impl OpenList {
 }
 
 /// Takes an item's marker and the columns after it off its first line, and answers the columns that its other lines need.
+#[tactic(auto, unfolding(crate::specs::ContainerLines::opened))]
 pub(crate) fn take_marker(line: &mut Line, marker: Marker) -> usize
-    requires { AreMarks marker.width line.old.text.now }
+    requires { AreMarks marker.width (rest line.old) }
+    ensures needed { item_of line.old marker ≡ ItemWith marker result }
+    ensures line { line.new ≡ opened (ItemWith marker result) line.old }
 {
-    let before = line.indent().saturating_add(marker.width);
+    let before = line.indent();
     line.take_mark(marker.width);
     let after = columns_after_marker(line);
     line.take_columns(after);
-    before.saturating_add(after)
+    before + marker.width + after
 }
 
 /// How many columns after a marker belong to it: with five or more, or with nothing behind them, one counts.
-fn columns_after_marker(line: &Line) -> usize {
-    if line.is_blank() || line.indent() > 4 {
+#[tactic(auto, unfolding(crate::specs::BlockStart::padding))]
+fn columns_after_marker(line: &Line) -> usize
+    ensures value { result ≡ padding line.now }
+    ensures short { line.now.line.column + result < 2 ^ 64 }
+{
+    let columns = line.indent();
+    if line.is_blank() || columns > 4 {
         1
     } else {
-        line.indent()
+        columns
     }
 }
 
-fn kind_of(marker: Marker) -> ListKind {
+fn kind_of(marker: Marker) -> ListKind
+    ensures { kind_view result ≡ kind_of marker }
+{
     match marker.start {
         Some(start) => ListKind::Ordered {
             delim: marker.mark,
@@ -127,7 +153,9 @@ fn kind_of(marker: Marker) -> ListKind {
 }
 
 /// Whether items of these kinds stand in one list: the numbers don't matter.
-fn is_same_list(kind: ListKind, other: ListKind) -> bool {
+fn is_same_list(kind: ListKind, other: ListKind) -> bool
+    ensures { result ≡ is_same_list (kind_view kind) (kind_view other) }
+{
     match (kind, other) {
         (ListKind::Bullet(mark), ListKind::Bullet(other)) => mark == other,
         (ListKind::Ordered { delim, .. }, ListKind::Ordered { delim: other, .. }) => delim == other,

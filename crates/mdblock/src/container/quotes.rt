@@ -2,28 +2,37 @@
 
 ghost use Rattle.std.specs.Prelude.{◌≡◌, IsTrue};
 ghost use Rattle.mdtext.specs.Columns.{AreMarks};
+ghost use Rattle.mdblock.specs.BlockLine.{rest};
+ghost use Rattle.mdblock.specs.BlockStart.{Quote};
+ghost use Rattle.mdblock.specs.ContainerLines.{matches, opened, inside};
 
 use crate::lines::Line;
 use mdscan::quote_marker;
 
 /// Whether a line has the marker of a block quote, which no lazy line has.
-#[tactic(auto, using(crate::proofs::Markers::quote_mark))]
+#[tactic(auto, using(crate::proofs::Markers::quote_mark), unfolding(crate::specs::ContainerLines::matches))]
 pub(crate) fn matches(line: &Line) -> bool
-    ensures { IsTrue result → AreMarks 1 line.now.text.now }
+    ensures value { result ≡ matches Quote line.now }
+    ensures mark { IsTrue result → AreMarks 1 (rest line.now) }
 {
     !line.is_lazy() && line.is_near_margin() && quote_marker(line.text())
 }
 
 /// Takes the marker off, and one column of space or tab after it.
+#[tactic(auto, unfolding(crate::specs::ContainerLines::opened))]
 pub(crate) fn take_marker(line: &mut Line)
-    requires { AreMarks 1 line.old.text.now }
+    requires { AreMarks 1 (rest line.old) }
+    ensures { line.new ≡ opened Quote line.old }
 {
     line.take_mark(1);
     line.take_columns(1);
 }
 
 /// Takes the marker off a later line of the quote; one without it is lazy.
-pub(crate) fn enter(line: &mut Line) {
+#[tactic(auto, unfolding(crate::specs::ContainerLines::inside, crate::specs::ContainerLines::opened))]
+pub(crate) fn enter(line: &mut Line)
+    ensures { line.new ≡ inside Quote line.old }
+{
     if matches(line) {
         take_marker(line);
     } else {

@@ -1,10 +1,18 @@
 //! Fenced code (CommonMark 4.5).
 
-ghost use Rattle.std.specs.Prelude.{ℕ, IfOk};
+ghost use Rattle.std.specs.Prelude.{◌≡◌, ℕ, ◌≤◌, not, List, [], IfOk, length, string_bytes};
+ghost use Rattle.std.specs.List.{prefix_len};
+ghost use Rattle.mdtext.specs.EntityTable.{EntityTable};
+ghost use Rattle.mdleaf.specs.CodeLanguage.{code_language, ends_language};
+ghost use Rattle.mdscan.specs.Spans.{part};
 ghost use Rattle.mdscan.specs.Spans.{IsSpanOf};
+ghost use Rattle.mdblock.specs.BlockLine.{BlockLine, rest, indentation};
+ghost use Rattle.mdblock.specs.BlockTree.{code_block};
 ghost use Rattle.mdblock.specs.BlockView.{block_view};
+ghost use Rattle.mdblock.specs.OpenLeaves.{IsFenceOf, IsFenceLeaf, IsFenceStep, IsGoing};
 ghost use Rattle.mdblock.specs.OpenPositions.{StepIn};
 ghost use Rattle.mdblock.specs.Positions.{BlockIn};
+ghost use Rattle.mdblock.specs.Stretches.{closes};
 
 use crate::blocks::Block;
 use crate::gathering::Gathering;
@@ -30,8 +38,9 @@ pub(crate) fn begin(
     line: &Line,
     gathering: &Gathering,
 ) -> Result<Step, AllocError>
-    requires { IsSpanOf line.now.text.now fence.info }
-    ensures { (n : ℕ) → IfOk result (λ step. StepIn n step) }
+    requires { IsSpanOf (rest line.now) fence.info }
+    ensures within { (n : ℕ) → IfOk result (λ step. StepIn n step) }
+    ensures step { IfOk result (λ step. IsGoing (IsFenceLeaf gathering.now.entities.now (indentation line.now) fence.mark fence.length (part (rest line.now) fence.info) []) step) }
 {
     let text = line.text();
     let info = &text[fence.info.start..fence.info.end];
@@ -45,11 +54,19 @@ pub(crate) fn begin(
 }
 
 impl Fence {
+    /// Whether a line is the closing fence.
+    fn closes(&self, line: &Line) -> bool
+        ensures { result ≡ closes self.now.mark self.now.length line.now }
+    {
+        line.is_near_margin() && fence_end(line.text(), self.mark, self.length)
+    }
+
     /// Reads a line: what closes the code, or a line of it.
     pub(crate) fn add(mut self, mut line: Line) -> Result<Step, AllocError>
-        ensures { (n : ℕ) → IfOk result (λ step. StepIn n step) }
+        ensures within { (n : ℕ) → IfOk result (λ step. StepIn n step) }
+        ensures step { (entities : EntityTable) (info : List ℕ) (later : List BlockLine) → IsFenceOf entities self.indent self.mark self.length info later self → IfOk result (λ step. IsFenceStep (closes self.mark self.length line.entry) entities self.indent self.mark self.length info later line.entry step) }
     {
-        if line.is_near_margin() && fence_end(line.text(), self.mark, self.length) {
+        if self.closes(&line) {
             return Ok(over(self.end()));
         }
         line.take_columns(self.indent);
@@ -60,7 +77,8 @@ impl Fence {
 
     /// What the code is at its end.
     pub(crate) fn end(self) -> Block
-        ensures { (n : ℕ) → BlockIn n (block_view result) }
+        ensures within { (n : ℕ) → BlockIn n (block_view result) }
+        ensures value { block_view result ≡ code_block (string_bytes self.lang) (string_bytes self.body) }
     {
         Block::Code {
             lang: self.lang,
@@ -70,11 +88,27 @@ impl Fence {
 }
 
 /// The first word of an info string, after escapes and references.
-fn language(info: &str, gathering: &Gathering) -> Result<String, AllocError> {
+fn language(info: &str, gathering: &Gathering) -> Result<String, AllocError>
+    ensures { IfOk result (λ lang. string_bytes lang ≡ code_language gathering.now.entities.now info.now) }
+{
     let mut lang = String::new(gathering.alloc());
     unescape(info, gathering.entities(), &mut lang)?;
-    if let Some(end) = lang.find([' ', '\t', '\n', '\u{b}', '\u{c}', '\r']) {
-        lang.truncate(end);
-    }
+    let end = word_length(lang.as_bytes());
+    lang.truncate(end);
     Ok(lang)
+}
+
+/// How long the word is that a text begins with.
+fn word_length(text: &[u8]) -> usize
+    ensures { result ≡ prefix_len (λ b. not (ends_language b)) text.now }
+{
+    text.iter()
+        .take_while(|byte| !ends_language(**byte))
+        .count()
+}
+
+fn ends_language(byte: u8) -> bool
+    ensures { result ≡ ends_language byte }
+{
+    byte == b' ' || (9 <= byte && byte <= 13)
 }

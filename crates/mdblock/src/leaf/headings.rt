@@ -1,7 +1,10 @@
 //! Headings, by their own mark or by an underline.
 
-ghost use Rattle.std.specs.Prelude.{◌≤◌, IfOk, length};
-ghost use Rattle.mdscan.specs.Spans.{IsSpanOf};
+ghost use Rattle.std.specs.Prelude.{◌≡◌, ◌≤◌, [], ◌∷◌, ◌++◌, IfOk, OnOk, length, string_bytes};
+ghost use Rattle.mdscan.specs.Spans.{IsSpanOf, part};
+ghost use Rattle.mdblock.specs.BlockTree.{heading as heading_block};
+ghost use Rattle.mdblock.specs.HandedIn.{texts_of};
+ghost use Rattle.mdblock.specs.OpenLeaves.{IsOver};
 ghost use Rattle.mdblock.specs.OpenPositions.{StepIn};
 
 use crate::blocks::Block;
@@ -19,6 +22,8 @@ pub(crate) fn atx_heading(
     requires { IsSpanOf line.now heading.content }
     ensures within { IfOk result (λ step. StepIn (length gathering.new.texts.items) step) }
     ensures grows { length gathering.old.texts.items ≤ length gathering.new.texts.items }
+    ensures step { IfOk result (λ step. IsOver (heading_block heading.level (length gathering.old.texts.items)) step) }
+    ensures texts { OnOk result (texts_of gathering.new ≡ texts_of gathering.old ++ part line.now heading.content ∷ []) }
 {
     let content = &line[heading.content.start..heading.content.end];
     let text = gathering.text(String::from_str(gathering.alloc(), content)?)?;
@@ -36,6 +41,9 @@ pub(crate) fn setext_heading(
 ) -> Result<Step, AllocError>
     ensures within { IfOk result (λ step. StepIn (length gathering.new.texts.items) step) }
     ensures grows { length gathering.old.texts.items ≤ length gathering.new.texts.items }
+    ensures step { IfOk result (λ step. IsOver (heading_block level (length gathering.old.texts.items)) step) }
+    ensures texts { OnOk result (texts_of gathering.new ≡ texts_of gathering.old ++ string_bytes text ∷ []) }
+    ensures definitions { gathering.new.definitions ≡ gathering.old.definitions }
 {
     let text = gathering.text(text)?;
     Ok(over(Block::Heading { level, text }))

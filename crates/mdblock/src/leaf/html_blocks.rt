@@ -1,9 +1,13 @@
 //! HTML blocks (CommonMark 4.6).
 
-ghost use Rattle.std.specs.Prelude.{ℕ, IfOk};
+ghost use Rattle.std.specs.Prelude.{◌≡◌, ℕ, ◌||◌, nat_lt, not, List, [], ◌∷◌, ◌++◌, IfOk, string_bytes};
+ghost use Rattle.mdblock.specs.BlockLine.{BlockLine, is_blank_line};
+ghost use Rattle.mdblock.specs.BlockTree.{html_block};
 ghost use Rattle.mdblock.specs.BlockView.{block_view};
+ghost use Rattle.mdblock.specs.OpenLeaves.{IsHtmlOf, IsHtmlStep};
 ghost use Rattle.mdblock.specs.OpenPositions.{StepIn};
 ghost use Rattle.mdblock.specs.Positions.{BlockIn};
+ghost use Rattle.mdblock.specs.Stretches.{ends_html};
 
 use crate::blocks::Block;
 use crate::leaf::{Leaf, Step, going, over};
@@ -20,7 +24,8 @@ pub(crate) struct HtmlBlock {
 
 /// The block that a line begins.
 pub(crate) fn begin(kind: u8, line: &Line, alloc: Global) -> Result<Step, AllocError>
-    ensures { (n : ℕ) → IfOk result (λ step. StepIn n step) }
+    ensures within { (n : ℕ) → IfOk result (λ step. StepIn n step) }
+    ensures step { IfOk result (λ step. IsHtmlStep (ends_html kind line.now) kind (line.now ∷ []) step) }
 {
     let mut body = String::new(alloc);
     line.push_to(&mut body)?;
@@ -29,24 +34,35 @@ pub(crate) fn begin(kind: u8, line: &Line, alloc: Global) -> Result<Step, AllocE
 
 impl HtmlBlock {
     /// Whether a line goes on with the block.
-    pub(crate) fn takes(&self, line: &Line) -> bool {
+    pub(crate) fn takes(&self, line: &Line) -> bool
+        ensures { result ≡ (nat_lt self.now.kind 6 || not (is_blank_line line.now)) }
+    {
         self.kind < 6 || !line.is_blank()
     }
 
     /// Reads a line of the block.
     pub(crate) fn add(mut self, line: &Line) -> Result<Step, AllocError>
-        ensures { (n : ℕ) → IfOk result (λ step. StepIn n step) }
+        ensures within { (n : ℕ) → IfOk result (λ step. StepIn n step) }
+        ensures step { (first : BlockLine) (later : List BlockLine) → IsHtmlOf self.kind (first ∷ later) self → IfOk result (λ step. IsHtmlStep (ends_html self.kind line.now) self.kind (first ∷ later ++ line.now ∷ []) step) }
     {
         self.body.push_str("\n")?;
         line.push_to(&mut self.body)?;
         Ok(self.after(line))
     }
 
+    /// Whether a line holds what ends the block.
+    fn ends(&self, line: &Line) -> bool
+        ensures { result ≡ ends_html self.now.kind line.now }
+    {
+        html_end(self.kind, line.whole())
+    }
+
     /// What a line that was read leaves: it may be the last one.
     fn after(self, line: &Line) -> Step
-        ensures { (n : ℕ) → StepIn n result }
+        ensures within { (n : ℕ) → StepIn n result }
+        ensures step { (lines : List BlockLine) → IsHtmlOf self.kind lines self → IsHtmlStep (ends_html self.kind line.now) self.kind lines result }
     {
-        if html_end(self.kind, line.whole()) {
+        if self.ends(line) {
             over(self.end())
         } else {
             going(Leaf::Html(self))
@@ -55,7 +71,8 @@ impl HtmlBlock {
 
     /// What the block is at its end.
     pub(crate) fn end(self) -> Block
-        ensures { (n : ℕ) → BlockIn n (block_view result) }
+        ensures within { (n : ℕ) → BlockIn n (block_view result) }
+        ensures value { block_view result ≡ html_block (string_bytes self.body) }
     {
         Block::Html(self.body)
     }

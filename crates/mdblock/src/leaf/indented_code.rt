@@ -1,9 +1,13 @@
 //! Indented code (CommonMark 4.4).
 
-ghost use Rattle.std.specs.Prelude.{ℕ, IfOk};
+ghost use Rattle.std.specs.Prelude.{◌≡◌, ℕ, List, [], ◌∷◌, ◌++◌, IfOk, string_bytes};
+ghost use Rattle.mdblock.specs.BlockLine.{BlockLine};
+ghost use Rattle.mdblock.specs.BlockTree.{code_block};
 ghost use Rattle.mdblock.specs.BlockView.{block_view};
+ghost use Rattle.mdblock.specs.OpenLeaves.{IsCodeOf, IsCodeLeaf, IsGoing};
 ghost use Rattle.mdblock.specs.OpenPositions.{StepIn};
 ghost use Rattle.mdblock.specs.Positions.{BlockIn};
+ghost use Rattle.mdblock.specs.Stretches.{is_code};
 
 use crate::blocks::Block;
 use crate::leaf::{Leaf, Step, going};
@@ -19,7 +23,8 @@ pub(crate) struct IndentedCode {
 
 /// The code that a line begins.
 pub(crate) fn begin(line: Line, alloc: Global) -> Result<Step, AllocError>
-    ensures { (n : ℕ) → IfOk result (λ step. StepIn n step) }
+    ensures within { (n : ℕ) → IfOk result (λ step. StepIn n step) }
+    ensures step { IfOk result (λ step. IsGoing (IsCodeLeaf (line.entry ∷ [])) step) }
 {
     let code = IndentedCode {
         body: String::new(alloc),
@@ -29,29 +34,34 @@ pub(crate) fn begin(line: Line, alloc: Global) -> Result<Step, AllocError>
 }
 
 /// Whether a line goes on with indented code.
-pub(crate) fn takes(line: &Line) -> bool {
-    line.is_blank() || !line.is_near_margin()
+pub(crate) fn takes(line: &Line) -> bool
+    ensures { result ≡ is_code line.now }
+{
+    line.is_blank() || line.indent() >= 4
 }
 
 impl IndentedCode {
     /// Reads a line of the code.
     pub(crate) fn add(mut self, mut line: Line) -> Result<Step, AllocError>
-        ensures { (n : ℕ) → IfOk result (λ step. StepIn n step) }
+        ensures within { (n : ℕ) → IfOk result (λ step. StepIn n step) }
+        ensures step { (lines : List BlockLine) → IsCodeOf lines self → IfOk result (λ step. IsGoing (IsCodeLeaf (lines ++ line.entry ∷ [])) step) }
     {
         let blank = line.is_blank();
         line.take_columns(4);
         line.push_to(&mut self.blanks)?;
         self.blanks.push_str("\n")?;
-        if !blank {
-            self.body.push_str(self.blanks.as_str())?;
-            self.blanks.clear();
+        if blank {
+            return Ok(going(Leaf::Code(self)));
         }
+        self.body.push_str(self.blanks.as_str())?;
+        self.blanks.clear();
         Ok(going(Leaf::Code(self)))
     }
 
     /// What the code is at its end: blank lines there are no part of it.
     pub(crate) fn end(self, alloc: Global) -> Block
-        ensures { (n : ℕ) → BlockIn n (block_view result) }
+        ensures within { (n : ℕ) → BlockIn n (block_view result) }
+        ensures value { block_view result ≡ code_block [] (string_bytes self.body) }
     {
         Block::Code {
             lang: String::new(alloc),

@@ -1,10 +1,24 @@
 //! Paragraphs (CommonMark 4.8), and what becomes of their lines.
 
-ghost use Rattle.std.specs.Prelude.{◌≡◌, ◌≤◌, ℕ, IfOk, IfSome, length};
+ghost use Rattle.std.specs.Prelude.{◌≡◌, ◌+◌, ◌≤◌, ℕ, not, List, [], ◌∷◌, ◌++◌, IfOk, IfSome, OnOk, length, drop, string_bytes};
+ghost use Rattle.std.specs.Option.{option_map};
 ghost use Rattle.std.specs.Str.{IsCharBoundary};
+ghost use Rattle.mdleaf.specs.ParagraphText.{is_definitions_alone, behind_definitions, without_end_blanks};
+ghost use Rattle.mdleaf.specs.LeadingDefinitions.{leading_of};
+ghost use Rattle.mdleaf.specs.TableRows.{begins_table};
+ghost use Rattle.mdblock.specs.BlockLine.{BlockLine, rest, is_blank_line};
+ghost use Rattle.mdblock.specs.BlockStart.{Paragraph as ParagraphKind, Inside, SetextHeading, begins_underline, last_text, start, start_near};
+ghost use Rattle.mdblock.specs.BlockTree.{heading as heading_block};
 ghost use Rattle.mdblock.specs.BlockView.{block_view};
+ghost use Rattle.mdblock.specs.HandedIn.{definitions_of, texts_of, taken, left_behind, IsHandedIn};
+ghost use Rattle.mdblock.specs.NodeTree.{paragraph_leaf};
 ghost use Rattle.mdblock.specs.Positions.{BlockIn};
+ghost use Rattle.mdblock.specs.OpenLeaves.{IsGoing, IsOver, IsParagraphLeaf};
 ghost use Rattle.mdblock.specs.OpenPositions.{StepIn};
+ghost use Rattle.mdblock.specs.ParagraphLines.{HoldsLines};
+ghost use Rattle.mdblock.specs.ParagraphTurns.{turn_step, begins_row};
+ghost use Rattle.mdblock.specs.Stretches.{Takes, paragraph_step, interrupted};
+ghost use Rattle.mdblock.specs.UnitBegin.{is_stop};
 
 use crate::blocks::Block;
 use crate::gathering::Gathering;
@@ -16,11 +30,25 @@ use crate::starts::{Mode, after_underline, before_underline};
 use mdleaf::{begins_table, is_only_definitions, table_header, task_mark};
 use mdscan::setext;
 use std::alloc::{AllocError, Global};
+use std::marker::Model;
 
-/// An open paragraph: its lines without their indentation, joined by LF.
+/// An open paragraph: its lines without their indentation, joined by LF, and where the last one begins.
 #[derive(Drop)]
 pub(crate) struct Paragraph {
     text: String,
+    last: usize,
+}
+
+impl Model for Paragraph {
+    ghost use Rattle.std.specs.Prelude.{◌≡◌, ◌-◌, ◌<◌, slice_index, string_bytes};
+    ghost use Rattle.std.specs.Str.{IsCharBoundary};
+    ghost use Rattle.mdblock.specs.ParagraphLines.{HeldText};
+
+    ghost Value = { HeldText };
+
+    ghost view = { λ p. record { text = string_bytes p.text; last = p.last } };
+
+    ghost invariant = { λ p. IsCharBoundary (string_bytes p.text) p.last × (0 < p.last → slice_index (string_bytes p.text) (p.last - 1) ≡ 10) };
 }
 
 /// What a line does to an open paragraph.
@@ -37,20 +65,26 @@ enum Turn {
 
 /// The paragraph that a line begins.
 pub(crate) fn begin(line: &Line, alloc: Global) -> Result<Step, AllocError>
-    ensures { (n : ℕ) → IfOk result (λ step. StepIn n step) }
+    ensures within { (n : ℕ) → IfOk result (λ step. StepIn n step) }
+    ensures step { IfOk result (λ step. IsGoing (IsParagraphLeaf (line.now ∷ [])) step) }
 {
     Ok(going(Leaf::Paragraph(Paragraph {
         text: String::from_str(alloc, line.text())?,
+        last: 0,
     })))
 }
 
 impl Paragraph {
     /// Whether the paragraph takes a line, as its text or as what turns it into another block.
-    pub(crate) fn takes(&self, line: &Line) -> bool {
-        self.turn(line) != Turn::Ends
+    pub(crate) fn takes(&self, line: &Line) -> bool
+        ensures { (lines : List BlockLine) → HoldsLines lines self.now → result ≡ not (is_stop (paragraph_step line.now.lazy (is_blank_line line.now) (start Inside lines line.now))) }
+    {
+        !matches!(self.turn(line), Turn::Ends)
     }
 
-    fn turn(&self, line: &Line) -> Turn {
+    fn turn(&self, line: &Line) -> Turn
+        ensures { (lines : List BlockLine) → HoldsLines lines self.now → turn_step (length lines) result ≡ paragraph_step line.now.lazy (is_blank_line line.now) (start Inside lines line.now) }
+    {
         if line.is_lazy() {
             return Turn::Continues;
         }
@@ -58,56 +92,110 @@ impl Paragraph {
             return Turn::Ends;
         }
         if line.is_near_margin() {
-            return self.turn_at_margin(line.text());
+            return self.turn_at_margin(line);
         }
         Turn::Continues
     }
 
-    fn turn_at_margin(&self, text: &str) -> Turn {
-        if before_underline(text, Mode::Inside).is_some() {
+    fn turn_at_margin(&self, line: &Line) -> Turn
+        ensures { (lines : List BlockLine) → HoldsLines lines self.now → turn_step (length lines) result ≡ interrupted (start_near Inside lines line.now) }
+    {
+        if before_underline(line, Mode::Inside).is_some() {
             return Turn::Ends;
         }
-        if let Some(level) = setext(text) {
-            if !is_only_definitions(self.text.as_str()) {
-                return Turn::Underlines(level);
-            }
+        if let Some(level) = self.underline(line) {
+            return Turn::Underlines(level);
         }
-        if after_underline(text, Mode::Inside).is_some() {
+        if after_underline(line, Mode::Inside).is_some() {
             return Turn::Ends;
         }
-        if may_delimit(text) && begins_table(last_line(self.text.as_str()), text) {
+        if self.is_delimited(line) {
             return Turn::Delimits;
         }
         Turn::Continues
     }
 
+    /// The level of the heading that a line makes of the paragraph (CommonMark 4.3).
+    fn underline(&self, line: &Line) -> Option<u8>
+        ensures { (lines : List BlockLine) → HoldsLines lines self.now → option_map SetextHeading result ≡ begins_underline Inside lines line.now }
+    {
+        match setext(line.text()) {
+            Some(level) => {
+                if self.is_definitions() {
+                    return None;
+                }
+                Some(level)
+            }
+            None => None,
+        }
+    }
+
+    /// Whether the text is link reference definitions and nothing else (CommonMark 4.7).
+    fn is_definitions(&self) -> bool
+        ensures { result ≡ is_definitions_alone (without_end_blanks self.now.text) }
+    {
+        let text = self.text.as_str();
+        is_only_definitions(&text[..trimmed_length(text)])
+    }
+
+    /// Whether a line is a delimiter row that makes a table of the last line.
+    fn is_delimited(&self, line: &Line) -> bool
+        ensures { (lines : List BlockLine) → HoldsLines lines self.now → result ≡ begins_table (last_text lines) (rest line.now) }
+    {
+        may_delimit(line.text()) && begins_table(self.last_line(), line.text())
+    }
+
+    fn last_line(&self) -> &str
+        ensures { result.now ≡ drop self.now.last self.now.text }
+    {
+        let text = self.text.as_str();
+        &text[self.last..]
+    }
+
+    /// The heading that an underline makes of the paragraph.
+    fn turn_into_heading(self, level: u8, gathering: &mut Gathering) -> Result<Step, AllocError>
+        ensures within { IfOk result (λ step. StepIn (length gathering.new.texts.items) step) }
+        ensures grows { length gathering.old.texts.items ≤ length gathering.new.texts.items }
+        ensures step { IfOk result (λ step. IsOver (heading_block level (length gathering.old.texts.items)) step) }
+        ensures texts { OnOk result (texts_of gathering.new ≡ texts_of gathering.old ++ behind_definitions (without_end_blanks self.text) ∷ []) }
+        ensures found { OnOk result (definitions_of gathering.new ≡ definitions_of gathering.old ++ leading_of gathering.old.entities.now (without_end_blanks self.text)) }
+    {
+        let text = content(self.text, gathering)?;
+        setext_heading(level, text, gathering)
+    }
+
     /// Reads a line that the paragraph takes.
     pub(crate) fn add(
-        mut self,
+        self,
         line: &Line,
         first: bool,
         gathering: &mut Gathering,
     ) -> Result<Step, AllocError>
         ensures within { IfOk result (λ step. StepIn (length gathering.new.texts.items) step) }
         ensures grows { length gathering.old.texts.items ≤ length gathering.new.texts.items }
+        ensures goes { (begin : BlockLine) (later : List BlockLine) → HoldsLines (begin ∷ later) self → paragraph_step line.now.lazy (is_blank_line line.now) (start Inside (begin ∷ later) line.now) ≡ Takes ParagraphKind → IfOk result (λ step. IsGoing (IsParagraphLeaf (begin ∷ later ++ line.now ∷ [])) step) }
     {
         match self.turn(line) {
-            Turn::Underlines(level) => {
-                let text = content(self.text, gathering)?;
-                setext_heading(level, text, gathering)
-            }
+            Turn::Underlines(level) => self.turn_into_heading(level, gathering),
             Turn::Delimits => self.turn_into_table(line.text(), first, gathering),
-            Turn::Ends | Turn::Continues => {
-                self.text.push_str("\n")?;
-                self.text.push_str(line.text())?;
-                Ok(going(Leaf::Paragraph(self)))
-            }
+            Turn::Ends | Turn::Continues => Ok(going(Leaf::Paragraph(self.with_line(line)?))),
         }
+    }
+
+    /// The paragraph with one line more.
+    fn with_line(self, line: &Line) -> Result<Paragraph, AllocError>
+        ensures { IfOk result (λ held. (held.text ≡ self.text ++ 10 ∷ rest line.now) × (held.last ≡ length self.text + 1)) }
+    {
+        let mut text = self.text;
+        text.push_str("\n")?;
+        let last = text.len();
+        text.push_str(line.text())?;
+        Ok(Paragraph { text, last })
     }
 
     /// The table whose header row is the last line, behind a paragraph of the other lines.
     fn turn_into_table(
-        mut self,
+        self,
         delimiters: &str,
         first: bool,
         gathering: &mut Gathering,
@@ -115,15 +203,19 @@ impl Paragraph {
         ensures within { IfOk result (λ step. StepIn (length gathering.new.texts.items) step) }
         ensures grows { length gathering.old.texts.items ≤ length gathering.new.texts.items }
     {
-        let head = last_line(self.text.as_str());
-        let Some(header) = table_header(gathering.alloc(), head, delimiters)? else {
+        let Some(header) = table_header(gathering.alloc(), self.last_line(), delimiters)? else {
             return Ok(going(Leaf::Paragraph(self)));
         };
-        let before = length_before_last(self.text.as_str());
-        self.text.truncate(before);
-        let over = self.end(first, gathering)?;
+        let over = self.without_last().end(first, gathering)?;
         let table = Table::new(header, gathering)?;
         Ok(table.behind(over))
+    }
+
+    /// The text of the lines but the last one.
+    fn without_last(self) -> Paragraph {
+        let mut text = self.text;
+        text.truncate(self.last.saturating_sub(1));
+        Paragraph { text, last: 0 }
     }
 
     /// What the paragraph is at its end: its definitions are handed in, and it is a block where anything follows them.
@@ -134,6 +226,8 @@ impl Paragraph {
     ) -> Result<Option<Block>, AllocError>
         ensures within { IfOk result (λ found. IfSome found (λ block. BlockIn (length gathering.new.texts.items) (block_view block))) }
         ensures grows { length gathering.old.texts.items ≤ length gathering.new.texts.items }
+        ensures left { IfOk result (λ found. IsHandedIn (left_behind first (behind_definitions (without_end_blanks self.text))) (texts_of gathering.old) (texts_of gathering.new) found) }
+        ensures found { OnOk result (definitions_of gathering.new ≡ definitions_of gathering.old ++ leading_of gathering.old.entities.now (without_end_blanks self.text)) }
     {
         let mut text = content(self.text, gathering)?;
         if text.is_empty() {
@@ -146,13 +240,17 @@ impl Paragraph {
 }
 
 /// Whether a line without its indentation begins as a delimiter row of a table does: most lines of text need no closer look.
-fn may_delimit(text: &str) -> bool {
+fn may_delimit(text: &str) -> bool
+    ensures { result ≡ begins_row text.now }
+{
     matches!(text.as_bytes(), [b'|' | b'-' | b':', ..])
 }
 
 /// What is left of a paragraph's text after its definitions (CommonMark 4.7), without spaces and tabs at its end.
 fn content(mut text: String, gathering: &mut Gathering) -> Result<String, AllocError>
-    ensures { gathering.new.texts ≡ gathering.old.texts }
+    ensures texts { gathering.new.texts ≡ gathering.old.texts }
+    ensures left { IfOk result (λ rest. string_bytes rest ≡ behind_definitions (without_end_blanks (string_bytes text))) }
+    ensures found { OnOk result (definitions_of gathering.new ≡ definitions_of gathering.old ++ leading_of gathering.old.entities.now (without_end_blanks (string_bytes text))) }
 {
     let length = trimmed_length(text.as_str());
     text.truncate(length);
@@ -161,7 +259,9 @@ fn content(mut text: String, gathering: &mut Gathering) -> Result<String, AllocE
 }
 
 /// Takes a task marker off the first text of an item, and says whether it is ticked (GFM 5.3).
-fn take_task(text: &mut String, first: bool) -> Result<Option<bool>, AllocError> {
+fn take_task(text: &mut String, first: bool) -> Result<Option<bool>, AllocError>
+    ensures { IfOk result (λ task. paragraph_leaf task (string_bytes text.new) ≡ taken first (string_bytes text.old)) }
+{
     if !first {
         return Ok(None);
     }
@@ -171,23 +271,5 @@ fn take_task(text: &mut String, first: bool) -> Result<Option<bool>, AllocError>
             Ok(Some(mark.ticked))
         }
         None => Ok(None),
-    }
-}
-
-/// The last line of a text.
-fn last_line(text: &str) -> &str {
-    match text.rsplit_once('\n') {
-        Some((_, last)) => last,
-        None => text,
-    }
-}
-
-/// How long a text is without its last line and the line ending before that.
-fn length_before_last(text: &str) -> usize
-    ensures { IsCharBoundary text.now result }
-{
-    match text.rsplit_once('\n') {
-        Some((before, _)) => before.len(),
-        None => 0,
     }
 }

@@ -1,9 +1,10 @@
 //! Tables (GFM 4.10).
 
-ghost use Rattle.std.specs.Prelude.{◌≤◌, ℕ, IfOk, IfSome, OnOk, length};
+ghost use Rattle.std.specs.Prelude.{◌≡◌, ◌≤◌, ℕ, IfOk, IfSome, OnOk, length};
 ghost use Rattle.mdblock.specs.BlockView.{block_view};
 ghost use Rattle.mdblock.specs.OpenPositions.{StepIn, TableIn};
 ghost use Rattle.mdblock.specs.Positions.{BlockIn, CellsIn};
+ghost use Rattle.mdblock.specs.Stretches.{is_row};
 
 use crate::blocks::Block;
 use crate::gathering::Gathering;
@@ -22,9 +23,12 @@ pub(crate) struct Table {
     rows: Vec<Vec<usize>>,
 }
 
-/// Whether a line is a row of an open table: it is not blank, and begins no block.
-pub(crate) fn takes(line: &Line) -> bool {
-    !line.is_blank() && start(line, Mode::Free).is_none()
+/// Whether a line is a row of an open table: it matches the containers around, is not blank, and begins no block.
+#[tactic(auto, using(crate::proofs::StartLaws::none_begins))]
+pub(crate) fn takes(line: &Line) -> bool
+    ensures { result ≡ is_row line.now }
+{
+    !line.is_lazy() && !line.is_blank() && start(line, Mode::Free).is_none()
 }
 
 impl Table {
