@@ -1,4 +1,5 @@
 pub mod AutolinkText
+pub mod BacktickStrings
 pub mod Brackets
 pub mod CodeSpans
 pub mod InlineEvents
@@ -10,6 +11,8 @@ pub mod LineBreaks
 pub mod LinkTails
 pub mod Nesting
 pub mod ParsedText
+pub mod PlainText
+pub mod Recognised
 pub mod Settled
 pub mod StoredTree
 pub mod TextReading

@@ -1,7 +1,11 @@
 //! Brackets, and those of a text that no `]` has used up (CommonMark 6.3, 6.4).
 
-ghost use Rattle.std.specs.Prelude.{◌≡◌, ◌<◌, [], ◌∷◌, ◌++◌, IfSome, OnOk, MatchOption, length};
+ghost use Rattle.std.specs.Prelude.{◌≡◌, ◌<◌, false, [], ◌∷◌, ◌++◌, IfSome, OnOk, MatchOption, length};
+ghost use Rattle.mdtext.specs.EntityTable.{EntityTable};
 ghost use Rattle.mdscan.specs.Spans.{EndsAfterMark};
+ghost use Rattle.mdinline.specs.Lexing.{lex};
+ghost use Rattle.mdinline.specs.PlainText.{is_bracket};
+ghost use Rattle.mdinline.specs.Recognised.{bracket_of};
 
 use std::alloc::{AllocError, Global};
 
@@ -26,7 +30,8 @@ pub(crate) struct Bracket {
 /// The bracket at a place.
 pub(crate) fn bracket_at(text: &[u8], at: usize) -> Option<Bracket>
     requires { at < length text.now }
-    ensures { IfSome result (λ bracket. EndsAfterMark text.now at bracket.end) }
+    ensures end { IfSome result (λ bracket. EndsAfterMark text.now at bracket.end) }
+    ensures value { (entities : EntityTable) → MatchOption result (is_bracket (lex entities text.now at).kind ≡ false) (λ bracket. lex entities text.now at ≡ bracket_of at bracket) }
 {
     let next = at + 1;
     match text[at] {
@@ -40,7 +45,8 @@ pub(crate) fn bracket_at(text: &[u8], at: usize) -> Option<Bracket>
 }
 
 fn make_bracket(kind: BracketKind, end: usize) -> Bracket
-    ensures { result.end ≡ end }
+    ensures end { result.end ≡ end }
+    ensures kind { result.kind ≡ kind }
 {
     Bracket { kind, end }
 }

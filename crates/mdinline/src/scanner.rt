@@ -3,6 +3,7 @@
 ghost use Rattle.std.specs.Prelude.{◌≡◌, ◌<◌, IfOk, IfSome, length};
 ghost use Rattle.std.specs.Str.{IsCharBoundary};
 ghost use Rattle.mdscan.specs.Spans.{IsEndAfter};
+ghost use Rattle.mdinline.specs.Recognised.{made_events};
 
 use crate::angles::Angles;
 use crate::backticks::Backticks;
@@ -22,7 +23,8 @@ pub(crate) struct Found {
 
 /// An inline in which no span lies.
 pub(crate) fn simple(inline: Inline, end: usize) -> Found
-    ensures { result.end ≡ end }
+    ensures end { result.end ≡ end }
+    ensures inline { made_events result.inline ≡ made_events inline }
 {
     Found {
         inline,
