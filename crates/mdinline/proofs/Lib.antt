@@ -4,6 +4,7 @@ pub mod BacktickPlaces
 pub mod BalancedEvents
 pub mod CodeContents
 pub mod CodeLexemes
+pub mod EndlessHtml
 pub mod EscapesBreaks
 pub mod FirstTargets
 pub mod FoundLeaves
@@ -11,6 +12,7 @@ pub mod FrontEnds
 pub mod ItemEnds
 pub mod JoinedTrees
 pub mod LastStrings
+pub mod LongTagEnds
 pub mod Marks
 pub mod NestedParts
 pub mod OneReading

@@ -5,10 +5,12 @@ pub mod CodeSpans
 pub mod InlineEvents
 pub mod InlineTree
 pub mod JoinedTexts
+pub mod KnownText
 pub mod LabelMap
 pub mod Lexing
 pub mod LineBreaks
 pub mod LinkTails
+pub mod LongTags
 pub mod Nesting
 pub mod ParsedText
 pub mod PlainText
