@@ -2,6 +2,7 @@ pub mod AskedLabels
 pub mod Autolinks
 pub mod BacktickPlaces
 pub mod BalancedEvents
+pub mod BracketPlaces
 pub mod CodeContents
 pub mod CodeLexemes
 pub mod EndlessHtml

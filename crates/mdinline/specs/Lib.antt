@@ -2,6 +2,7 @@ pub mod AutolinkText
 pub mod BacktickStrings
 pub mod Brackets
 pub mod CodeSpans
+pub mod FoundReferences
 pub mod InlineEvents
 pub mod InlineTree
 pub mod JoinedTexts

@@ -1,6 +1,6 @@
 //! Brackets, and those of a text that no `]` has used up (CommonMark 6.3, 6.4).
 
-ghost use Rattle.std.specs.Prelude.{◌≡◌, ◌<◌, false, [], ◌∷◌, ◌++◌, IfSome, OnOk, MatchOption, length};
+ghost use Rattle.std.specs.Prelude.{◌≡◌, ◌<◌, false, [], ◌∷◌, ◌++◌, IfSome, OnOk, MatchOption, length, slice_index};
 ghost use Rattle.mdtext.specs.EntityTable.{EntityTable};
 ghost use Rattle.mdscan.specs.Spans.{EndsAfterMark};
 ghost use Rattle.mdinline.specs.Lexing.{lex};
@@ -31,6 +31,7 @@ pub(crate) struct Bracket {
 pub(crate) fn bracket_at(text: &[u8], at: usize) -> Option<Bracket>
     requires { at < length text.now }
     ensures end { IfSome result (λ bracket. EndsAfterMark text.now at bracket.end) }
+    ensures mark { IfSome result (λ _. slice_index text.now at < 128) }
     ensures value { (entities : EntityTable) → MatchOption result (is_bracket (lex entities text.now at).kind ≡ false) (λ bracket. lex entities text.now at ≡ bracket_of at bracket) }
 {
     let next = at + 1;
@@ -51,11 +52,11 @@ fn make_bracket(kind: BracketKind, end: usize) -> Bracket
     Bracket { kind, end }
 }
 
-/// An opening bracket: its place among the pieces, and that of its `[` in the text.
+/// An opening bracket: its place among the pieces, and where the text behind it begins.
 #[derive(Clone, Copy, Drop)]
 pub(crate) struct Opening {
     pub piece: usize,
-    pub bracket: usize,
+    pub begin: usize,
     pub is_image: bool,
 }
 

@@ -1,13 +1,13 @@
 //! The reading of a text (CommonMark 6; GFM, Strikethrough).
 
-ghost use Rattle.std.specs.Prelude.{◌≡◌, ◌-◌, ◌<◌, ℕ, List, [], IfOk, OnOk, length};
+ghost use Rattle.std.specs.Prelude.{◌≡◌, ◌+◌, ◌<◌, ◌≤◌, ℕ, List, [], IfOk, IfSome, OnOk, length, slice_index};
 ghost use Rattle.std.specs.Str.{IsCharBoundary};
 ghost use Rattle.mdscan.specs.Spans.{IsEndAfter};
 ghost use Rattle.mdtext.specs.Counted.{counted};
 ghost use Rattle.mdinline.specs.Brackets.{AreBracketsOf, IsLinkEnd};
 
 use crate::asked::Asked;
-use crate::brackets::reference_of;
+use crate::brackets::{Reference, reference_of};
 use crate::faults::InlineFault;
 use crate::inlines::Inline;
 use crate::labels::Labels;
@@ -79,16 +79,16 @@ impl Reading {
     ) -> Result<usize, InlineFault>
         requires whole { IsCharBoundary text.now at }
         requires inside { at < length text.now }
-        requires brackets { AreBracketsOf text.now self.old.openings.unused.items }
+        requires brackets { AreBracketsOf text.now at self.old.openings.unused.items }
         ensures end { IfOk result (λ end. IsEndAfter text.now at end) }
-        ensures brackets { IfOk result (λ _. AreBracketsOf text.now self.new.openings.unused.items) }
+        ensures brackets { IfOk result (λ end. AreBracketsOf text.now end self.new.openings.unused.items) }
     {
         if let Some(run) = delimiter_run(text, at) {
             self.pieces.push(Piece::Run(run))?;
             return Ok(at + run.length);
         }
         if let Some(bracket) = bracket_at(text.as_bytes(), at) {
-            return self.bracket(alloc, text, bracket, labels, entities);
+            return self.bracket(alloc, text, at, bracket, labels, entities);
         }
         let found = scanner.inline(alloc, text, at, entities)?;
         let end = found.end;
@@ -99,74 +99,104 @@ impl Reading {
         Ok(end)
     }
 
-    /// Reads a bracket.
+    /// Reads the bracket at a place.
     fn bracket<L: Labels>(
         &mut self,
         alloc: Global,
         text: &str,
+        at: usize,
         bracket: Bracket,
         labels: &L,
         entities: &Entities,
     ) -> Result<usize, InlineFault>
-        requires ends { IsCharBoundary text.now bracket.end }
-        requires some { 0 < bracket.end }
-        requires begins { IsCharBoundary text.now (bracket.end - 1) }
-        requires brackets { AreBracketsOf text.now self.old.openings.unused.items }
-        ensures end { IfOk result (λ end. IsLinkEnd text.now bracket.end end) }
-        ensures brackets { IfOk result (λ _. AreBracketsOf text.now self.new.openings.unused.items) }
+        requires at { IsCharBoundary text.now at }
+        requires bracket { IsEndAfter text.now at bracket.end }
+        requires mark { slice_index text.now at < 128 }
+        requires brackets { AreBracketsOf text.now at self.old.openings.unused.items }
+        ensures end { IfOk result (λ end. IsEndAfter text.now at end) }
+        ensures brackets { IfOk result (λ end. AreBracketsOf text.now end self.new.openings.unused.items) }
     {
         match bracket.kind {
-            BracketKind::Link => self.open(false, bracket.end - 1)?,
-            BracketKind::Image => self.open(true, bracket.end - 1)?,
-            BracketKind::Closing => return self.close(alloc, text, bracket.end, labels, entities),
+            BracketKind::Link => self.open(false, bracket.end)?,
+            BracketKind::Image => self.open(true, bracket.end)?,
+            BracketKind::Closing => return self.close(alloc, text, at, labels, entities),
         }
         Ok(bracket.end)
     }
 
-    fn open(&mut self, is_image: bool, bracket: usize) -> Result<(), AllocError>
-        ensures { OnOk result ((text : List ℕ) → IsCharBoundary text bracket → AreBracketsOf text self.old.openings.unused.items
-            → AreBracketsOf text self.new.openings.unused.items) }
+    fn open(&mut self, is_image: bool, begin: usize) -> Result<(), AllocError>
+        ensures { OnOk result ((text : List ℕ) (at : ℕ) → IsCharBoundary text begin → at ≤ begin → AreBracketsOf text at self.old.openings.unused.items
+            → AreBracketsOf text begin self.new.openings.unused.items) }
     {
         self.openings.push(Opening {
             piece: self.pieces.len(),
-            bracket,
+            begin,
             is_image,
         })?;
         self.pieces.push(Piece::Bracket { is_image })?;
         Ok(())
     }
 
-    /// A `]` uses up the nearest unused bracket, and answers where the link or the image ends that it makes. If it makes none, it is text.
+    #[tactic(auto, using(crate::proofs::BracketPlaces::brackets_later, crate::proofs::BracketPlaces::link_end))]
+    /// The `]` at a place uses up the nearest unused bracket, and answers where the link or the image ends that it makes. If it makes none, it is text.
     fn close<L: Labels>(
         &mut self,
         alloc: Global,
         text: &str,
-        after: usize,
+        at: usize,
         labels: &L,
         entities: &Entities,
     ) -> Result<usize, InlineFault>
-        requires after { IsCharBoundary text.now after }
-        requires brackets { AreBracketsOf text.now self.old.openings.unused.items }
-        ensures end { IfOk result (λ end. IsLinkEnd text.now after end) }
-        ensures brackets { IfOk result (λ _. AreBracketsOf text.now self.new.openings.unused.items) }
+        requires at { IsCharBoundary text.now at }
+        requires after { IsEndAfter text.now at (at + 1) }
+        requires brackets { AreBracketsOf text.now at self.old.openings.unused.items }
+        ensures end { IfOk result (λ end. IsEndAfter text.now at end) }
+        ensures brackets { IfOk result (λ end. AreBracketsOf text.now end self.new.openings.unused.items) }
     {
-        if let Some((opening, true)) = self.openings.take()
-            && let Some(reference) = reference_of(
-                alloc,
-                text,
-                opening.bracket,
-                after,
-                labels,
-                entities,
-                &mut self.asked,
-            )?
-        {
-            self.link(alloc, opening, reference.target)?;
-            return Ok(reference.end);
+        match self.reference(alloc, text, at, labels, entities)? {
+            Some((opening, reference)) => {
+                self.link(alloc, opening, reference.target)?;
+                Ok(reference.end)
+            }
+            None => {
+                let inline = Inline::Text(String::from_str(alloc, "]")?);
+                self.pieces.push(Piece::Made { inline, depth: 0 })?;
+                Ok(at + 1)
+            }
         }
-        let inline = Inline::Text(String::from_str(alloc, "]")?);
-        self.pieces.push(Piece::Made { inline, depth: 0 })?;
-        Ok(after)
+    }
+
+    /// Uses up the nearest unused bracket for the `]` at a place, and answers it with what makes a link or an image of it, if anything does.
+    fn reference<L: Labels>(
+        &mut self,
+        alloc: Global,
+        text: &str,
+        at: usize,
+        labels: &L,
+        entities: &Entities,
+    ) -> Result<Option<(Opening, Reference)>, AllocError>
+        requires at { IsCharBoundary text.now at }
+        requires after { IsCharBoundary text.now (at + 1) }
+        requires brackets { AreBracketsOf text.now at self.old.openings.unused.items }
+        ensures end { IfOk result (λ found. IfSome found (λ found. IsLinkEnd text.now (at + 1) found.1.end)) }
+        ensures brackets { OnOk result (AreBracketsOf text.now at self.new.openings.unused.items) }
+    {
+        let Some((opening, true)) = self.openings.take() else {
+            return Ok(None);
+        };
+        let found = reference_of(
+            alloc,
+            text,
+            opening.begin,
+            at,
+            labels,
+            entities,
+            &mut self.asked,
+        )?;
+        match found {
+            Some(reference) => Ok(Some((opening, reference))),
+            None => Ok(None),
+        }
     }
 
     /// Makes a link or an image of the pieces from a bracket on.
