@@ -1,6 +1,6 @@
 -- What was found at a place, by its parts.
 use Rattle.std.proofs.Common.{◌≡◌, ℕ, ◌+◌, ◌-◌, List, [], ◌∷◌, String, Global, string_bytes, ap, ◌∙◌, arith}
-use Rattle.mdinline.specs.InlineEvents.{Event, CodeSpan, RawHtml, HardBreak, SoftBreak, inline_events}
+use Rattle.mdinline.specs.InlineEvents.{Event, CodeSpan, RawHtml, HardBreak, SoftBreak, inline_events, written}
 use Rattle.mdinline.specs.InlineTree.{Inline}
 use Rattle.mdinline.specs.TreeView.{inline_step}
 use Rattle.mdinline.specs.declared.inlines.Inline.TheOpen.{Inline-F}
@@ -28,6 +28,10 @@ soft_seen = ap inline_events (fold-roll-Inline Inline inline_step Inline-F.Soft)
 pub code_seen : (code : String Global) → made_events (made.Code code) ≡ CodeSpan (string_bytes code) ∷ []
 unfolding roll-Inline roll
 code_seen code = ap inline_events (fold-roll-Inline Inline inline_step (Inline-F.Code code))
+
+pub text_seen : (text : String Global) → made_events (made.Text text) ≡ written (string_bytes text)
+unfolding roll-Inline roll
+text_seen text = ap inline_events (fold-roll-Inline Inline inline_step (Inline-F.Text text))
 
 pub html_seen : (html : String Global) → made_events (made.Html html) ≡ RawHtml (string_bytes html) ∷ []
 unfolding roll-Inline roll

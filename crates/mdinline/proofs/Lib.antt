@@ -3,6 +3,7 @@ pub mod Autolinks
 pub mod BacktickPlaces
 pub mod BalancedEvents
 pub mod BracketPlaces
+pub mod BuiltRows
 pub mod CodeContents
 pub mod CodeLexemes
 pub mod EndlessHtml

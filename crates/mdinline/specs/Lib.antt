@@ -21,4 +21,5 @@ pub mod StoredTree
 pub mod TextReading
 pub mod TextTree
 pub mod Ticks
+pub mod TreeBuilding
 pub mod TreeView
