@@ -13,6 +13,7 @@ pub mod LineBreaks
 pub mod LinkTails
 pub mod LongTags
 pub mod Nesting
+pub mod PairedRuns
 pub mod ParsedText
 pub mod PlainText
 pub mod Recognised

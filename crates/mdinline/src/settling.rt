@@ -1,6 +1,11 @@
 //! The pieces of a text as a tree, with their delimiter runs paired (CommonMark 6.2; GFM, Strikethrough).
 
-ghost use Rattle.std.specs.Prelude.{◌≡◌, ◌<◌, ◌≤◌, IfOk, length};
+ghost use Rattle.std.specs.Prelude.{◌≡◌, ◌+◌, ◌<◌, ◌≤◌, [], ◌∷◌, ◌++◌, IfOk, OnOk, length, replicate, string_bytes};
+ghost use Rattle.mdpair.specs.Neighbours.{byte_of};
+ghost use Rattle.mdinline.specs.InlineEvents.{Leave, written};
+ghost use Rattle.mdinline.specs.PairedRuns.{entered, paired_events, piece_of, pieces_of};
+ghost use Rattle.mdinline.specs.Settled.{bracket_text, runs_of, span_by};
+ghost use Rattle.mdinline.specs.TreeBuilding.{built, span_of};
 
 use crate::faults::InlineFault;
 use crate::pieces::Piece;
@@ -48,14 +53,23 @@ fn paired(alloc: Global, pieces: &[Piece]) -> Result<Vec<PairedRun>, AllocError>
     Ok(paired)
 }
 
-fn runs_of(alloc: Global, pieces: &[Piece]) -> Result<Vec<DelimiterRun>, AllocError> {
+fn runs_of(alloc: Global, pieces: &[Piece]) -> Result<Vec<DelimiterRun>, AllocError>
+    ensures { IfOk result (λ runs. runs.items ≡ runs_of (pieces_of pieces.now)) }
+{
     let mut runs = Vec::new(alloc);
     for piece in pieces {
-        if let Piece::Run(run) = piece {
-            runs.push(*run)?;
-        }
+        push_run(&mut runs, piece)?;
     }
     Ok(runs)
+}
+
+fn push_run(runs: &mut Vec<DelimiterRun>, piece: &Piece) -> Result<(), AllocError>
+    ensures { OnOk result (runs.new.items ≡ runs.old.items ++ runs_of (piece_of piece.now ∷ [])) }
+{
+    if let Piece::Run(run) = piece {
+        runs.push(*run)?;
+    }
+    Ok(())
 }
 
 fn unpaired(alloc: Global, runs: &[DelimiterRun]) -> Result<Vec<PairedRun>, AllocError> {
@@ -84,7 +98,9 @@ fn take(runs: &mut Vec<PairedRun>, taking: &Taking) -> Result<(), AllocError> {
     Ok(())
 }
 
-fn kind_of(delimiter: DelimiterChar, width: usize) -> SpanKind {
+fn kind_of(delimiter: DelimiterChar, width: usize) -> SpanKind
+    ensures { span_of result ≡ span_by delimiter width }
+{
     match delimiter {
         DelimiterChar::Tilde => SpanKind::Strike,
         _ => if width == 2 {
@@ -96,24 +112,47 @@ fn kind_of(delimiter: DelimiterChar, width: usize) -> SpanKind {
 }
 
 /// Ends the spans that end at a run, appends what is left of it, and begins those that begin there.
-fn add_run(alloc: Global, builder: &mut TreeBuilder, run: PairedRun) -> Result<(), InlineFault> {
-    for _ in 0..run.ends {
+fn add_run(alloc: Global, builder: &mut TreeBuilder, run: PairedRun) -> Result<(), InlineFault>
+    ensures events { run.ends ≤ length builder.old.frames.items → OnOk result (built builder.new ≡ built builder.old ++ paired_events run) }
+    ensures frames { run.ends ≤ length builder.old.frames.items
+        → OnOk result (length builder.new.frames.items + run.ends ≡ length builder.old.frames.items + length run.begins.items) }
+{
+    leave_all(builder, run.ends)?;
+    builder.add_text(many(alloc, run.delimiter, run.left)?)?;
+    enter_all(alloc, builder, &run.begins)
+}
+
+/// Ends so many spans.
+fn leave_all(builder: &mut TreeBuilder, count: usize) -> Result<(), InlineFault>
+    ensures events { count ≤ length builder.old.frames.items → OnOk result (built builder.new ≡ built builder.old ++ replicate count Leave) }
+    ensures frames { count ≤ length builder.old.frames.items → OnOk result (length builder.new.frames.items + count ≡ length builder.old.frames.items) }
+{
+    for _ in 0..count {
         builder.leave()?;
     }
-    builder.add_text(many(alloc, run.delimiter, run.left)?)?;
-    for kind in run.begins.iter().rev() {
-        builder.enter(alloc, *kind)?;
+    Ok(())
+}
+
+/// Begins these spans, the innermost of which is the first.
+fn enter_all(
+    alloc: Global,
+    builder: &mut TreeBuilder,
+    kinds: &[SpanKind],
+) -> Result<(), InlineFault>
+    ensures events { OnOk result (built builder.new ≡ built builder.old ++ entered kinds.now) }
+    ensures frames { OnOk result (length builder.new.frames.items ≡ length builder.old.frames.items + length kinds.now) }
+{
+    for i in (0..kinds.len()).rev() {
+        builder.enter(alloc, kinds[i])?;
     }
     Ok(())
 }
 
 /// A text of so many delimiter characters.
-fn many(alloc: Global, delimiter: DelimiterChar, count: usize) -> Result<String, AllocError> {
-    let character = match delimiter {
-        DelimiterChar::Asterisk => '*',
-        DelimiterChar::Underscore => '_',
-        DelimiterChar::Tilde => '~',
-    };
+fn many(alloc: Global, delimiter: DelimiterChar, count: usize) -> Result<String, AllocError>
+    ensures { IfOk result (λ text. string_bytes text ≡ replicate count (byte_of delimiter)) }
+{
+    let character = character_of(delimiter);
     let mut text = String::with_capacity(alloc, count)?;
     for _ in 0..count {
         text.push(character)?;
@@ -121,6 +160,19 @@ fn many(alloc: Global, delimiter: DelimiterChar, count: usize) -> Result<String,
     Ok(text)
 }
 
-fn bracket_text(alloc: Global, is_image: bool) -> Result<String, AllocError> {
+fn character_of(delimiter: DelimiterChar) -> char
+    ensures value { result ≡ byte_of delimiter }
+    ensures ascii { result < 128 }
+{
+    match delimiter {
+        DelimiterChar::Asterisk => '*',
+        DelimiterChar::Underscore => '_',
+        DelimiterChar::Tilde => '~',
+    }
+}
+
+fn bracket_text(alloc: Global, is_image: bool) -> Result<String, AllocError>
+    ensures { IfOk result (λ text. written (string_bytes text) ≡ bracket_text is_image) }
+{
     String::from_str(alloc, if is_image { "![" } else { "[" })
 }
