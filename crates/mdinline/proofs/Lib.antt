@@ -16,6 +16,7 @@ pub mod JoinedTrees
 pub mod LastStrings
 pub mod LongTagEnds
 pub mod Marks
+pub mod NearestOpeners
 pub mod NestedParts
 pub mod OneReading
 pub mod OpenSpans
@@ -23,5 +24,6 @@ pub mod ReadingBalanced
 pub mod ReplacedReferences
 pub mod SignItems
 pub mod TailEnds
+pub mod TakenOpeners
 pub mod TreeEvents
 pub mod WrittenRuns

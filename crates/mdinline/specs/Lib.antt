@@ -24,3 +24,4 @@ pub mod TextTree
 pub mod Ticks
 pub mod TreeBuilding
 pub mod TreeView
+pub mod UnusedOpeners

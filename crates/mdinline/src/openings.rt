@@ -1,11 +1,16 @@
 //! Brackets, and those of a text that no `]` has used up (CommonMark 6.3, 6.4).
 
-ghost use Rattle.std.specs.Prelude.{◌≡◌, ◌<◌, false, [], ◌∷◌, ◌++◌, IfSome, OnOk, MatchOption, length, slice_index};
+ghost use Rattle.std.specs.Prelude.{◌≡◌, ◌<◌, ◌||◌, nat_le, true, false, List, None, [], ◌∷◌, ◌++◌, IfSome, OnOk, MatchOption, length, slice_index};
 ghost use Rattle.mdtext.specs.EntityTable.{EntityTable};
 ghost use Rattle.mdscan.specs.Spans.{EndsAfterMark};
+ghost use Rattle.mdinline.specs.InlineEvents.{Event};
 ghost use Rattle.mdinline.specs.Lexing.{lex};
 ghost use Rattle.mdinline.specs.PlainText.{is_bracket};
 ghost use Rattle.mdinline.specs.Recognised.{bracket_of};
+ghost use Rattle.mdinline.specs.Settled.{Piece};
+ghost use Rattle.mdinline.specs.Settled as piece;
+ghost use Rattle.mdinline.specs.TextReading.{Opened, nearest_opener, spent};
+ghost use Rattle.mdinline.specs.UnusedOpeners.{AreOpenersOf, IsTaken};
 
 use std::alloc::{AllocError, Global};
 
@@ -70,7 +75,8 @@ pub(crate) struct Openings {
 
 impl Openings {
     pub(crate) fn new(alloc: Global) -> Openings
-        ensures { result.unused.items ≡ [] }
+        ensures unused { result.unused.items ≡ [] }
+        ensures none { AreOpenersOf [] result }
     {
         Openings {
             unused: Vec::new(alloc),
@@ -79,7 +85,8 @@ impl Openings {
     }
 
     pub(crate) fn push(&mut self, opening: Opening) -> Result<(), AllocError>
-        ensures { OnOk result (self.new.unused.items ≡ self.old.unused.items ++ opening ∷ []) }
+        ensures unused { OnOk result (self.new.unused.items ≡ self.old.unused.items ++ opening ∷ []) }
+        ensures openers { OnOk result ((ps : List Piece) → AreOpenersOf ps self.old → AreOpenersOf (piece.Opening opening.is_image opening.begin ∷ ps) self.new) }
     {
         self.unused.push(opening)?;
         Ok(())
@@ -87,18 +94,31 @@ impl Openings {
 
     /// Uses up the nearest one, and answers it with whether it is live.
     pub(crate) fn take(&mut self) -> Option<(Opening, bool)>
-        ensures { MatchOption result (self.new.unused.items ≡ self.old.unused.items) (λ taken. self.old.unused.items ≡ self.new.unused.items ++ taken.0 ∷ []) }
+        ensures unused { MatchOption result (self.new.unused.items ≡ self.old.unused.items) (λ taken. self.old.unused.items ≡ self.new.unused.items ++ taken.0 ∷ []) }
+        ensures taken { (ps : List Piece) → AreOpenersOf ps self.old → MatchOption result (nearest_opener ps ≡ None) (λ taken. (o : Opened) × IsTaken ps taken o) }
+        ensures left { (ps : List Piece) → AreOpenersOf ps self.old → AreOpenersOf (spent ps) self.new }
     {
-        let opening = self.unused.pop()?;
-        let is_live = opening.is_image || self.before_link <= self.unused.len();
-        self.before_link = self.before_link.min(self.unused.len());
+        let Some(opening) = self.unused.pop() else {
+            return None;
+        };
+        let left = self.unused.len();
+        let is_live = is_live(opening, self.before_link, left);
+        self.before_link = self.before_link.min(left);
         Some((opening, is_live))
     }
 
     /// A link was made: all that are unused stand before it.
     pub(crate) fn link_made(&mut self)
-        ensures { self.new.unused.items ≡ self.old.unused.items }
+        ensures unused { self.new.unused.items ≡ self.old.unused.items }
+        ensures openers { (ps : List Piece) (es : List Event) → AreOpenersOf ps self.old → AreOpenersOf (piece.Made true es ∷ ps) self.new }
     {
         self.before_link = self.unused.len();
     }
+}
+
+/// Whether a bracket that stands behind so many unused ones is live, where so many of all stand before a link.
+fn is_live(opening: Opening, before_link: usize, behind: usize) -> bool
+    ensures { result ≡ (opening.is_image || nat_le before_link behind) }
+{
+    opening.is_image || before_link <= behind
 }

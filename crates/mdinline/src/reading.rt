@@ -1,10 +1,14 @@
 //! The reading of a text (CommonMark 6; GFM, Strikethrough).
 
-ghost use Rattle.std.specs.Prelude.{◌≡◌, ◌+◌, ◌<◌, ◌≤◌, ℕ, List, [], IfOk, IfSome, OnOk, length, slice_index};
+ghost use Rattle.std.specs.Prelude.{◌≡◌, ◌+◌, ◌<◌, ◌≤◌, ℕ, true, List, [], IfOk, IfSome, OnOk, length, slice_index, option_map};
 ghost use Rattle.std.specs.Str.{IsCharBoundary};
 ghost use Rattle.mdscan.specs.Spans.{IsEndAfter};
 ghost use Rattle.mdtext.specs.Counted.{counted};
 ghost use Rattle.mdinline.specs.Brackets.{AreBracketsOf, IsLinkEnd};
+ghost use Rattle.mdinline.specs.FoundReferences.{IsReferenceOf, with_asked};
+ghost use Rattle.mdinline.specs.Settled as settled;
+ghost use Rattle.mdinline.specs.TextReading.{Opened, closing, nearest_opener, spent};
+ghost use Rattle.mdinline.specs.UnusedOpeners.{AreOpenersOf, IsTaken};
 
 use crate::asked::Asked;
 use crate::brackets::{Reference, reference_of};
@@ -180,10 +184,20 @@ impl Reading {
         requires brackets { AreBracketsOf text.now at self.old.openings.unused.items }
         ensures end { IfOk result (λ found. IfSome found (λ found. IsLinkEnd text.now (at + 1) found.1.end)) }
         ensures brackets { OnOk result (AreBracketsOf text.now at self.new.openings.unused.items) }
+        ensures value { (ps : List settled.Piece) → AreOpenersOf ps self.old.openings
+            → IfOk result (λ found. IsReferenceOf at (closing entities.now (L.target labels.now) text.now at (nearest_opener ps)) (option_map (λ found. found.1) found)) }
+        ensures asks { (ps : List settled.Piece) → AreOpenersOf ps self.old.openings
+            → OnOk result (self.new.asked.keys ≡ with_asked self.old.asked.keys (closing entities.now (L.target labels.now) text.now at (nearest_opener ps)).asks) }
+        ensures taken { (ps : List settled.Piece) → AreOpenersOf ps self.old.openings → IfOk result (λ found. IfSome found (λ found. (o : Opened) × IsTaken ps (found.0, true) o)) }
+        ensures openers { (ps : List settled.Piece) → AreOpenersOf ps self.old.openings → OnOk result (AreOpenersOf (spent ps) self.new.openings) }
+        ensures pieces { self.new.pieces ≡ self.old.pieces }
     {
-        let Some((opening, true)) = self.openings.take() else {
+        let Some((opening, is_live)) = self.openings.take() else {
             return Ok(None);
         };
+        if !is_live {
+            return Ok(None);
+        }
         let found = reference_of(
             alloc,
             text,
