@@ -1,9 +1,10 @@
 //! The pieces of a text as a tree, with their delimiter runs paired (CommonMark 6.2; GFM, Strikethrough).
 
-ghost use Rattle.std.specs.Prelude.{◌≡◌, ◌+◌, ◌<◌, ◌≤◌, [], ◌∷◌, ◌++◌, IfOk, OnOk, length, replicate, string_bytes};
+ghost use Rattle.std.specs.Prelude.{◌≡◌, ◌+◌, ◌-◌, ◌^◌, ◌<◌, ◌≤◌, [], ◌∷◌, ◌++◌, ℕ, List, All, IfOk, OnOk, length, map, replicate, string_bytes};
 ghost use Rattle.mdpair.specs.Neighbours.{byte_of};
 ghost use Rattle.mdinline.specs.InlineEvents.{Leave, written};
-ghost use Rattle.mdinline.specs.PairedRuns.{entered, paired_events, piece_of, pieces_of};
+ghost use Rattle.mdpair.specs.Takings.{IsOrdered, takings};
+ghost use Rattle.mdinline.specs.PairedRuns.{ArePaired, IsPaired, entered, paired_events, piece_of, pieces_of};
 ghost use Rattle.mdinline.specs.Settled.{bracket_text, runs_of, span_by};
 ghost use Rattle.mdinline.specs.TreeBuilding.{built, span_of};
 
@@ -43,14 +44,23 @@ pub(crate) fn settle(alloc: Global, pieces: Vec<Piece>) -> Result<Tree, InlineFa
 }
 
 /// The runs among the pieces, with what they take of each other.
-fn paired(alloc: Global, pieces: &[Piece]) -> Result<Vec<PairedRun>, AllocError> {
+fn paired(alloc: Global, pieces: &[Piece]) -> Result<Vec<PairedRun>, AllocError>
+    ensures { IfOk result (λ paired. ArePaired (takings (runs_of (pieces_of pieces.now))) (runs_of (pieces_of pieces.now)) paired.items) }
+{
     let runs = runs_of(alloc, pieces)?;
     let takings = pair(alloc, &runs)?;
     let mut paired = unpaired(alloc, &runs)?;
-    for taking in &takings {
-        take(&mut paired, taking)?;
-    }
+    take_all(&mut paired, &takings)?;
     Ok(paired)
+}
+
+fn take_all(runs: &mut Vec<PairedRun>, takings: &[Taking]) -> Result<(), AllocError>
+    ensures { OnOk result ((rs : List DelimiterRun) → All (IsOrdered (length rs)) takings.now → ArePaired [] rs runs.old.items → ArePaired takings.now rs runs.new.items) }
+{
+    for taking in takings {
+        take(runs, taking)?;
+    }
+    Ok(())
 }
 
 fn runs_of(alloc: Global, pieces: &[Piece]) -> Result<Vec<DelimiterRun>, AllocError>
@@ -72,30 +82,62 @@ fn push_run(runs: &mut Vec<DelimiterRun>, piece: &Piece) -> Result<(), AllocErro
     Ok(())
 }
 
-fn unpaired(alloc: Global, runs: &[DelimiterRun]) -> Result<Vec<PairedRun>, AllocError> {
+fn unpaired(alloc: Global, runs: &[DelimiterRun]) -> Result<Vec<PairedRun>, AllocError>
+    ensures { IfOk result (λ unpaired. ArePaired [] runs.now unpaired.items) }
+{
     let mut unpaired = Vec::with_capacity(alloc, runs.len())?;
     for run in runs {
-        unpaired.push(PairedRun {
-            delimiter: run.delimiter,
-            left: run.length,
-            ends: 0,
-            begins: Vec::new(alloc),
-        })?;
+        unpaired.push(unpaired_run(alloc, *run))?;
     }
     Ok(unpaired)
 }
 
-fn take(runs: &mut Vec<PairedRun>, taking: &Taking) -> Result<(), AllocError> {
-    if let Some(opener) = runs.get_mut(taking.opener) {
-        opener.left = opener.left.saturating_sub(taking.width);
-        let kind = kind_of(opener.delimiter, taking.width);
-        opener.begins.push(kind)?;
+fn unpaired_run(alloc: Global, run: DelimiterRun) -> PairedRun
+    ensures { (n : ℕ) → IsPaired n [] run result }
+{
+    PairedRun {
+        delimiter: run.delimiter,
+        left: run.length,
+        ends: 0,
+        begins: Vec::new(alloc),
     }
-    if let Some(closer) = runs.get_mut(taking.closer) {
-        closer.left = closer.left.saturating_sub(taking.width);
-        closer.ends = closer.ends.saturating_add(1);
+}
+
+fn take(runs: &mut Vec<PairedRun>, taking: &Taking) -> Result<(), AllocError>
+    ensures { OnOk result ((front : List Taking) (rs : List DelimiterRun) → IsOrdered (length rs) taking.now → length front + 1 < 2 ^ 64
+        → ArePaired front rs runs.old.items → ArePaired (front ++ taking.now ∷ []) rs runs.new.items) }
+{
+    if taking.opener < runs.len() {
+        open(&mut runs[taking.opener], taking.width)?;
+    }
+    if taking.closer < runs.len() {
+        close(&mut runs[taking.closer], taking.width);
     }
     Ok(())
+}
+
+/// A span of so many characters begins at a run.
+fn open(run: &mut PairedRun, width: usize) -> Result<(), AllocError>
+    ensures delimiter { run.new.delimiter ≡ run.old.delimiter }
+    ensures left { run.new.left ≡ run.old.left - width }
+    ensures ends { run.new.ends ≡ run.old.ends }
+    ensures begins { OnOk result (map span_of run.new.begins.items ≡ map span_of run.old.begins.items ++ span_by run.old.delimiter width ∷ []) }
+{
+    run.left = run.left.saturating_sub(width);
+    let kind = kind_of(run.delimiter, width);
+    run.begins.push(kind)?;
+    Ok(())
+}
+
+/// A span of so many characters ends at a run.
+fn close(run: &mut PairedRun, width: usize)
+    ensures delimiter { run.new.delimiter ≡ run.old.delimiter }
+    ensures left { run.new.left ≡ run.old.left - width }
+    ensures ends { run.old.ends + 1 < 2 ^ 64 → run.new.ends ≡ run.old.ends + 1 }
+    ensures begins { run.new.begins ≡ run.old.begins }
+{
+    run.left = run.left.saturating_sub(width);
+    run.ends = run.ends.saturating_add(1);
 }
 
 fn kind_of(delimiter: DelimiterChar, width: usize) -> SpanKind
