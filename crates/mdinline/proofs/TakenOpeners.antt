@@ -1,14 +1,15 @@
 -- What is held of the unused openers, as they are put on and taken.
-use Rattle.std.proofs.Common.{◌≡◌, ℕ, Bool, true, nat_le, min, ◌||◌, List, [], ◌∷◌, ◌++◌, length, length-append, get_or, map, Some, None, refl, ap, sym, ◌∙◌, arith}
+use Rattle.std.proofs.Common.{false, not, subst, ◌≡◌, ℕ, Bool, true, nat_le, min, ◌||◌, List, [], ◌∷◌, ◌++◌, length, length-append, get_or, map, Some, None, refl, ap, sym, ◌∙◌, arith}
 use Rattle.std.proofs.lemmas.List.{map-append, length-map, append_cancel_right}
 use Rattle.std.proofs.Math.Seq.{get_or-append_seam}
-use Rattle.mdinline.specs.InlineEvents.{Event}
-use Rattle.mdinline.specs.Settled.{Piece, Made, Opening}
-use Rattle.mdinline.specs.TextReading.{Opened, nearest_opener, spent}
+use Rattle.mdinline.specs.InlineEvents.{Event, within}
+use Rattle.mdinline.specs.LabelMap.{LinkTarget}
+use Rattle.mdinline.specs.Settled.{Piece, Made, Opening, settled}
+use Rattle.mdinline.specs.TextReading.{Opened, nearest_opener, spent, holds_link, linked, span_to}
 use Rattle.mdinline.specs.UnusedOpeners.{openers, before_link, shown, AreOpenersOf, IsTaken}
 use Rattle.mdinline.specs.declared.openings.Opening as held
 use Rattle.mdinline.specs.declared.openings.Openings.{Openings}
-use Rattle.mdinline.proofs.NearestOpeners.{IsNearest, has_nearest, nothing_spent, alive, no_nearest}
+use Rattle.mdinline.proofs.NearestOpeners.{IsNearest, has_nearest, nothing_spent, alive, no_nearest, nearest, over_image}
 
 -- one more
 pub put_on : (ps : List Piece) (old new : Openings) (o : held.Opening) → new.unused.items ≡ old.unused.items ++ o ∷ [] → new.before_link ≡ old.before_link →
@@ -86,3 +87,38 @@ module _ (ps : List Piece) (old new : Openings) (e : length old.unused.items ≡
     all = ap (map shown) (no_items new.unused.items f) ∙ sym (ap openers (nothing_spent ps all_used) ∙ all_used);
     links = same ∙ h.links ∙ ap before_link (sym (nothing_spent ps all_used));
   }
+
+-- an image keeps what stands before the links in it; before a link stand all that are left
+module _ (ps : List Piece) (o : Opened) (es : List Event) (openings : Openings) (e : nearest_opener ps ≡ Some o) where
+  same_openers : (b : Bool) → openers (Made b es ∷ o.below) ≡ openers o.below
+  same_openers true = refl
+  same_openers false = refl
+
+  image_over : AreOpenersOf (spent ps) openings → AreOpenersOf (Made (holds_link o.inside) es ∷ o.below) openings
+  image_over h = record {
+    all = h.all ∙ (nearest ps o e).rest ∙ sym (same_openers (holds_link o.inside));
+    links = h.links ∙ over_image ps o es (nearest ps o e);
+  }
+
+  link_over : AreOpenersOf (Made true [] ∷ spent ps) openings → AreOpenersOf (Made true es ∷ o.below) openings
+  link_over h = record {
+    all = h.all ∙ (nearest ps o e).rest;
+    links = h.links ∙ ap (λ xs. length xs) (nearest ps o e).rest;
+  }
+
+-- what is held after a link or an image was made
+module _ (ps : List Piece) (bracket : held.Opening) (o : Opened) (t : LinkTarget) (openings : Openings) (taken : IsTaken ps (bracket, true) o) where
+  made_of : Bool → List Piece
+  made_of image = Made (not image || holds_link o.inside) (within (span_to image t) (settled o.inside)) ∷ o.below
+
+  is_made : (image : Bool) → bracket.is_image ≡ image → linked t ps (nearest_opener ps) ≡ made_of image
+  unfolding made_of
+  is_made image e = ap (linked t ps) taken.nearest ∙ ap (λ b. Made (not b || holds_link o.inside) (within (span_to b t) (settled o.inside)) ∷ o.below) (sym taken.image ∙ e)
+
+  pub image_made : bracket.is_image ≡ true → AreOpenersOf (spent ps) openings → AreOpenersOf (linked t ps (nearest_opener ps)) openings
+  unfolding made_of
+  image_made e h = subst (λ qs. AreOpenersOf qs openings) (sym (is_made true e)) (image_over ps o (within (span_to true t) (settled o.inside)) openings taken.nearest h)
+
+  pub link_made_of : bracket.is_image ≡ false → AreOpenersOf (Made true [] ∷ spent ps) openings → AreOpenersOf (linked t ps (nearest_opener ps)) openings
+  unfolding made_of
+  link_made_of e h = subst (λ qs. AreOpenersOf qs openings) (sym (is_made false e)) (link_over ps o (within (span_to false t) (settled o.inside)) openings taken.nearest h)

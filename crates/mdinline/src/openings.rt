@@ -4,12 +4,13 @@ ghost use Rattle.std.specs.Prelude.{◌≡◌, ◌<◌, ◌||◌, nat_le, true, 
 ghost use Rattle.mdtext.specs.EntityTable.{EntityTable};
 ghost use Rattle.mdscan.specs.Spans.{EndsAfterMark};
 ghost use Rattle.mdinline.specs.InlineEvents.{Event};
+ghost use Rattle.mdinline.specs.LabelMap.{LinkTarget};
 ghost use Rattle.mdinline.specs.Lexing.{lex};
 ghost use Rattle.mdinline.specs.PlainText.{is_bracket};
 ghost use Rattle.mdinline.specs.Recognised.{bracket_of};
 ghost use Rattle.mdinline.specs.Settled.{Piece};
 ghost use Rattle.mdinline.specs.Settled as piece;
-ghost use Rattle.mdinline.specs.TextReading.{Opened, nearest_opener, spent};
+ghost use Rattle.mdinline.specs.TextReading.{Opened, linked, nearest_opener, spent};
 ghost use Rattle.mdinline.specs.UnusedOpeners.{AreOpenersOf, IsTaken};
 
 use std::alloc::{AllocError, Global};
@@ -107,8 +108,20 @@ impl Openings {
         Some((opening, is_live))
     }
 
+    /// A link or an image was made of a bracket that was taken.
+    pub(crate) fn made(&mut self, opening: Opening)
+        ensures unused { self.new.unused.items ≡ self.old.unused.items }
+        ensures openers { (ps : List Piece) (o : Opened) (t : LinkTarget) → IsTaken ps (opening, true) o → AreOpenersOf (spent ps) self.old
+            → AreOpenersOf (linked t ps (nearest_opener ps)) self.new }
+    {
+        if opening.is_image {
+            return;
+        }
+        self.link_made();
+    }
+
     /// A link was made: all that are unused stand before it.
-    pub(crate) fn link_made(&mut self)
+    fn link_made(&mut self)
         ensures unused { self.new.unused.items ≡ self.old.unused.items }
         ensures openers { (ps : List Piece) (es : List Event) → AreOpenersOf ps self.old → AreOpenersOf (piece.Made true es ∷ ps) self.new }
     {

@@ -6,8 +6,9 @@ ghost use Rattle.mdscan.specs.Spans.{IsEndAfter};
 ghost use Rattle.mdtext.specs.Counted.{counted};
 ghost use Rattle.mdinline.specs.Brackets.{AreBracketsOf, IsLinkEnd};
 ghost use Rattle.mdinline.specs.FoundReferences.{IsReferenceOf, with_asked};
+ghost use Rattle.mdinline.specs.LabelMap.{LinkTarget};
 ghost use Rattle.mdinline.specs.Settled as settled;
-ghost use Rattle.mdinline.specs.TextReading.{Opened, closing, nearest_opener, spent};
+ghost use Rattle.mdinline.specs.TextReading.{Opened, after_deed, closing, linked, nearest_opener, spent};
 ghost use Rattle.mdinline.specs.UnusedOpeners.{AreOpenersOf, IsTaken};
 
 use crate::asked::Asked;
@@ -156,6 +157,12 @@ impl Reading {
         requires brackets { AreBracketsOf text.now at self.old.openings.unused.items }
         ensures end { IfOk result (λ end. IsEndAfter text.now at end) }
         ensures brackets { IfOk result (λ end. AreBracketsOf text.now end self.new.openings.unused.items) }
+        ensures size { (ps : List settled.Piece) → AreOpenersOf ps self.old.openings
+            → IfOk result (λ end. end ≡ at + (closing entities.now (L.target labels.now) text.now at (nearest_opener ps)).size) }
+        ensures asks { (ps : List settled.Piece) → AreOpenersOf ps self.old.openings
+            → OnOk result (self.new.asked.keys ≡ with_asked self.old.asked.keys (closing entities.now (L.target labels.now) text.now at (nearest_opener ps)).asks) }
+        ensures openers { (ps : List settled.Piece) → AreOpenersOf ps self.old.openings
+            → OnOk result (AreOpenersOf (after_deed (closing entities.now (L.target labels.now) text.now at (nearest_opener ps)).deed ps) self.new.openings) }
     {
         match self.reference(alloc, text, at, labels, entities)? {
             Some((opening, reference)) => {
@@ -215,7 +222,10 @@ impl Reading {
 
     /// Makes a link or an image of the pieces from a bracket on.
     fn link(&mut self, alloc: Global, opening: Opening, target: Target) -> Result<(), InlineFault>
-        ensures { OnOk result (self.new.openings.unused.items ≡ self.old.openings.unused.items) }
+        ensures unused { OnOk result (self.new.openings.unused.items ≡ self.old.openings.unused.items) }
+        ensures openers { OnOk result ((ps : List settled.Piece) (o : Opened) (t : LinkTarget) → IsTaken ps (opening, true) o → AreOpenersOf (spent ps) self.old.openings
+            → AreOpenersOf (linked t ps (nearest_opener ps)) self.new.openings) }
+        ensures asked { OnOk result (self.new.asked ≡ self.old.asked) }
     {
         let inside = self.take_inside(alloc, opening.piece)?;
         let tree = settle(alloc, inside)?;
@@ -225,9 +235,9 @@ impl Reading {
         let inline = if opening.is_image {
             Inline::Image(target, tree.inlines)
         } else {
-            self.openings.link_made();
             Inline::Link(target, tree.inlines)
         };
+        self.openings.made(opening);
         self.pieces.push(Piece::Made {
             inline,
             depth: tree.depth + 1,
@@ -237,7 +247,8 @@ impl Reading {
 
     /// Takes away the pieces from a bracket on, and answers those behind it.
     fn take_inside(&mut self, alloc: Global, bracket: usize) -> Result<Vec<Piece>, AllocError>
-        ensures { OnOk result (self.new.openings ≡ self.old.openings) }
+        ensures openings { OnOk result (self.new.openings ≡ self.old.openings) }
+        ensures asked { OnOk result (self.new.asked ≡ self.old.asked) }
     {
         let mut inside = Vec::new(alloc);
         while self.pieces.len() > bracket
