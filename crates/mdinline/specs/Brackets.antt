@@ -3,9 +3,14 @@ use Rattle.std.specs.Prelude.{ℕ, ◌≤◌, List, All}
 use Rattle.std.specs.Str.{IsCharBoundary}
 use Rattle.mdinline.specs.declared.openings.Opening.{Opening}
 
--- the places of these brackets are in the text
-abbrev pub AreBracketsOf : List ℕ → List Opening → Type 0
-AreBracketsOf text openings = All (λ opening. IsCharBoundary text opening.bracket) openings
+-- what stands behind a bracket that was read before a place begins here
+pub record IsBehindBracket (text : List ℕ) (at begin : ℕ) : Type 0 where
+  pub whole : IsCharBoundary text begin
+  pub before : begin ≤ at
+
+-- these brackets were read before a place
+abbrev pub AreBracketsOf : List ℕ → ℕ → List Opening → Type 0
+AreBracketsOf text at openings = All (λ opening. IsBehindBracket text at opening.begin) openings
 
 -- where a link or an image ends whose text ends before a place
 pub record IsLinkEnd (text : List ℕ) (after end : ℕ) : Type 0 where

@@ -1,6 +1,6 @@
 -- Code spans (CommonMark 6.1).
-use Rattle.std.specs.Prelude.{ℕ, ◌+◌, ◌-◌, Bool, true, false, not, ◌&&◌, ◌==◌, List, [], ◌∷◌, length, take, drop, map, slice_index, Option, Some, None, option_map, if◌then◌else◌}
-use Rattle.std.specs.List.{prefix_len, list_all}
+use Rattle.std.specs.Prelude.{ℕ, ◌+◌, ◌-◌, Bool, true, false, not, ◌&&◌, ◌||◌, ◌==◌, List, [], ◌∷◌, length, take, drop, map, slice_index, Option, Some, None, option_map, if◌then◌else◌}
+use Rattle.std.specs.List.{prefix_len, list_all, slice_range}
 use Rattle.mdscan.specs.Blanks.{begins_with}
 
 -- the length of the backtick string that a text begins with
@@ -27,6 +27,13 @@ unfoldable pub code_content : List ℕ → List ℕ
 code_content text =
     let line = as_one_line text in
     if is_padded line then take (length line - 2) (drop 1 line) else line
+
+-- The same without a look at line endings: a byte that is a space once they are, and what is left of a text once a space went from each end.
+abbrev pub is_space_or_feed : ℕ → Bool
+is_space_or_feed b = (b == 32) || (b == 10)
+
+abbrev pub unpadded : List ℕ → List ℕ
+unpadded text = if is_padded (as_one_line text) then slice_range text 1 (length text - 1) else text
 
 -- what stands between the backtick string at the front of a text and the next one of the same length
 unfoldable pub code_inside : List ℕ → Option (List ℕ)

@@ -1,9 +1,17 @@
 //! Autolinks and raw HTML (CommonMark 6.5, 6.6).
 
-ghost use Rattle.std.specs.Prelude.{◌≡◌, ◌+◌, ◌<◌, Some, IfOk, IfSome, length, slice_index};
-ghost use Rattle.mdscan.specs.AutoLink.{autolink_at};
+ghost use Rattle.std.specs.Prelude.{◌≡◌, ◌+◌, ◌-◌, ◌<◌, ◌++◌, [], ℕ, List, Some, None, IfOk, IfSome, length, take, drop, slice_index, option_map};
+ghost use Rattle.std.specs.Char.{is_ascii_alphabetic};
 ghost use Rattle.std.specs.Str.{IsCharBoundary};
+ghost use Rattle.mdscan.specs.AutoLink.{autolink_at};
+ghost use Rattle.mdscan.specs.HtmlTag.{first_is};
+ghost use Rattle.mdscan.specs.RawHtml.{place_of, raw_html};
 ghost use Rattle.mdscan.specs.Spans.{IsEndAfter, EndsAfterMark};
+ghost use Rattle.mdinline.specs.AutolinkText.{scheme_before, without_references};
+ghost use Rattle.mdinline.specs.InlineEvents.{LinkTo, within, written};
+ghost use Rattle.mdinline.specs.Lexing.{angle_lexeme};
+ghost use Rattle.mdinline.specs.LongTags.{BeginsTag, FollowsMark, KnowsEnds, close_text, is_endless};
+ghost use Rattle.mdinline.specs.Recognised.{IsFound, made_events};
 
 use crate::inlines::Inline;
 use crate::references::without_references;
@@ -31,7 +39,9 @@ pub(crate) struct Angles {
 }
 
 impl Angles {
-    pub(crate) fn new() -> Angles {
+    pub(crate) fn new() -> Angles
+        ensures { (text : List ℕ) (at : ℕ) → KnowsEnds text at result }
+    {
         Angles {
             no_comment: false,
             no_instruction: false,
@@ -50,7 +60,10 @@ impl Angles {
     ) -> Result<Option<Found>, AllocError>
         requires inside { at < length text.now }
         requires mark { slice_index text.now at < 128 }
-        ensures { IfOk result (λ found. IfSome found (λ found. IsEndAfter text.now at found.end)) }
+        ensures end { IfOk result (λ found. IfSome found (λ found. IsEndAfter text.now at found.end)) }
+        ensures value { slice_index text.now at ≡ 60 → KnowsEnds text.now at self.old
+            → IfOk result (λ found. IsFound text.now at (angle_lexeme entities.now text.now at (autolink_at text.now at) (raw_html (drop at text.now))) found) }
+        ensures knows { KnowsEnds text.now at self.old → KnowsEnds text.now at self.new }
     {
         if let Some(auto) = autolink(text, at) {
             let inline = autolink_of(alloc, written(text, at, auto), auto.mail, entities)?;
@@ -73,7 +86,9 @@ impl Angles {
     fn html_end(&mut self, text: &str, at: usize) -> Option<usize>
         requires inside { at < length text.now }
         requires mark { slice_index text.now at < 128 }
-        ensures { IfSome result (λ end. IsEndAfter text.now at end) }
+        ensures end { IfSome result (λ end. IsEndAfter text.now at end) }
+        ensures value { slice_index text.now at ≡ 60 → KnowsEnds text.now at self.old → result ≡ option_map (λ n. at + n) (raw_html (drop at text.now)) }
+        ensures knows { KnowsEnds text.now at self.old → KnowsEnds text.now at self.new }
     {
         if let Some(kind) = long_tag(text.as_bytes(), at) {
             if self.is_endless(kind) {
@@ -87,7 +102,9 @@ impl Angles {
         html_tag(text, at)
     }
 
-    fn is_endless(&self, kind: LongTag) -> bool {
+    fn is_endless(&self, kind: LongTag) -> bool
+        ensures { result ≡ is_endless self.now kind }
+    {
         match kind {
             LongTag::Comment => self.no_comment,
             LongTag::Instruction => self.no_instruction,
@@ -96,7 +113,9 @@ impl Angles {
         }
     }
 
-    fn mark_endless(&mut self, kind: LongTag) {
+    fn mark_endless(&mut self, kind: LongTag)
+        ensures { (text : List ℕ) (at : ℕ) → KnowsEnds text at self.old → place_of (close_text kind) (drop (at + 2) text) ≡ None → KnowsEnds text at self.new }
+    {
         match kind {
             LongTag::Comment => self.no_comment = true,
             LongTag::Instruction => self.no_instruction = true,
@@ -109,7 +128,8 @@ impl Angles {
 /// The raw HTML that begins with `<` at a place and a mark behind it.
 fn long_tag(text: &[u8], at: usize) -> Option<LongTag>
     requires { at < length text.now }
-    ensures { IfSome result (λ _. EndsAfterMark text.now at (at + 2)) }
+    ensures end { IfSome result (λ _. EndsAfterMark text.now at (at + 2)) }
+    ensures kind { IfSome result (λ kind. BeginsTag kind text.now at) }
 {
     let next = at + 1;
     if next >= text.len() {
@@ -123,7 +143,9 @@ fn long_tag(text: &[u8], at: usize) -> Option<LongTag>
 }
 
 /// The raw HTML that begins with `<!`, by what follows.
-fn after_mark(rest: &[u8]) -> Option<LongTag> {
+fn after_mark(rest: &[u8]) -> Option<LongTag>
+    ensures { IfSome result (λ kind. FollowsMark kind rest.now) }
+{
     if rest.starts_with(b"--") {
         Some(LongTag::Comment)
     } else if rest.starts_with(b"[CDATA[") {
@@ -135,14 +157,18 @@ fn after_mark(rest: &[u8]) -> Option<LongTag> {
     }
 }
 
-fn begins_with_letter(rest: &[u8]) -> bool {
+fn begins_with_letter(rest: &[u8]) -> bool
+    ensures { result ≡ first_is is_ascii_alphabetic rest.now }
+{
     match rest.first() {
         Some(byte) => byte.is_ascii_alphabetic(),
         None => false,
     }
 }
 
-fn close_of(kind: LongTag) -> &'static str {
+fn close_of(kind: LongTag) -> &'static str
+    ensures { result.now ≡ close_text kind }
+{
     match kind {
         LongTag::Comment => "-->",
         LongTag::Instruction => "?>",
@@ -156,6 +182,7 @@ fn written(text: &str, at: usize, auto: Auto) -> &str
     requires mark { slice_index text.now at < 128 }
     requires value { Some auto ≡ autolink_at text.now at }
     requires end { IsEndAfter text.now at auto.end }
+    ensures { result.now ≡ take (auto.end - at - 2) (drop (at + 1) text.now) }
 {
     &text[at + 1..auto.end - 1]
 }
@@ -166,7 +193,10 @@ fn autolink_of(
     inside: &str,
     is_mail: bool,
     entities: &Entities,
-) -> Result<Inline, AllocError> {
+) -> Result<Inline, AllocError>
+    ensures { IfOk result (λ inline. made_events inline
+        ≡ within (LinkTo (record { url = scheme_before is_mail ++ without_references entities.now 0 inside.now; title = [] })) (written (without_references entities.now 0 inside.now))) }
+{
     let shown = without_references(alloc, inside, entities)?;
     let mut url = String::new(alloc);
     if is_mail {

@@ -1,10 +1,15 @@
 //! What follows a link's text: where the link leads (CommonMark 6.3, 6.4).
 
-ghost use Rattle.std.specs.Prelude.{◌≡◌, IfOk, IfSome};
+ghost use Rattle.std.specs.Prelude.{◌≡◌, ◌+◌, ◌-◌, ℕ, IfOk, OnOk, IfSome, take, drop, string_bytes, if◌then◌else◌};
 ghost use Rattle.std.specs.Str.{IsCharBoundary};
+ghost use Rattle.mdtext.specs.Labels.{label_of};
 ghost use Rattle.mdscan.specs.InlineTail.{AreTailSpans};
 ghost use Rattle.mdscan.specs.Spans.{IsSpanOf};
-ghost use Rattle.mdinline.specs.Brackets.{IsLinkEnd};
+ghost use Rattle.mdinline.specs.Brackets.{IsBehindBracket, IsLinkEnd};
+ghost use Rattle.mdinline.specs.FoundReferences.{IsReferenceOf, with_asked};
+ghost use Rattle.mdinline.specs.LabelMap.{target_of};
+ghost use Rattle.mdinline.specs.LinkTails.{ByLabel, empty_brackets_at, part_text, reference_at, tail_target};
+ghost use Rattle.mdinline.specs.TextReading.{by_reference};
 
 use crate::labels::Labels;
 use mdscan::{Span, Tail, inline_tail, link_label};
@@ -19,21 +24,28 @@ pub(crate) struct Reference {
     pub end: usize,
 }
 
-/// What makes a link or an image of the brackets that stand from `bracket` up to `after`: an inline tail; a label in brackets behind them; or the text
-/// between them. A label that is looked up is asked for.
+/// What makes a link or an image of the text from `begin` up to the `]` at a place: an inline tail behind it; a label in brackets behind it; or the text
+/// itself as a label. A label that is looked up is asked for.
+#[tactic(auto, unfolding(crate::specs::LinkTails::reference_at))]
 pub(crate) fn reference_of<L: Labels>(
     alloc: Global,
     text: &str,
-    bracket: usize,
-    after: usize,
+    begin: usize,
+    at: usize,
     labels: &L,
     entities: &Entities,
     asked: &mut BTreeSet<Label, Global>,
 ) -> Result<Option<Reference>, AllocError>
-    requires bracket { IsCharBoundary text.now bracket }
-    requires after { IsCharBoundary text.now after }
-    ensures { IfOk result (λ found. IfSome found (λ reference. IsLinkEnd text.now after reference.end)) }
+    requires begin { IsBehindBracket text.now at begin }
+    requires at { IsCharBoundary text.now at }
+    requires after { IsCharBoundary text.now (at + 1) }
+    ensures end { IfOk result (λ found. IfSome found (λ reference. IsLinkEnd text.now (at + 1) reference.end)) }
+    ensures value { IfOk result (λ found. IsReferenceOf at (by_reference (L.target labels.now) at
+        (reference_at entities.now text.now (at + 1) (take (at - begin) (drop begin text.now)))) found) }
+    ensures asks { OnOk result (asked.new.keys ≡ with_asked asked.old.keys
+        (by_reference (L.target labels.now) at (reference_at entities.now text.now (at + 1) (take (at - begin) (drop begin text.now)))).asks) }
 {
+    let after = at + 1;
     if let Some(tail) = inline_tail(text, after) {
         let target = target_of(alloc, text, tail, entities)?;
         return Ok(Some(Reference {
@@ -42,29 +54,23 @@ pub(crate) fn reference_of<L: Labels>(
         }));
     }
     if let Some(label) = link_label(text, after) {
-        return look_up(alloc, text, label, label.end + 1, labels, asked);
+        let inside = &text[label.start..label.end];
+        return look_up(alloc, inside, label.end + 1, labels, asked);
     }
-    match own_label(text, bracket, after) {
-        Some(label) => look_up(alloc, text, label, past_empty(text, after), labels, asked),
-        None => Ok(None),
-    }
-}
-
-/// The text between brackets, where it is a label.
-fn own_label(text: &str, bracket: usize, after: usize) -> Option<Span>
-    requires bracket { IsCharBoundary text.now bracket }
-    ensures { IfSome result (λ span. IsSpanOf text.now span) }
-{
-    match link_label(text, bracket) {
-        Some(label) if label.end + 1 == after => Some(label),
-        _ => None,
-    }
+    look_up(
+        alloc,
+        &text[begin..at],
+        past_empty(text, after),
+        labels,
+        asked,
+    )
 }
 
 /// The place after the `[]` at a place, if it stands there.
 fn past_empty(text: &str, after: usize) -> usize
     requires { IsCharBoundary text.now after }
-    ensures { IsLinkEnd text.now after result }
+    ensures end { IsLinkEnd text.now after result }
+    ensures value { result ≡ (if empty_brackets_at text.now after then after + 2 else after) }
 {
     let bytes = text.as_bytes();
     if after + 1 < bytes.len() && bytes[after] == b'[' && bytes[after + 1] == b']' {
@@ -81,6 +87,7 @@ fn target_of(
     entities: &Entities,
 ) -> Result<Target, AllocError>
     requires { AreTailSpans text.now tail }
+    ensures { IfOk result (λ target. target_of target ≡ tail_target entities.now text.now tail) }
 {
     Ok(Target {
         url: part_of(alloc, text, tail.destination, entities)?,
@@ -96,6 +103,7 @@ fn part_of(
     entities: &Entities,
 ) -> Result<String, AllocError>
     requires { IfSome part (λ span. IsSpanOf text.now span) }
+    ensures { IfOk result (λ out. string_bytes out ≡ part_text entities.now text.now part) }
 {
     let mut out = String::new(alloc);
     if let Some(span) = part {
@@ -104,19 +112,19 @@ fn part_of(
     Ok(out)
 }
 
-/// The reference by a label.
+/// The reference by a text, if that is a label.
 fn look_up<L: Labels>(
     alloc: Global,
-    text: &str,
-    label: Span,
+    inside: &str,
     end: usize,
     labels: &L,
     asked: &mut BTreeSet<Label, Global>,
 ) -> Result<Option<Reference>, AllocError>
-    requires { IsSpanOf text.now label }
-    ensures { IfOk result (λ found. IfSome found (λ reference. reference.end ≡ end)) }
+    ensures end { IfOk result (λ found. IfSome found (λ reference. reference.end ≡ end)) }
+    ensures value { IfOk result (λ found. (at : ℕ) → IsReferenceOf at (by_reference (L.target labels.now) at (ByLabel (label_of inside.now) end)) found) }
+    ensures asks { OnOk result ((at : ℕ) → asked.new.keys ≡ with_asked asked.old.keys (by_reference (L.target labels.now) at (ByLabel (label_of inside.now) end)).asks) }
 {
-    let Some(label) = fold_label(alloc, &text[label.start..label.end])? else {
+    let Some(label) = fold_label(alloc, inside)? else {
         return Ok(None);
     };
     let found = match labels.find(&label) {

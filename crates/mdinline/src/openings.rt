@@ -1,7 +1,17 @@
 //! Brackets, and those of a text that no `]` has used up (CommonMark 6.3, 6.4).
 
-ghost use Rattle.std.specs.Prelude.{◌≡◌, ◌<◌, [], ◌∷◌, ◌++◌, IfSome, OnOk, MatchOption, length};
+ghost use Rattle.std.specs.Prelude.{◌≡◌, ◌<◌, ◌||◌, nat_le, true, false, List, None, [], ◌∷◌, ◌++◌, IfSome, OnOk, MatchOption, length, slice_index};
+ghost use Rattle.mdtext.specs.EntityTable.{EntityTable};
 ghost use Rattle.mdscan.specs.Spans.{EndsAfterMark};
+ghost use Rattle.mdinline.specs.InlineEvents.{Event};
+ghost use Rattle.mdinline.specs.LabelMap.{LinkTarget};
+ghost use Rattle.mdinline.specs.Lexing.{lex};
+ghost use Rattle.mdinline.specs.PlainText.{is_bracket};
+ghost use Rattle.mdinline.specs.Recognised.{bracket_of};
+ghost use Rattle.mdinline.specs.Settled.{Piece};
+ghost use Rattle.mdinline.specs.Settled as piece;
+ghost use Rattle.mdinline.specs.TextReading.{Opened, linked, nearest_opener, spent};
+ghost use Rattle.mdinline.specs.UnusedOpeners.{AreOpenersOf, IsTaken};
 
 use std::alloc::{AllocError, Global};
 
@@ -26,7 +36,9 @@ pub(crate) struct Bracket {
 /// The bracket at a place.
 pub(crate) fn bracket_at(text: &[u8], at: usize) -> Option<Bracket>
     requires { at < length text.now }
-    ensures { IfSome result (λ bracket. EndsAfterMark text.now at bracket.end) }
+    ensures end { IfSome result (λ bracket. EndsAfterMark text.now at bracket.end) }
+    ensures mark { IfSome result (λ _. slice_index text.now at < 128) }
+    ensures value { (entities : EntityTable) → MatchOption result (is_bracket (lex entities text.now at).kind ≡ false) (λ bracket. lex entities text.now at ≡ bracket_of at bracket) }
 {
     let next = at + 1;
     match text[at] {
@@ -40,16 +52,17 @@ pub(crate) fn bracket_at(text: &[u8], at: usize) -> Option<Bracket>
 }
 
 fn make_bracket(kind: BracketKind, end: usize) -> Bracket
-    ensures { result.end ≡ end }
+    ensures end { result.end ≡ end }
+    ensures kind { result.kind ≡ kind }
 {
     Bracket { kind, end }
 }
 
-/// An opening bracket: its place among the pieces, and that of its `[` in the text.
+/// An opening bracket: its place among the pieces, and where the text behind it begins.
 #[derive(Clone, Copy, Drop)]
 pub(crate) struct Opening {
     pub piece: usize,
-    pub bracket: usize,
+    pub begin: usize,
     pub is_image: bool,
 }
 
@@ -63,7 +76,8 @@ pub(crate) struct Openings {
 
 impl Openings {
     pub(crate) fn new(alloc: Global) -> Openings
-        ensures { result.unused.items ≡ [] }
+        ensures unused { result.unused.items ≡ [] }
+        ensures none { AreOpenersOf [] result }
     {
         Openings {
             unused: Vec::new(alloc),
@@ -72,7 +86,8 @@ impl Openings {
     }
 
     pub(crate) fn push(&mut self, opening: Opening) -> Result<(), AllocError>
-        ensures { OnOk result (self.new.unused.items ≡ self.old.unused.items ++ opening ∷ []) }
+        ensures unused { OnOk result (self.new.unused.items ≡ self.old.unused.items ++ opening ∷ []) }
+        ensures openers { OnOk result ((ps : List Piece) → AreOpenersOf ps self.old → AreOpenersOf (piece.Opening opening.is_image opening.begin ∷ ps) self.new) }
     {
         self.unused.push(opening)?;
         Ok(())
@@ -80,18 +95,43 @@ impl Openings {
 
     /// Uses up the nearest one, and answers it with whether it is live.
     pub(crate) fn take(&mut self) -> Option<(Opening, bool)>
-        ensures { MatchOption result (self.new.unused.items ≡ self.old.unused.items) (λ taken. self.old.unused.items ≡ self.new.unused.items ++ taken.0 ∷ []) }
+        ensures unused { MatchOption result (self.new.unused.items ≡ self.old.unused.items) (λ taken. self.old.unused.items ≡ self.new.unused.items ++ taken.0 ∷ []) }
+        ensures taken { (ps : List Piece) → AreOpenersOf ps self.old → MatchOption result (nearest_opener ps ≡ None) (λ taken. (o : Opened) × IsTaken ps taken o) }
+        ensures left { (ps : List Piece) → AreOpenersOf ps self.old → AreOpenersOf (spent ps) self.new }
     {
-        let opening = self.unused.pop()?;
-        let is_live = opening.is_image || self.before_link <= self.unused.len();
-        self.before_link = self.before_link.min(self.unused.len());
+        let Some(opening) = self.unused.pop() else {
+            return None;
+        };
+        let left = self.unused.len();
+        let is_live = is_live(opening, self.before_link, left);
+        self.before_link = self.before_link.min(left);
         Some((opening, is_live))
     }
 
+    /// A link or an image was made of a bracket that was taken.
+    pub(crate) fn made(&mut self, opening: Opening)
+        ensures unused { self.new.unused.items ≡ self.old.unused.items }
+        ensures openers { (ps : List Piece) (o : Opened) (t : LinkTarget) → IsTaken ps (opening, true) o → AreOpenersOf (spent ps) self.old
+            → AreOpenersOf (linked t ps (nearest_opener ps)) self.new }
+    {
+        if opening.is_image {
+            return;
+        }
+        self.link_made();
+    }
+
     /// A link was made: all that are unused stand before it.
-    pub(crate) fn link_made(&mut self)
-        ensures { self.new.unused.items ≡ self.old.unused.items }
+    fn link_made(&mut self)
+        ensures unused { self.new.unused.items ≡ self.old.unused.items }
+        ensures openers { (ps : List Piece) (es : List Event) → AreOpenersOf ps self.old → AreOpenersOf (piece.Made true es ∷ ps) self.new }
     {
         self.before_link = self.unused.len();
     }
+}
+
+/// Whether a bracket that stands behind so many unused ones is live, where so many of all stand before a link.
+fn is_live(opening: Opening, before_link: usize, behind: usize) -> bool
+    ensures { result ≡ (opening.is_image || nat_le before_link behind) }
+{
+    opening.is_image || before_link <= behind
 }

@@ -1,15 +1,23 @@
 //! Text, backslash escapes and line breaks (CommonMark 2.4, 6.7, 6.8).
 
-ghost use Rattle.std.specs.Prelude.{◌≡◌, ◌<◌, ◌≤◌, true, IfOk, IfSome, length, slice_index};
+ghost use Rattle.std.specs.Prelude.{◌≡◌, ◌+◌, ◌-◌, ◌<◌, ◌≤◌, ◌==◌, true, IfOk, IfSome, length, drop, slice_index};
+ghost use Rattle.std.specs.List.{position_or_len, prefix_len};
 ghost use Rattle.std.specs.Str.{IsCharBoundary};
 ghost use Rattle.mdscan.specs.Spans.{IsEndAfter, EndsAfterMark};
+ghost use Rattle.mdinline.specs.InlineEvents.{written};
+ghost use Rattle.mdinline.specs.Lexing.{as_written, break_or_written, escape_lexeme};
+ghost use Rattle.mdinline.specs.LineBreaks.{spaces, spaced_break};
+ghost use Rattle.mdinline.specs.PlainText.{IsWritten, is_stop};
+ghost use Rattle.mdinline.specs.Recognised.{made_events, lexeme_of, IsFound};
 
 use crate::inlines::Inline;
 use crate::scanner::{Found, simple};
 use std::alloc::{AllocError, Global};
 
 /// A part of a text as it is written.
-pub(crate) fn text_of(alloc: Global, text: &str) -> Result<Inline, AllocError> {
+pub(crate) fn text_of(alloc: Global, text: &str) -> Result<Inline, AllocError>
+    ensures { IfOk result (λ inline. made_events inline ≡ written text.now) }
+{
     Ok(Inline::Text(String::from_str(alloc, text)?))
 }
 
@@ -17,7 +25,9 @@ pub(crate) fn text_of(alloc: Global, text: &str) -> Result<Inline, AllocError> {
 pub(crate) fn plain(alloc: Global, text: &str, at: usize) -> Result<Found, AllocError>
     requires whole { IsCharBoundary text.now at }
     requires inside { at < length text.now }
-    ensures { IfOk result (λ found. IsEndAfter text.now at found.end) }
+    ensures end { IfOk result (λ found. IsEndAfter text.now at found.end) }
+    ensures value { IfOk result (λ found. lexeme_of at found ≡ as_written (found.end - at) (drop at text.now)) }
+    ensures rest { IfOk result (λ found. IsWritten text.now (at + 1) found.end) }
 {
     let end = text_end(text.as_bytes(), at);
     Ok(simple(text_of(alloc, &text[at..end])?, end))
@@ -28,6 +38,7 @@ fn text_end(text: &[u8], at: usize) -> usize
     ensures later { at < result }
     ensures within { result ≤ length text.now }
     ensures mark { result < length text.now → slice_index text.now result < 128 }
+    ensures value { IsWritten text.now (at + 1) result }
 {
     let first = at + 1;
     let stop = stop_from(text, first);
@@ -44,6 +55,7 @@ fn stop_from(text: &[u8], start: usize) -> usize
     ensures from { start ≤ result }
     ensures within { result ≤ length text.now }
     ensures mark { result < length text.now → slice_index text.now result < 128 }
+    ensures value { result ≡ start + position_or_len is_stop (drop start text.now) }
 {
     start + first_stop(&text[start..])
 }
@@ -51,6 +63,7 @@ fn stop_from(text: &[u8], start: usize) -> usize
 fn first_stop(text: &[u8]) -> usize
     ensures within { result ≤ length text.now }
     ensures mark { result < length text.now → slice_index text.now result < 128 }
+    ensures value { result ≡ position_or_len is_stop text.now }
 {
     for (i, byte) in text.iter().enumerate() {
         if is_stop(*byte) {
@@ -62,7 +75,8 @@ fn first_stop(text: &[u8]) -> usize
 
 /// Whether something may begin at a byte that is not text; most bytes are small letters, which one test leaves.
 fn is_stop(byte: u8) -> bool
-    ensures { result ≡ true → byte < 128 }
+    ensures ascii { result ≡ true → byte < 128 }
+    ensures value { result ≡ is_stop byte }
 {
     !byte.is_ascii_lowercase()
         && matches!(
@@ -79,6 +93,7 @@ fn without_spaces(text: &[u8], start: usize, end: usize) -> usize
     ensures from { start ≤ result }
     ensures within { result ≤ end }
     ensures mark { slice_index text.now result < 128 }
+    ensures value { start < result → slice_index text.now (result - 1) ≡ 32 → ⊥ }
 {
     let mut first = end;
     while first > start && text[first - 1] == b' ' {
@@ -91,7 +106,8 @@ fn without_spaces(text: &[u8], start: usize, end: usize) -> usize
 pub(crate) fn escape(alloc: Global, text: &str, at: usize) -> Result<Option<Found>, AllocError>
     requires inside { at < length text.now }
     requires mark { slice_index text.now at < 128 }
-    ensures { IfOk result (λ found. IfSome found (λ found. IsEndAfter text.now at found.end)) }
+    ensures end { IfOk result (λ found. IfSome found (λ found. IsEndAfter text.now at found.end)) }
+    ensures value { slice_index text.now at ≡ 92 → IfOk result (λ found. IsFound text.now at (escape_lexeme (drop at text.now)) found) }
 {
     let bytes = text.as_bytes();
     let next = at + 1;
@@ -112,7 +128,8 @@ pub(crate) fn escape(alloc: Global, text: &str, at: usize) -> Result<Option<Foun
 /// The line break at a place, from the spaces before it to those after it. Two or more spaces before it make it a hard one.
 pub(crate) fn line_break(text: &str, at: usize) -> Option<Found>
     requires inside { at < length text.now }
-    ensures { IfSome result (λ found. IsEndAfter text.now at found.end) }
+    ensures end { IfSome result (λ found. IsEndAfter text.now at found.end) }
+    ensures value { IsFound text.now at (break_or_written (drop at text.now) (spaced_break (drop at text.now))) result }
 {
     let bytes = text.as_bytes();
     let feed = past_spaces(bytes, at);
@@ -132,7 +149,8 @@ fn past_break(text: &str, at: usize, feed: usize) -> usize
     requires from { at ≤ feed }
     requires inside { feed < length text.now }
     requires mark { slice_index text.now feed < 128 }
-    ensures { IsEndAfter text.now at result }
+    ensures end { IsEndAfter text.now at result }
+    ensures value { result ≡ feed + 1 + spaces (drop (feed + 1) text.now) }
 {
     past_marks(text.as_bytes(), feed, b' ')
 }
@@ -142,7 +160,8 @@ pub(crate) fn past_marks(text: &[u8], at: usize, mark: u8) -> usize
     requires inside { at < length text.now }
     requires first { slice_index text.now at < 128 }
     requires ascii { mark < 128 }
-    ensures { EndsAfterMark text.now at result }
+    ensures end { EndsAfterMark text.now at result }
+    ensures value { result ≡ at + 1 + prefix_len (λ b. b == mark) (drop (at + 1) text.now) }
 {
     let mut end = at + 1;
     while end < text.len() && text[end] == mark {
@@ -156,6 +175,7 @@ fn past_spaces(text: &[u8], at: usize) -> usize
     requires { at ≤ length text.now }
     ensures from { at ≤ result }
     ensures within { result ≤ length text.now }
+    ensures value { result ≡ at + spaces (drop at text.now) }
 {
     let mut end = at;
     while end < text.len() && text[end] == b' ' {

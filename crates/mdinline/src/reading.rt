@@ -1,13 +1,18 @@
 //! The reading of a text (CommonMark 6; GFM, Strikethrough).
 
-ghost use Rattle.std.specs.Prelude.{◌≡◌, ◌-◌, ◌<◌, ℕ, List, [], IfOk, OnOk, length};
+ghost use Rattle.std.specs.Prelude.{◌≡◌, ◌+◌, ◌<◌, ◌≤◌, ℕ, true, List, [], IfOk, IfSome, OnOk, length, slice_index, option_map};
 ghost use Rattle.std.specs.Str.{IsCharBoundary};
 ghost use Rattle.mdscan.specs.Spans.{IsEndAfter};
 ghost use Rattle.mdtext.specs.Counted.{counted};
 ghost use Rattle.mdinline.specs.Brackets.{AreBracketsOf, IsLinkEnd};
+ghost use Rattle.mdinline.specs.FoundReferences.{IsReferenceOf, with_asked};
+ghost use Rattle.mdinline.specs.LabelMap.{LinkTarget};
+ghost use Rattle.mdinline.specs.Settled as settled;
+ghost use Rattle.mdinline.specs.TextReading.{Opened, after_deed, closing, linked, nearest_opener, spent};
+ghost use Rattle.mdinline.specs.UnusedOpeners.{AreOpenersOf, IsTaken};
 
 use crate::asked::Asked;
-use crate::brackets::reference_of;
+use crate::brackets::{Reference, reference_of};
 use crate::faults::InlineFault;
 use crate::inlines::Inline;
 use crate::labels::Labels;
@@ -79,16 +84,16 @@ impl Reading {
     ) -> Result<usize, InlineFault>
         requires whole { IsCharBoundary text.now at }
         requires inside { at < length text.now }
-        requires brackets { AreBracketsOf text.now self.old.openings.unused.items }
+        requires brackets { AreBracketsOf text.now at self.old.openings.unused.items }
         ensures end { IfOk result (λ end. IsEndAfter text.now at end) }
-        ensures brackets { IfOk result (λ _. AreBracketsOf text.now self.new.openings.unused.items) }
+        ensures brackets { IfOk result (λ end. AreBracketsOf text.now end self.new.openings.unused.items) }
     {
         if let Some(run) = delimiter_run(text, at) {
             self.pieces.push(Piece::Run(run))?;
             return Ok(at + run.length);
         }
         if let Some(bracket) = bracket_at(text.as_bytes(), at) {
-            return self.bracket(alloc, text, bracket, labels, entities);
+            return self.bracket(alloc, text, at, bracket, labels, entities);
         }
         let found = scanner.inline(alloc, text, at, entities)?;
         let end = found.end;
@@ -99,79 +104,128 @@ impl Reading {
         Ok(end)
     }
 
-    /// Reads a bracket.
+    /// Reads the bracket at a place.
     fn bracket<L: Labels>(
         &mut self,
         alloc: Global,
         text: &str,
+        at: usize,
         bracket: Bracket,
         labels: &L,
         entities: &Entities,
     ) -> Result<usize, InlineFault>
-        requires ends { IsCharBoundary text.now bracket.end }
-        requires some { 0 < bracket.end }
-        requires begins { IsCharBoundary text.now (bracket.end - 1) }
-        requires brackets { AreBracketsOf text.now self.old.openings.unused.items }
-        ensures end { IfOk result (λ end. IsLinkEnd text.now bracket.end end) }
-        ensures brackets { IfOk result (λ _. AreBracketsOf text.now self.new.openings.unused.items) }
+        requires at { IsCharBoundary text.now at }
+        requires bracket { IsEndAfter text.now at bracket.end }
+        requires mark { slice_index text.now at < 128 }
+        requires brackets { AreBracketsOf text.now at self.old.openings.unused.items }
+        ensures end { IfOk result (λ end. IsEndAfter text.now at end) }
+        ensures brackets { IfOk result (λ end. AreBracketsOf text.now end self.new.openings.unused.items) }
     {
         match bracket.kind {
-            BracketKind::Link => self.open(false, bracket.end - 1)?,
-            BracketKind::Image => self.open(true, bracket.end - 1)?,
-            BracketKind::Closing => return self.close(alloc, text, bracket.end, labels, entities),
+            BracketKind::Link => self.open(false, bracket.end)?,
+            BracketKind::Image => self.open(true, bracket.end)?,
+            BracketKind::Closing => return self.close(alloc, text, at, labels, entities),
         }
         Ok(bracket.end)
     }
 
-    fn open(&mut self, is_image: bool, bracket: usize) -> Result<(), AllocError>
-        ensures { OnOk result ((text : List ℕ) → IsCharBoundary text bracket → AreBracketsOf text self.old.openings.unused.items
-            → AreBracketsOf text self.new.openings.unused.items) }
+    fn open(&mut self, is_image: bool, begin: usize) -> Result<(), AllocError>
+        ensures { OnOk result ((text : List ℕ) (at : ℕ) → IsCharBoundary text begin → at ≤ begin → AreBracketsOf text at self.old.openings.unused.items
+            → AreBracketsOf text begin self.new.openings.unused.items) }
     {
         self.openings.push(Opening {
             piece: self.pieces.len(),
-            bracket,
+            begin,
             is_image,
         })?;
         self.pieces.push(Piece::Bracket { is_image })?;
         Ok(())
     }
 
-    /// A `]` uses up the nearest unused bracket, and answers where the link or the image ends that it makes. If it makes none, it is text.
+    #[tactic(auto, using(crate::proofs::BracketPlaces::brackets_later, crate::proofs::BracketPlaces::link_end))]
+    /// The `]` at a place uses up the nearest unused bracket, and answers where the link or the image ends that it makes. If it makes none, it is text.
     fn close<L: Labels>(
         &mut self,
         alloc: Global,
         text: &str,
-        after: usize,
+        at: usize,
         labels: &L,
         entities: &Entities,
     ) -> Result<usize, InlineFault>
-        requires after { IsCharBoundary text.now after }
-        requires brackets { AreBracketsOf text.now self.old.openings.unused.items }
-        ensures end { IfOk result (λ end. IsLinkEnd text.now after end) }
-        ensures brackets { IfOk result (λ _. AreBracketsOf text.now self.new.openings.unused.items) }
+        requires at { IsCharBoundary text.now at }
+        requires after { IsEndAfter text.now at (at + 1) }
+        requires brackets { AreBracketsOf text.now at self.old.openings.unused.items }
+        ensures end { IfOk result (λ end. IsEndAfter text.now at end) }
+        ensures brackets { IfOk result (λ end. AreBracketsOf text.now end self.new.openings.unused.items) }
+        ensures size { (ps : List settled.Piece) → AreOpenersOf ps self.old.openings
+            → IfOk result (λ end. end ≡ at + (closing entities.now (L.target labels.now) text.now at (nearest_opener ps)).size) }
+        ensures asks { (ps : List settled.Piece) → AreOpenersOf ps self.old.openings
+            → OnOk result (self.new.asked.keys ≡ with_asked self.old.asked.keys (closing entities.now (L.target labels.now) text.now at (nearest_opener ps)).asks) }
+        ensures openers { (ps : List settled.Piece) → AreOpenersOf ps self.old.openings
+            → OnOk result (AreOpenersOf (after_deed (closing entities.now (L.target labels.now) text.now at (nearest_opener ps)).deed ps) self.new.openings) }
     {
-        if let Some((opening, true)) = self.openings.take()
-            && let Some(reference) = reference_of(
-                alloc,
-                text,
-                opening.bracket,
-                after,
-                labels,
-                entities,
-                &mut self.asked,
-            )?
-        {
-            self.link(alloc, opening, reference.target)?;
-            return Ok(reference.end);
+        match self.reference(alloc, text, at, labels, entities)? {
+            Some((opening, reference)) => {
+                self.link(alloc, opening, reference.target)?;
+                Ok(reference.end)
+            }
+            None => {
+                let inline = Inline::Text(String::from_str(alloc, "]")?);
+                self.pieces.push(Piece::Made { inline, depth: 0 })?;
+                Ok(at + 1)
+            }
         }
-        let inline = Inline::Text(String::from_str(alloc, "]")?);
-        self.pieces.push(Piece::Made { inline, depth: 0 })?;
-        Ok(after)
+    }
+
+    /// Uses up the nearest unused bracket for the `]` at a place, and answers it with what makes a link or an image of it, if anything does.
+    fn reference<L: Labels>(
+        &mut self,
+        alloc: Global,
+        text: &str,
+        at: usize,
+        labels: &L,
+        entities: &Entities,
+    ) -> Result<Option<(Opening, Reference)>, AllocError>
+        requires at { IsCharBoundary text.now at }
+        requires after { IsCharBoundary text.now (at + 1) }
+        requires brackets { AreBracketsOf text.now at self.old.openings.unused.items }
+        ensures end { IfOk result (λ found. IfSome found (λ found. IsLinkEnd text.now (at + 1) found.1.end)) }
+        ensures brackets { OnOk result (AreBracketsOf text.now at self.new.openings.unused.items) }
+        ensures value { (ps : List settled.Piece) → AreOpenersOf ps self.old.openings
+            → IfOk result (λ found. IsReferenceOf at (closing entities.now (L.target labels.now) text.now at (nearest_opener ps)) (option_map (λ found. found.1) found)) }
+        ensures asks { (ps : List settled.Piece) → AreOpenersOf ps self.old.openings
+            → OnOk result (self.new.asked.keys ≡ with_asked self.old.asked.keys (closing entities.now (L.target labels.now) text.now at (nearest_opener ps)).asks) }
+        ensures taken { (ps : List settled.Piece) → AreOpenersOf ps self.old.openings → IfOk result (λ found. IfSome found (λ found. (o : Opened) × IsTaken ps (found.0, true) o)) }
+        ensures openers { (ps : List settled.Piece) → AreOpenersOf ps self.old.openings → OnOk result (AreOpenersOf (spent ps) self.new.openings) }
+        ensures pieces { self.new.pieces ≡ self.old.pieces }
+    {
+        let Some((opening, is_live)) = self.openings.take() else {
+            return Ok(None);
+        };
+        if !is_live {
+            return Ok(None);
+        }
+        let found = reference_of(
+            alloc,
+            text,
+            opening.begin,
+            at,
+            labels,
+            entities,
+            &mut self.asked,
+        )?;
+        match found {
+            Some(reference) => Ok(Some((opening, reference))),
+            None => Ok(None),
+        }
     }
 
     /// Makes a link or an image of the pieces from a bracket on.
     fn link(&mut self, alloc: Global, opening: Opening, target: Target) -> Result<(), InlineFault>
-        ensures { OnOk result (self.new.openings.unused.items ≡ self.old.openings.unused.items) }
+        ensures unused { OnOk result (self.new.openings.unused.items ≡ self.old.openings.unused.items) }
+        ensures openers { OnOk result ((ps : List settled.Piece) (o : Opened) (t : LinkTarget) → IsTaken ps (opening, true) o → AreOpenersOf (spent ps) self.old.openings
+            → AreOpenersOf (linked t ps (nearest_opener ps)) self.new.openings) }
+        ensures asked { OnOk result (self.new.asked ≡ self.old.asked) }
     {
         let inside = self.take_inside(alloc, opening.piece)?;
         let tree = settle(alloc, inside)?;
@@ -181,9 +235,9 @@ impl Reading {
         let inline = if opening.is_image {
             Inline::Image(target, tree.inlines)
         } else {
-            self.openings.link_made();
             Inline::Link(target, tree.inlines)
         };
+        self.openings.made(opening);
         self.pieces.push(Piece::Made {
             inline,
             depth: tree.depth + 1,
@@ -193,7 +247,8 @@ impl Reading {
 
     /// Takes away the pieces from a bracket on, and answers those behind it.
     fn take_inside(&mut self, alloc: Global, bracket: usize) -> Result<Vec<Piece>, AllocError>
-        ensures { OnOk result (self.new.openings ≡ self.old.openings) }
+        ensures openings { OnOk result (self.new.openings ≡ self.old.openings) }
+        ensures asked { OnOk result (self.new.asked ≡ self.old.asked) }
     {
         let mut inside = Vec::new(alloc);
         while self.pieces.len() > bracket

@@ -1,8 +1,13 @@
 //! Entity and numeric character references (CommonMark 2.5).
 
-ghost use Rattle.std.specs.Prelude.{◌≡◌, ◌+◌, ◌<◌, IfOk, IfSome, length, slice_index};
+ghost use Rattle.std.specs.Prelude.{◌≡◌, ◌+◌, ◌<◌, ◌++◌, IfOk, OnOk, IfSome, length, drop, slice_index, option_map, string_bytes};
 ghost use Rattle.std.specs.Str.{IsCharBoundary};
+ghost use Rattle.mdtext.specs.References.{added, reference, reference_or};
+ghost use Rattle.mdtext.specs.Referents.{meaning_of, referent_text};
 ghost use Rattle.mdscan.specs.Spans.{IsEndAfter};
+ghost use Rattle.mdinline.specs.AutolinkText.{without_references};
+ghost use Rattle.mdinline.specs.Lexing.{reference_lexeme};
+ghost use Rattle.mdinline.specs.Recognised.{IsFound};
 
 use crate::inlines::Inline;
 use crate::scanner::{Found, simple};
@@ -18,7 +23,8 @@ pub(crate) fn reference(
 ) -> Result<Option<Found>, AllocError>
     requires inside { at < length text.now }
     requires mark { slice_index text.now at < 128 }
-    ensures { IfOk result (λ found. IfSome found (λ found. IsEndAfter text.now at found.end)) }
+    ensures end { IfOk result (λ found. IfSome found (λ found. IsEndAfter text.now at found.end)) }
+    ensures value { IfOk result (λ found. IsFound text.now at (reference_lexeme (drop at text.now) (reference entities.now (drop (at + 1) text.now))) found) }
 {
     match reference_at(text, at, entities) {
         Some(reference) => {
@@ -33,12 +39,15 @@ pub(crate) fn reference(
 fn reference_at<'a>(text: &str, at: usize, entities: &'a Entities) -> Option<Reference<'a>>
     requires inside { at < length text.now }
     requires mark { slice_index text.now at < 128 }
-    ensures { IfSome result (λ reference. IsEndAfter text.now at (at + reference.len)) }
+    ensures end { IfSome result (λ reference. IsEndAfter text.now at (at + reference.len)) }
+    ensures value { option_map meaning_of result ≡ reference entities.now (drop (at + 1) text.now) }
 {
     read_reference(&text[at + 1..], entities)
 }
 
-fn push_referent(referent: Referent, out: &mut String) -> Result<(), AllocError> {
+fn push_referent(referent: Referent, out: &mut String) -> Result<(), AllocError>
+    ensures { OnOk result (string_bytes out.new ≡ string_bytes out.old ++ referent_text referent.entry) }
+{
     match referent {
         Referent::Character(character) => out.push(character),
         Referent::Text(text) => out.push_str(text),
@@ -50,7 +59,9 @@ pub(crate) fn without_references(
     alloc: Global,
     text: &str,
     entities: &Entities,
-) -> Result<String, AllocError> {
+) -> Result<String, AllocError>
+    ensures { IfOk result (λ out. string_bytes out ≡ without_references entities.now 0 text.now) }
+{
     let mut out = String::with_capacity(alloc, text.len())?;
     let mut rest = text;
     while let Some((plain, after)) = rest.split_once('&') {
@@ -64,7 +75,8 @@ pub(crate) fn without_references(
 
 /// Appends what a `&` stands for with what follows it, and answers how much of that goes with it.
 fn push_meaning(after: &str, entities: &Entities, out: &mut String) -> Result<usize, AllocError>
-    ensures { IfOk result (λ taken. IsCharBoundary after.now taken) }
+    ensures cut { IfOk result (λ taken. IsCharBoundary after.now taken) }
+    ensures value { IfOk result (λ taken. (taken, string_bytes out.new) ≡ added (string_bytes out.old) (reference_or 38 (reference entities.now after.now))) }
 {
     match read_reference(after, entities) {
         Some(reference) => {

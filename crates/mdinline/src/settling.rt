@@ -1,6 +1,12 @@
 //! The pieces of a text as a tree, with their delimiter runs paired (CommonMark 6.2; GFM, Strikethrough).
 
-ghost use Rattle.std.specs.Prelude.{◌≡◌, ◌<◌, ◌≤◌, IfOk, length};
+ghost use Rattle.std.specs.Prelude.{◌≡◌, ◌+◌, ◌-◌, ◌^◌, ◌<◌, ◌≤◌, [], ◌∷◌, ◌++◌, ℕ, List, All, IfOk, OnOk, length, map, replicate, string_bytes};
+ghost use Rattle.mdpair.specs.Neighbours.{byte_of};
+ghost use Rattle.mdinline.specs.InlineEvents.{Leave, written};
+ghost use Rattle.mdpair.specs.Takings.{IsOrdered, takings};
+ghost use Rattle.mdinline.specs.PairedRuns.{ArePaired, IsPaired, entered, paired_events, piece_of, pieces_of};
+ghost use Rattle.mdinline.specs.Settled.{bracket_text, runs_of, span_by};
+ghost use Rattle.mdinline.specs.TreeBuilding.{built, span_of};
 
 use crate::faults::InlineFault;
 use crate::pieces::Piece;
@@ -38,53 +44,105 @@ pub(crate) fn settle(alloc: Global, pieces: Vec<Piece>) -> Result<Tree, InlineFa
 }
 
 /// The runs among the pieces, with what they take of each other.
-fn paired(alloc: Global, pieces: &[Piece]) -> Result<Vec<PairedRun>, AllocError> {
+fn paired(alloc: Global, pieces: &[Piece]) -> Result<Vec<PairedRun>, AllocError>
+    ensures { IfOk result (λ paired. ArePaired (takings (runs_of (pieces_of pieces.now))) (runs_of (pieces_of pieces.now)) paired.items) }
+{
     let runs = runs_of(alloc, pieces)?;
     let takings = pair(alloc, &runs)?;
     let mut paired = unpaired(alloc, &runs)?;
-    for taking in &takings {
-        take(&mut paired, taking)?;
-    }
+    take_all(&mut paired, &takings)?;
     Ok(paired)
 }
 
-fn runs_of(alloc: Global, pieces: &[Piece]) -> Result<Vec<DelimiterRun>, AllocError> {
-    let mut runs = Vec::new(alloc);
-    for piece in pieces {
-        if let Piece::Run(run) = piece {
-            runs.push(*run)?;
-        }
-    }
-    Ok(runs)
-}
-
-fn unpaired(alloc: Global, runs: &[DelimiterRun]) -> Result<Vec<PairedRun>, AllocError> {
-    let mut unpaired = Vec::with_capacity(alloc, runs.len())?;
-    for run in runs {
-        unpaired.push(PairedRun {
-            delimiter: run.delimiter,
-            left: run.length,
-            ends: 0,
-            begins: Vec::new(alloc),
-        })?;
-    }
-    Ok(unpaired)
-}
-
-fn take(runs: &mut Vec<PairedRun>, taking: &Taking) -> Result<(), AllocError> {
-    if let Some(opener) = runs.get_mut(taking.opener) {
-        opener.left = opener.left.saturating_sub(taking.width);
-        let kind = kind_of(opener.delimiter, taking.width);
-        opener.begins.push(kind)?;
-    }
-    if let Some(closer) = runs.get_mut(taking.closer) {
-        closer.left = closer.left.saturating_sub(taking.width);
-        closer.ends = closer.ends.saturating_add(1);
+fn take_all(runs: &mut Vec<PairedRun>, takings: &[Taking]) -> Result<(), AllocError>
+    ensures { OnOk result ((rs : List DelimiterRun) → All (IsOrdered (length rs)) takings.now → ArePaired [] rs runs.old.items → ArePaired takings.now rs runs.new.items) }
+{
+    for taking in takings {
+        take(runs, taking)?;
     }
     Ok(())
 }
 
-fn kind_of(delimiter: DelimiterChar, width: usize) -> SpanKind {
+fn runs_of(alloc: Global, pieces: &[Piece]) -> Result<Vec<DelimiterRun>, AllocError>
+    ensures { IfOk result (λ runs. runs.items ≡ runs_of (pieces_of pieces.now)) }
+{
+    let mut runs = Vec::new(alloc);
+    for piece in pieces {
+        push_run(&mut runs, piece)?;
+    }
+    Ok(runs)
+}
+
+fn push_run(runs: &mut Vec<DelimiterRun>, piece: &Piece) -> Result<(), AllocError>
+    ensures { OnOk result (runs.new.items ≡ runs.old.items ++ runs_of (piece_of piece.now ∷ [])) }
+{
+    if let Piece::Run(run) = piece {
+        runs.push(*run)?;
+    }
+    Ok(())
+}
+
+fn unpaired(alloc: Global, runs: &[DelimiterRun]) -> Result<Vec<PairedRun>, AllocError>
+    ensures { IfOk result (λ unpaired. ArePaired [] runs.now unpaired.items) }
+{
+    let mut unpaired = Vec::with_capacity(alloc, runs.len())?;
+    for run in runs {
+        unpaired.push(unpaired_run(alloc, *run))?;
+    }
+    Ok(unpaired)
+}
+
+fn unpaired_run(alloc: Global, run: DelimiterRun) -> PairedRun
+    ensures { (n : ℕ) → IsPaired n [] run result }
+{
+    PairedRun {
+        delimiter: run.delimiter,
+        left: run.length,
+        ends: 0,
+        begins: Vec::new(alloc),
+    }
+}
+
+fn take(runs: &mut Vec<PairedRun>, taking: &Taking) -> Result<(), AllocError>
+    ensures { OnOk result ((front : List Taking) (rs : List DelimiterRun) → IsOrdered (length rs) taking.now → length front + 1 < 2 ^ 64
+        → ArePaired front rs runs.old.items → ArePaired (front ++ taking.now ∷ []) rs runs.new.items) }
+{
+    if taking.opener < runs.len() {
+        open(&mut runs[taking.opener], taking.width)?;
+    }
+    if taking.closer < runs.len() {
+        close(&mut runs[taking.closer], taking.width);
+    }
+    Ok(())
+}
+
+/// A span of so many characters begins at a run.
+fn open(run: &mut PairedRun, width: usize) -> Result<(), AllocError>
+    ensures delimiter { run.new.delimiter ≡ run.old.delimiter }
+    ensures left { run.new.left ≡ run.old.left - width }
+    ensures ends { run.new.ends ≡ run.old.ends }
+    ensures begins { OnOk result (map span_of run.new.begins.items ≡ map span_of run.old.begins.items ++ span_by run.old.delimiter width ∷ []) }
+{
+    run.left = run.left.saturating_sub(width);
+    let kind = kind_of(run.delimiter, width);
+    run.begins.push(kind)?;
+    Ok(())
+}
+
+/// A span of so many characters ends at a run.
+fn close(run: &mut PairedRun, width: usize)
+    ensures delimiter { run.new.delimiter ≡ run.old.delimiter }
+    ensures left { run.new.left ≡ run.old.left - width }
+    ensures ends { run.old.ends + 1 < 2 ^ 64 → run.new.ends ≡ run.old.ends + 1 }
+    ensures begins { run.new.begins ≡ run.old.begins }
+{
+    run.left = run.left.saturating_sub(width);
+    run.ends = run.ends.saturating_add(1);
+}
+
+fn kind_of(delimiter: DelimiterChar, width: usize) -> SpanKind
+    ensures { span_of result ≡ span_by delimiter width }
+{
     match delimiter {
         DelimiterChar::Tilde => SpanKind::Strike,
         _ => if width == 2 {
@@ -96,24 +154,47 @@ fn kind_of(delimiter: DelimiterChar, width: usize) -> SpanKind {
 }
 
 /// Ends the spans that end at a run, appends what is left of it, and begins those that begin there.
-fn add_run(alloc: Global, builder: &mut TreeBuilder, run: PairedRun) -> Result<(), InlineFault> {
-    for _ in 0..run.ends {
+fn add_run(alloc: Global, builder: &mut TreeBuilder, run: PairedRun) -> Result<(), InlineFault>
+    ensures events { run.ends ≤ length builder.old.frames.items → OnOk result (built builder.new ≡ built builder.old ++ paired_events run) }
+    ensures frames { run.ends ≤ length builder.old.frames.items
+        → OnOk result (length builder.new.frames.items + run.ends ≡ length builder.old.frames.items + length run.begins.items) }
+{
+    leave_all(builder, run.ends)?;
+    builder.add_text(many(alloc, run.delimiter, run.left)?)?;
+    enter_all(alloc, builder, &run.begins)
+}
+
+/// Ends so many spans.
+fn leave_all(builder: &mut TreeBuilder, count: usize) -> Result<(), InlineFault>
+    ensures events { count ≤ length builder.old.frames.items → OnOk result (built builder.new ≡ built builder.old ++ replicate count Leave) }
+    ensures frames { count ≤ length builder.old.frames.items → OnOk result (length builder.new.frames.items + count ≡ length builder.old.frames.items) }
+{
+    for _ in 0..count {
         builder.leave()?;
     }
-    builder.add_text(many(alloc, run.delimiter, run.left)?)?;
-    for kind in run.begins.iter().rev() {
-        builder.enter(alloc, *kind)?;
+    Ok(())
+}
+
+/// Begins these spans, the innermost of which is the first.
+fn enter_all(
+    alloc: Global,
+    builder: &mut TreeBuilder,
+    kinds: &[SpanKind],
+) -> Result<(), InlineFault>
+    ensures events { OnOk result (built builder.new ≡ built builder.old ++ entered kinds.now) }
+    ensures frames { OnOk result (length builder.new.frames.items ≡ length builder.old.frames.items + length kinds.now) }
+{
+    for i in (0..kinds.len()).rev() {
+        builder.enter(alloc, kinds[i])?;
     }
     Ok(())
 }
 
 /// A text of so many delimiter characters.
-fn many(alloc: Global, delimiter: DelimiterChar, count: usize) -> Result<String, AllocError> {
-    let character = match delimiter {
-        DelimiterChar::Asterisk => '*',
-        DelimiterChar::Underscore => '_',
-        DelimiterChar::Tilde => '~',
-    };
+fn many(alloc: Global, delimiter: DelimiterChar, count: usize) -> Result<String, AllocError>
+    ensures { IfOk result (λ text. string_bytes text ≡ replicate count (byte_of delimiter)) }
+{
+    let character = character_of(delimiter);
     let mut text = String::with_capacity(alloc, count)?;
     for _ in 0..count {
         text.push(character)?;
@@ -121,6 +202,19 @@ fn many(alloc: Global, delimiter: DelimiterChar, count: usize) -> Result<String,
     Ok(text)
 }
 
-fn bracket_text(alloc: Global, is_image: bool) -> Result<String, AllocError> {
+fn character_of(delimiter: DelimiterChar) -> char
+    ensures value { result ≡ byte_of delimiter }
+    ensures ascii { result < 128 }
+{
+    match delimiter {
+        DelimiterChar::Asterisk => '*',
+        DelimiterChar::Underscore => '_',
+        DelimiterChar::Tilde => '~',
+    }
+}
+
+fn bracket_text(alloc: Global, is_image: bool) -> Result<String, AllocError>
+    ensures { IfOk result (λ text. written (string_bytes text) ≡ bracket_text is_image) }
+{
     String::from_str(alloc, if is_image { "![" } else { "[" })
 }

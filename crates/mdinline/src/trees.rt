@@ -1,6 +1,9 @@
 //! A tree of inlines that is built from left to right.
 
-ghost use Rattle.std.specs.Prelude.{◌≡◌, ◌+◌, ◌<◌, ◌≤◌, IfOk, OnOk, length};
+ghost use Rattle.std.specs.Prelude.{◌≡◌, ◌+◌, ◌<◌, [], ◌∷◌, ◌++◌, IfOk, OnOk, length, string_bytes};
+ghost use Rattle.mdinline.specs.InlineEvents.{Enter, Leave, within, written};
+ghost use Rattle.mdinline.specs.Recognised.{made_events};
+ghost use Rattle.mdinline.specs.TreeBuilding.{built, row_events, span_of};
 
 use crate::faults::InlineFault;
 use crate::inlines::Inline;
@@ -42,7 +45,10 @@ pub(crate) struct Tree {
 
 impl TreeBuilder {
     /// No inlines yet, with room for so many.
-    pub(crate) fn new(alloc: Global, room: usize) -> Result<TreeBuilder, AllocError> {
+    pub(crate) fn new(alloc: Global, room: usize) -> Result<TreeBuilder, AllocError>
+        ensures events { IfOk result (λ builder. built builder ≡ []) }
+        ensures frames { IfOk result (λ builder. builder.frames.items ≡ []) }
+    {
         Ok(TreeBuilder {
             frames: Vec::new(alloc),
             last: Vec::with_capacity(alloc, room)?,
@@ -51,7 +57,10 @@ impl TreeBuilder {
     }
 
     /// Appends an inline in which `depth` spans lie in one another.
-    pub(crate) fn add(&mut self, inline: Inline, depth: usize) -> Result<(), InlineFault> {
+    pub(crate) fn add(&mut self, inline: Inline, depth: usize) -> Result<(), InlineFault>
+        ensures events { OnOk result (built self.new ≡ built self.old ++ made_events inline) }
+        ensures frames { OnOk result (self.new.frames ≡ self.old.frames) }
+    {
         self.reach(depth)?;
         match inline {
             Inline::Text(text) => self.add_text(text)?,
@@ -61,18 +70,21 @@ impl TreeBuilder {
     }
 
     /// Appends a text to the text before it. An empty one is none.
-    pub(crate) fn add_text(&mut self, text: String) -> Result<(), AllocError> {
+    pub(crate) fn add_text(&mut self, text: String) -> Result<(), AllocError>
+        ensures events { OnOk result (built self.new ≡ built self.old ++ written (string_bytes text)) }
+        ensures frames { OnOk result (self.new.frames ≡ self.old.frames) }
+    {
         if text.is_empty() {
             return Ok(());
         }
-        if let Some(Inline::Text(before)) = self.last.last_mut() {
-            return before.push_str(text.as_str());
-        }
-        push_inline(&mut self.last, Inline::Text(text))
+        push_text(&mut self.last, text)
     }
 
     /// Begins a span.
-    pub(crate) fn enter(&mut self, alloc: Global, kind: SpanKind) -> Result<(), InlineFault> {
+    pub(crate) fn enter(&mut self, alloc: Global, kind: SpanKind) -> Result<(), InlineFault>
+        ensures events { OnOk result (built self.new ≡ built self.old ++ Enter (span_of kind) ∷ []) }
+        ensures frames { OnOk result (length self.new.frames.items ≡ length self.old.frames.items + 1) }
+    {
         self.reach(1)?;
         let before = mem::replace(&mut self.last, Vec::new(alloc));
         self.frames.push(Frame { kind, before })?;
@@ -80,7 +92,10 @@ impl TreeBuilder {
     }
 
     /// Ends the span that began last.
-    pub(crate) fn leave(&mut self) -> Result<(), AllocError> {
+    pub(crate) fn leave(&mut self) -> Result<(), AllocError>
+        ensures events { 0 < length self.old.frames.items → OnOk result (built self.new ≡ built self.old ++ Leave ∷ []) }
+        ensures frames { 0 < length self.old.frames.items → OnOk result (length self.new.frames.items + 1 ≡ length self.old.frames.items) }
+    {
         let Some(frame) = self.frames.pop() else {
             return Ok(());
         };
@@ -88,7 +103,9 @@ impl TreeBuilder {
         push_inline(&mut self.last, span_of(frame.kind, inside))
     }
 
-    pub(crate) fn finish(self) -> Tree {
+    pub(crate) fn finish(self) -> Tree
+        ensures { result.inlines ≡ self.last }
+    {
         Tree {
             inlines: self.last,
             depth: self.depth,
@@ -96,7 +113,10 @@ impl TreeBuilder {
     }
 
     /// That so many spans more may lie in those that are open.
-    fn reach(&mut self, more: usize) -> Result<(), InlineFault> {
+    fn reach(&mut self, more: usize) -> Result<(), InlineFault>
+        ensures frames { self.new.frames ≡ self.old.frames }
+        ensures last { self.new.last ≡ self.old.last }
+    {
         let depth = self.frames.len().saturating_add(more);
         if depth > MOST_SPANS {
             return Err(InlineFault::TooDeep);
@@ -107,7 +127,9 @@ impl TreeBuilder {
 }
 
 /// Appends an inline. Most spans hold one alone, so at first there is room for no more.
-fn push_inline(inlines: &mut Vec<Inline>, inline: Inline) -> Result<(), AllocError> {
+fn push_inline(inlines: &mut Vec<Inline>, inline: Inline) -> Result<(), AllocError>
+    ensures { OnOk result (inlines.new.items ≡ inlines.old.items ++ inline ∷ []) }
+{
     if inlines.is_empty() {
         inlines.reserve_exact(1)?;
     }
@@ -115,7 +137,26 @@ fn push_inline(inlines: &mut Vec<Inline>, inline: Inline) -> Result<(), AllocErr
     Ok(())
 }
 
-fn span_of(kind: SpanKind, inside: Vec<Inline>) -> Inline {
+/// Appends a text to the inlines, and joins it to a text at their end.
+fn push_text(inlines: &mut Vec<Inline>, text: String) -> Result<(), AllocError>
+    ensures { OnOk result (row_events inlines.new.items ≡ row_events inlines.old.items ++ written (string_bytes text)) }
+{
+    match inlines.pop() {
+        Some(Inline::Text(mut before)) => {
+            before.push_str(text.as_str())?;
+            push_inline(inlines, Inline::Text(before))
+        }
+        Some(other) => {
+            push_inline(inlines, other)?;
+            push_inline(inlines, Inline::Text(text))
+        }
+        None => push_inline(inlines, Inline::Text(text)),
+    }
+}
+
+fn span_of(kind: SpanKind, inside: Vec<Inline>) -> Inline
+    ensures { made_events result ≡ within (span_of kind) (row_events inside.items) }
+{
     match kind {
         SpanKind::Emph => Inline::Emph(inside),
         SpanKind::Strong => Inline::Strong(inside),

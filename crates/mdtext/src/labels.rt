@@ -124,10 +124,14 @@ pub fn fold_label(alloc: Global, inside: &str) -> Result<Option<Label>, NoMemory
     }))
 }
 
+// A bracket is looked for first, since the search ends there: texts in many brackets are read from each to the next one alone.
 fn is_label(inside: &str) -> bool
     ensures { result ≡ is_label inside.now }
 {
-    is_short(inside) && has_text(inside) && !has_bare_bracket(inside)
+    if has_bare_bracket(inside) {
+        return false;
+    }
+    is_short(inside) && has_text(inside)
 }
 
 fn is_short(inside: &str) -> bool

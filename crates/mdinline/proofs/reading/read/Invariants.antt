@@ -6,7 +6,7 @@ use Rattle.mdinline.proofs.reading.read.Given as goal
 abbrev pub invariant-loop-at : goal.invariant-loop-at
 invariant-loop-at g l = record {
   whole : IsCharBoundary l.text l.at;
-  brackets : AreBracketsOf l.text l.reading.openings.unused.items;
+  brackets : AreBracketsOf l.text l.at l.reading.openings.unused.items;
 }
 
 abbrev pub decreases-loop-at : goal.decreases-loop-at
