@@ -10,6 +10,7 @@ pub mod Markers
 pub mod NestingLaws
 pub mod NestingMeets
 pub mod OpenLeafLaws
+pub mod PlacedNodes
 pub mod ReaderLaws
 pub mod Skips
 pub mod StartKinds

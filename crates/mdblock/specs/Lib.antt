@@ -23,6 +23,7 @@ pub mod StoredBlocks
 pub mod Stretches
 pub mod SummaryDepth
 pub mod TaskItem
+pub mod TreesBehind
 pub mod UnitBegin
 pub mod UnitReader
 pub mod UnitTree
