@@ -3,6 +3,7 @@ pub mod CutLaws
 pub mod DepthLaws
 pub mod DocumentLaws
 pub mod GroupLaws
+pub mod HeldNodesLaws
 pub mod ItemLaws
 pub mod LeafSteps
 pub mod LimitLaws
@@ -11,6 +12,7 @@ pub mod NestingLaws
 pub mod NestingMeets
 pub mod OpenLeafLaws
 pub mod PlacedNodes
+pub mod Ranges
 pub mod ReaderLaws
 pub mod Skips
 pub mod StartKinds

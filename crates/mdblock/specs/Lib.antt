@@ -5,6 +5,8 @@ pub mod BlockUnits
 pub mod BlockView
 pub mod ContainerLines
 pub mod FirstDefinitions
+pub mod HeldLevel
+pub mod HeldNodes
 pub mod Indentation
 pub mod Laziness
 pub mod LeafContents

@@ -1,6 +1,10 @@
 //! What the leaves of a unit hand in as they close.
 
-ghost use Rattle.std.specs.Prelude.{◌≡◌, ◌<◌, ◌≤◌, IfOk, OnOk, length};
+ghost use Rattle.std.specs.Prelude.{◌≡◌, ◌<◌, ◌≤◌, ◌++◌, List, [], ◌∷◌, IfOk, OnOk, length, map, string_bytes};
+ghost use Rattle.std.specs.List.{range_with_len};
+ghost use Rattle.mdleaf.specs.LeadingDefinitions.{leading_of};
+ghost use Rattle.mdleaf.specs.LinkDefinition.{definition_of};
+ghost use Rattle.mdleaf.specs.ParagraphText.{behind_definitions};
 ghost use Rattle.mdblock.specs.Positions.{CellsIn};
 
 use mdleaf::{Definition, leading_definitions};
@@ -17,7 +21,11 @@ pub(crate) struct Gathering<'e> {
 }
 
 impl<'e> Gathering<'e> {
-    pub(crate) fn new(alloc: Global, entities: &'e Entities) -> Gathering<'e> {
+    pub(crate) fn new(alloc: Global, entities: &'e Entities) -> Gathering<'e>
+        ensures definitions { result.definitions.items ≡ [] }
+        ensures texts { result.texts.items ≡ [] }
+        ensures entities { result.entities ≡ entities.entry }
+    {
         Gathering {
             alloc,
             entities,
@@ -30,12 +38,18 @@ impl<'e> Gathering<'e> {
         self.alloc
     }
 
-    pub(crate) fn entities(&self) -> &'e Entities {
+    pub(crate) fn entities(&self) -> &'e Entities
+        ensures { result ≡ self.now.entities }
+    {
         self.entities
     }
 
     /// Takes a text in, and answers its position.
     pub(crate) fn text(&mut self, text: String) -> Result<usize, AllocError>
+        ensures at { IfOk result (λ position. position ≡ length self.old.texts.items) }
+        ensures texts { IfOk result (λ _. self.new.texts.items ≡ self.old.texts.items ++ text ∷ []) }
+        ensures definitions { self.new.definitions ≡ self.old.definitions }
+        ensures entities { self.new.entities ≡ self.old.entities }
         ensures within { IfOk result (λ position. position < length self.new.texts.items) }
         ensures grows { length self.old.texts.items ≤ length self.new.texts.items }
     {
@@ -46,6 +60,10 @@ impl<'e> Gathering<'e> {
 
     /// Takes the cells of a row in, and answers their positions.
     pub(crate) fn row(&mut self, cells: Vec<String>) -> Result<Vec<usize>, AllocError>
+        ensures at { IfOk result (λ positions. positions.items ≡ range_with_len (length self.old.texts.items) (length cells.items)) }
+        ensures texts { IfOk result (λ _. self.new.texts.items ≡ self.old.texts.items ++ cells.items) }
+        ensures definitions { self.new.definitions ≡ self.old.definitions }
+        ensures entities { self.new.entities ≡ self.old.entities }
         ensures within { IfOk result (λ positions. CellsIn (length self.new.texts.items) positions.items) }
         ensures grows { length self.old.texts.items ≤ length self.new.texts.items }
     {
@@ -58,7 +76,10 @@ impl<'e> Gathering<'e> {
 
     /// Takes the definitions at the front of a paragraph's text in, and leaves the text behind them.
     pub(crate) fn definitions(&mut self, text: &mut String) -> Result<(), AllocError>
-        ensures { self.new.texts ≡ self.old.texts }
+        ensures texts { self.new.texts ≡ self.old.texts }
+        ensures entities { self.new.entities ≡ self.old.entities }
+        ensures definitions { OnOk result (map definition_of self.new.definitions.items ≡ map definition_of self.old.definitions.items ++ leading_of self.old.entities.now (string_bytes text.old)) }
+        ensures rest { OnOk result (string_bytes text.new ≡ behind_definitions (string_bytes text.old)) }
     {
         let mut leading = leading_definitions(self.alloc, text.as_str(), self.entities)?;
         self.definitions.append(&mut leading.definitions)?;
@@ -67,7 +88,8 @@ impl<'e> Gathering<'e> {
 
     /// The definitions and the texts.
     pub(crate) fn parts(self) -> (Vec<Definition>, Vec<String>)
-        ensures { result.1 ≡ self.entry.texts }
+        ensures definitions { result.0 ≡ self.entry.definitions }
+        ensures texts { result.1 ≡ self.entry.texts }
     {
         (self.definitions, self.texts)
     }
