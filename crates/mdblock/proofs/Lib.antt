@@ -3,6 +3,7 @@ pub mod CutLaws
 pub mod DepthLaws
 pub mod DocumentLaws
 pub mod GroupLaws
+pub mod HeldNodesLaws
 pub mod HtmlEnds
 pub mod ItemLaws
 pub mod LeafEndings
@@ -16,6 +17,8 @@ pub mod NestingLaws
 pub mod NestingMeets
 pub mod OpenLeafLaws
 pub mod ParagraphLaws
+pub mod PlacedNodes
+pub mod Ranges
 pub mod ReaderLaws
 pub mod RowStarts
 pub mod Skips

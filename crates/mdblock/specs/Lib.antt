@@ -6,6 +6,8 @@ pub mod BlockView
 pub mod ContainerLines
 pub mod FirstDefinitions
 pub mod HandedIn
+pub mod HeldLevel
+pub mod HeldNodes
 pub mod Indentation
 pub mod Laziness
 pub mod LeafContents
@@ -30,6 +32,7 @@ pub mod StoredBlocks
 pub mod Stretches
 pub mod SummaryDepth
 pub mod TaskItem
+pub mod TreesBehind
 pub mod UnitBegin
 pub mod UnitReader
 pub mod UnitTree

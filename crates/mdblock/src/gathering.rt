@@ -1,6 +1,7 @@
 //! What the leaves of a unit hand in as they close.
 
-ghost use Rattle.std.specs.Prelude.{◌≡◌, ◌<◌, ◌≤◌, [], ◌∷◌, ◌++◌, IfOk, OnOk, length, string_bytes};
+ghost use Rattle.std.specs.Prelude.{◌≡◌, ◌<◌, ◌≤◌, ◌++◌, [], ◌∷◌, IfOk, OnOk, length, string_bytes};
+ghost use Rattle.std.specs.List.{range_with_len};
 ghost use Rattle.mdleaf.specs.LeadingDefinitions.{leading_of};
 ghost use Rattle.mdleaf.specs.ParagraphText.{behind_definitions};
 ghost use Rattle.mdblock.specs.HandedIn.{definitions_of};
@@ -20,7 +21,11 @@ pub(crate) struct Gathering<'e> {
 }
 
 impl<'e> Gathering<'e> {
-    pub(crate) fn new(alloc: Global, entities: &'e Entities) -> Gathering<'e> {
+    pub(crate) fn new(alloc: Global, entities: &'e Entities) -> Gathering<'e>
+        ensures definitions { result.definitions.items ≡ [] }
+        ensures texts { result.texts.items ≡ [] }
+        ensures entities { result.entities ≡ entities.entry }
+    {
         Gathering {
             alloc,
             entities,
@@ -55,6 +60,10 @@ impl<'e> Gathering<'e> {
 
     /// Takes the cells of a row in, and answers their positions.
     pub(crate) fn row(&mut self, cells: Vec<String>) -> Result<Vec<usize>, AllocError>
+        ensures at { IfOk result (λ positions. positions.items ≡ range_with_len (length self.old.texts.items) (length cells.items)) }
+        ensures texts { IfOk result (λ _. self.new.texts.items ≡ self.old.texts.items ++ cells.items) }
+        ensures definitions { self.new.definitions ≡ self.old.definitions }
+        ensures entities { self.new.entities.now ≡ self.old.entities.now }
         ensures within { IfOk result (λ positions. CellsIn (length self.new.texts.items) positions.items) }
         ensures grows { length self.old.texts.items ≤ length self.new.texts.items }
     {
@@ -79,7 +88,8 @@ impl<'e> Gathering<'e> {
 
     /// The definitions and the texts.
     pub(crate) fn parts(self) -> (Vec<Definition>, Vec<String>)
-        ensures { result.1 ≡ self.entry.texts }
+        ensures definitions { result.0 ≡ self.entry.definitions }
+        ensures texts { result.1 ≡ self.entry.texts }
     {
         (self.definitions, self.texts)
     }
