@@ -20,6 +20,7 @@ pub mod NearestOpeners
 pub mod NestedParts
 pub mod OneReading
 pub mod OpenSpans
+pub mod PairedEvents
 pub mod PairedTakings
 pub mod ReadingBalanced
 pub mod ReplacedReferences

@@ -1,14 +1,15 @@
 //! The reading of a text (CommonMark 6; GFM, Strikethrough).
 
-ghost use Rattle.std.specs.Prelude.{◌≡◌, ◌+◌, ◌<◌, ◌≤◌, ℕ, true, List, [], IfOk, IfSome, OnOk, length, slice_index, option_map};
+ghost use Rattle.std.specs.Prelude.{◌≡◌, ◌+◌, ◌∷◌, ◌-◌, ◌<◌, ◌≤◌, ℕ, true, List, [], IfOk, IfSome, OnOk, length, slice_index, option_map};
 ghost use Rattle.std.specs.Str.{IsCharBoundary};
 ghost use Rattle.mdscan.specs.Spans.{IsEndAfter};
 ghost use Rattle.mdtext.specs.Counted.{counted};
 ghost use Rattle.mdinline.specs.Brackets.{AreBracketsOf, IsLinkEnd};
 ghost use Rattle.mdinline.specs.FoundReferences.{IsReferenceOf, with_asked};
 ghost use Rattle.mdinline.specs.LabelMap.{LinkTarget};
+ghost use Rattle.mdinline.specs.Recognised.{kind_of};
 ghost use Rattle.mdinline.specs.Settled as settled;
-ghost use Rattle.mdinline.specs.TextReading.{Opened, after_deed, closing, linked, nearest_opener, spent};
+ghost use Rattle.mdinline.specs.TextReading.{Opened, after_deed, closing, item_by, linked, nearest_opener, spent};
 ghost use Rattle.mdinline.specs.UnusedOpeners.{AreOpenersOf, IsTaken};
 
 use crate::asked::Asked;
@@ -120,6 +121,12 @@ impl Reading {
         requires brackets { AreBracketsOf text.now at self.old.openings.unused.items }
         ensures end { IfOk result (λ end. IsEndAfter text.now at end) }
         ensures brackets { IfOk result (λ end. AreBracketsOf text.now end self.new.openings.unused.items) }
+        ensures size { (ps : List settled.Piece) → AreOpenersOf ps self.old.openings
+            → IfOk result (λ end. end ≡ at + (item_by entities.now (L.target labels.now) text.now at ps (bracket.end - at) (kind_of bracket.kind)).size) }
+        ensures asks { (ps : List settled.Piece) → AreOpenersOf ps self.old.openings
+            → OnOk result (self.new.asked.keys ≡ with_asked self.old.asked.keys (item_by entities.now (L.target labels.now) text.now at ps (bracket.end - at) (kind_of bracket.kind)).asks) }
+        ensures openers { (ps : List settled.Piece) → AreOpenersOf ps self.old.openings
+            → OnOk result (AreOpenersOf (after_deed (item_by entities.now (L.target labels.now) text.now at ps (bracket.end - at) (kind_of bracket.kind)).deed ps) self.new.openings) }
     {
         match bracket.kind {
             BracketKind::Link => self.open(false, bracket.end)?,
@@ -130,7 +137,9 @@ impl Reading {
     }
 
     fn open(&mut self, is_image: bool, begin: usize) -> Result<(), AllocError>
-        ensures { OnOk result ((text : List ℕ) (at : ℕ) → IsCharBoundary text begin → at ≤ begin → AreBracketsOf text at self.old.openings.unused.items
+        ensures openers { OnOk result ((ps : List settled.Piece) → AreOpenersOf ps self.old.openings → AreOpenersOf (settled.Opening is_image begin ∷ ps) self.new.openings) }
+        ensures asked { OnOk result (self.new.asked ≡ self.old.asked) }
+        ensures brackets { OnOk result ((text : List ℕ) (at : ℕ) → IsCharBoundary text begin → at ≤ begin → AreBracketsOf text at self.old.openings.unused.items
             → AreBracketsOf text begin self.new.openings.unused.items) }
     {
         self.openings.push(Opening {

@@ -5,7 +5,7 @@ ghost use Rattle.mdpair.specs.Neighbours.{byte_of};
 ghost use Rattle.mdinline.specs.InlineEvents.{Leave, written};
 ghost use Rattle.mdpair.specs.Takings.{IsOrdered, takings};
 ghost use Rattle.mdinline.specs.PairedRuns.{ArePaired, IsPaired, entered, paired_events, piece_of, pieces_of};
-ghost use Rattle.mdinline.specs.Settled.{bracket_text, runs_of, span_by};
+ghost use Rattle.mdinline.specs.Settled.{bracket_text, run_events, runs_of, span_by};
 ghost use Rattle.mdinline.specs.TreeBuilding.{built, span_of};
 
 use crate::faults::InlineFault;
@@ -156,6 +156,8 @@ fn kind_of(delimiter: DelimiterChar, width: usize) -> SpanKind
 /// Ends the spans that end at a run, appends what is left of it, and begins those that begin there.
 fn add_run(alloc: Global, builder: &mut TreeBuilder, run: PairedRun) -> Result<(), InlineFault>
     ensures events { run.ends ≤ length builder.old.frames.items → OnOk result (built builder.new ≡ built builder.old ++ paired_events run) }
+    ensures value { run.ends ≤ length builder.old.frames.items → OnOk result ((n : ℕ) (ts : List Taking) (r : DelimiterRun) → IsPaired n ts r run
+        → built builder.new ≡ built builder.old ++ run_events n ts r) }
     ensures frames { run.ends ≤ length builder.old.frames.items
         → OnOk result (length builder.new.frames.items + run.ends ≡ length builder.old.frames.items + length run.begins.items) }
 {

@@ -15,9 +15,9 @@ close-requires-clause-after g c =
 pub returns-in_ok-open-in-Link-clause-brackets : goal.returns-in_ok-open-in-Link-clause-brackets
 returns-in_ok-open-in-Link-clause-brackets g c =
     let later = c.requires.bracket.later in
-    c.in_ok-open-in-Link.ensures c.args.text.now c.args.at c.requires.bracket.whole (omega (arith, later)) c.requires.brackets
+    c.in_ok-open-in-Link.ensures.brackets c.args.text.now c.args.at c.requires.bracket.whole (omega (arith, later)) c.requires.brackets
 
 pub returns-in_ok-open-in-Image-clause-brackets : goal.returns-in_ok-open-in-Image-clause-brackets
 returns-in_ok-open-in-Image-clause-brackets g c =
     let later = c.requires.bracket.later in
-    c.in_ok-open-in-Image.ensures c.args.text.now c.args.at c.requires.bracket.whole (omega (arith, later)) c.requires.brackets
+    c.in_ok-open-in-Image.ensures.brackets c.args.text.now c.args.at c.requires.bracket.whole (omega (arith, later)) c.requires.brackets
