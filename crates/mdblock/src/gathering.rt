@@ -3,7 +3,7 @@
 ghost use Rattle.std.specs.Prelude.{◌≡◌, ◌<◌, ◌≤◌, [], ◌∷◌, ◌++◌, IfOk, OnOk, length, string_bytes};
 ghost use Rattle.mdleaf.specs.LeadingDefinitions.{leading_of};
 ghost use Rattle.mdleaf.specs.ParagraphText.{behind_definitions};
-ghost use Rattle.mdblock.specs.HandedIn.{definitions_of};
+ghost use Rattle.mdblock.specs.HandedIn.{gathered_definitions};
 ghost use Rattle.mdblock.specs.Positions.{CellsIn};
 
 use mdleaf::{Definition, leading_definitions};
@@ -70,7 +70,7 @@ impl<'e> Gathering<'e> {
         ensures texts { self.new.texts ≡ self.old.texts }
         ensures entities { self.new.entities.now ≡ self.old.entities.now }
         ensures left { OnOk result (string_bytes text.new ≡ behind_definitions (string_bytes text.old)) }
-        ensures found { OnOk result (definitions_of self.new ≡ definitions_of self.old ++ leading_of self.old.entities.now (string_bytes text.old)) }
+        ensures found { OnOk result (gathered_definitions self.new ≡ gathered_definitions self.old ++ leading_of self.old.entities.now (string_bytes text.old)) }
     {
         let mut leading = leading_definitions(self.alloc, text.as_str(), self.entities)?;
         self.definitions.append(&mut leading.definitions)?;
