@@ -1,6 +1,7 @@
 //! What the leaves of a unit hand in as they close.
 
-ghost use Rattle.std.specs.Prelude.{◌≡◌, ◌<◌, ◌≤◌, [], ◌∷◌, ◌++◌, IfOk, OnOk, length, string_bytes};
+ghost use Rattle.std.specs.Prelude.{◌≡◌, ◌-◌, ◌<◌, ◌≤◌, [], ◌∷◌, ◌++◌, IfOk, OnOk, length, string_bytes};
+ghost use Rattle.std.specs.List.{range_with_len};
 ghost use Rattle.mdleaf.specs.LeadingDefinitions.{leading_of};
 ghost use Rattle.mdleaf.specs.ParagraphText.{behind_definitions};
 ghost use Rattle.mdblock.specs.HandedIn.{gathered_definitions};
@@ -54,15 +55,17 @@ impl<'e> Gathering<'e> {
     }
 
     /// Takes the cells of a row in, and answers their positions.
-    pub(crate) fn row(&mut self, cells: Vec<String>) -> Result<Vec<usize>, AllocError>
+    pub(crate) fn row(&mut self, mut cells: Vec<String>) -> Result<Vec<usize>, AllocError>
         ensures within { IfOk result (λ positions. CellsIn (length self.new.texts.items) positions.items) }
         ensures grows { length self.old.texts.items ≤ length self.new.texts.items }
+        ensures positions { IfOk result (λ positions. positions.items ≡ range_with_len (length self.old.texts.items) (length cells.items)) }
+        ensures texts { OnOk result (self.new.texts.items ≡ self.old.texts.items ++ cells.items) }
+        ensures definitions { self.new.definitions ≡ self.old.definitions }
+        ensures entities { self.new.entities.now ≡ self.old.entities.now }
     {
-        let mut positions = Vec::with_capacity(self.alloc, cells.len())?;
-        for cell in cells {
-            positions.push(self.text(cell)?)?;
-        }
-        Ok(positions)
+        let start = self.texts.len();
+        self.texts.append(&mut cells)?;
+        positions(self.alloc, start, self.texts.len())
     }
 
     /// Takes the definitions at the front of a paragraph's text in, and leaves the text behind them.
@@ -83,4 +86,17 @@ impl<'e> Gathering<'e> {
     {
         (self.definitions, self.texts)
     }
+}
+
+/// The positions from one on and before another.
+fn positions(alloc: Global, start: usize, end: usize) -> Result<Vec<usize>, AllocError>
+    requires { start ≤ end }
+    ensures within { IfOk result (λ positions. CellsIn end positions.items) }
+    ensures all { IfOk result (λ positions. positions.items ≡ range_with_len start (end - start)) }
+{
+    let mut positions = Vec::with_capacity(alloc, end - start)?;
+    for position in start..end {
+        positions.push(position)?;
+    }
+    Ok(positions)
 }
