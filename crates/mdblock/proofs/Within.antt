@@ -18,14 +18,6 @@ pub cells_grow : (n m : ℕ) (cells : List ℕ) → n ≤ m → CellsIn n cells 
 cells_grow n m [] le h = h
 cells_grow n m (c ∷ cs) le h = let here : c < n = h.0 in (omega arith, cells_grow n m cs le h.1)
 
-pub cells_push : (n : ℕ) (cells : List ℕ) (c : ℕ) → CellsIn n cells → c < n → CellsIn n (cells ++ c ∷ [])
-cells_push n [] c h below = (below, h)
-cells_push n (x ∷ xs) c h below = (h.0, cells_push n xs c h.1 below)
-
--- one cell more, after which there are at least as many texts
-pub cells_next : (n m : ℕ) (cells : List ℕ) (c : ℕ) → CellsIn n cells → n ≤ m → c < m → CellsIn m (cells ++ c ∷ [])
-cells_next n m cells c h le below = cells_push m cells c (cells_grow n m cells le h) below
-
 pub rows_grow : (n m : ℕ) (rows : List (List ℕ)) → n ≤ m → AllByRecursion (CellsIn n) rows → AllByRecursion (CellsIn m) rows
 rows_grow n m [] le h = h
 rows_grow n m (r ∷ rs) le h = (cells_grow n m r le h.0, rows_grow n m rs le h.1)

@@ -10,11 +10,11 @@ use Rattle.mdblock.specs.TaskItem.{task_paragraph}
 use Rattle.mdblock.specs.declared.blocks.Block.{Block}
 use Rattle.mdblock.specs.declared.gathering.Gathering.{Gathering}
 
-abbrev pub texts_of : Gathering → List (List ℕ)
-texts_of g = map string_bytes g.texts.items
+abbrev pub gathered_texts : Gathering → List (List ℕ)
+gathered_texts g = map string_bytes g.texts.items
 
-abbrev pub definitions_of : Gathering → List LinkDefinition
-definitions_of g = map definition_of g.definitions.items
+abbrev pub gathered_definitions : Gathering → List LinkDefinition
+gathered_definitions g = map definition_of g.definitions.items
 
 -- a paragraph that may be the first block of an item, where its task marker is taken off
 abbrev pub taken : (first : Bool) → (text : List ℕ) → Leaf

@@ -1,10 +1,10 @@
 //! What the leaves of a unit hand in as they close.
 
-ghost use Rattle.std.specs.Prelude.{◌≡◌, ◌<◌, ◌≤◌, ◌++◌, [], ◌∷◌, IfOk, OnOk, length, string_bytes};
+ghost use Rattle.std.specs.Prelude.{◌≡◌, ◌-◌, ◌<◌, ◌≤◌, [], ◌∷◌, ◌++◌, IfOk, OnOk, length, string_bytes};
 ghost use Rattle.std.specs.List.{range_with_len};
 ghost use Rattle.mdleaf.specs.LeadingDefinitions.{leading_of};
 ghost use Rattle.mdleaf.specs.ParagraphText.{behind_definitions};
-ghost use Rattle.mdblock.specs.HandedIn.{definitions_of};
+ghost use Rattle.mdblock.specs.HandedIn.{gathered_definitions};
 ghost use Rattle.mdblock.specs.Positions.{CellsIn};
 
 use mdleaf::{Definition, leading_definitions};
@@ -59,19 +59,17 @@ impl<'e> Gathering<'e> {
     }
 
     /// Takes the cells of a row in, and answers their positions.
-    pub(crate) fn row(&mut self, cells: Vec<String>) -> Result<Vec<usize>, AllocError>
-        ensures at { IfOk result (λ positions. positions.items ≡ range_with_len (length self.old.texts.items) (length cells.items)) }
-        ensures texts { IfOk result (λ _. self.new.texts.items ≡ self.old.texts.items ++ cells.items) }
-        ensures definitions { self.new.definitions ≡ self.old.definitions }
-        ensures entities { self.new.entities.now ≡ self.old.entities.now }
+    pub(crate) fn row(&mut self, mut cells: Vec<String>) -> Result<Vec<usize>, AllocError>
         ensures within { IfOk result (λ positions. CellsIn (length self.new.texts.items) positions.items) }
         ensures grows { length self.old.texts.items ≤ length self.new.texts.items }
+        ensures positions { IfOk result (λ positions. positions.items ≡ range_with_len (length self.old.texts.items) (length cells.items)) }
+        ensures texts { OnOk result (self.new.texts.items ≡ self.old.texts.items ++ cells.items) }
+        ensures definitions { self.new.definitions ≡ self.old.definitions }
+        ensures entities { self.new.entities.now ≡ self.old.entities.now }
     {
-        let mut positions = Vec::with_capacity(self.alloc, cells.len())?;
-        for cell in cells {
-            positions.push(self.text(cell)?)?;
-        }
-        Ok(positions)
+        let start = self.texts.len();
+        self.texts.append(&mut cells)?;
+        positions(self.alloc, start, self.texts.len())
     }
 
     /// Takes the definitions at the front of a paragraph's text in, and leaves the text behind them.
@@ -79,7 +77,7 @@ impl<'e> Gathering<'e> {
         ensures texts { self.new.texts ≡ self.old.texts }
         ensures entities { self.new.entities.now ≡ self.old.entities.now }
         ensures left { OnOk result (string_bytes text.new ≡ behind_definitions (string_bytes text.old)) }
-        ensures found { OnOk result (definitions_of self.new ≡ definitions_of self.old ++ leading_of self.old.entities.now (string_bytes text.old)) }
+        ensures found { OnOk result (gathered_definitions self.new ≡ gathered_definitions self.old ++ leading_of self.old.entities.now (string_bytes text.old)) }
     {
         let mut leading = leading_definitions(self.alloc, text.as_str(), self.entities)?;
         self.definitions.append(&mut leading.definitions)?;
@@ -93,4 +91,17 @@ impl<'e> Gathering<'e> {
     {
         (self.definitions, self.texts)
     }
+}
+
+/// The positions from one on and before another.
+fn positions(alloc: Global, start: usize, end: usize) -> Result<Vec<usize>, AllocError>
+    requires { start ≤ end }
+    ensures within { IfOk result (λ positions. CellsIn end positions.items) }
+    ensures all { IfOk result (λ positions. positions.items ≡ range_with_len start (end - start)) }
+{
+    let mut positions = Vec::with_capacity(alloc, end - start)?;
+    for position in start..end {
+        positions.push(position)?;
+    }
+    Ok(positions)
 }

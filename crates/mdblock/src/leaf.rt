@@ -5,7 +5,7 @@ ghost use Rattle.mdtext.specs.EntityTable.{EntityTable};
 ghost use Rattle.mdblock.specs.BlockLine.{BlockLine, rest};
 ghost use Rattle.mdblock.specs.BlockStart.{Kind};
 ghost use Rattle.mdblock.specs.BlockView.{block_view};
-ghost use Rattle.mdblock.specs.HandedIn.{texts_of, definitions_of};
+ghost use Rattle.mdblock.specs.HandedIn.{gathered_texts, gathered_definitions};
 ghost use Rattle.mdblock.specs.Laziness.{Tip};
 ghost use Rattle.mdblock.specs.LeafEnds.{IsEndOf, end_definitions};
 ghost use Rattle.mdblock.specs.OpenLeaves.{IsBegun, begun_texts, IsLeafOf, IsLeft, IsOver};
@@ -121,8 +121,8 @@ impl Leaf {
         requires { LeafIn (length gathering.old.texts.items) self }
         ensures within { IfOk result (λ found. IfSome found (λ block. BlockIn (length gathering.new.texts.items) (block_view block))) }
         ensures grows { length gathering.old.texts.items ≤ length gathering.new.texts.items }
-        ensures left { (kind : Kind) (begin : BlockLine) (later : List BlockLine) → IsLeafOf gathering.old.entities.now self kind begin later → IfOk result (IsEndOf gathering.old.entities.now first kind begin later (texts_of gathering.old) (texts_of gathering.new)) }
-        ensures found { (kind : Kind) (begin : BlockLine) (later : List BlockLine) → IsLeafOf gathering.old.entities.now self kind begin later → OnOk result (definitions_of gathering.new ≡ definitions_of gathering.old ++ end_definitions gathering.old.entities.now kind begin later) }
+        ensures left { (kind : Kind) (begin : BlockLine) (later : List BlockLine) → IsLeafOf gathering.old.entities.now self kind begin later → IfOk result (IsEndOf gathering.old.entities.now first kind begin later (gathered_texts gathering.old) (gathered_texts gathering.new)) }
+        ensures found { (kind : Kind) (begin : BlockLine) (later : List BlockLine) → IsLeafOf gathering.old.entities.now self kind begin later → OnOk result (gathered_definitions gathering.new ≡ gathered_definitions gathering.old ++ end_definitions gathering.old.entities.now kind begin later) }
     {
         match self {
             Leaf::Paragraph(paragraph) => paragraph.end(first, gathering),

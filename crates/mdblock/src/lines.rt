@@ -170,7 +170,7 @@ fn trailing_blanks(text: &[u8]) -> usize
         .count()
 }
 
-fn is_space_or_tab(byte: u8) -> bool
+pub(crate) fn is_space_or_tab(byte: u8) -> bool
     ensures { result ≡ is_space_or_tab byte }
 {
     byte == b' ' || byte == b'\t'

@@ -2,14 +2,14 @@
 
 ghost use Rattle.std.specs.Prelude.{◌≡◌, IfSome, drop, false, [], List};
 ghost use Rattle.std.specs.Option.{option_map};
-ghost use Rattle.mdscan.specs.Blanks.{is_blank, is_blank_text};
+ghost use Rattle.mdscan.specs.Blanks.{is_blank_text};
 ghost use Rattle.mdblock.specs.BlockLine.{BlockLine, rest, behind_marker};
 ghost use Rattle.mdblock.specs.BlockStart.{is_free, is_inside, begins_html, begins_item, may_begin_item, start};
 ghost use Rattle.mdblock.specs.OpeningKind.{mode_view, kind_of_opening};
 ghost use Rattle.mdblock.specs.Openings.{IsOpeningOf};
 ghost use Rattle.mdblock.specs.StartParts.{start_before_underline, start_after_underline, start_alone_near, start_alone};
 
-use crate::lines::Line;
+use crate::lines::{Line, is_space_or_tab};
 use mdscan::{
     AtxLine, FenceLine, Marker, atx, fence, html_start, list_marker, quote_marker, thematic,
 };
@@ -158,11 +158,5 @@ fn may_begin_item(line: &Line, mode: Mode, marker: Marker) -> bool
 fn is_blank_from(text: &[u8], at: usize) -> bool
     ensures { result ≡ is_blank_text (drop at text.now) }
 {
-    text.iter().skip(at).all(|byte| is_blank(*byte))
-}
-
-fn is_blank(byte: u8) -> bool
-    ensures { result ≡ is_blank byte }
-{
-    byte == b' ' || byte == b'\t'
+    text.iter().skip(at).all(|byte| is_space_or_tab(*byte))
 }

@@ -3,7 +3,7 @@
 ghost use Rattle.std.specs.Prelude.{◌≡◌, ◌≤◌, [], ◌∷◌, ◌++◌, IfOk, OnOk, length, string_bytes};
 ghost use Rattle.mdscan.specs.Spans.{IsSpanOf, part};
 ghost use Rattle.mdblock.specs.BlockTree.{heading as heading_block};
-ghost use Rattle.mdblock.specs.HandedIn.{texts_of};
+ghost use Rattle.mdblock.specs.HandedIn.{gathered_texts};
 ghost use Rattle.mdblock.specs.OpenLeaves.{IsOver};
 ghost use Rattle.mdblock.specs.OpenPositions.{StepIn};
 
@@ -23,7 +23,7 @@ pub(crate) fn atx_heading(
     ensures within { IfOk result (λ step. StepIn (length gathering.new.texts.items) step) }
     ensures grows { length gathering.old.texts.items ≤ length gathering.new.texts.items }
     ensures step { IfOk result (λ step. IsOver (heading_block heading.level (length gathering.old.texts.items)) step) }
-    ensures texts { OnOk result (texts_of gathering.new ≡ texts_of gathering.old ++ part line.now heading.content ∷ []) }
+    ensures texts { OnOk result (gathered_texts gathering.new ≡ gathered_texts gathering.old ++ part line.now heading.content ∷ []) }
 {
     let content = &line[heading.content.start..heading.content.end];
     let text = gathering.text(String::from_str(gathering.alloc(), content)?)?;
@@ -42,7 +42,7 @@ pub(crate) fn setext_heading(
     ensures within { IfOk result (λ step. StepIn (length gathering.new.texts.items) step) }
     ensures grows { length gathering.old.texts.items ≤ length gathering.new.texts.items }
     ensures step { IfOk result (λ step. IsOver (heading_block level (length gathering.old.texts.items)) step) }
-    ensures texts { OnOk result (texts_of gathering.new ≡ texts_of gathering.old ++ string_bytes text ∷ []) }
+    ensures texts { OnOk result (gathered_texts gathering.new ≡ gathered_texts gathering.old ++ string_bytes text ∷ []) }
     ensures definitions { gathering.new.definitions ≡ gathering.old.definitions }
 {
     let text = gathering.text(text)?;

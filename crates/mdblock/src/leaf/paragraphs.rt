@@ -10,14 +10,14 @@ ghost use Rattle.mdblock.specs.BlockLine.{BlockLine, rest, is_blank_line};
 ghost use Rattle.mdblock.specs.BlockStart.{Paragraph as ParagraphKind, Inside, SetextHeading, begins_underline, last_text, start, start_near};
 ghost use Rattle.mdblock.specs.BlockTree.{heading as heading_block};
 ghost use Rattle.mdblock.specs.BlockView.{block_view};
-ghost use Rattle.mdblock.specs.HandedIn.{definitions_of, texts_of, taken, left_behind, IsHandedIn};
+ghost use Rattle.mdblock.specs.HandedIn.{gathered_definitions, gathered_texts, taken, left_behind, IsHandedIn};
 ghost use Rattle.mdblock.specs.NodeTree.{paragraph_leaf};
 ghost use Rattle.mdblock.specs.Positions.{BlockIn};
 ghost use Rattle.mdblock.specs.OpenLeaves.{IsGoing, IsOver, IsParagraphLeaf};
 ghost use Rattle.mdblock.specs.OpenPositions.{StepIn};
 ghost use Rattle.mdblock.specs.ParagraphLines.{HoldsLines};
 ghost use Rattle.mdblock.specs.ParagraphTurns.{turn_step, begins_row};
-ghost use Rattle.mdblock.specs.Stretches.{Takes, paragraph_step, interrupted};
+ghost use Rattle.mdblock.specs.Stretches.{Takes, Ends, paragraph_step, interrupted};
 ghost use Rattle.mdblock.specs.UnitBegin.{is_stop};
 
 use crate::blocks::Block;
@@ -157,8 +157,8 @@ impl Paragraph {
         ensures within { IfOk result (λ step. StepIn (length gathering.new.texts.items) step) }
         ensures grows { length gathering.old.texts.items ≤ length gathering.new.texts.items }
         ensures step { IfOk result (λ step. IsOver (heading_block level (length gathering.old.texts.items)) step) }
-        ensures texts { OnOk result (texts_of gathering.new ≡ texts_of gathering.old ++ behind_definitions (without_end_blanks self.text) ∷ []) }
-        ensures found { OnOk result (definitions_of gathering.new ≡ definitions_of gathering.old ++ leading_of gathering.old.entities.now (without_end_blanks self.text)) }
+        ensures texts { OnOk result (gathered_texts gathering.new ≡ gathered_texts gathering.old ++ behind_definitions (without_end_blanks self.text) ∷ []) }
+        ensures found { OnOk result (gathered_definitions gathering.new ≡ gathered_definitions gathering.old ++ leading_of gathering.old.entities.now (without_end_blanks self.text)) }
     {
         let text = content(self.text, gathering)?;
         setext_heading(level, text, gathering)
@@ -174,6 +174,9 @@ impl Paragraph {
         ensures within { IfOk result (λ step. StepIn (length gathering.new.texts.items) step) }
         ensures grows { length gathering.old.texts.items ≤ length gathering.new.texts.items }
         ensures goes { (begin : BlockLine) (later : List BlockLine) → HoldsLines (begin ∷ later) self → paragraph_step line.now.lazy (is_blank_line line.now) (start Inside (begin ∷ later) line.now) ≡ Takes ParagraphKind → IfOk result (λ step. IsGoing (IsParagraphLeaf (begin ∷ later ++ line.now ∷ [])) step) }
+        ensures goes_texts { (lines : List BlockLine) → HoldsLines lines self → paragraph_step line.now.lazy (is_blank_line line.now) (start Inside lines line.now) ≡ Takes ParagraphKind → OnOk result ((gathered_texts gathering.new ≡ gathered_texts gathering.old) × (gathered_definitions gathering.new ≡ gathered_definitions gathering.old)) }
+        ensures underlined { (lines : List BlockLine) (level : ℕ) → HoldsLines lines self → paragraph_step line.now.lazy (is_blank_line line.now) (start Inside lines line.now) ≡ Ends (SetextHeading level) → IfOk result (λ step. IsOver (heading_block level (length gathering.old.texts.items)) step) }
+        ensures underlined_texts { (lines : List BlockLine) (level : ℕ) → HoldsLines lines self → paragraph_step line.now.lazy (is_blank_line line.now) (start Inside lines line.now) ≡ Ends (SetextHeading level) → OnOk result ((gathered_texts gathering.new ≡ gathered_texts gathering.old ++ behind_definitions (without_end_blanks self.text) ∷ []) × (gathered_definitions gathering.new ≡ gathered_definitions gathering.old ++ leading_of gathering.old.entities.now (without_end_blanks self.text))) }
     {
         match self.turn(line) {
             Turn::Underlines(level) => self.turn_into_heading(level, gathering),
@@ -226,8 +229,8 @@ impl Paragraph {
     ) -> Result<Option<Block>, AllocError>
         ensures within { IfOk result (λ found. IfSome found (λ block. BlockIn (length gathering.new.texts.items) (block_view block))) }
         ensures grows { length gathering.old.texts.items ≤ length gathering.new.texts.items }
-        ensures left { IfOk result (λ found. IsHandedIn (left_behind first (behind_definitions (without_end_blanks self.text))) (texts_of gathering.old) (texts_of gathering.new) found) }
-        ensures found { OnOk result (definitions_of gathering.new ≡ definitions_of gathering.old ++ leading_of gathering.old.entities.now (without_end_blanks self.text)) }
+        ensures left { IfOk result (λ found. IsHandedIn (left_behind first (behind_definitions (without_end_blanks self.text))) (gathered_texts gathering.old) (gathered_texts gathering.new) found) }
+        ensures found { OnOk result (gathered_definitions gathering.new ≡ gathered_definitions gathering.old ++ leading_of gathering.old.entities.now (without_end_blanks self.text)) }
     {
         let mut text = content(self.text, gathering)?;
         if text.is_empty() {
@@ -250,7 +253,7 @@ fn may_delimit(text: &str) -> bool
 fn content(mut text: String, gathering: &mut Gathering) -> Result<String, AllocError>
     ensures texts { gathering.new.texts ≡ gathering.old.texts }
     ensures left { IfOk result (λ rest. string_bytes rest ≡ behind_definitions (without_end_blanks (string_bytes text))) }
-    ensures found { OnOk result (definitions_of gathering.new ≡ definitions_of gathering.old ++ leading_of gathering.old.entities.now (without_end_blanks (string_bytes text))) }
+    ensures found { OnOk result (gathered_definitions gathering.new ≡ gathered_definitions gathering.old ++ leading_of gathering.old.entities.now (without_end_blanks (string_bytes text))) }
 {
     let length = trimmed_length(text.as_str());
     text.truncate(length);

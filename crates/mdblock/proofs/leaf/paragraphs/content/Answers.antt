@@ -1,7 +1,7 @@
 use Rattle.std.proofs.Common.{◌++◌, ap, ◌∙◌}
 use Rattle.mdleaf.specs.LeadingDefinitions.{leading_of}
 use Rattle.mdleaf.specs.ParagraphText.{behind_definitions}
-use Rattle.mdblock.specs.HandedIn.{definitions_of}
+use Rattle.mdblock.specs.HandedIn.{gathered_definitions}
 use Rattle.mdblock.proofs.ParagraphLaws.{cut_is}
 use Rattle.mdblock.proofs.leaf.paragraphs.content.Goals as goal
 
@@ -13,4 +13,4 @@ returns-clause-left c =
 pub returns-clause-found : goal.returns-clause-found
 returns-clause-found c =
     let cut = cut_is c.as_str.result.now _ _ c.trimmed_length-length.result c.trimmed_length-length.ensures.value c.truncate.ensures.bytes c.as_str.ensures.value in
-    c.in_ok-definitions.ensures.found ∙ ap (λ t. definitions_of c.args.gathering.now ++ leading_of c.args.gathering.now.entities.now t) cut
+    c.in_ok-definitions.ensures.found ∙ ap (λ t. gathered_definitions c.args.gathering.now ++ leading_of c.args.gathering.now.entities.now t) cut
