@@ -19,5 +19,6 @@ pub mod StartKinds
 pub mod SummaryLaws
 pub mod UnitLaws
 pub mod UnitReaderLaws
+pub mod Views
 pub mod VisibleLaws
 pub mod Within

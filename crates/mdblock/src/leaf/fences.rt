@@ -1,7 +1,8 @@
 //! Fenced code (CommonMark 4.5).
 
-ghost use Rattle.std.specs.Prelude.{ℕ, IfOk};
+ghost use Rattle.std.specs.Prelude.{◌≡◌, ℕ, IfOk, string_bytes};
 ghost use Rattle.mdscan.specs.Spans.{IsSpanOf};
+ghost use Rattle.mdblock.specs.BlockTree.{code_block};
 ghost use Rattle.mdblock.specs.BlockView.{block_view};
 ghost use Rattle.mdblock.specs.OpenPositions.{StepIn};
 ghost use Rattle.mdblock.specs.Positions.{BlockIn};
@@ -60,7 +61,8 @@ impl Fence {
 
     /// What the code is at its end.
     pub(crate) fn end(self) -> Block
-        ensures { (n : ℕ) → BlockIn n (block_view result) }
+        ensures value { block_view result ≡ code_block (string_bytes self.lang) (string_bytes self.body) }
+        ensures within { (n : ℕ) → BlockIn n (block_view result) }
     {
         Block::Code {
             lang: self.lang,

@@ -1,6 +1,7 @@
 //! HTML blocks (CommonMark 4.6).
 
-ghost use Rattle.std.specs.Prelude.{ℕ, IfOk};
+ghost use Rattle.std.specs.Prelude.{◌≡◌, ℕ, IfOk, string_bytes};
+ghost use Rattle.mdblock.specs.BlockTree.{html_block};
 ghost use Rattle.mdblock.specs.BlockView.{block_view};
 ghost use Rattle.mdblock.specs.OpenPositions.{StepIn};
 ghost use Rattle.mdblock.specs.Positions.{BlockIn};
@@ -55,7 +56,8 @@ impl HtmlBlock {
 
     /// What the block is at its end.
     pub(crate) fn end(self) -> Block
-        ensures { (n : ℕ) → BlockIn n (block_view result) }
+        ensures value { block_view result ≡ html_block (string_bytes self.body) }
+        ensures within { (n : ℕ) → BlockIn n (block_view result) }
     {
         Block::Html(self.body)
     }

@@ -1,6 +1,7 @@
 //! Indented code (CommonMark 4.4).
 
-ghost use Rattle.std.specs.Prelude.{ℕ, IfOk};
+ghost use Rattle.std.specs.Prelude.{◌≡◌, ℕ, [], IfOk, string_bytes};
+ghost use Rattle.mdblock.specs.BlockTree.{code_block};
 ghost use Rattle.mdblock.specs.BlockView.{block_view};
 ghost use Rattle.mdblock.specs.OpenPositions.{StepIn};
 ghost use Rattle.mdblock.specs.Positions.{BlockIn};
@@ -51,7 +52,8 @@ impl IndentedCode {
 
     /// What the code is at its end: blank lines there are no part of it.
     pub(crate) fn end(self, alloc: Global) -> Block
-        ensures { (n : ℕ) → BlockIn n (block_view result) }
+        ensures value { block_view result ≡ code_block [] (string_bytes self.body) }
+        ensures within { (n : ℕ) → BlockIn n (block_view result) }
     {
         Block::Code {
             lang: String::new(alloc),
