@@ -1,4 +1,5 @@
 pub mod BeginLaws
+pub mod ClosingLaws
 pub mod CutLaws
 pub mod DepthLaws
 pub mod DocumentLaws
