@@ -1,9 +1,12 @@
 -- What is over, and the list that goes on, are what the lines give.
 use Rattle.std.proofs.Common.{◌≡◌, ℕ, Bool, true, false, ◌&&◌, List, [], ◌∷◌, refl, sym, ◌∙◌, ap}
-use Rattle.mdblock.specs.BlockTree.{ListKind}
-use Rattle.mdblock.specs.HeldNodes.{ListSoFar, list_behind, list_where, list_at, list_of}
-use Rattle.mdblock.specs.ListGroups.{Part, Leaves, Quoted, Listed, Group, is_same_list, items_before, joined_where, joined, merged, leaves_before, part_before, nodes_of}
-use Rattle.mdblock.specs.NodeTree.{Leaf, Nodes, no_nodes, quote_node, list_node, ItemNodes}
+use Rattle.mdtext.specs.EntityTable.{EntityTable}
+use Rattle.mdblock.specs.BlockTree.{ListKind, no_blocks}
+use Rattle.mdblock.specs.HeldNodes.{ListSoFar, list_behind, list_where, list_at, list_of, handed_groups, handed_nodes, tasked}
+use Rattle.mdblock.specs.LineSummary.{no_summary, closed}
+use Rattle.mdblock.specs.ListGroups.{Part, Leaves, Quoted, Listed, Group, is_same_list, items_before, joined_where, joined, merged, is_tight_inside, leaves_before, part_before, nodes_of}
+use Rattle.mdblock.specs.NodeTree.{Leaf, Nodes, no_nodes, quote_node, list_node, ItemNodes, texts_in, definitions_in, placed}
+use Rattle.mdblock.specs.TaskItem.{with_task}
 use Rattle.mdblock.specs.TreesBehind.{nodes_before}
 use Rattle.mdblock.proofs.PlacedNodes.{nodes-assoc, part-behind}
 
@@ -79,3 +82,22 @@ merged-quote (g ∷ n ∷ gs) b gap inner =
     ∙ part-behind g.part (nodes_before (nodes_of (n ∷ gs)) (quote_node inner no_nodes))
     ∙ nodes-assoc (part_before g.part no_nodes) (nodes_of (n ∷ gs)) (quote_node inner no_nodes)
     ∙ ap (λ z. nodes_before z (quote_node inner no_nodes)) (sym (part-behind g.part (nodes_of (n ∷ gs))))
+
+-- ---- no lines
+
+pub none-over : (at : ℕ) (in_item : Bool) → placed at (tasked in_item (nodes_of [])) ≡ no_blocks
+unfolding nodes_of placed with_task
+none-over at true = refl
+none-over at false = refl
+
+pub none-spaced : (entities : EntityTable) → is_tight_inside (closed entities no_summary) ≡ true
+unfolding closed
+none-spaced entities = refl
+
+pub none-texts : (entities : EntityTable) → texts_in (handed_nodes entities false no_summary) ≡ []
+unfolding handed_groups nodes_of texts_in
+none-texts entities = refl
+
+pub none-definitions : (entities : EntityTable) → definitions_in (handed_nodes entities false no_summary) ≡ []
+unfolding handed_groups nodes_of definitions_in
+none-definitions entities = refl

@@ -1,5 +1,6 @@
 pub mod BeginLaws
 pub mod CellRanges
+pub mod ClosingLaws
 pub mod CutLaws
 pub mod DepthLaws
 pub mod DocumentLaws
@@ -28,5 +29,6 @@ pub mod StartLaws
 pub mod SummaryLaws
 pub mod UnitLaws
 pub mod UnitReaderLaws
+pub mod Views
 pub mod VisibleLaws
 pub mod Within

@@ -3,6 +3,7 @@ pub mod BlockStart
 pub mod BlockTree
 pub mod BlockUnits
 pub mod BlockView
+pub mod ClosedViews
 pub mod ContainerLines
 pub mod FirstDefinitions
 pub mod HandedIn

@@ -3,10 +3,17 @@
 ghost use Rattle.std.specs.Prelude.{◌≡◌, ◌+◌, ◌≤◌, ℕ, List, IfOk, IfSome, OnOk, length};
 ghost use Rattle.mdtext.specs.Columns.{AreMarks};
 ghost use Rattle.mdblock.specs.BlockLine.{rest};
+ghost use Rattle.mdblock.specs.BlockTree.{block_quote, no_blocks};
+ghost use Rattle.mdblock.specs.BlockTree as tree;
 ghost use Rattle.mdblock.specs.BlockView.{block_view, blocks_view, items_view};
+ghost use Rattle.mdblock.specs.ClosedViews.{found_view, list_view, list_view_with};
+ghost use Rattle.mdblock.specs.HeldLevel.{StandsFor};
+ghost use Rattle.mdblock.specs.LineSummary.{no_summary};
+ghost use Rattle.mdtext.specs.EntityTable.{EntityTable};
 ghost use Rattle.mdblock.specs.OpenPositions.{LevelIn, StepIn, IsPlaceOf};
 ghost use Rattle.mdblock.specs.Openings.{IsOpeningOf};
 ghost use Rattle.mdblock.specs.Positions.{BlockIn, BlocksIn, ItemsIn};
+ghost use Rattle.mdblock.specs.TreesBehind.{blocks_before};
 
 use crate::blocks::Block;
 use crate::container::lists::{self, OpenList};
@@ -64,7 +71,8 @@ pub(crate) enum Place {
 impl Level {
     /// No blocks yet.
     pub(crate) fn new(alloc: Global, in_item: bool) -> Level
-        ensures { (n : ℕ) → LevelIn n result }
+        ensures empty { (entities : EntityTable) (at : ℕ) → StandsFor entities at in_item result no_summary }
+        ensures within { (n : ℕ) → LevelIn n result }
     {
         Level {
             over: Vec::new(alloc),
@@ -453,7 +461,8 @@ fn deeper(room: usize) -> Result<usize, BlockFault>
 }
 
 fn push_block(over: &mut Vec<Block>, block: Block) -> Result<(), AllocError>
-    ensures { OnOk result ((n : ℕ) → BlocksIn n (blocks_view over.old.items) → BlockIn n (block_view block) → BlocksIn n (blocks_view over.new.items)) }
+    ensures pushed { OnOk result (blocks_view over.new.items ≡ blocks_before (blocks_view over.old.items) (tree.block (block_view block) no_blocks)) }
+    ensures within { OnOk result ((n : ℕ) → BlocksIn n (blocks_view over.old.items) → BlockIn n (block_view block) → BlocksIn n (blocks_view over.new.items)) }
 {
     make_room(over)?;
     over.push(block)?;
@@ -471,7 +480,8 @@ fn make_room(over: &mut Vec<Block>) -> Result<(), AllocError>
 }
 
 fn push_found(over: &mut Vec<Block>, found: Option<Block>) -> Result<(), AllocError>
-    ensures { OnOk result ((n : ℕ) → BlocksIn n (blocks_view over.old.items) → IfSome found (λ block. BlockIn n (block_view block)) → BlocksIn n (blocks_view over.new.items)) }
+    ensures pushed { OnOk result (blocks_view over.new.items ≡ blocks_before (blocks_view over.old.items) (found_view found)) }
+    ensures within { OnOk result ((n : ℕ) → BlocksIn n (blocks_view over.old.items) → IfSome found (λ block. BlockIn n (block_view block)) → BlocksIn n (blocks_view over.new.items)) }
 {
     match found {
         Some(block) => push_block(over, block),
@@ -480,21 +490,24 @@ fn push_found(over: &mut Vec<Block>, found: Option<Block>) -> Result<(), AllocEr
 }
 
 fn with_found(mut over: Vec<Block>, found: Option<Block>) -> Result<Vec<Block>, AllocError>
-    ensures { IfOk result (λ blocks. (n : ℕ) → BlocksIn n (blocks_view over.items) → IfSome found (λ block. BlockIn n (block_view block)) → BlocksIn n (blocks_view blocks.items)) }
+    ensures pushed { IfOk result (λ blocks. blocks_view blocks.items ≡ blocks_before (blocks_view over.items) (found_view found)) }
+    ensures within { IfOk result (λ blocks. (n : ℕ) → BlocksIn n (blocks_view over.items) → IfSome found (λ block. BlockIn n (block_view block)) → BlocksIn n (blocks_view blocks.items)) }
 {
     push_found(&mut over, found)?;
     Ok(over)
 }
 
 fn with_quote(mut over: Vec<Block>, blocks: Vec<Block>) -> Result<Vec<Block>, AllocError>
-    ensures { IfOk result (λ all. (n : ℕ) → BlocksIn n (blocks_view over.items) → BlocksIn n (blocks_view blocks.items) → BlocksIn n (blocks_view all.items)) }
+    ensures pushed { IfOk result (λ all. blocks_view all.items ≡ blocks_before (blocks_view over.items) (tree.block (block_quote (blocks_view blocks.items)) no_blocks)) }
+    ensures within { IfOk result (λ all. (n : ℕ) → BlocksIn n (blocks_view over.items) → BlocksIn n (blocks_view blocks.items) → BlocksIn n (blocks_view all.items)) }
 {
     push_block(&mut over, Block::Quote(blocks))?;
     Ok(over)
 }
 
 fn with_list(mut over: Vec<Block>, list: OpenList) -> Result<Vec<Block>, AllocError>
-    ensures { IfOk result (λ all. (n : ℕ) → BlocksIn n (blocks_view over.items) → ItemsIn n (items_view list.items.items) → BlocksIn n (blocks_view all.items)) }
+    ensures pushed { IfOk result (λ all. blocks_view all.items ≡ blocks_before (blocks_view over.items) (tree.block (list_view list) no_blocks)) }
+    ensures within { IfOk result (λ all. (n : ℕ) → BlocksIn n (blocks_view over.items) → ItemsIn n (items_view list.items.items) → BlocksIn n (blocks_view all.items)) }
 {
     push_block(&mut over, list.end())?;
     Ok(over)
@@ -506,7 +519,8 @@ fn with_item(
     blocks: Vec<Block>,
     gap: bool,
 ) -> Result<Vec<Block>, AllocError>
-    ensures { IfOk result (λ all. (n : ℕ) → BlocksIn n (blocks_view over.items) → ItemsIn n (items_view list.items.items) → BlocksIn n (blocks_view blocks.items) → BlocksIn n (blocks_view all.items)) }
+    ensures pushed { IfOk result (λ all. blocks_view all.items ≡ blocks_before (blocks_view over.items) (tree.block (list_view_with list blocks.items gap) no_blocks)) }
+    ensures within { IfOk result (λ all. (n : ℕ) → BlocksIn n (blocks_view over.items) → ItemsIn n (items_view list.items.items) → BlocksIn n (blocks_view blocks.items) → BlocksIn n (blocks_view all.items)) }
 {
     list.push(blocks, gap)?;
     Ok(with_list(over, list)?)

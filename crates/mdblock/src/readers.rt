@@ -3,6 +3,8 @@
 ghost use Rattle.std.specs.Prelude.{◌≡◌, ◌+◌, ◌*◌, ◌^◌, ◌<◌, ◌≤◌, false, true, None, Some, IfOk, OnOk, OnErr, IsErrOf, length};
 ghost use Rattle.mdtext.specs.Counted.{counted};
 ghost use Rattle.mdblock.specs.declared.faults.BlockFault.TheVariants.{Failed};
+ghost use Rattle.mdblock.specs.HeldLevel.{HoldsLines};
+ghost use Rattle.mdblock.specs.LineSummary.{no_summary};
 ghost use Rattle.mdblock.specs.Reading.{AreKept};
 
 use crate::faults::BlockFault;
@@ -114,6 +116,7 @@ impl<'e> Reader<'e> {
 
 impl<'e> Held<'e> {
     fn new(alloc: Global, entities: &'e Entities, begin: Option<usize>) -> Held<'e>
+        ensures empty { HoldsLines result no_summary }
         ensures kept { AreKept result }
         ensures begin { result.begin ≡ begin }
     {

@@ -1,12 +1,13 @@
 //! Lists and their items (CommonMark 5.2, 5.3).
 
-ghost use Rattle.std.specs.Prelude.{◌≡◌, ℕ, ◌+◌, ◌^◌, ◌<◌, ◌&&◌, ◌||◌, nat_le, is_some, true, Some, IfSome, OnOk};
+ghost use Rattle.std.specs.Prelude.{◌≡◌, ℕ, ◌+◌, ◌^◌, ◌<◌, ◌&&◌, ◌||◌, nat_le, is_some, true, false, Some, IfSome, OnOk};
 ghost use Rattle.mdtext.specs.Columns.{AreMarks};
 ghost use Rattle.mdblock.specs.BlockLine.{rest, indentation, without_columns};
 ghost use Rattle.mdblock.specs.BlockStart.{Item as ItemWith, Holds, padding, item_of, begun};
 ghost use Rattle.mdblock.specs.BlockView.{kind_view, block_view, blocks_view, items_view};
 ghost use Rattle.mdblock.specs.ContainerLines.{opened};
 ghost use Rattle.mdblock.specs.ListGroups.{kind_of, is_same_list};
+ghost use Rattle.mdblock.specs.ClosedViews.{list_view, list_view_with};
 ghost use Rattle.mdblock.specs.Positions.{BlockIn, BlocksIn, ItemsIn};
 ghost use Rattle.mdblock.specs.UnitBegin.{list_mark, same_mark};
 
@@ -92,7 +93,9 @@ impl OpenList {
 
     /// Ends the open item, which holds these blocks; a gap between two of them makes the list loose.
     pub(crate) fn push(&mut self, blocks: Vec<Block>, gap: bool) -> Result<(), AllocError>
-        ensures { OnOk result ((n : ℕ) → ItemsIn n (items_view self.old.items.items) → BlocksIn n (blocks_view blocks.items) → ItemsIn n (items_view self.new.items.items)) }
+        ensures pushed { OnOk result (list_view self.new ≡ list_view_with self.old blocks.items gap) }
+        ensures ended { OnOk result (self.new.item_open ≡ false) }
+        ensures within { OnOk result ((n : ℕ) → ItemsIn n (items_view self.old.items.items) → BlocksIn n (blocks_view blocks.items) → ItemsIn n (items_view self.new.items.items)) }
     {
         self.items.push(Item { blocks })?;
         self.loose = self.loose || gap;
@@ -102,7 +105,8 @@ impl OpenList {
 
     /// What the list is at its end.
     pub(crate) fn end(self) -> Block
-        ensures { (n : ℕ) → ItemsIn n (items_view self.items.items) → BlockIn n (block_view result) }
+        ensures value { block_view result ≡ list_view self }
+        ensures within { (n : ℕ) → ItemsIn n (items_view self.items.items) → BlockIn n (block_view result) }
     {
         Block::List {
             kind: self.kind,

@@ -1,6 +1,7 @@
 //! Tables (GFM 4.10).
 
-ghost use Rattle.std.specs.Prelude.{◌≡◌, ◌≤◌, ℕ, IfOk, IfSome, OnOk, length};
+ghost use Rattle.std.specs.Prelude.{◌≡◌, ◌≤◌, ℕ, IfOk, IfSome, OnOk, length, map};
+ghost use Rattle.mdblock.specs.BlockTree.{table};
 ghost use Rattle.mdblock.specs.BlockView.{block_view};
 ghost use Rattle.mdblock.specs.OpenPositions.{StepIn, TableIn};
 ghost use Rattle.mdblock.specs.Positions.{BlockIn, CellsIn};
@@ -75,7 +76,8 @@ impl Table {
 
     /// What the table is at its end.
     pub(crate) fn end(self) -> Block
-        ensures { (n : ℕ) → TableIn n self → BlockIn n (block_view result) }
+        ensures value { block_view result ≡ table self.aligns.items self.head.items (map (λ row. row.items) self.rows.items) }
+        ensures within { (n : ℕ) → TableIn n self → BlockIn n (block_view result) }
     {
         Block::Table {
             aligns: self.aligns,
