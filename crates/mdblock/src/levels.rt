@@ -3,17 +3,13 @@
 ghost use Rattle.std.specs.Prelude.{◌≡◌, ◌+◌, ◌≤◌, ℕ, List, IfOk, IfSome, OnOk, length};
 ghost use Rattle.mdtext.specs.Columns.{AreMarks};
 ghost use Rattle.mdblock.specs.BlockLine.{rest};
-ghost use Rattle.mdblock.specs.BlockTree.{block_quote, no_blocks};
-ghost use Rattle.mdblock.specs.BlockTree as tree;
 ghost use Rattle.mdblock.specs.BlockView.{block_view, blocks_view, items_view};
-ghost use Rattle.mdblock.specs.ClosedViews.{found_view, list_view, list_view_with};
 ghost use Rattle.mdblock.specs.HeldLevel.{StandsFor};
 ghost use Rattle.mdblock.specs.LineSummary.{no_summary};
 ghost use Rattle.mdtext.specs.EntityTable.{EntityTable};
 ghost use Rattle.mdblock.specs.OpenPositions.{LevelIn, StepIn, IsPlaceOf};
 ghost use Rattle.mdblock.specs.Openings.{IsOpeningOf};
 ghost use Rattle.mdblock.specs.Positions.{BlockIn, BlocksIn, ItemsIn};
-ghost use Rattle.mdblock.specs.TreesBehind.{blocks_before};
 
 use crate::blocks::Block;
 use crate::container::lists::{self, OpenList};
@@ -22,6 +18,7 @@ use crate::faults::BlockFault;
 use crate::gathering::Gathering;
 use crate::leaf::{Leaf, Step};
 use crate::lines::Line;
+use crate::over::{push_found, with_found, with_item, with_list, with_quote};
 use crate::starts::{Mode, Opening, start};
 use mdscan::Marker;
 use std::alloc::{AllocError, Global};
@@ -458,70 +455,4 @@ fn deeper(room: usize) -> Result<usize, BlockFault>
         return Err(BlockFault::NestedTooDeep);
     }
     Ok(room - 1)
-}
-
-fn push_block(over: &mut Vec<Block>, block: Block) -> Result<(), AllocError>
-    ensures pushed { OnOk result (blocks_view over.new.items ≡ blocks_before (blocks_view over.old.items) (tree.block (block_view block) no_blocks)) }
-    ensures within { OnOk result ((n : ℕ) → BlocksIn n (blocks_view over.old.items) → BlockIn n (block_view block) → BlocksIn n (blocks_view over.new.items)) }
-{
-    make_room(over)?;
-    over.push(block)?;
-    Ok(())
-}
-
-/// Most containers and units hold one block alone, so at first there is room for no more.
-fn make_room(over: &mut Vec<Block>) -> Result<(), AllocError>
-    ensures { over.new.items ≡ over.old.items }
-{
-    if over.is_empty() {
-        over.reserve_exact(1)?;
-    }
-    Ok(())
-}
-
-fn push_found(over: &mut Vec<Block>, found: Option<Block>) -> Result<(), AllocError>
-    ensures pushed { OnOk result (blocks_view over.new.items ≡ blocks_before (blocks_view over.old.items) (found_view found)) }
-    ensures within { OnOk result ((n : ℕ) → BlocksIn n (blocks_view over.old.items) → IfSome found (λ block. BlockIn n (block_view block)) → BlocksIn n (blocks_view over.new.items)) }
-{
-    match found {
-        Some(block) => push_block(over, block),
-        None => Ok(()),
-    }
-}
-
-fn with_found(mut over: Vec<Block>, found: Option<Block>) -> Result<Vec<Block>, AllocError>
-    ensures pushed { IfOk result (λ blocks. blocks_view blocks.items ≡ blocks_before (blocks_view over.items) (found_view found)) }
-    ensures within { IfOk result (λ blocks. (n : ℕ) → BlocksIn n (blocks_view over.items) → IfSome found (λ block. BlockIn n (block_view block)) → BlocksIn n (blocks_view blocks.items)) }
-{
-    push_found(&mut over, found)?;
-    Ok(over)
-}
-
-fn with_quote(mut over: Vec<Block>, blocks: Vec<Block>) -> Result<Vec<Block>, AllocError>
-    ensures pushed { IfOk result (λ all. blocks_view all.items ≡ blocks_before (blocks_view over.items) (tree.block (block_quote (blocks_view blocks.items)) no_blocks)) }
-    ensures within { IfOk result (λ all. (n : ℕ) → BlocksIn n (blocks_view over.items) → BlocksIn n (blocks_view blocks.items) → BlocksIn n (blocks_view all.items)) }
-{
-    push_block(&mut over, Block::Quote(blocks))?;
-    Ok(over)
-}
-
-fn with_list(mut over: Vec<Block>, list: OpenList) -> Result<Vec<Block>, AllocError>
-    ensures pushed { IfOk result (λ all. blocks_view all.items ≡ blocks_before (blocks_view over.items) (tree.block (list_view list) no_blocks)) }
-    ensures within { IfOk result (λ all. (n : ℕ) → BlocksIn n (blocks_view over.items) → ItemsIn n (items_view list.items.items) → BlocksIn n (blocks_view all.items)) }
-{
-    push_block(&mut over, list.end())?;
-    Ok(over)
-}
-
-fn with_item(
-    over: Vec<Block>,
-    mut list: OpenList,
-    blocks: Vec<Block>,
-    gap: bool,
-) -> Result<Vec<Block>, AllocError>
-    ensures pushed { IfOk result (λ all. blocks_view all.items ≡ blocks_before (blocks_view over.items) (tree.block (list_view_with list blocks.items gap) no_blocks)) }
-    ensures within { IfOk result (λ all. (n : ℕ) → BlocksIn n (blocks_view over.items) → ItemsIn n (items_view list.items.items) → BlocksIn n (blocks_view blocks.items) → BlocksIn n (blocks_view all.items)) }
-{
-    list.push(blocks, gap)?;
-    Ok(with_list(over, list)?)
 }

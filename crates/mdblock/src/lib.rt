@@ -9,6 +9,7 @@ mod laws;
 mod leaf;
 mod levels;
 mod lines;
+mod over;
 mod readers;
 mod starts;
 mod units;

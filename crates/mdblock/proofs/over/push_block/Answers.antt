@@ -2,7 +2,7 @@ use Rattle.std.proofs.Common.{ap, ◌∙◌, ◌++◌, ◌∷◌, []}
 use Rattle.mdblock.specs.BlockView.{blocks_view}
 use Rattle.mdblock.proofs.Views.{blocks-push}
 use Rattle.mdblock.proofs.Within.{blocks_push}
-use Rattle.mdblock.proofs.levels.push_block.Goals as goal
+use Rattle.mdblock.proofs.over.push_block.Goals as goal
 
 pub returns-clause-pushed : goal.returns-clause-pushed
 returns-clause-pushed c =
