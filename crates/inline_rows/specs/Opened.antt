@@ -12,7 +12,7 @@ use Rattle.mdtext.specs.References.{reference, meaning, unescaped_from}
 use Rattle.mdscan.specs.AutoLink.{scheme_length, uri_end, mail_marks, domain_label_length, dotted_label_length, mail_end, autolink_at}
 use Rattle.mdscan.specs.Escapes.{run_before}
 use Rattle.mdscan.specs.Gaps.{gap_length}
-use Rattle.mdscan.specs.HtmlTag.{tag_name_length, attribute_name_length, quoted_length, value_length, equals_length, value_part_length, attribute_length, open_end_length, open_tag, closing_tag}
+use Rattle.mdscan.specs.Tag.{tag_name_length, attribute_name_length, quoted_length, value_length, equals_length, value_part_length, attribute_length, open_end_length, open_tag, closing_tag}
 use Rattle.mdscan.specs.InlineTail.{tail_to, titled_tail, tail_inside, inline_tail_at}
 use Rattle.mdscan.specs.LinkDestination.{angle_destination, bare_end, destination_at}
 use Rattle.mdscan.specs.LinkLabel.{label_at}

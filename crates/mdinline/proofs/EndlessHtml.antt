@@ -6,7 +6,7 @@ use Rattle.std.specs.List.{starts_with}
 use Rattle.std.specs.Option.{option_or}
 use Rattle.std.proofs.lemmas.List.{take-append-drop}
 use Rattle.mdscan.proofs.Places.{none_from}
-use Rattle.mdscan.specs.HtmlTag.{open_tag, closing_tag, first_is, tag_name_length}
+use Rattle.mdscan.specs.Tag.{open_tag, closing_tag, first_is, tag_name_length}
 use Rattle.mdscan.specs.RawHtml.{comment, declaration, delimited, place_of, raw_html}
 
 pub front_of : (needle xs : List ℕ) → starts_with nat_eq xs needle ≡ true → xs ≡ needle ++ drop (length needle) xs

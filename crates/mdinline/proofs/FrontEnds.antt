@@ -3,18 +3,18 @@ use Rattle.std.proofs.Common.{◌≡◌, ℕ, zero, suc, ◌+◌, ◌<◌, ◌�
 use Rattle.std.specs.Prelude.{if◌then◌else◌, nat_eq, nat_lt, codes, slice_index}
 use Rattle.std.specs.Option.{option_or}
 use Rattle.std.specs.List.{prefix_len, starts_with}
-use Rattle.std.specs.Char.{is_digit, is_ascii_alphabetic}
+use Rattle.std.specs.Char.{is_digit, is_ascii_alphabetic, is_ascii_alphanumeric}
 use Rattle.std.specs.Cmp.Lexicographic.{same_text}
 use Rattle.std.proofs.lemmas.List.{get_or_past}
 use Rattle.std.proofs.lemmas.Bool.Decides.{nat_tests}
 use Rattle.mdtext.specs.EntityTable.{EntityTable, entity_text}
-use Rattle.mdtext.specs.References.{Meaning, is_letter_or_digit, numeric, named, reference}
+use Rattle.mdtext.specs.References.{Meaning, numeric, named, reference}
 use Rattle.mdscan.specs.declared.autolinks.Auto.{Auto}
 use Rattle.mdscan.specs.AutoLink.{scheme_length, in_uri, in_mail_name, domain_label_length, dotted_label_length, uri_end, mail_end, auto_of, or_auto, autolink_at}
 use Rattle.mdscan.specs.Gaps.{gap_length}
 use Rattle.mdscan.specs.Repeats.{repeats}
 use Rattle.mdscan.specs.Blanks.{begins_with}
-use Rattle.mdscan.specs.HtmlTag.{first_is, tag_name_length, attribute_length, open_end_length, open_tag, closing_tag}
+use Rattle.mdscan.specs.Tag.{first_is, tag_name_length, attribute_length, open_end_length, open_tag, closing_tag}
 use Rattle.mdscan.specs.RawHtml.{place_from, place_of, delimited, comment, declaration, raw_html}
 
 -- a size of what stands at the front of a text
@@ -207,7 +207,7 @@ named_size : (entities : EntityTable) (text : List ℕ) → IfSome (named entiti
 named_size entities text = by (nat_eq (slice_index text name) 59) (byte_below text name 58)
   where
     name : ℕ
-    name = prefix_len is_letter_or_digit text
+    name = prefix_len is_ascii_alphanumeric text
 
     found : (r : Option (List ℕ)) → name < length text → IfSome (option_map (λ t. (name + 2, t)) r) (IsMeaningIn text)
     found None h = tt

@@ -3,7 +3,7 @@ use Rattle.std.proofs.Common.{◌≡◌, ℕ, ◌+◌, ◌≤◌, true, false, i
 use Rattle.std.specs.Char.{is_ascii_alphabetic}
 use Rattle.mdscan.proofs.Places.{none_from}
 use Rattle.mdscan.proofs.Stops.{from_here}
-use Rattle.mdscan.specs.HtmlTag.{first_is}
+use Rattle.mdscan.specs.Tag.{first_is}
 use Rattle.mdscan.specs.RawHtml.{place_of, raw_html}
 use Rattle.mdinline.specs.LongTags.{BeginsTag, FollowsMark, KnowsEnds, close_text}
 use Rattle.mdinline.specs.declared.angles.Angles.{Angles}

@@ -2,7 +2,7 @@
 use Rattle.std.specs.Prelude.{◌≡◌, ◌+◌, ℕ, Bool, true, List, drop, slice_index, nat_eq, codes, None}
 use Rattle.std.specs.Char.{is_ascii_alphabetic}
 use Rattle.std.specs.List.{starts_with}
-use Rattle.mdscan.specs.HtmlTag.{first_is}
+use Rattle.mdscan.specs.Tag.{first_is}
 use Rattle.mdscan.specs.RawHtml.{place_of}
 use Rattle.mdinline.specs.declared.angles.Angles.{Angles}
 use Rattle.mdinline.specs.declared.angles.LongTag.{LongTag}

@@ -4,7 +4,7 @@ ghost use Rattle.std.specs.Prelude.{◌≡◌, ◌+◌, ◌-◌, ◌<◌, ◌++�
 ghost use Rattle.std.specs.Char.{is_ascii_alphabetic};
 ghost use Rattle.std.specs.Str.{IsCharBoundary};
 ghost use Rattle.mdscan.specs.AutoLink.{autolink_at};
-ghost use Rattle.mdscan.specs.HtmlTag.{first_is};
+ghost use Rattle.mdscan.specs.Tag.{first_is};
 ghost use Rattle.mdscan.specs.RawHtml.{place_of, raw_html};
 ghost use Rattle.mdscan.specs.Spans.{IsEndAfter, EndsAfterMark};
 ghost use Rattle.mdinline.specs.AutolinkText.{scheme_before, without_references};

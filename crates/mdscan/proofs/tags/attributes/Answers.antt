@@ -1,8 +1,8 @@
 use Rattle.std.proofs.Common.{◌≡◌, ◌+◌, ℕ, List, arith, subst}
 use Rattle.std.proofs.lemmas.List.{take_rest}
-use Rattle.mdscan.specs.HtmlTag.{attribute_length, attributes_length}
+use Rattle.mdscan.specs.Tag.{attribute_length, attributes_length}
 use Rattle.mdscan.proofs.Sequences.{piece_passed, pieces_end}
-use Rattle.mdscan.proofs.html_tags.attributes.Goals as goal
+use Rattle.mdscan.proofs.tags.attributes.Goals as goal
 
 pub loop-length-preserved : goal.loop-length-preserved
 loop-length-preserved c =

@@ -1,6 +1,6 @@
 use Rattle.std.proofs.Common.{◌≡◌, ◌+◌, ◌-◌, ◌≤◌, length, drop}
-use Rattle.mdscan.specs.HtmlTag.{attribute_length, attributes_length}
-use Rattle.mdscan.proofs.html_tags.attributes.Given as goal
+use Rattle.mdscan.specs.Tag.{attribute_length, attributes_length}
+use Rattle.mdscan.proofs.tags.attributes.Given as goal
 
 -- what is passed and the attributes that are left are all of them, and the next one is known
 abbrev pub invariant-loop-length : goal.invariant-loop-length

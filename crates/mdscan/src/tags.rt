@@ -4,13 +4,13 @@
 ghost use Rattle.std.specs.Prelude.{◌≡◌, ◌<◌, ◌≤◌, ◌==◌, ◌-◌, not, IfSome, length, slice_index};
 ghost use Rattle.std.specs.List.{prefix_len};
 ghost use Rattle.mdscan.specs.Spans.{EndsAfterMark};
-ghost use Rattle.mdscan.specs.HtmlTag.{in_tag_name, in_attribute_name, in_unquoted_value, begins_attribute_name, tag_name_length, attribute_name_length, quoted_length, value_length, equals_length, value_part_length, attribute_length, attributes_length, open_end_length, open_tag, closing_tag};
+ghost use Rattle.mdscan.specs.Tag.{in_tag_name, in_attribute_name, in_unquoted_value, begins_attribute_name, tag_name_length, attribute_name_length, quoted_length, value_length, equals_length, value_part_length, attribute_length, attributes_length, open_end_length, open_tag, closing_tag};
 
 use crate::gaps::gap;
 use crate::runs::begins;
 
 /// The length of the open tag that a text begins with (CommonMark 6.6).
-#[tactic(auto, unfolding(crate::specs::HtmlTag::open_tag))]
+#[tactic(auto, unfolding(crate::specs::Tag::open_tag))]
 pub(crate) fn opening(text: &[u8]) -> Option<usize>
     ensures value { result ≡ open_tag text.now }
     ensures end { IfSome result (λ end. EndsAfterMark text.now 0 end) }
@@ -29,7 +29,7 @@ pub(crate) fn opening(text: &[u8]) -> Option<usize>
 }
 
 /// The length of the closing tag that a text begins with (CommonMark 6.6).
-#[tactic(auto, unfolding(crate::specs::HtmlTag::closing_tag))]
+#[tactic(auto, unfolding(crate::specs::Tag::closing_tag))]
 pub(crate) fn closing(text: &[u8]) -> Option<usize>
     ensures value { result ≡ closing_tag text.now }
     ensures end { IfSome result (λ end. EndsAfterMark text.now 0 end) }
@@ -47,7 +47,7 @@ pub(crate) fn closing(text: &[u8]) -> Option<usize>
 }
 
 /// A tag's name: a letter, and then letters, digits and hyphens.
-#[tactic(auto, unfolding(crate::specs::HtmlTag::tag_name_length))]
+#[tactic(auto, unfolding(crate::specs::Tag::tag_name_length))]
 pub(crate) fn tag_name(text: &[u8]) -> usize
     ensures value { result ≡ tag_name_length text.now }
     ensures within { result ≤ length text.now }
@@ -82,7 +82,7 @@ fn attributes(text: &[u8]) -> usize
 }
 
 /// An attribute: a gap, a name, and perhaps a value.
-#[tactic(auto, unfolding(crate::specs::HtmlTag::attribute_length))]
+#[tactic(auto, unfolding(crate::specs::Tag::attribute_length))]
 fn attribute(text: &[u8]) -> usize
     ensures value { result ≡ attribute_length text.now }
     ensures within { result ≤ length text.now }
@@ -97,7 +97,7 @@ fn attribute(text: &[u8]) -> usize
 }
 
 /// An attribute's name: a letter, `_` or `:`, and then letters, digits, `_`, `.`, `:` and `-`.
-#[tactic(auto, unfolding(crate::specs::HtmlTag::attribute_name_length))]
+#[tactic(auto, unfolding(crate::specs::Tag::attribute_name_length))]
 fn attribute_name(text: &[u8]) -> usize
     ensures value { result ≡ attribute_name_length text.now }
     ensures within { result ≤ length text.now }
@@ -128,7 +128,7 @@ fn name_goes_on(byte: u8) -> bool
 }
 
 /// An attribute's value, with the `=` and the gaps before it.
-#[tactic(auto, unfolding(crate::specs::HtmlTag::value_part_length))]
+#[tactic(auto, unfolding(crate::specs::Tag::value_part_length))]
 fn value_part(text: &[u8]) -> usize
     ensures value { result ≡ value_part_length text.now }
     ensures within { result ≤ length text.now }
@@ -143,7 +143,7 @@ fn value_part(text: &[u8]) -> usize
 }
 
 /// A gap or none, `=`, and a gap or none.
-#[tactic(auto, unfolding(crate::specs::HtmlTag::equals_length))]
+#[tactic(auto, unfolding(crate::specs::Tag::equals_length))]
 fn equals(text: &[u8]) -> usize
     ensures value { result ≡ equals_length text.now }
     ensures within { result ≤ length text.now }
@@ -157,7 +157,7 @@ fn equals(text: &[u8]) -> usize
 }
 
 /// An attribute's value: in one of two quotation marks, or unquoted.
-#[tactic(auto, unfolding(crate::specs::HtmlTag::value_length))]
+#[tactic(auto, unfolding(crate::specs::Tag::value_length))]
 fn value(text: &[u8]) -> usize
     ensures value { result ≡ value_length text.now }
     ensures within { result ≤ length text.now }
@@ -172,7 +172,7 @@ fn value(text: &[u8]) -> usize
 }
 
 /// A quoted value, where the first mark is known to stand there.
-#[tactic(auto, unfolding(crate::specs::HtmlTag::quoted_length))]
+#[tactic(auto, unfolding(crate::specs::Tag::quoted_length))]
 fn quoted(text: &[u8], mark: u8) -> usize
     requires { 0 < length text.now }
     ensures value { result ≡ quoted_length mark text.now }
@@ -211,7 +211,7 @@ fn value_goes_on(byte: u8) -> bool
 }
 
 /// The end of an open tag: a gap or none, `/` or none, and `>`.
-#[tactic(auto, unfolding(crate::specs::HtmlTag::open_end_length))]
+#[tactic(auto, unfolding(crate::specs::Tag::open_end_length))]
 fn open_end(text: &[u8]) -> usize
     ensures value { result ≡ open_end_length text.now }
     ensures within { result ≤ length text.now }
