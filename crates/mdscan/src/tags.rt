@@ -4,7 +4,9 @@
 ghost use Rattle.std.specs.Prelude.{◌≡◌, ◌<◌, ◌≤◌, ◌==◌, ◌-◌, not, IfSome, length, slice_index};
 ghost use Rattle.std.specs.List.{prefix_len};
 ghost use Rattle.mdscan.specs.Spans.{EndsAfterMark};
-ghost use Rattle.mdscan.specs.Tag.{in_tag_name, in_attribute_name, in_unquoted_value, begins_attribute_name, tag_name_length, attribute_name_length, quoted_length, value_length, equals_length, value_part_length, attribute_length, attributes_length, open_end_length, open_tag, closing_tag};
+ghost use Rattle.mdscan.specs.Tag.{in_tag_name, in_attribute_name, in_unquoted_value, begins_attribute_name, tag_name_length, attribute_name_length};
+ghost use Rattle.mdscan.specs.Tag.{quoted_length, value_length, equals_length, value_part_length, attribute_length, attributes_length};
+ghost use Rattle.mdscan.specs.Tag.{open_end_length, open_tag, closing_tag};
 
 use crate::gaps::gap;
 use crate::runs::begins;
