@@ -1,5 +1,7 @@
 pub mod BeginLaws
 pub mod CellRanges
+pub mod CloseLaws
+pub mod CloseLeafLaws
 pub mod ClosingLaws
 pub mod CutLaws
 pub mod DepthLaws
@@ -22,11 +24,13 @@ pub mod ParagraphLaws
 pub mod PlacedNodes
 pub mod Ranges
 pub mod ReaderLaws
+pub mod ReadsLaws
 pub mod RowStarts
 pub mod Skips
 pub mod StartKinds
 pub mod StartLaws
 pub mod SummaryLaws
+pub mod TipLaws
 pub mod UnitLaws
 pub mod UnitReaderLaws
 pub mod Views

@@ -1,17 +1,21 @@
 -- How the blocks that a reader holds stand for the summary of the lines that it read: they name inline texts by position,
 -- and the summary has the texts in place.
-use Rattle.std.specs.Prelude.{◌≡◌, ℕ, ◌+◌, Bool, true, false, not, ◌&&◌, drop, List, [], ◌∷◌, ◌++◌, length, map, string_bytes}
+use Rattle.std.specs.Prelude.{◌≡◌, ℕ, zero, suc, ◌+◌, ◌<◌, Bool, true, false, not, ◌&&◌, drop, List, [], ◌∷◌, ◌++◌, length, map, string_bytes, Option, option_map, ◌-◌}
 use Rattle.std.specs.List.{range_with_len}
 use Rattle.mdtext.specs.EntityTable.{EntityTable}
 use Rattle.mdleaf.specs.CodeLanguage.{code_language}
 use Rattle.mdleaf.specs.LinkDefinition.{LinkDefinition, definition_of}
-use Rattle.mdblock.specs.BlockStart.{Quote, Item}
+use Rattle.mdblock.specs.BlockLine.{BlockLine, is_blank_line}
+use Rattle.mdblock.specs.BlockStart.{Kind, FencedCode, Quote, Item}
+use Rattle.mdblock.specs.Laziness.{Text, is_text}
 use Rattle.mdblock.specs.BlockView.{kind_view, blocks_view, items_view}
 use Rattle.mdblock.specs.HeldNodes.{ListSoFar, list_of, over_nodes, handed_nodes, closed_nodes, tasked}
-use Rattle.mdblock.specs.LineSummary.{Summary, summary, Last, nothing_yet, ended_block, open_leaf, open_container, closed, summary_gap}
+use Rattle.mdblock.specs.LineSummary.{Summary, summary, Last, nothing_yet, ended_block, open_leaf, open_container, closed, summary_gap, summary_tip}
 use Rattle.mdblock.specs.ListGroups.{Part, Leaves, Quoted, Listed, Group, kind_of, items_before, is_tight_inside}
-use Rattle.mdblock.specs.NodeTree.{Nodes, texts_in, texts_in_items, definitions_in, row_positions, placed, placed_items}
-use Rattle.mdblock.specs.OpenLeaf.{OpenLeaf, open_text, open_table, open_fence, open_code, open_html}
+use Rattle.mdblock.specs.NodeTree.{Nodes, texts_in, texts_in_items, definitions_in, row_positions, placed, placed_items, unit_of}
+use Rattle.mdblock.specs.UnitTree.{FoundUnit}
+use Rattle.mdblock.specs.OpenLeaf.{OpenLeaf, open_table, leaf_from}
+use Rattle.mdblock.specs.OpenLeaves.{IsLeafOf}
 use Rattle.mdblock.specs.declared.blocks.Block.{Block}
 use Rattle.mdblock.specs.declared.container.lists.OpenList.{OpenList}
 use Rattle.mdblock.specs.declared.gathering.Gathering.{Gathering}
@@ -29,17 +33,27 @@ abbrev pub behind_line : (above last : List ℕ) → List ℕ
 behind_line [] last = last
 behind_line (b ∷ above) last = b ∷ above ++ 10 ∷ last
 
--- an open leaf, where the next text to be handed in behind what is over has a position
-abbrev pub StandsForLeaf : EntityTable → (at : ℕ) → Leaf → OpenLeaf → Type 0
-StandsForLeaf entities at (leaf.Paragraph p) (open_text text last above) =
-    (p.text ≡ text) × (text ≡ behind_line above last) × (drop p.last text ≡ last)
-StandsForLeaf entities at (leaf.Fence f) (open_fence indentation mark size info body) =
-    (f.indent ≡ indentation) × (f.mark ≡ mark) × (f.length ≡ size) × (string_bytes f.lang ≡ code_language entities info) × (string_bytes f.body ≡ body)
-StandsForLeaf entities at (leaf.Html h) (open_html kind text) = (h.kind ≡ kind) × (string_bytes h.body ≡ text)
-StandsForLeaf entities at (leaf.Code c) (open_code body blanks) = (string_bytes c.body ≡ body) × (string_bytes c.blanks ≡ blanks)
-StandsForLeaf entities at (leaf.Table t) (open_table above aligns head rows) =
+-- a kind whose leaf has not ended by itself
+abbrev pub IsOpenKind : Kind → Type 0
+IsOpenKind (FencedCode indentation mark size info closed) = closed ≡ false
+IsOpenKind kind = Unit {0}
+
+-- A table's cells have been handed in, from a position on.
+abbrev pub CellsStand : (at : ℕ) → Leaf → OpenLeaf → Type 0
+CellsStand at (leaf.Table t) (open_table above aligns head rows) =
     (t.aligns.items ≡ aligns) × (t.head.items ≡ range_with_len at (length head)) × (map (λ row. row.items) t.rows.items ≡ row_positions (at + length head) rows)
-StandsForLeaf entities at held kept = ⊥
+CellsStand at (leaf.Table t) kept = ⊥
+CellsStand at held kept = Unit {0}
+
+-- an open leaf of these lines, where the next text to be handed in behind what is over has a position
+pub record StandsForLeaf (entities : EntityTable) (at : ℕ) (held : Leaf) (kept : OpenLeaf) : Type 0 where
+  pub kind : Kind
+  pub first : BlockLine
+  pub later : List BlockLine
+  pub is_open : IsOpenKind kind
+  pub kept_is : kept ≡ leaf_from kind first later
+  pub held_is : IsLeafOf entities held kind first later
+  pub cells : CellsStand at held kept
 
 -- ---- lists
 
@@ -60,6 +74,22 @@ StandsForList at list before gap (Leaves leaves) = ⊥
 StandsForList at list before gap (Quoted nodes) = ⊥
 
 -- ---- levels
+
+-- whether the next block is the first one of an item
+abbrev pub is_front : (in_item : Bool) → List Block → Bool
+is_front in_item [] = in_item
+is_front in_item (block ∷ over) = false
+
+-- the level inside a list between two items: it holds nothing
+abbrev pub IsShut : Spine → Type 0
+IsShut spine.Shut = Unit {0}
+IsShut (spine.Leaf held) = ⊥
+IsShut (spine.Quote' p over last in_item begun blank spaced) = ⊥
+IsShut (spine.List' p over last in_item begun blank spaced list) = ⊥
+
+abbrev pub IsFresh : List Block → Spine → (in_item begun blank spaced : Bool) → Type 0
+IsFresh over last in_item begun blank spaced =
+    (over ≡ []) × IsShut last × (in_item ≡ true) × (begun ≡ false) × (blank ≡ false) × (spaced ≡ false)
 
 abbrev pub is_list : Part → Bool
 is_list (Listed kind tight items) = true
@@ -87,13 +117,14 @@ StandsForOver entities at is_item over in_item begun blank spaced (summary befor
 
 -- the block that may go on, whose first text has a position
 abbrev pub StandsForLast : EntityTable → (at : ℕ) → Spine → (before : List Group) → Last → Type 0
-StandsForLast entities at spine.Shut before nothing_yet = Unit {0}
+StandsForLast entities at spine.Shut before nothing_yet = before ≡ []
 StandsForLast entities at spine.Shut before (ended_block g) = is_list g.part ≡ false
 StandsForLast entities at (spine.Leaf held) before (open_leaf begin gap kept) = StandsForLeaf entities at held kept
 StandsForLast entities at (spine.Quote' p over last in_item begun blank spaced) before (open_container begin gap bare Quote (summary inner kept blank_last lines)) =
     StandsForOver entities at false over.items in_item begun blank spaced (summary inner kept blank_last lines)
     × StandsForLast entities (behind_over entities at false inner kept) last inner kept
-StandsForLast entities at (spine.List' p over last in_item begun blank spaced list) before (ended_block g) = StandsForList at list before g.gap g.part
+StandsForLast entities at (spine.List' p over last in_item begun blank spaced list) before (ended_block g) =
+    StandsForList (at) list before g.gap g.part × IsFresh over.items last in_item begun blank spaced
 StandsForLast entities at (spine.List' p over last in_item begun blank spaced list) before (open_container begin gap bare (Item marker needed) (summary inner kept blank_last lines)) =
     let items = list_of before (kind_of marker) gap in
     let from = at + length (texts_in_items items.items) in
@@ -107,6 +138,24 @@ abbrev pub StandsFor : EntityTable → (at : ℕ) → (in_item : Bool) → Level
 StandsFor entities at in_item level (summary before last blank lines) =
     StandsForOver entities at in_item level.over.items level.in_item level.begun level.blank level.spaced (summary before last blank lines)
     × StandsForLast entities (behind_over entities at in_item before last) level.last before last
+
+-- ---- premises of a line
+
+-- A lazy line is not blank, and continues the paragraph that is open at the end.
+abbrev pub IsLazyRight : Summary → BlockLine → Type 0
+IsLazyRight s l = l.lazy ≡ true → (is_blank_line l ≡ false) × (summary_tip s ≡ Text)
+
+-- At most so many containers are open inside one another, where a list between its items counts as one.
+abbrev mutual
+  pub Fits : (room : ℕ) → Summary → Type 0
+  Fits room (summary before last blank lines) = FitsLast room last
+
+  pub FitsLast : (room : ℕ) → Last → Type 0
+  FitsLast room nothing_yet = Unit {0}
+  FitsLast room (ended_block g) = is_list g.part ≡ true → 0 < room
+  FitsLast room (open_leaf begin gap kept) = Unit {0}
+  FitsLast zero (open_container begin gap bare container inner) = ⊥
+  FitsLast (suc room) (open_container begin gap bare container inner) = Fits room inner
 
 -- ---- what has been handed in
 
@@ -130,3 +179,15 @@ ClosesAll level old blocks new =
     → StandsFor old.entities.now (length texts) in_item level s
     → HasGathered new texts definitions (closed_nodes old.entities.now in_item s)
     × (blocks_view blocks ≡ placed (length texts) (closed_nodes old.entities.now in_item s))
+
+-- the unit that lines give which begin behind so many and end behind so many
+abbrev pub found_between : EntityTable → Summary → (fed begin : ℕ) → FoundUnit
+found_between entities s fed begin = record { begin = begin; lines = fed - begin; unit = unit_of (closed_nodes entities false s) }
+
+-- What a reader holds gives the unit of its lines, if one has begun.
+abbrev pub GivesUnit : Held → (fed : ℕ) → Option FoundUnit → Type 0
+GivesUnit held fed found = (s : Summary) → HoldsLines held s → found ≡ option_map (found_between held.gathering.entities.now s fed) held.begin
+
+-- whether a paragraph is open at the end
+abbrev pub EndsIn : Level → Bool → Type 0
+EndsIn level result = (entities : EntityTable) (at : ℕ) (in_item : Bool) (s : Summary) → StandsFor entities at in_item level s → result ≡ is_text (summary_tip s)

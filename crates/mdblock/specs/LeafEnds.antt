@@ -1,5 +1,5 @@
 -- What an open leaf hands in where it ends without a line of its own (CommonMark 4.4, 4.5, 4.6, 4.7, 4.8).
-use Rattle.std.specs.Prelude.{ℕ, Bool, List, [], ◌∷◌, map, Option}
+use Rattle.std.specs.Prelude.{◌≡◌, ℕ, Bool, true, false, List, [], ◌∷◌, map, Option}
 use Rattle.mdtext.specs.EntityTable.{EntityTable}
 use Rattle.mdleaf.specs.CodeLanguage.{code_language}
 use Rattle.mdleaf.specs.LeadingDefinitions.{leading_of}
@@ -10,7 +10,11 @@ use Rattle.mdblock.specs.BlockStart.{Kind, Paragraph, FencedCode, IndentedCode, 
 use Rattle.mdblock.specs.HandedIn.{left_behind, IsLeafIn, IsHandedIn}
 use Rattle.mdblock.specs.LeafContents.{code_text, without_end_blank_lines}
 use Rattle.mdblock.specs.NodeTree.{code_leaf, html_leaf}
+use Rattle.mdblock.specs.BlockTree.{table, block, no_blocks}
+use Rattle.mdblock.specs.ClosedViews.{found_view}
 use Rattle.mdblock.specs.declared.blocks.Block.{Block}
+use Rattle.mdblock.specs.declared.leaf.Leaf as held
+use Rattle.mdblock.specs.declared.leaf.Leaf.TheVariants as leaf
 
 -- Its block and its texts; of a table nothing is said here.
 abbrev pub IsEndOf : EntityTable → (at_front : Bool) → Kind → (first : BlockLine) → (later : List BlockLine) → (old new : List (List ℕ)) → Option Block → Type 0
@@ -24,3 +28,19 @@ IsEndOf entities at_front kind first later old new found = Unit {0}
 abbrev pub end_definitions : EntityTable → Kind → (first : BlockLine) → (later : List BlockLine) → List LinkDefinition
 end_definitions entities Paragraph first later = leading_of entities (paragraph_text (map rest (first ∷ later)))
 end_definitions entities kind first later = []
+
+-- of a table: its rows as they are held, since its texts have been handed in
+abbrev pub IsTableEnd : held.Leaf → (old new : List (List ℕ)) → (known all : List LinkDefinition) → Option Block → Type 0
+IsTableEnd (leaf.Table t) old new known all found =
+    (found_view found ≡ block (table t.aligns.items t.head.items (map (λ row. row.items) t.rows.items)) no_blocks) × (new ≡ old) × (all ≡ known)
+IsTableEnd (leaf.Paragraph p) old new known all found = Unit {0}
+IsTableEnd (leaf.Fence f) old new known all found = Unit {0}
+IsTableEnd (leaf.Html h) old new known all found = Unit {0}
+IsTableEnd (leaf.Code c) old new known all found = Unit {0}
+
+abbrev pub is_paragraph : held.Leaf → Bool
+is_paragraph (leaf.Paragraph p) = true
+is_paragraph (leaf.Fence f) = false
+is_paragraph (leaf.Html h) = false
+is_paragraph (leaf.Code c) = false
+is_paragraph (leaf.Table t) = false

@@ -28,6 +28,7 @@ pub mod ParagraphLines
 pub mod ParagraphTurns
 pub mod Positions
 pub mod Reading
+pub mod Reads
 pub mod StartParts
 pub mod StoredBlocks
 pub mod Stretches

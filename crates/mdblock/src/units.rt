@@ -87,6 +87,7 @@ impl Found {
         texts: Vec<String>,
     ) -> Found
         requires { BlocksIn (length texts.items) (blocks_view blocks.items) }
+        ensures { result ≡ record { begin = begin; lines = lines; unit = record { blocks = blocks_view blocks.items; definitions = map definition_of definitions.items; texts = map string_bytes texts.items } } }
     {
         Found {
             begin,

@@ -37,6 +37,7 @@ impl Table {
     pub(crate) fn new(header: Header, gathering: &mut Gathering) -> Result<Table, AllocError>
         ensures within { IfOk result (λ table. TableIn (length gathering.new.texts.items) table) }
         ensures grows { length gathering.old.texts.items ≤ length gathering.new.texts.items }
+        ensures entities { gathering.new.entities.now ≡ gathering.old.entities.now }
     {
         Ok(Table {
             aligns: header.aligns,
@@ -50,6 +51,7 @@ impl Table {
         requires { TableIn (length gathering.old.texts.items) self }
         ensures within { IfOk result (λ step. StepIn (length gathering.new.texts.items) step) }
         ensures grows { length gathering.old.texts.items ≤ length gathering.new.texts.items }
+        ensures entities { gathering.new.entities.now ≡ gathering.old.entities.now }
     {
         let cells = data_row(gathering.alloc(), line.text(), self.aligns.len())?;
         let row = gathering.row(cells)?;
