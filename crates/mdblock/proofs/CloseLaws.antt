@@ -2,17 +2,17 @@
 use Rattle.std.proofs.Common.{Box, Global, Result, Ok, Err, IfOk, ◌≡◌, ℕ, ◌+◌, Bool, true, false, not, ◌&&◌, ◌||◌, List, [], ◌∷◌, ◌++◌, length, length-append, refl, sym, ◌∙◌, ap, subst}
 use Rattle.mdtext.specs.EntityTable.{EntityTable}
 use Rattle.mdleaf.specs.LinkDefinition.{LinkDefinition}
-use Rattle.mdblock.specs.BlockStart.{Quote, Item}
-use Rattle.mdblock.specs.BlockTree.{block_quote, no_blocks, no_items}
-use Rattle.mdblock.specs.BlockTree as tree
+use Rattle.blockspec.specs.BlockStart.{Quote, Item}
+use Rattle.blockspec.specs.BlockTree.{block_quote, no_blocks, no_items}
+use Rattle.blockspec.specs.BlockTree as tree
 use Rattle.mdblock.specs.BlockView.{blocks_view, items_view}
-use Rattle.mdblock.specs.ClosedViews.{list_view, list_view_with}
-use Rattle.mdblock.specs.HeldLevel.{is_list, behind_over, StandsFor, StandsForLast, StandsForOver, StandsForList, HasGathered, ClosesAll}
-use Rattle.mdblock.specs.HeldNodes.{list_of, over_behind, over_nodes, handed_nodes, handed_groups, handed_last, closed_nodes, tasked}
-use Rattle.mdblock.specs.LineSummary.{Summary, summary, Last, nothing_yet, ended_block, open_leaf, open_container, closed, last_groups}
-use Rattle.mdblock.specs.ListGroups.{Part, Leaves, Quoted, Listed, Group, kind_of, items_before, is_tight_inside, merged, nodes_of}
-use Rattle.mdblock.specs.NodeTree.{Nodes, no_nodes, quote_node, list_node, no_item_nodes, item_node, texts_in, texts_in_items, definitions_in, definitions_in_items, placed, placed_items}
-use Rattle.mdblock.specs.TreesBehind.{nodes_before, blocks_before, placed_before}
+use Rattle.mdblock.specs.held.ClosedViews.{list_view, list_view_with}
+use Rattle.mdblock.specs.held.HeldLevel.{is_list, behind_over, StandsFor, StandsForLast, StandsForOver, StandsForList, HasGathered, ClosesAll}
+use Rattle.mdblock.specs.held.HeldNodes.{list_of, over_behind, over_nodes, handed_nodes, handed_groups, handed_last, closed_nodes, tasked}
+use Rattle.blockspec.specs.LineSummary.{Summary, summary, Last, nothing_yet, ended_block, open_leaf, open_container, closed, last_groups}
+use Rattle.blockspec.specs.ListGroups.{Part, Leaves, Quoted, Listed, Group, kind_of, items_before, is_tight_inside, merged, nodes_of}
+use Rattle.blockspec.specs.NodeTree.{Nodes, no_nodes, quote_node, list_node, no_item_nodes, item_node, texts_in, texts_in_items, definitions_in, definitions_in_items, placed, placed_items}
+use Rattle.mdblock.specs.held.TreesBehind.{nodes_before, blocks_before, placed_before}
 use Rattle.mdblock.specs.declared.blocks.Block.{Block}
 use Rattle.mdblock.specs.declared.container.lists.OpenList.{OpenList}
 use Rattle.mdblock.specs.declared.gathering.Gathering.{Gathering}

@@ -3,23 +3,23 @@ use Rattle.std.proofs.Common.{◌≡◌, ℕ, ◌+◌, Bool, true, false, List, 
 use Rattle.std.specs.Option.{MatchOption}
 use Rattle.mdscan.specs.TaskMarker.{task_marker}
 use Rattle.mdleaf.specs.LinkDefinition.{LinkDefinition}
-use Rattle.mdblock.specs.BlockTree.{Blocks, no_blocks, block}
-use Rattle.mdblock.specs.BlockTree as tree
+use Rattle.blockspec.specs.BlockTree.{Blocks, no_blocks, block}
+use Rattle.blockspec.specs.BlockTree as tree
 use Rattle.std.specs.List.{range_with_len}
 use Rattle.mdscan.specs.declared.delimiter_rows.Align.{Align}
 use Rattle.mdblock.specs.declared.leaf.tables.Table.{Table}
 use Rattle.mdblock.specs.BlockView.{blocks_view, block_view}
-use Rattle.mdblock.specs.ClosedViews.{found_view}
-use Rattle.mdblock.specs.HandedIn.{taken, left_behind, IsLeafIn, IsHandedIn, gathered_texts, gathered_definitions}
-use Rattle.mdblock.specs.HeldLevel.{is_front, behind_over, IsOpenKind, CellsStand, StandsForLeaf, StandsForLast, HasGathered, ClosesAll}
-use Rattle.mdblock.specs.HeldNodes.{over_leaves, over_nodes, handed_leaves, handed_groups, handed_last, handed_nodes, closed_nodes, tasked}
-use Rattle.mdblock.specs.LeafContents.{code_text, without_end_blank_lines}
-use Rattle.mdblock.specs.LeafEnds.{IsEndOf, IsTableEnd, end_definitions}
-use Rattle.mdblock.specs.LineSummary.{summary, Last, nothing_yet, ended_block, open_leaf, open_container, closed, last_groups}
-use Rattle.mdblock.specs.OpenLeaf.{OpenLeaf, open_table, leaf_from, open_leaves}
-use Rattle.mdblock.specs.OpenLeaves.{IsLeafOf}
-use Rattle.mdblock.specs.BlockLine.{BlockLine, rest}
-use Rattle.mdblock.specs.BlockStart.{Kind, Paragraph, FencedCode, IndentedCode, HtmlBlock}
+use Rattle.mdblock.specs.held.ClosedViews.{found_view}
+use Rattle.mdblock.specs.held.HandedIn.{taken, left_behind, IsLeafIn, IsHandedIn, gathered_texts, gathered_definitions}
+use Rattle.mdblock.specs.held.HeldLevel.{is_front, behind_over, IsOpenKind, CellsStand, StandsForLeaf, StandsForLast, HasGathered, ClosesAll}
+use Rattle.mdblock.specs.held.HeldNodes.{over_leaves, over_nodes, handed_leaves, handed_groups, handed_last, handed_nodes, closed_nodes, tasked}
+use Rattle.blockspec.specs.LeafContents.{code_text, without_end_blank_lines}
+use Rattle.mdblock.specs.held.LeafEnds.{IsEndOf, IsTableEnd, end_definitions}
+use Rattle.blockspec.specs.LineSummary.{summary, Last, nothing_yet, ended_block, open_leaf, open_container, closed, last_groups}
+use Rattle.blockspec.specs.OpenLeaf.{OpenLeaf, open_table, leaf_from, open_leaves}
+use Rattle.mdblock.specs.held.OpenLeaves.{IsLeafOf}
+use Rattle.blockspec.specs.BlockLine.{BlockLine, rest}
+use Rattle.blockspec.specs.BlockStart.{Kind, Paragraph, FencedCode, IndentedCode, HtmlBlock}
 use Rattle.mdtext.specs.EntityTable.{EntityTable}
 use Rattle.mdleaf.specs.CodeLanguage.{code_language}
 use Rattle.mdleaf.specs.LeadingDefinitions.{leading_of}
@@ -31,11 +31,11 @@ use Rattle.mdblock.specs.declared.leaf.Leaf as held
 use Rattle.mdblock.specs.declared.leaf.Leaf.TheVariants as leaf
 use Rattle.mdblock.proofs.ClosingLaws.{rest_leaves, closed-leaf}
 use Rattle.mdblock.proofs.HeldNodesLaws.{merged-leaves}
-use Rattle.mdblock.specs.ListGroups.{leaves_before, nodes_of}
-use Rattle.mdblock.specs.NodeTree.{Leaf, definition_leaf, paragraph_leaf, heading_leaf, break_leaf, code_leaf, html_leaf, table_leaf, Nodes, no_nodes, leaf_node, quote_node, list_node, texts_in, definitions_in, leaf_block, leaf_texts, leaf_definitions, row_positions, placed}
-use Rattle.mdblock.specs.ParagraphEnd.{paragraph_if_any}
-use Rattle.mdblock.specs.TaskItem.{with_task, task_paragraph}
-use Rattle.mdblock.specs.TreesBehind.{nodes_before, blocks_before, has_block}
+use Rattle.blockspec.specs.ListGroups.{leaves_before, nodes_of}
+use Rattle.blockspec.specs.NodeTree.{Leaf, definition_leaf, paragraph_leaf, heading_leaf, break_leaf, code_leaf, html_leaf, table_leaf, Nodes, no_nodes, leaf_node, quote_node, list_node, texts_in, definitions_in, leaf_block, leaf_texts, leaf_definitions, row_positions, placed}
+use Rattle.blockspec.specs.ParagraphEnd.{paragraph_if_any}
+use Rattle.blockspec.specs.TaskItem.{with_task, task_paragraph}
+use Rattle.mdblock.specs.held.TreesBehind.{nodes_before, blocks_before, has_block}
 use Rattle.mdblock.specs.declared.blocks.Block as b
 use Rattle.mdblock.proofs.PlacedNodes.{task-behind-block, task-behind-definitions, task-has-block, placed-none, texts-before, definitions-before, placed-before}
 

@@ -1,15 +1,15 @@
 -- A reader and the lines that it has read.
 use Rattle.std.proofs.Common.{◌≡◌, ℕ, List, [], Option, Some, None, refl, sym, ◌∙◌, subst}
 use Rattle.mdtext.specs.EntityTable.{EntityTable}
-use Rattle.mdblock.specs.BlockUnits.{groups_within, found_units}
-use Rattle.mdblock.specs.Stretches.{cut_from, all_of}
-use Rattle.mdblock.specs.ListGroups.{grouped}
-use Rattle.mdblock.specs.LineSummary.{no_summary}
-use Rattle.mdblock.specs.UnitReader.{lines_held}
-use Rattle.mdblock.specs.Reading.{HeldUnit, Reading, held_begin}
-use Rattle.mdblock.specs.Reads.{Reads, HoldsUnit, StandsForHeld, open_begin}
-use Rattle.mdblock.proofs.ReaderLaws.{summary-none}
-use Rattle.mdblock.proofs.LimitLaws.{none-deep}
+use Rattle.blockspec.specs.BlockUnits.{groups_within, found_units}
+use Rattle.blockspec.specs.Stretches.{cut_from, all_of}
+use Rattle.blockspec.specs.ListGroups.{grouped}
+use Rattle.blockspec.specs.LineSummary.{no_summary}
+use Rattle.blockspec.specs.UnitReader.{lines_held}
+use Rattle.mdblock.specs.held.Reading.{HeldUnit, Reading, held_begin}
+use Rattle.mdblock.specs.held.Reads.{Reads, HoldsUnit, StandsForHeld, open_begin}
+use Rattle.blocklaws.proofs.ReaderLaws.{summary-none}
+use Rattle.blocklaws.proofs.LimitLaws.{none-deep}
 
 begin-none : (e : EntityTable) → None ≡ open_begin e []
 unfolding groups_within found_units cut_from all_of grouped

@@ -1,15 +1,15 @@
 -- Whether a paragraph is open at the end of a level.
 use Rattle.std.proofs.Common.{Box, Global, ◌≡◌, ℕ, Bool, true, false, List, refl, sym, ◌∙◌, ap, subst}
 use Rattle.mdtext.specs.EntityTable.{EntityTable}
-use Rattle.mdblock.specs.BlockLine.{BlockLine}
-use Rattle.mdblock.specs.BlockStart.{Kind, Paragraph, FencedCode, IndentedCode, HtmlBlock, Quote, Item}
-use Rattle.mdblock.specs.HeldLevel.{EndsIn, StandsForLast, StandsForList, StandsForLeaf, CellsStand, behind_over}
-use Rattle.mdblock.specs.Laziness.{is_text}
-use Rattle.mdblock.specs.LeafEnds.{is_paragraph}
-use Rattle.mdblock.specs.LineSummary.{summary, summary_tip, last_tip, Last, nothing_yet, ended_block, open_leaf, open_container}
-use Rattle.mdblock.specs.ListGroups.{Part, Leaves, Quoted, Listed, Group}
-use Rattle.mdblock.specs.OpenLeaf.{OpenLeaf, open_table, open_tip, leaf_from}
-use Rattle.mdblock.specs.OpenLeaves.{IsLeafOf}
+use Rattle.blockspec.specs.BlockLine.{BlockLine}
+use Rattle.blockspec.specs.BlockStart.{Kind, Paragraph, FencedCode, IndentedCode, HtmlBlock, Quote, Item}
+use Rattle.mdblock.specs.held.HeldLevel.{EndsIn, StandsForLast, StandsForList, StandsForLeaf, CellsStand, behind_over}
+use Rattle.blockspec.specs.Laziness.{is_text}
+use Rattle.mdblock.specs.held.LeafEnds.{is_paragraph}
+use Rattle.blockspec.specs.LineSummary.{summary, summary_tip, last_tip, Last, nothing_yet, ended_block, open_leaf, open_container}
+use Rattle.blockspec.specs.ListGroups.{Part, Leaves, Quoted, Listed, Group}
+use Rattle.blockspec.specs.OpenLeaf.{OpenLeaf, open_table, open_tip, leaf_from}
+use Rattle.mdblock.specs.held.OpenLeaves.{IsLeafOf}
 use Rattle.mdblock.specs.declared.container.lists.OpenList.{OpenList}
 use Rattle.mdblock.specs.declared.leaf.Leaf as held
 use Rattle.mdblock.specs.declared.leaf.Leaf.TheVariants as leaf

@@ -2,19 +2,19 @@
 
 ghost use Rattle.std.specs.Prelude.{◌≡◌, ◌≤◌, ℕ, List, [], ◌∷◌, ◌++◌, IfOk, IfSome, OnOk, None, Some, length, map, not, string_bytes};
 ghost use Rattle.mdtext.specs.EntityTable.{EntityTable};
-ghost use Rattle.mdblock.specs.BlockLine.{BlockLine, rest};
-ghost use Rattle.mdblock.specs.BlockStart.{Kind};
+ghost use Rattle.blockspec.specs.BlockLine.{BlockLine, rest};
+ghost use Rattle.blockspec.specs.BlockStart.{Kind};
 ghost use Rattle.mdblock.specs.BlockView.{block_view};
-ghost use Rattle.mdblock.specs.HandedIn.{gathered_texts, gathered_definitions};
-ghost use Rattle.mdblock.specs.Laziness.{Tip};
-ghost use Rattle.mdblock.specs.LeafEnds.{IsEndOf, IsTableEnd, is_paragraph, end_definitions};
-ghost use Rattle.mdblock.specs.OpenLeaves.{IsBegun, begun_texts, IsLeafOf, IsLeft, IsOver};
-ghost use Rattle.mdblock.specs.OpeningKind.{opened_kind};
+ghost use Rattle.mdblock.specs.held.HandedIn.{gathered_texts, gathered_definitions};
+ghost use Rattle.blockspec.specs.Laziness.{Tip};
+ghost use Rattle.mdblock.specs.held.LeafEnds.{IsEndOf, IsTableEnd, is_paragraph, end_definitions};
+ghost use Rattle.mdblock.specs.held.OpenLeaves.{IsBegun, begun_texts, IsLeafOf, IsLeft, IsOver};
+ghost use Rattle.mdblock.specs.held.OpeningKind.{opened_kind};
 ghost use Rattle.mdblock.specs.Positions.{BlockIn};
-ghost use Rattle.mdblock.specs.Stretches.{step};
-ghost use Rattle.mdblock.specs.UnitBegin.{is_stop};
-ghost use Rattle.mdblock.specs.OpenPositions.{LeafIn, StepIn};
-ghost use Rattle.mdblock.specs.Openings.{IsOpeningOf};
+ghost use Rattle.blockspec.specs.Stretches.{step};
+ghost use Rattle.blockspec.specs.UnitBegin.{is_stop};
+ghost use Rattle.mdblock.specs.held.OpenPositions.{LeafIn, StepIn};
+ghost use Rattle.mdblock.specs.held.Openings.{IsOpeningOf};
 
 pub(crate) mod fences;
 pub(crate) mod headings;

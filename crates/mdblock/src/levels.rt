@@ -2,13 +2,13 @@
 
 ghost use Rattle.std.specs.Prelude.{◌≡◌, ◌+◌, ◌≤◌, ℕ, List, IfOk, IfSome, OnOk, length};
 ghost use Rattle.mdtext.specs.Columns.{AreMarks};
-ghost use Rattle.mdblock.specs.BlockLine.{rest};
+ghost use Rattle.blockspec.specs.BlockLine.{rest};
 ghost use Rattle.mdblock.specs.BlockView.{block_view, blocks_view, items_view};
-ghost use Rattle.mdblock.specs.HeldLevel.{StandsFor, ClosesAll, EndsIn, is_front};
-ghost use Rattle.mdblock.specs.LineSummary.{no_summary};
+ghost use Rattle.mdblock.specs.held.HeldLevel.{StandsFor, ClosesAll, EndsIn, is_front};
+ghost use Rattle.blockspec.specs.LineSummary.{no_summary};
 ghost use Rattle.mdtext.specs.EntityTable.{EntityTable};
-ghost use Rattle.mdblock.specs.OpenPositions.{LevelIn, StepIn, IsPlaceOf};
-ghost use Rattle.mdblock.specs.Openings.{IsOpeningOf};
+ghost use Rattle.mdblock.specs.held.OpenPositions.{LevelIn, StepIn, IsPlaceOf};
+ghost use Rattle.mdblock.specs.held.Openings.{IsOpeningOf};
 ghost use Rattle.mdblock.specs.Positions.{BlockIn, BlocksIn, ItemsIn};
 
 use crate::blocks::Block;

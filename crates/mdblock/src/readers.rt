@@ -3,10 +3,10 @@
 ghost use Rattle.std.specs.Prelude.{List, [], ℕ, ◌≡◌, ◌+◌, ◌*◌, ◌^◌, ◌<◌, ◌≤◌, false, true, None, Some, IfOk, OnOk, OnErr, IsErrOf, is_some, length};
 ghost use Rattle.mdtext.specs.Counted.{counted};
 ghost use Rattle.mdblock.specs.declared.faults.BlockFault.TheVariants.{Failed};
-ghost use Rattle.mdblock.specs.HeldLevel.{HoldsLines, GivesUnit};
-ghost use Rattle.mdblock.specs.LineSummary.{no_summary};
-ghost use Rattle.mdblock.specs.Reading.{AreKept, held_begin};
-ghost use Rattle.mdblock.specs.Reads.{Reads, open_begin};
+ghost use Rattle.mdblock.specs.held.HeldLevel.{HoldsLines, GivesUnit};
+ghost use Rattle.blockspec.specs.LineSummary.{no_summary};
+ghost use Rattle.mdblock.specs.held.Reading.{AreKept, held_begin};
+ghost use Rattle.mdblock.specs.held.Reads.{Reads, open_begin};
 ghost use Rattle.mdtext.specs.EntityTable.{EntityTable};
 
 use crate::faults::BlockFault;
@@ -41,7 +41,7 @@ pub struct Reader<'e> {
 
 impl<'e> Model for Reader<'e> {
     ghost use Rattle.std.specs.Prelude.{◌≡◌, IfSome, option_map};
-    ghost use Rattle.mdblock.specs.Reading.{Reading, held_view, AreKept};
+    ghost use Rattle.mdblock.specs.held.Reading.{Reading, held_view, AreKept};
 
     ghost Value = { Reading };
 

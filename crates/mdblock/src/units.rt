@@ -19,7 +19,7 @@ pub struct Unit {
 }
 
 impl Model for Unit {
-    ghost use Rattle.mdblock.specs.UnitTree.{UnitTree, unit_code};
+    ghost use Rattle.blockspec.specs.UnitTree.{UnitTree, unit_code};
 
     ghost Value = { UnitTree };
 
@@ -68,7 +68,7 @@ pub struct Found {
 }
 
 impl Model for Found {
-    ghost use Rattle.mdblock.specs.UnitTree.{FoundUnit, found_code};
+    ghost use Rattle.blockspec.specs.UnitTree.{FoundUnit, found_code};
 
     ghost Value = { FoundUnit };
 

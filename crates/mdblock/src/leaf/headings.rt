@@ -2,10 +2,10 @@
 
 ghost use Rattle.std.specs.Prelude.{◌≡◌, ◌≤◌, [], ◌∷◌, ◌++◌, IfOk, OnOk, length, string_bytes};
 ghost use Rattle.mdscan.specs.Spans.{IsSpanOf, part};
-ghost use Rattle.mdblock.specs.BlockTree.{heading as heading_block};
-ghost use Rattle.mdblock.specs.HandedIn.{gathered_texts};
-ghost use Rattle.mdblock.specs.OpenLeaves.{IsOver};
-ghost use Rattle.mdblock.specs.OpenPositions.{StepIn};
+ghost use Rattle.blockspec.specs.BlockTree.{heading as heading_block};
+ghost use Rattle.mdblock.specs.held.HandedIn.{gathered_texts};
+ghost use Rattle.mdblock.specs.held.OpenLeaves.{IsOver};
+ghost use Rattle.mdblock.specs.held.OpenPositions.{StepIn};
 
 use crate::blocks::Block;
 use crate::gathering::Gathering;

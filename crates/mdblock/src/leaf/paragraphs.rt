@@ -6,19 +6,19 @@ ghost use Rattle.std.specs.Str.{IsCharBoundary};
 ghost use Rattle.mdleaf.specs.ParagraphText.{is_definitions_alone, behind_definitions, without_end_blanks};
 ghost use Rattle.mdleaf.specs.LeadingDefinitions.{leading_of};
 ghost use Rattle.mdleaf.specs.TableRows.{begins_table};
-ghost use Rattle.mdblock.specs.BlockLine.{BlockLine, rest, is_blank_line};
-ghost use Rattle.mdblock.specs.BlockStart.{Paragraph as ParagraphKind, Inside, SetextHeading, begins_underline, last_text, start, start_near};
-ghost use Rattle.mdblock.specs.BlockTree.{heading as heading_block};
+ghost use Rattle.blockspec.specs.BlockLine.{BlockLine, rest, is_blank_line};
+ghost use Rattle.blockspec.specs.BlockStart.{Paragraph as ParagraphKind, Inside, SetextHeading, begins_underline, last_text, start, start_near};
+ghost use Rattle.blockspec.specs.BlockTree.{heading as heading_block};
 ghost use Rattle.mdblock.specs.BlockView.{block_view};
-ghost use Rattle.mdblock.specs.HandedIn.{gathered_definitions, gathered_texts, taken, left_behind, IsHandedIn};
-ghost use Rattle.mdblock.specs.NodeTree.{paragraph_leaf};
+ghost use Rattle.mdblock.specs.held.HandedIn.{gathered_definitions, gathered_texts, taken, left_behind, IsHandedIn};
+ghost use Rattle.blockspec.specs.NodeTree.{paragraph_leaf};
 ghost use Rattle.mdblock.specs.Positions.{BlockIn};
-ghost use Rattle.mdblock.specs.OpenLeaves.{IsGoing, IsOver, IsParagraphLeaf};
-ghost use Rattle.mdblock.specs.OpenPositions.{StepIn};
-ghost use Rattle.mdblock.specs.ParagraphLines.{HoldsLines};
-ghost use Rattle.mdblock.specs.ParagraphTurns.{turn_step, begins_row};
-ghost use Rattle.mdblock.specs.Stretches.{Takes, Ends, paragraph_step, interrupted};
-ghost use Rattle.mdblock.specs.UnitBegin.{is_stop};
+ghost use Rattle.mdblock.specs.held.OpenLeaves.{IsGoing, IsOver, IsParagraphLeaf};
+ghost use Rattle.mdblock.specs.held.OpenPositions.{StepIn};
+ghost use Rattle.mdblock.specs.held.ParagraphLines.{HoldsLines};
+ghost use Rattle.mdblock.specs.held.ParagraphTurns.{turn_step, begins_row};
+ghost use Rattle.blockspec.specs.Stretches.{Takes, Ends, paragraph_step, interrupted};
+ghost use Rattle.blockspec.specs.UnitBegin.{is_stop};
 
 use crate::blocks::Block;
 use crate::gathering::Gathering;
@@ -42,7 +42,7 @@ pub(crate) struct Paragraph {
 impl Model for Paragraph {
     ghost use Rattle.std.specs.Prelude.{◌≡◌, ◌-◌, ◌<◌, slice_index, string_bytes};
     ghost use Rattle.std.specs.Str.{IsCharBoundary};
-    ghost use Rattle.mdblock.specs.ParagraphLines.{HeldText};
+    ghost use Rattle.mdblock.specs.held.ParagraphLines.{HeldText};
 
     ghost Value = { HeldText };
 

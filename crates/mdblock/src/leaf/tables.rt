@@ -1,11 +1,11 @@
 //! Tables (GFM 4.10).
 
 ghost use Rattle.std.specs.Prelude.{◌≡◌, ◌≤◌, ℕ, IfOk, IfSome, OnOk, length, map};
-ghost use Rattle.mdblock.specs.BlockTree.{table};
+ghost use Rattle.blockspec.specs.BlockTree.{table};
 ghost use Rattle.mdblock.specs.BlockView.{block_view};
-ghost use Rattle.mdblock.specs.OpenPositions.{StepIn, TableIn};
+ghost use Rattle.mdblock.specs.held.OpenPositions.{StepIn, TableIn};
 ghost use Rattle.mdblock.specs.Positions.{BlockIn, CellsIn};
-ghost use Rattle.mdblock.specs.Stretches.{is_row};
+ghost use Rattle.blockspec.specs.Stretches.{is_row};
 
 use crate::blocks::Block;
 use crate::gathering::Gathering;

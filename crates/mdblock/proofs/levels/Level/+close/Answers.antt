@@ -1,6 +1,6 @@
 use Rattle.std.proofs.Common.{subst, sym, ◌∙◌}
 use Rattle.mdblock.proofs.CloseLeafLaws.{any-leaf-closes}
-use Rattle.mdblock.specs.HeldLevel.{ClosesAll}
+use Rattle.mdblock.specs.held.HeldLevel.{ClosesAll}
 use Rattle.mdblock.proofs.CloseLaws.{if_ok, shut-closes, quote-closes, ended-closes, taken-item-closes}
 use Rattle.mdblock.proofs.levels.Level.+close.Goals as goal
 

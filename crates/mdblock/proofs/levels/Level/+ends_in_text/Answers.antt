@@ -1,5 +1,5 @@
 use Rattle.std.proofs.Common.{false, subst, sym, ◌∙◌}
-use Rattle.mdblock.specs.HeldLevel.{EndsIn}
+use Rattle.mdblock.specs.held.HeldLevel.{EndsIn}
 use Rattle.mdblock.proofs.TipLaws.{shut-tip, leaf-tip-is, quote-tip, item-tip, ended-tip}
 use Rattle.mdblock.proofs.levels.Level.+ends_in_text.Goals as goal
 

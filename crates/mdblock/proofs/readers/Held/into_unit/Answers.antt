@@ -1,9 +1,9 @@
 use Rattle.std.proofs.Common.{◌≡◌, ℕ, false, Some, List, [], map, string_bytes, refl, sym, ◌∙◌, ap}
 use Rattle.std.specs.Prelude.{option_map}
 use Rattle.mdleaf.specs.LinkDefinition.{LinkDefinition, definition_of}
-use Rattle.mdblock.specs.BlockTree.{Blocks}
-use Rattle.mdblock.specs.HeldLevel.{found_between}
-use Rattle.mdblock.specs.UnitTree.{FoundUnit}
+use Rattle.blockspec.specs.BlockTree.{Blocks}
+use Rattle.mdblock.specs.held.HeldLevel.{found_between}
+use Rattle.blockspec.specs.UnitTree.{FoundUnit}
 use Rattle.mdblock.proofs.readers.Held.into_unit.Goals as goal
 
 abbrev found_of : (begin lines : ℕ) → Blocks → List LinkDefinition → List (List ℕ) → FoundUnit

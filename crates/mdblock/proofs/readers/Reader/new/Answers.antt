@@ -1,7 +1,7 @@
 use Rattle.std.proofs.Common.{subst}
-use Rattle.mdblock.specs.LineSummary.{no_summary}
-use Rattle.mdblock.specs.Reading.{held_view}
-use Rattle.mdblock.specs.Reads.{StandsForHeld}
+use Rattle.blockspec.specs.LineSummary.{no_summary}
+use Rattle.mdblock.specs.held.Reading.{held_view}
+use Rattle.mdblock.specs.held.Reads.{StandsForHeld}
 use Rattle.mdblock.specs.declared.readers.TheConstants.{LIMIT}
 use Rattle.mdblock.proofs.ReadsLaws.{reads-none}
 use Rattle.mdblock.proofs.readers.Reader.new.Goals as goal

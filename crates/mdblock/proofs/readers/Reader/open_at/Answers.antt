@@ -1,6 +1,6 @@
 use Rattle.std.proofs.Common.{sym, ◌∙◌, ap}
 use Rattle.mdblock.specs.declared.readers.TheConstants.{LIMIT}
-use Rattle.mdblock.specs.Reading.{held_begin, held_view}
+use Rattle.mdblock.specs.held.Reading.{held_begin, held_view}
 use Rattle.std.specs.Prelude.{option_map}
 use Rattle.mdblock.proofs.ReadsLaws.{reads-begin}
 use Rattle.mdblock.proofs.readers.Reader.open_at.Goals as goal
