@@ -17,9 +17,9 @@ use Rattle.inlinespec.specs.CodeSpans.{backticks, code_content, code_inside}
 use Rattle.inlinespec.specs.InlineEvents.{HardBreak, SoftBreak, LinkTo, written, rows_of}
 use Rattle.inlinespec.specs.LineBreaks.{LineBreak, spaced_break, backslash_break}
 use Rattle.inlinespec.specs.Lexing.{Kind, Leaf, Delimiters, OpenBracket, CloseBracket, leaf, as_written, Sign, Backslash, Ampersand, Backtick, LessThan, Blank, DelimiterMark, Bracket, Exclamation, ClosingBracket, Other, sign_of, break_or_written, escape_lexeme, reference_lexeme, code_lexeme, angle_lexeme, run_lexeme, bracket_lexeme, lexeme_by, lex}
-use Rattle.inlinespec.specs.LinkTails.{Table, Reference, Direct, ByLabel, reference_at}
+use Rattle.inlinespec.specs.LinkTails.{Table, LinkTail, Direct, ByLabel, link_tail_at}
 use Rattle.inlinespec.specs.Settled.{Piece, Made, Run, Opening, settled}
-use Rattle.inlinespec.specs.TextReading.{Opened, opened_with, nearest_opener, is_live, Deed, Adds, Spends, Links, closing_bracket, looked_up, by_reference, closing, item_by, item_at, spent, span_to, linked, after_deed, items_from, reading, pieces_after}
+use Rattle.inlinespec.specs.TextReading.{Opened, opened_with, nearest_opener, is_live, Deed, Adds, Spends, Links, closing_bracket, looked_up, by_link_tail, closing, item_by, item_at, spent, span_to, linked, after_deed, items_from, reading, pieces_after}
 use Rattle.inlinespec.specs.TextTree.{events_of}
 use Rattle.inlinelaws.proofs.BalancedEvents.{IsBalanced, written_balanced, code_balanced, raw_balanced, soft_balanced, hard_balanced, within_balanced, AreBalanced, bracket_balanced, settled_balanced, rows}
 
@@ -108,7 +108,7 @@ unfolding IsDeedBalanced
 found_balanced at end label None = tt
 found_balanced at end label (Some target) = tt
 
-referred_balanced : (table : Table) (at : ℕ) (r : Reference) → IsDeedBalanced (by_reference table at r).deed
+referred_balanced : (table : Table) (at : ℕ) (r : LinkTail) → IsDeedBalanced (by_link_tail table at r).deed
 unfolding IsDeedBalanced
 referred_balanced table at (Direct target end) = tt
 referred_balanced table at (ByLabel None end) = tt
@@ -119,8 +119,8 @@ unfolding IsDeedBalanced
 closing_balanced entities table text at None = tt
 closing_balanced entities table text at (Some o) = by (is_live o)
   where
-    by : (t : Bool) → IsDeedBalanced ((if t then by_reference table at (reference_at entities text (at + 1) (take (at - o.begin) (drop o.begin text))) else closing_bracket []).deed)
-    by true = referred_balanced table at (reference_at entities text (at + 1) (take (at - o.begin) (drop o.begin text)))
+    by : (t : Bool) → IsDeedBalanced ((if t then by_link_tail table at (link_tail_at entities text (at + 1) (take (at - o.begin) (drop o.begin text))) else closing_bracket []).deed)
+    by true = referred_balanced table at (link_tail_at entities text (at + 1) (take (at - o.begin) (drop o.begin text)))
     by false = tt
 
 item_by_balanced : (entities : EntityTable) (table : Table) (text : List ℕ) (at : ℕ) (ps : List Piece) (size : ℕ) (k : Kind) → IsLeafBalanced k →

@@ -8,7 +8,7 @@ use Rattle.mdpair.specs.declared.runs.DelimiterChar.TheVariants.{Asterisk, Under
 use Rattle.mdpair.specs.declared.runs.DelimiterRun.{DelimiterRun}
 use Rattle.mdpair.specs.declared.emphasis.Remaining.{Remaining}
 use Rattle.mdpair.specs.DelimiterRun.{same_delimiter, can_both, lengths_fit, lengths_match, is_admissible}
-use Rattle.mdpair.specs.Takings.{nearest, without, left_of, stack, IsBelow}
+use Rattle.mdpair.specs.Matches.{nearest, without, left_of, stack, IsBelow}
 use Rattle.mdpair.specs.declared.searches.Bottom.{Bottom}
 use Rattle.mdpair.proofs.Sweep.{nearest-keeps, stack_at}
 use Rattle.mdpair.specs.OpenersBottom.{IsSameKind, IsBottom, IsBottomUpTo, Descends}
@@ -45,7 +45,7 @@ missed p c d (l ∷ ls) none k = at (is_admissible l.run c) refl none (λ h. mis
     at true e h later = cc
     at false e h later = (λ _. sym (same_kind l.run c d k) ∙ e, later h)
 
--- what a taking leaves of the stack keeps its bottoms; so does a run that is put on it, above them
+-- what a match leaves of the stack keeps its bottoms; so does a run that is put on it, above them
 pub kept : (bottom n : ℕ) (c : DelimiterRun) (o : Remaining) (below : List Remaining) → IsBottom bottom c (o ∷ below) → IsBottom bottom c (without n o ++ below)
 kept bottom n c o below sound = at (eqb (o.left - n) 0)
   where
