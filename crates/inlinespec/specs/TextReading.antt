@@ -34,8 +34,8 @@ holds_link (_ ∷ ps) = holds_link ps
 abbrev pub is_live : Opened → Bool
 is_live o = o.image || not (holds_link o.inside)
 
--- An item adds a piece; or is a `]` that uses up its opener and makes no link, so that both are text; or makes a link or an image of what
--- stands between its opener and it.
+-- An item adds a piece; or is a `]` that makes no link, so that it is text and so is the nearest unused opener, if there is one; or is a `]` that makes
+-- a link or an image of what stands between that opener and it.
 pub data Deed : Type 0 where
   Adds : Piece → Deed
   Spends : Deed
