@@ -29,10 +29,6 @@ closed_rows span (r ∷ s ∷ rs) h = omega arith
 unfoldable pub IsBalanced : List Event → Type 0
 IsBalanced es = (rest : List Event) → 0 < rows rest → rows (es ++ rest) ≡ rows rest
 
-none_balanced : IsBalanced []
-unfolding IsBalanced
-none_balanced = λ rest h. refl
-
 pub single_balanced : (e : Event) (f : Inlines → Inlines) → ((rest : List Event) → rows_of (e ∷ rest) ≡ in_front f (rows_of rest)) → IsBalanced (e ∷ [])
 unfolding IsBalanced rows
 single_balanced e f h = λ rest some. ap length (h rest) ∙ same_rows f (rows_of rest)

@@ -5,6 +5,7 @@ use Rattle.std.proofs.Math.Seq.{drop-cons}
 use Rattle.std.proofs.lemmas.Bool.{eqb-true}
 use Rattle.std.proofs.lemmas.Option.{slice_get-get_or}
 use Rattle.std.proofs.lemmas.List.Sums.{prefix_len-le-length}
+use Rattle.std.proofs.lemmas.Bool.{and_parts}
 use Rattle.mdtext.specs.EntityTable.{EntityTable}
 use Rattle.mdtext.specs.References.{Meaning, reference}
 use Rattle.mdscan.specs.declared.autolinks.Auto.{Auto}
@@ -27,7 +28,7 @@ use Rattle.inlinespec.specs.Lexing.{Kind, Leaf, Delimiters, OpenBracket, CloseBr
 use Rattle.inlinespec.specs.LinkTails.{Table, LinkTail, Direct, ByLabel, empty_brackets_at, link_tail_by, link_tail_at}
 use Rattle.inlinespec.specs.Settled.{Piece}
 use Rattle.inlinespec.specs.TextReading.{Opened, nearest_opener, is_live, closing_bracket, looked_up, by_link_tail, closing, item_by, item_at}
-use Rattle.inlinelaws.proofs.FrontEnds.{IsSizeIn, IsEndIn, when, mapped, last, begins_below, behind, autolink_ends, raw_html_size, reference_size}
+use Rattle.inlinelaws.proofs.FrontEnds.{IsSizeIn, IsEndIn, when, mapped, begins_below, behind, autolink_ends, raw_html_size, reference_size}
 use Rattle.inlinelaws.proofs.TailEnds.{label_ends, inline_tail_ends}
 
 -- line breaks
@@ -44,7 +45,7 @@ spaced_size text = when _ _ (λ b. IsSizeIn text b.size) (λ h. break_after_size
 
 backslash_size : (text : List ℕ) → IfSome (backslash_break text) (λ b. IsSizeIn text b.size)
 unfolding backslash_break
-backslash_size text = when _ _ (λ b. IsSizeIn text b.size) (λ h. break_after_size 1 text true (begins_below 10 1 text (last _ _ h)))
+backslash_size text = when _ _ (λ b. IsSizeIn text b.size) (λ h. break_after_size 1 text true (begins_below 10 1 text (and_parts _ _ h).1))
 
 break_size : (text : List ℕ) (r : Option LineBreak) → 0 < length text → IfSome r (λ b. IsSizeIn text b.size) → IsSizeIn text (break_or_written text r).size
 break_size text None some h = (omega arith, omega arith)
@@ -211,7 +212,7 @@ empty_end text at h = by (empty_brackets_at text at)
     by false = omega arith
 
 empty_within : (text : List ℕ) (at : ℕ) → at ≤ length text → (if empty_brackets_at text at then at + 2 else at) ≤ length text
-empty_within text at h = by (empty_brackets_at text at) (λ e. begins_below 93 (at + 1) text (last _ _ e))
+empty_within text at h = by (empty_brackets_at text at) (λ e. begins_below 93 (at + 1) text (and_parts _ _ e).1)
   where
     by : (t : Bool) → (t ≡ true → at + 1 < length text) → (if t then at + 2 else at) ≤ length text
     by true k = let below = k refl in omega arith

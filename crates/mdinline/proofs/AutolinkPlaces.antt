@@ -3,6 +3,7 @@ use Rattle.std.proofs.Common.{◌≡◌, ℕ, ◌+◌, ◌-◌, ◌<◌, ◌≤�
 use Rattle.std.specs.Prelude.{nat_lt}
 use Rattle.mdscan.specs.Blanks.{begins_with}
 use Rattle.std.specs.List.{prefix_len}
+use Rattle.std.proofs.lemmas.Bool.{and_parts}
 use Rattle.mdscan.specs.Repeats.{repeats}
 use Rattle.mdscan.specs.AutoLink.{autolink_at, uri_end, mail_end, auto_of, or_auto, in_uri, in_mail_name, scheme_length, domain_label_length, dotted_label_length}
 use Rattle.mdscan.specs.declared.autolinks.Auto.{Auto}
@@ -17,17 +18,6 @@ pub record Closes (text : List ℕ) (at end : ℕ) : Type 0 where
 if_true : {X : Type 0} (b : Bool) (x y : X) → Some y ≡ (if b then Some x else None) → (b ≡ true) × (y ≡ x)
 if_true true x y e = (refl, (let same : y ≡ x = grind (arith, e) in same))
 if_true false x y e = cc
-
-last_of_three : (a b c : Bool) → (a && b && c) ≡ true → c ≡ true
-last_of_three true true c h = h
-last_of_three true false c h = cc
-last_of_three false b c h = cc
-
-last_of_four : (a b c d : Bool) → (a && b && c && d) ≡ true → d ≡ true
-last_of_four true true true d h = h
-last_of_four true true false d h = cc
-last_of_four true false c d h = cc
-last_of_four false b c d h = cc
 
 close_at : (text : List ℕ) (at k end : ℕ) → at < k → end ≡ k + 1 → begins_with 62 (drop k text) ≡ true → Closes text at end
 close_at text at k end later e h =
@@ -47,7 +37,7 @@ uri_closed text at end e =
     let k = at + 1 + scheme + 1 + rest in
     let found = if_true (nat_lt 0 scheme && begins_with 58 (drop (at + 1 + scheme) text) && begins_with 62 (drop k text)) (k + 1) end e in
     close_at text at k end (omega arith) found.1
-    (last_of_three (nat_lt 0 scheme) (begins_with 58 (drop (at + 1 + scheme) text)) (begins_with 62 (drop k text)) found.0)
+    (and_parts (nat_lt 0 scheme && begins_with 58 (drop (at + 1 + scheme) text)) (begins_with 62 (drop k text)) found.0).1
 
 mail_closed : (text : List ℕ) (at end : ℕ) → Some end ≡ mail_end text at → Closes text at end
 unfolding mail_end
@@ -58,7 +48,7 @@ mail_closed text at end e =
     let k = at + 1 + name + 1 + label + labels in
     let found = if_true (nat_lt 0 name && begins_with 64 (drop (at + 1 + name) text) && nat_lt 0 label && begins_with 62 (drop k text)) (k + 1) end e in
     close_at text at k end (omega arith) found.1
-    (last_of_four (nat_lt 0 name) (begins_with 64 (drop (at + 1 + name) text)) (nat_lt 0 label) (begins_with 62 (drop k text)) found.0)
+    (and_parts (nat_lt 0 name && begins_with 64 (drop (at + 1 + name) text) && nat_lt 0 label) (begins_with 62 (drop k text)) found.0).1
 
 of_kinds : (text : List ℕ) (at : ℕ) (auto : Auto) (u m : Option ℕ) → u ≡ uri_end text at → m ≡ mail_end text at → Some auto ≡ or_auto (auto_of false u) (auto_of true m) → Closes text at auto.end
 of_kinds text at auto (Some end) m eu em e = uri_closed text at auto.end (ap Some (let same : auto.end ≡ end = grind (arith, e) in same) ∙ eu)

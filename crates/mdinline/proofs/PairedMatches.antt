@@ -199,6 +199,3 @@ one_fresh rs ps new i d r p lt is e fresh h =
             let there : n ≡ length ps = omega (arith, here, all) in
             subst (λ x. IsPaired n [] x (get_or (ps ++ p ∷ []) n q)) (sym (ap (λ k. get_or (rs ++ r ∷ []) k s) here ∙ get_or-append_seam rs r [] s))
             (subst (IsPaired n [] r) (sym (ap (λ k. get_or (ps ++ p ∷ []) k q) there ∙ get_or-append_seam ps p [] q)) (fresh n))
-
-pub none_fresh : (rs : List DelimiterRun) (ps : List PairedRun) → ps ≡ [] → ArePaired [] (take 0 rs) ps
-none_fresh rs ps e = subst (ArePaired [] []) (sym e) (record { all = refl; each = λ n r p lt. absurd (omega (arith, lt)) })

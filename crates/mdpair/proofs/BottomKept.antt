@@ -76,13 +76,6 @@ left_of-falls n run o below falls = at (eqb n 0)
     at false = falls
 
 -- what is left of a run goes onto the stack
-pub pushed-falls : (place n : ℕ) (run : DelimiterRun) (ls : List Remaining) → AllByRecursion (IsBelow place) ls → Descends ls → Descends (left_of place n run ++ ls)
-pushed-falls place n run ls low falls = at (eqb n 0)
-  where
-    at : (b : Bool) → Descends (cond b [] (record { place = place; left = n; run = run } ∷ []) ++ ls)
-    at true = falls
-    at false = (low, falls)
-
 pub pushed-bottom : (bottom : ℕ) (c : DelimiterRun) (place n : ℕ) (run : DelimiterRun) (ls : List Remaining) → bottom ≤ place → IsBottom bottom c ls → IsBottom bottom c (left_of place n run ++ ls)
 pushed-bottom bottom c place n run ls le sound = at (eqb n 0)
   where

@@ -128,9 +128,6 @@ pub Leads-push : (ls : List Remaining) (ts : List Match) (middle end : List Rema
 Leads-push ls [] middle end t h e = (end, ap (turn []) h ∙ e, refl)
 Leads-push ls (u ∷ ts) middle end t h e = (h.0, h.1, Leads-push h.0 ts middle end t h.2 e)
 
-pub Leads-same : (ls : List Remaining) (ts : List Match) (a b : List Remaining) → a ≡ b → Leads ls ts a → Leads ls ts b
-Leads-same ls ts a b e h = subst (Leads ls ts) e h
-
 -- such a row is the matches, where each of them takes something
 
 matches_in-Leads : (n : ℕ) (ls : List Remaining) (ts : List Match) (end : List Remaining) →
@@ -269,14 +266,6 @@ onto_left ls rest place left run = at (eqb left 0)
     at : (b : Bool) → onto (cond b [] (record { place = place; left = left; run = run } ∷ []) ++ ls) rest ≡ onto ls (cond b [] (record { place = place; left = left; run = run } ∷ []) ++ rest)
     at true = refl
     at false = refl
-
-pub clear_left : (ls : List Remaining) (place left : ℕ) (run : DelimiterRun) → IsClear ls → (0 < left → run.can_close ≡ true → nearest run ls ≡ None) → IsClear (left_of place left run ++ ls)
-clear_left ls place zero run clear h = clear
-clear_left ls place (suc n) run clear h = at (eqb (suc n) 0)
-  where
-    at : (b : Bool) → IsClear (cond b [] (record { place = place; left = suc n; run = run } ∷ []) ++ ls)
-    at true = clear
-    at false = (h (omega arith), clear)
 
 pub lives_at : (rs : List DelimiterRun) (i : ℕ) (d : DelimiterRun) → i < length rs →
     whole i (drop i rs) ≡ left_of i (get_or rs i d).length (get_or rs i d) ++ whole (i + 1) (drop (i + 1) rs)
