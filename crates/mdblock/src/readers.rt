@@ -3,16 +3,16 @@
 ghost use Rattle.std.specs.Prelude.{List, [], ℕ, ◌≡◌, ◌+◌, ◌*◌, ◌^◌, ◌<◌, ◌≤◌, false, true, None, Some, IfOk, OnOk, OnErr, IsErrOf, is_some, length};
 ghost use Rattle.mdtext.specs.Counted.{counted};
 ghost use Rattle.mdblock.specs.declared.faults.BlockFault.TheVariants.{Failed};
-ghost use Rattle.mdblock.specs.held.HeldLevel.{HoldsLines, GivesUnit};
+ghost use Rattle.mdblock.specs.held.HeldLevel.{HoldsSummary, GivesUnit};
 ghost use Rattle.blockspec.specs.LineSummary.{no_summary};
-ghost use Rattle.mdblock.specs.held.Reading.{AreKept, held_begin};
+ghost use Rattle.mdblock.specs.held.ReaderState.{AreKept, held_begin};
 ghost use Rattle.mdblock.specs.held.Reads.{Reads, open_begin};
 ghost use Rattle.mdtext.specs.EntityTable.{EntityTable};
 
 use crate::faults::BlockFault;
 use crate::gathering::Gathering;
-use crate::levels::{Level, Place};
 use crate::lines::Line;
+use crate::open_blocks::{Continuation, Level};
 use crate::units::Found;
 use mdtext::{Count, Entities};
 use std::alloc::{AllocError, Global};
@@ -21,7 +21,7 @@ use std::mem;
 
 /// What is read and not handed out yet.
 #[derive(Drop)]
-struct Held<'e> {
+struct OpenUnit<'e> {
     level: Level,
     gathering: Gathering<'e>,
     begin: Option<usize>,
@@ -34,22 +34,22 @@ pub struct Reader<'e> {
     entities: &'e Entities,
     limit: usize,
     fed: usize,
-    held: Option<Held<'e>>,
+    held: Option<OpenUnit<'e>>,
 }
 
 impl<'e> Model for Reader<'e> {
     ghost use Rattle.std.specs.Prelude.{◌≡◌, IfSome, option_map};
-    ghost use Rattle.mdblock.specs.held.Reading.{Reading, held_view, AreKept};
+    ghost use Rattle.mdblock.specs.held.ReaderState.{ReaderState, unit_so_far, AreKept};
 
-    ghost Value = { Reading };
+    ghost Value = { ReaderState };
 
-    ghost use Rattle.mdblock.specs.contracts.levels.Level as level;
+    ghost use Rattle.mdblock.specs.contracts.open_blocks.Level as level;
     ghost use Rattle.std.specs.Coded.{codes};
     ghost use Rattle.mdleaf.specs.LinkDefinition.{definition_code};
 
     ghost coded = { Prim.hlevel (codes, level.the_row.coded, definition_code) };
 
-    ghost view = { λ r. record { entities = r.entities.now; limit = r.limit; fed = r.fed; held = option_map held_view r.held } };
+    ghost view = { λ r. record { entities = r.entities.now; limit = r.limit; fed = r.fed; held = option_map unit_so_far r.held } };
 
     ghost invariant = { λ r. IfSome r.held (λ held. AreKept held × (held.gathering.entities.now ≡ r.entities.now)) };
 }
@@ -68,7 +68,7 @@ impl<'e> Reader<'e> {
             entities,
             limit,
             fed: 0,
-            held: Some(Held::new(alloc, entities, None)),
+            held: Some(OpenUnit::new(alloc, entities, None)),
         }
     }
 
@@ -126,14 +126,14 @@ impl<'e> Reader<'e> {
     }
 }
 
-impl<'e> Held<'e> {
-    fn new(alloc: Global, entities: &'e Entities, begin: Option<usize>) -> Held<'e>
-        ensures empty { HoldsLines result no_summary }
+impl<'e> OpenUnit<'e> {
+    fn new(alloc: Global, entities: &'e Entities, begin: Option<usize>) -> OpenUnit<'e>
+        ensures empty { HoldsSummary result no_summary }
         ensures kept { AreKept result }
         ensures begin { result.begin ≡ begin }
         ensures entities { result.gathering.entities.now ≡ entities.now }
     {
-        Held {
+        OpenUnit {
             level: Level::new(alloc, false),
             gathering: Gathering::new(alloc, entities),
             begin,
@@ -148,13 +148,14 @@ impl<'e> Held<'e> {
         ensures entities { OnOk result (self.new.gathering.entities.now ≡ self.old.gathering.entities.now) }
     {
         let line = Line::new(text);
-        let place = self.level.place(&line);
-        let found = if place == Place::Outside && !line.is_blank() {
+        let continuation = self.level.continuation(&line);
+        let found = if continuation == Continuation::Outside && !line.is_blank() {
             self.begin_unit(fed)?
         } else {
             None
         };
-        self.level.add(line, place, limit, &mut self.gathering)?;
+        self.level
+            .add(line, continuation, limit, &mut self.gathering)?;
         Ok(found)
     }
 
@@ -164,7 +165,7 @@ impl<'e> Held<'e> {
         ensures kept { OnOk result (AreKept self.new) }
         ensures entities { OnOk result (self.new.gathering.entities.now ≡ self.old.gathering.entities.now) }
     {
-        let next = Held::new(self.gathering.alloc(), self.gathering.entities(), Some(fed));
+        let next = OpenUnit::new(self.gathering.alloc(), self.gathering.entities(), Some(fed));
         mem::replace(self, next).into_unit(fed)
     }
 

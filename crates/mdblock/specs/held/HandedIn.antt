@@ -30,7 +30,8 @@ left_behind first (b ∷ text) = taken first (b ∷ text) ∷ []
 abbrev pub IsLeafIn : Leaf → (old new : List (List ℕ)) → Option Block → Type 0
 IsLeafIn leaf old new found = MatchOption found ⊥ (λ b. block (block_view b) no_blocks ≡ leaf_block (length old) leaf no_blocks) × (new ≡ old ++ leaf_texts leaf)
 
--- at most one leaf
+-- of no leaf or one; more are not handed in at once
 abbrev pub IsHandedIn : List Leaf → (old new : List (List ℕ)) → Option Block → Type 0
 IsHandedIn [] old new found = (found ≡ None) × (new ≡ old)
-IsHandedIn (leaf ∷ leaves) old new found = IsLeafIn leaf old new found
+IsHandedIn (leaf ∷ []) old new found = IsLeafIn leaf old new found
+IsHandedIn (leaf ∷ other ∷ leaves) old new found = ⊥

@@ -11,9 +11,9 @@ ghost use Rattle.mdblock.specs.held.ClosedViews.{list_view, list_view_with};
 ghost use Rattle.mdblock.specs.Positions.{BlockIn, BlocksIn, ItemsIn};
 ghost use Rattle.blockspec.specs.UnitBegin.{list_mark, same_mark};
 
+use crate::block_starts::{BlockStart, Mode, start};
 use crate::blocks::{Block, Item, ListKind};
 use crate::lines::Line;
-use crate::starts::{Mode, Opening, start};
 use mdscan::Marker;
 use std::alloc::{AllocError, Global};
 
@@ -72,7 +72,7 @@ impl OpenList {
         ensures same { is_some result ≡ same_mark (Some (kind_view self.now.kind)) (list_mark (begun line.now)) }
     {
         match start(line, Mode::Free) {
-            Some(Opening::Item(marker)) => {
+            Some(BlockStart::Item(marker)) => {
                 if is_same_list(self.kind, kind_of(marker)) {
                     return Some(marker);
                 }
