@@ -1,4 +1,4 @@
--- Rows of tables (GFM Tables), by computation.
+-- Rows of tables (GFM Tables (extension)), by computation.
 use Rattle.std.proofs.Common.{◌≡◌, [], ◌∷◌, None, refl, codes, true}
 use Rattle.mdscan.specs.declared.delimiter_rows.Align.TheVariants.{Plain, Left, Center, Right}
 use Rattle.blockspec.specs.BlockTree.{bullet, ordered, paragraph, code_block, block_quote, list, table, blocks_of, items_of}

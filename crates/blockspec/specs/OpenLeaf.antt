@@ -1,4 +1,4 @@
--- What has to be kept of the lines of an open leaf, and what one line more makes of it (CommonMark 4; GFM Tables).
+-- What has to be kept of the lines of an open leaf, and what one line more makes of it (CommonMark 4; GFM Tables (extension)).
 use Rattle.std.specs.Prelude.{ℕ, ◌-◌, Bool, true, false, not, nat_lt, nat_le, List, [], ◌∷◌, ◌++◌, length, map, take, drop, Option, Some, None, if◌then◌else◌}
 use Rattle.std.specs.List.{suffix_len}
 use Rattle.std.specs.Option.{option_or}
@@ -112,7 +112,7 @@ abbrev pub level_under : (text : List ℕ) → BlockLine → Option ℕ
 level_under text l = if not (is_definitions_alone (without_end_blanks text)) then underline_level (rest l) else None
 
 -- A line behind a paragraph with an indentation of at most three columns, by the first start that fits: an underline makes a
--- heading of it (CommonMark 4.3), a delimiter row a table of its last line (GFM Tables), any other ends it, and with none it
+-- heading of it (CommonMark 4.3), a delimiter row a table of its last line (GFM Tables (extension)), any other ends it, and with none it
 -- goes on (CommonMark 4.8).
 abbrev pub near_turn : (text last above : List ℕ) → (before : Option Kind) → (level : Option ℕ) → (after : Option Kind) → (delimits : Bool) → BlockLine → Turn
 near_turn text last above (Some kind) level after delimits l = EndedBefore

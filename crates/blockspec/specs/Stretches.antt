@@ -49,7 +49,7 @@ html_step false true kind = IsLastLine (HtmlBlock kind)
 html_step false false kind = Continues (HtmlBlock kind)
 
 -- Paragraph (CommonMark 4.8): up to a blank line or one that begins a block. An underline is its last line (CommonMark
--- 4.3); a delimiter row makes a table of it and its last line (GFM Tables).
+-- 4.3); a delimiter row makes a table of it and its last line (GFM Tables (extension)).
 abbrev pub interrupted : Option Kind → Step
 interrupted None = Continues Paragraph
 interrupted (Some (SetextHeading level)) = IsLastLine (SetextHeading level)
@@ -61,7 +61,7 @@ paragraph_step true blank kind = Continues Paragraph
 paragraph_step false true kind = IsOverBefore
 paragraph_step false false kind = interrupted kind
 
--- Table (GFM Tables): up to a blank line or one that begins a block.
+-- Table (GFM Tables (extension)): up to a blank line or one that begins a block.
 abbrev pub is_row : BlockLine → Bool
 is_row l = not l.lazy && not (is_blank_line l) && is_none (start Free [] l)
 

@@ -35,7 +35,8 @@ fn make_room(over: &mut Vec<Block>) -> Result<(), AllocError>
 /// The same of a block, where there is one.
 pub(crate) fn push_found(over: &mut Vec<Block>, found: Option<Block>) -> Result<(), AllocError>
     ensures pushed { OnOk result (blocks_view over.new.items ≡ blocks_before (blocks_view over.old.items) (found_view found)) }
-    ensures within { OnOk result ((n : ℕ) → BlocksIn n (blocks_view over.old.items) → IfSome found (λ block. BlockIn n (block_view block)) → BlocksIn n (blocks_view over.new.items)) }
+    ensures within { OnOk result ((n : ℕ) → BlocksIn n (blocks_view over.old.items) → IfSome found (λ block. BlockIn n (block_view block))
+        → BlocksIn n (blocks_view over.new.items)) }
 {
     match found {
         Some(block) => push_block(over, block),
@@ -49,7 +50,8 @@ pub(crate) fn with_found(
     found: Option<Block>,
 ) -> Result<Vec<Block>, AllocError>
     ensures pushed { IfOk result (λ blocks. blocks_view blocks.items ≡ blocks_before (blocks_view over.items) (found_view found)) }
-    ensures within { IfOk result (λ blocks. (n : ℕ) → BlocksIn n (blocks_view over.items) → IfSome found (λ block. BlockIn n (block_view block)) → BlocksIn n (blocks_view blocks.items)) }
+    ensures within { IfOk result (λ blocks. (n : ℕ) → BlocksIn n (blocks_view over.items) → IfSome found (λ block. BlockIn n (block_view block))
+        → BlocksIn n (blocks_view blocks.items)) }
 {
     push_found(&mut over, found)?;
     Ok(over)
@@ -57,8 +59,10 @@ pub(crate) fn with_found(
 
 /// The blocks with a block quote of these behind them.
 pub(crate) fn with_quote(mut over: Vec<Block>, blocks: Vec<Block>) -> Result<Vec<Block>, AllocError>
-    ensures pushed { IfOk result (λ all. blocks_view all.items ≡ blocks_before (blocks_view over.items) (tree.block (block_quote (blocks_view blocks.items)) no_blocks)) }
-    ensures within { IfOk result (λ all. (n : ℕ) → BlocksIn n (blocks_view over.items) → BlocksIn n (blocks_view blocks.items) → BlocksIn n (blocks_view all.items)) }
+    ensures pushed { IfOk result (λ all. blocks_view all.items
+        ≡ blocks_before (blocks_view over.items) (tree.block (block_quote (blocks_view blocks.items)) no_blocks)) }
+    ensures within { IfOk result (λ all. (n : ℕ) → BlocksIn n (blocks_view over.items) → BlocksIn n (blocks_view blocks.items)
+        → BlocksIn n (blocks_view all.items)) }
 {
     push_block(&mut over, Block::Quote(blocks))?;
     Ok(over)
@@ -67,7 +71,8 @@ pub(crate) fn with_quote(mut over: Vec<Block>, blocks: Vec<Block>) -> Result<Vec
 /// The blocks with a list behind them.
 pub(crate) fn with_list(mut over: Vec<Block>, list: OpenList) -> Result<Vec<Block>, AllocError>
     ensures pushed { IfOk result (λ all. blocks_view all.items ≡ blocks_before (blocks_view over.items) (tree.block (list_view list) no_blocks)) }
-    ensures within { IfOk result (λ all. (n : ℕ) → BlocksIn n (blocks_view over.items) → ItemsIn n (items_view list.items.items) → BlocksIn n (blocks_view all.items)) }
+    ensures within { IfOk result (λ all. (n : ℕ) → BlocksIn n (blocks_view over.items) → ItemsIn n (items_view list.items.items)
+        → BlocksIn n (blocks_view all.items)) }
 {
     push_block(&mut over, list.end())?;
     Ok(over)
@@ -80,8 +85,10 @@ pub(crate) fn with_item(
     blocks: Vec<Block>,
     gap: bool,
 ) -> Result<Vec<Block>, AllocError>
-    ensures pushed { IfOk result (λ all. blocks_view all.items ≡ blocks_before (blocks_view over.items) (tree.block (list_view_with list blocks.items gap) no_blocks)) }
-    ensures within { IfOk result (λ all. (n : ℕ) → BlocksIn n (blocks_view over.items) → ItemsIn n (items_view list.items.items) → BlocksIn n (blocks_view blocks.items) → BlocksIn n (blocks_view all.items)) }
+    ensures pushed { IfOk result (λ all. blocks_view all.items
+        ≡ blocks_before (blocks_view over.items) (tree.block (list_view_with list blocks.items gap) no_blocks)) }
+    ensures within { IfOk result (λ all. (n : ℕ) → BlocksIn n (blocks_view over.items) → ItemsIn n (items_view list.items.items)
+        → BlocksIn n (blocks_view blocks.items) → BlocksIn n (blocks_view all.items)) }
 {
     list.push(blocks, gap)?;
     Ok(with_list(over, list)?)

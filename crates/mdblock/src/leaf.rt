@@ -63,8 +63,10 @@ impl Leaf {
         ensures within { IfOk result (λ step. LeafAfterIn (length gathering.new.texts.items) step) }
         ensures grows { length gathering.old.texts.items ≤ length gathering.new.texts.items }
         ensures entities { gathering.new.entities.now ≡ gathering.old.entities.now }
-        ensures step { IfOk result (λ step. IsBegun gathering.old.entities.now (length gathering.old.texts.items) (opened_kind line.entry opening) line.entry step) }
-        ensures texts { OnOk result (map string_bytes gathering.new.texts.items ≡ map string_bytes gathering.old.texts.items ++ begun_texts (opened_kind line.entry opening)) }
+        ensures step { IfOk result (λ step. IsBegun gathering.old.entities.now (length gathering.old.texts.items)
+            (opened_kind line.entry opening) line.entry step) }
+        ensures texts { OnOk result (map string_bytes gathering.new.texts.items
+            ≡ map string_bytes gathering.old.texts.items ++ begun_texts (opened_kind line.entry opening)) }
     {
         match opening {
             Some(BlockStart::Heading(heading)) => headings::begin(heading, line, gathering),
@@ -90,7 +92,8 @@ impl Leaf {
 
     /// Whether the leaf takes a line, all of whose containers match it.
     pub(crate) fn takes(&self, line: &Line) -> bool
-        ensures { (entities : EntityTable) (kind : Kind) (first : BlockLine) (later : List BlockLine) → IsLeafOf entities self.now kind first later → (tip : List BlockLine → Tip) → result ≡ not (is_stop (step tip kind first later line.now)) }
+        ensures { (entities : EntityTable) (kind : Kind) (first : BlockLine) (later : List BlockLine) → IsLeafOf entities self.now kind first later
+            → (tip : List BlockLine → Tip) → result ≡ not (is_stop (step tip kind first later line.now)) }
     {
         match self {
             Leaf::Paragraph(paragraph) => paragraph.takes(line),
@@ -112,7 +115,8 @@ impl Leaf {
         ensures within { IfOk result (λ step. LeafAfterIn (length gathering.new.texts.items) step) }
         ensures grows { length gathering.old.texts.items ≤ length gathering.new.texts.items }
         ensures entities { gathering.new.entities.now ≡ gathering.old.entities.now }
-        ensures step { (entities : EntityTable) (kind : Kind) (begin : BlockLine) (later : List BlockLine) → IsLeafOf entities self kind begin later → (tip : List BlockLine → Tip) → IfOk result (IsLeft entities (step tip kind begin later line.entry) begin (later ++ line.entry ∷ [])) }
+        ensures step { (entities : EntityTable) (kind : Kind) (begin : BlockLine) (later : List BlockLine) → IsLeafOf entities self kind begin later
+            → (tip : List BlockLine → Tip) → IfOk result (IsLeft entities (step tip kind begin later line.entry) begin (later ++ line.entry ∷ [])) }
     {
         match self {
             Leaf::Paragraph(paragraph) => paragraph.add(line, first, gathering),
@@ -133,9 +137,13 @@ impl Leaf {
         ensures within { IfOk result (λ found. IfSome found (λ block. BlockIn (length gathering.new.texts.items) (block_view block))) }
         ensures grows { length gathering.old.texts.items ≤ length gathering.new.texts.items }
         ensures entities { gathering.new.entities.now ≡ gathering.old.entities.now }
-        ensures left { (kind : Kind) (begin : BlockLine) (later : List BlockLine) → IsLeafOf gathering.old.entities.now self kind begin later → IfOk result (IsEndOf gathering.old.entities.now first kind begin later (gathered_texts gathering.old) (gathered_texts gathering.new)) }
-        ensures rows { IfOk result (IsTableEnd self (gathered_texts gathering.old) (gathered_texts gathering.new) (gathered_definitions gathering.old) (gathered_definitions gathering.new)) }
-        ensures found { (kind : Kind) (begin : BlockLine) (later : List BlockLine) → IsLeafOf gathering.old.entities.now self kind begin later → OnOk result (gathered_definitions gathering.new ≡ gathered_definitions gathering.old ++ end_definitions gathering.old.entities.now kind begin later) }
+        ensures left { (kind : Kind) (begin : BlockLine) (later : List BlockLine) → IsLeafOf gathering.old.entities.now self kind begin later
+            → IfOk result (IsEndOf gathering.old.entities.now first kind begin later (gathered_texts gathering.old) (gathered_texts gathering.new)) }
+        ensures rows { IfOk result (IsTableEnd self (gathered_texts gathering.old) (gathered_texts gathering.new)
+            (gathered_definitions gathering.old) (gathered_definitions gathering.new)) }
+        ensures found { (kind : Kind) (begin : BlockLine) (later : List BlockLine) → IsLeafOf gathering.old.entities.now self kind begin later
+            → OnOk result (gathered_definitions gathering.new
+            ≡ gathered_definitions gathering.old ++ end_definitions gathering.old.entities.now kind begin later) }
     {
         match self {
             Leaf::Paragraph(paragraph) => paragraph.end(first, gathering),

@@ -371,7 +371,8 @@ impl Level {
 
     /// Holds an open list whose last item has these blocks.
     fn hold_list(&mut self, alloc: Global, inner: Level, list: OpenList) -> Result<(), AllocError>
-        ensures { OnOk result ((n : ℕ) → BlocksIn n (blocks_view self.old.over.items) → LevelIn n inner → ItemsIn n (items_view list.items.items) → LevelIn n self.new) }
+        ensures { OnOk result ((n : ℕ) → BlocksIn n (blocks_view self.old.over.items) → LevelIn n inner → ItemsIn n (items_view list.items.items)
+            → LevelIn n self.new) }
     {
         self.last = OpenBlock::List(Box::new(alloc, inner)?, list);
         Ok(())

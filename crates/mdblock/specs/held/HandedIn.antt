@@ -1,4 +1,4 @@
--- What an open paragraph hands in at its end (CommonMark 4.7, 4.8; GFM Task list items).
+-- What an open paragraph hands in at its end (CommonMark 4.7, 4.8; GFM Task list items (extension)).
 use Rattle.std.specs.Prelude.{◌≡◌, ℕ, Bool, true, false, List, [], ◌∷◌, ◌++◌, length, map, Option, None, string_bytes}
 use Rattle.std.specs.Option.{MatchOption}
 use Rattle.mdscan.specs.TaskMarker.{task_marker}

@@ -1,4 +1,4 @@
--- What a line does to an open paragraph (CommonMark 4.3, 4.8; GFM Tables).
+-- What a line does to an open paragraph (CommonMark 4.3, 4.8; GFM Tables (extension)).
 use Rattle.std.specs.Prelude.{ℕ, Bool, ◌||◌, List}
 use Rattle.mdscan.specs.Blanks.{begins_with}
 use Rattle.blockspec.specs.BlockStart.{Paragraph, SetextHeading, Table}

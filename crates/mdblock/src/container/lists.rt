@@ -95,7 +95,8 @@ impl OpenList {
     pub(crate) fn push(&mut self, blocks: Vec<Block>, gap: bool) -> Result<(), AllocError>
         ensures pushed { OnOk result (list_view self.new ≡ list_view_with self.old blocks.items gap) }
         ensures ended { OnOk result (self.new.item_open ≡ false) }
-        ensures within { OnOk result ((n : ℕ) → ItemsIn n (items_view self.old.items.items) → BlocksIn n (blocks_view blocks.items) → ItemsIn n (items_view self.new.items.items)) }
+        ensures within { OnOk result ((n : ℕ) → ItemsIn n (items_view self.old.items.items) → BlocksIn n (blocks_view blocks.items)
+            → ItemsIn n (items_view self.new.items.items)) }
     {
         self.items.push(Item { blocks })?;
         self.loose = self.loose || gap;

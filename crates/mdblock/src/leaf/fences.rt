@@ -40,7 +40,8 @@ pub(crate) fn begin(
 ) -> Result<LeafAfter, AllocError>
     requires { IsSpanOf (rest line) fence.info }
     ensures within { (n : ℕ) → IfOk result (λ step. LeafAfterIn n step) }
-    ensures step { IfOk result (λ step. IsGoing (IsFenceLeaf gathering.now.entities.now (indentation line.entry) fence.mark fence.length (part (rest line.entry) fence.info) []) step) }
+    ensures step { IfOk result (λ step. IsGoing (IsFenceLeaf gathering.now.entities.now
+        (indentation line.entry) fence.mark fence.length (part (rest line.entry) fence.info) []) step) }
 {
     let text = line.text();
     let info = &text[fence.info.start..fence.info.end];
@@ -71,7 +72,10 @@ impl Fence {
     /// Reads a line: what closes the code, or a line of it.
     pub(crate) fn add(mut self, mut line: Line) -> Result<LeafAfter, AllocError>
         ensures within { (n : ℕ) → IfOk result (λ step. LeafAfterIn n step) }
-        ensures step { (entities : EntityTable) (info : List ℕ) (later : List BlockLine) → IsFenceOf entities self.indent self.mark self.length info later self → IfOk result (λ step. IsFenceStep (closes self.mark self.length line.entry) entities self.indent self.mark self.length info later line.entry step) }
+        ensures step { (entities : EntityTable) (info : List ℕ) (later : List BlockLine)
+            → IsFenceOf entities self.indent self.mark self.length info later self
+            → IfOk result (λ step. IsFenceStep (closes self.mark self.length line.entry) entities
+            self.indent self.mark self.length info later line.entry step) }
     {
         if self.closes(&line) {
             return Ok(over(self.end()));

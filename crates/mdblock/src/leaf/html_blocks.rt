@@ -44,7 +44,8 @@ impl HtmlBlock {
     /// Reads a line of the block.
     pub(crate) fn add(mut self, line: Line) -> Result<LeafAfter, AllocError>
         ensures within { (n : ℕ) → IfOk result (λ step. LeafAfterIn n step) }
-        ensures step { (first : BlockLine) (later : List BlockLine) → IsHtmlOf self.kind (first ∷ later) self → IfOk result (λ step. IsHtmlStep (ends_html self.kind line.entry) self.kind (first ∷ later ++ line.entry ∷ []) step) }
+        ensures step { (first : BlockLine) (later : List BlockLine) → IsHtmlOf self.kind (first ∷ later) self
+            → IfOk result (λ step. IsHtmlStep (ends_html self.kind line.entry) self.kind (first ∷ later ++ line.entry ∷ []) step) }
     {
         self.body.push_str("\n")?;
         line.push_to(&mut self.body)?;

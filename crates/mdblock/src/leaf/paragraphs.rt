@@ -59,7 +59,7 @@ enum ParagraphStep {
     Continues,
     /// It becomes a setext heading of this level (CommonMark 4.3).
     Underlines(u8),
-    /// Its last line becomes the header row of a table (GFM 4.10).
+    /// Its last line becomes the header row of a table (GFM Tables (extension)).
     Delimits,
 }
 
@@ -77,13 +77,15 @@ pub(crate) fn begin(line: Line, gathering: &Gathering) -> Result<LeafAfter, Allo
 impl Paragraph {
     /// Whether the paragraph takes a line, as its text or as what turns it into another block.
     pub(crate) fn takes(&self, line: &Line) -> bool
-        ensures { (lines : List BlockLine) → HoldsLines lines self.now → result ≡ not (is_stop (paragraph_step line.now.lazy (is_blank_line line.now) (start Inside lines line.now))) }
+        ensures { (lines : List BlockLine) → HoldsLines lines self.now
+            → result ≡ not (is_stop (paragraph_step line.now.lazy (is_blank_line line.now) (start Inside lines line.now))) }
     {
         !matches!(self.step(line), ParagraphStep::IsOverBefore)
     }
 
     fn step(&self, line: &Line) -> ParagraphStep
-        ensures { (lines : List BlockLine) → HoldsLines lines self.now → step_view (length lines) result ≡ paragraph_step line.now.lazy (is_blank_line line.now) (start Inside lines line.now) }
+        ensures { (lines : List BlockLine) → HoldsLines lines self.now
+            → step_view (length lines) result ≡ paragraph_step line.now.lazy (is_blank_line line.now) (start Inside lines line.now) }
     {
         if line.is_lazy() {
             return ParagraphStep::Continues;
@@ -163,7 +165,8 @@ impl Paragraph {
         ensures entities { gathering.new.entities.now ≡ gathering.old.entities.now }
         ensures step { IfOk result (λ step. IsOver (heading_block level (length gathering.old.texts.items)) step) }
         ensures texts { OnOk result (gathered_texts gathering.new ≡ gathered_texts gathering.old ++ behind_definitions (without_end_blanks self.text) ∷ []) }
-        ensures found { OnOk result (gathered_definitions gathering.new ≡ gathered_definitions gathering.old ++ leading_of gathering.old.entities.now (without_end_blanks self.text)) }
+        ensures found { OnOk result (gathered_definitions gathering.new
+            ≡ gathered_definitions gathering.old ++ leading_of gathering.old.entities.now (without_end_blanks self.text)) }
     {
         let text = content(self.text, gathering)?;
         setext_heading(level, text, gathering)
@@ -179,10 +182,21 @@ impl Paragraph {
         ensures within { IfOk result (λ step. LeafAfterIn (length gathering.new.texts.items) step) }
         ensures grows { length gathering.old.texts.items ≤ length gathering.new.texts.items }
         ensures entities { gathering.new.entities.now ≡ gathering.old.entities.now }
-        ensures goes { (begin : BlockLine) (later : List BlockLine) → HoldsLines (begin ∷ later) self → paragraph_step line.entry.lazy (is_blank_line line.entry) (start Inside (begin ∷ later) line.entry) ≡ Continues ParagraphKind → IfOk result (λ step. IsGoing (IsParagraphLeaf (begin ∷ later ++ line.entry ∷ [])) step) }
-        ensures goes_texts { (lines : List BlockLine) → HoldsLines lines self → paragraph_step line.entry.lazy (is_blank_line line.entry) (start Inside lines line.entry) ≡ Continues ParagraphKind → OnOk result ((gathered_texts gathering.new ≡ gathered_texts gathering.old) × (gathered_definitions gathering.new ≡ gathered_definitions gathering.old)) }
-        ensures underlined { (lines : List BlockLine) (level : ℕ) → HoldsLines lines self → paragraph_step line.entry.lazy (is_blank_line line.entry) (start Inside lines line.entry) ≡ IsLastLine (SetextHeading level) → IfOk result (λ step. IsOver (heading_block level (length gathering.old.texts.items)) step) }
-        ensures underlined_texts { (lines : List BlockLine) (level : ℕ) → HoldsLines lines self → paragraph_step line.entry.lazy (is_blank_line line.entry) (start Inside lines line.entry) ≡ IsLastLine (SetextHeading level) → OnOk result ((gathered_texts gathering.new ≡ gathered_texts gathering.old ++ behind_definitions (without_end_blanks self.text) ∷ []) × (gathered_definitions gathering.new ≡ gathered_definitions gathering.old ++ leading_of gathering.old.entities.now (without_end_blanks self.text))) }
+        ensures goes { (begin : BlockLine) (later : List BlockLine) → HoldsLines (begin ∷ later) self
+            → paragraph_step line.entry.lazy (is_blank_line line.entry) (start Inside (begin ∷ later) line.entry) ≡ Continues ParagraphKind
+            → IfOk result (λ step. IsGoing (IsParagraphLeaf (begin ∷ later ++ line.entry ∷ [])) step) }
+        ensures goes_texts { (lines : List BlockLine) → HoldsLines lines self
+            → paragraph_step line.entry.lazy (is_blank_line line.entry) (start Inside lines line.entry) ≡ Continues ParagraphKind
+            → OnOk result ((gathered_texts gathering.new ≡ gathered_texts gathering.old)
+            × (gathered_definitions gathering.new ≡ gathered_definitions gathering.old)) }
+        ensures underlined { (lines : List BlockLine) (level : ℕ) → HoldsLines lines self
+            → paragraph_step line.entry.lazy (is_blank_line line.entry) (start Inside lines line.entry) ≡ IsLastLine (SetextHeading level)
+            → IfOk result (λ step. IsOver (heading_block level (length gathering.old.texts.items)) step) }
+        ensures underlined_texts { (lines : List BlockLine) (level : ℕ) → HoldsLines lines self
+            → paragraph_step line.entry.lazy (is_blank_line line.entry) (start Inside lines line.entry) ≡ IsLastLine (SetextHeading level)
+            → OnOk result ((gathered_texts gathering.new ≡ gathered_texts gathering.old ++ behind_definitions (without_end_blanks self.text) ∷ [])
+            × (gathered_definitions gathering.new ≡ gathered_definitions gathering.old
+            ++ leading_of gathering.old.entities.now (without_end_blanks self.text))) }
     {
         match self.step(&line) {
             ParagraphStep::Underlines(level) => self.turn_into_heading(level, gathering),
@@ -239,8 +253,10 @@ impl Paragraph {
         ensures within { IfOk result (λ found. IfSome found (λ block. BlockIn (length gathering.new.texts.items) (block_view block))) }
         ensures grows { length gathering.old.texts.items ≤ length gathering.new.texts.items }
         ensures entities { gathering.new.entities.now ≡ gathering.old.entities.now }
-        ensures left { IfOk result (λ found. IsHandedIn (left_behind first (behind_definitions (without_end_blanks self.text))) (gathered_texts gathering.old) (gathered_texts gathering.new) found) }
-        ensures found { OnOk result (gathered_definitions gathering.new ≡ gathered_definitions gathering.old ++ leading_of gathering.old.entities.now (without_end_blanks self.text)) }
+        ensures left { IfOk result (λ found. IsHandedIn (left_behind first (behind_definitions (without_end_blanks self.text)))
+            (gathered_texts gathering.old) (gathered_texts gathering.new) found) }
+        ensures found { OnOk result (gathered_definitions gathering.new
+            ≡ gathered_definitions gathering.old ++ leading_of gathering.old.entities.now (without_end_blanks self.text)) }
     {
         let mut text = content(self.text, gathering)?;
         if text.is_empty() {
@@ -264,7 +280,8 @@ fn content(mut text: String, gathering: &mut Gathering) -> Result<String, AllocE
     ensures texts { gathering.new.texts ≡ gathering.old.texts }
     ensures entities { gathering.new.entities.now ≡ gathering.old.entities.now }
     ensures left { IfOk result (λ rest. string_bytes rest ≡ behind_definitions (without_end_blanks (string_bytes text))) }
-    ensures found { OnOk result (gathered_definitions gathering.new ≡ gathered_definitions gathering.old ++ leading_of gathering.old.entities.now (without_end_blanks (string_bytes text))) }
+    ensures found { OnOk result (gathered_definitions gathering.new
+        ≡ gathered_definitions gathering.old ++ leading_of gathering.old.entities.now (without_end_blanks (string_bytes text))) }
 {
     let length = trimmed_length(text.as_str());
     text.truncate(length);
@@ -272,7 +289,7 @@ fn content(mut text: String, gathering: &mut Gathering) -> Result<String, AllocE
     Ok(text)
 }
 
-/// Takes a task marker off the first text of an item, and says whether it is ticked (GFM 5.3).
+/// Takes a task marker off the first text of an item, and says whether it is ticked (GFM Task list items (extension)).
 fn take_task(text: &mut String, first: bool) -> Result<Option<bool>, AllocError>
     ensures { IfOk result (λ task. paragraph_leaf task (string_bytes text.new) ≡ taken first (string_bytes text.old)) }
 {

@@ -1,4 +1,4 @@
-//! Tables (GFM 4.10).
+//! Tables (GFM Tables (extension)).
 
 ghost use Rattle.std.specs.Prelude.{◌≡◌, ◌≤◌, ℕ, IfOk, IfSome, OnOk, length, map};
 ghost use Rattle.blockspec.specs.BlockTree.{table};
