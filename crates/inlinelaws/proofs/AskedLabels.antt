@@ -11,7 +11,7 @@ use Rattle.std.proofs.lemmas.Slice.Eq.{bytes_eq-Decides}
 use Rattle.mdtext.specs.EntityTable.{EntityTable}
 use Rattle.inlinespec.specs.LabelMap.{LinkTarget}
 use Rattle.inlinespec.specs.Lexing.{Kind, Leaf, Delimiters, OpenBracket, CloseBracket, lex}
-use Rattle.inlinespec.specs.LinkTails.{Table, LinkTail, Direct, ByLabel, link_tail_at}
+use Rattle.inlinespec.specs.LinkTails.{Table, LinkTail, Direct, ByLabel, NoLabel, link_tail_at}
 use Rattle.inlinespec.specs.Settled.{Piece}
 use Rattle.inlinespec.specs.TextReading.{Opened, nearest_opener, is_live, Item, closing_bracket, looked_up, by_link_tail, closing, item_by, item_at, after_deed, items_from, reading, asks_of}
 use Rattle.inlinespec.specs.TextTree.{events_of, as_set, inl, asked, Agree}
@@ -58,8 +58,8 @@ module _ (one other : Table) where
 
   same_tail : (at : ℕ) (r : LinkTail) → Agree one other ((by_link_tail one at r).asks) → by_link_tail one at r ≡ by_link_tail other at r
   same_tail at (Direct target end) h = refl
-  same_tail at (ByLabel None end) h = refl
-  same_tail at (ByLabel (Some label) end) h = ap (looked_up at end label) (asks_label at end label (one label) h)
+  same_tail at NoLabel h = refl
+  same_tail at (ByLabel label end) h = ap (looked_up at end label) (asks_label at end label (one label) h)
 
   same_closing : (entities : EntityTable) (text : List ℕ) (at : ℕ) (o : Option Opened) →
       Agree one other ((closing entities one text at o).asks) → closing entities one text at o ≡ closing entities other text at o

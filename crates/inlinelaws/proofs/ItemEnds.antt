@@ -17,6 +17,8 @@ use Rattle.mdscan.specs.Escapes.{begins_escape}
 use Rattle.mdscan.specs.InlineTail.{inline_tail_at}
 use Rattle.mdscan.specs.LinkLabel.{label_at}
 use Rattle.mdscan.specs.RawHtml.{raw_html}
+use Rattle.mdtext.specs.Labels.{label_of}
+use Rattle.mdscan.specs.Spans.{part}
 use Rattle.mdpair.specs.declared.runs.DelimiterChar.{DelimiterChar}
 use Rattle.mdpair.specs.declared.runs.DelimiterChar.TheVariants.{Asterisk, Underscore, Tilde}
 use Rattle.mdpair.specs.Neighbours.{delimiter_of, run_length, run_of, run_at}
@@ -25,7 +27,7 @@ use Rattle.inlinespec.specs.InlineEvents.{written}
 use Rattle.inlinespec.specs.CodeSpans.{backticks, before_backticks, code_inside}
 use Rattle.inlinespec.specs.LineBreaks.{LineBreak, spaces, break_after, spaced_break, backslash_break}
 use Rattle.inlinespec.specs.Lexing.{Kind, Leaf, Delimiters, OpenBracket, CloseBracket, leaf, as_written, Sign, Backslash, Ampersand, Backtick, LessThan, Blank, DelimiterMark, Bracket, Exclamation, ClosingBracket, Other, sign_of, break_or_written, escape_lexeme, reference_lexeme, code_lexeme, angle_lexeme, run_lexeme, bracket_lexeme, lexeme_by, lex}
-use Rattle.inlinespec.specs.LinkTails.{Table, LinkTail, Direct, ByLabel, empty_brackets_at, link_tail_by, link_tail_at}
+use Rattle.inlinespec.specs.LinkTails.{Table, LinkTail, Direct, ByLabel, NoLabel, by_label, empty_brackets_at, link_tail_by, link_tail_at}
 use Rattle.inlinespec.specs.Settled.{Piece}
 use Rattle.inlinespec.specs.TextReading.{Opened, nearest_opener, is_live, closing_bracket, looked_up, by_link_tail, closing, item_by, item_at}
 use Rattle.inlinelaws.proofs.FrontEnds.{IsSizeIn, IsEndIn, when, mapped, begins_below, behind, autolink_ends, raw_html_size, reference_size}
@@ -200,10 +202,6 @@ lex_size entities text at below = lexeme_size entities text at below (sign_of (s
 
 -- a `]` with what stands behind it
 
-end_of : LinkTail → ℕ
-end_of (Direct target end) = end
-end_of (ByLabel label end) = end
-
 empty_end : (text : List ℕ) (at : ℕ) → at ≤ length text → at ≤ (if empty_brackets_at text at then at + 2 else at)
 empty_end text at h = by (empty_brackets_at text at)
   where
@@ -221,13 +219,25 @@ empty_within text at h = by (empty_brackets_at text at) (λ e. begins_below 93 (
 abbrev IsTailEnd : List ℕ → ℕ → ℕ → Type 0
 IsTailEnd text after end = (after ≤ end) × (end ≤ length text)
 
+-- a tail that is there ends so
+EndsWithin : List ℕ → ℕ → LinkTail → Type 0
+EndsWithin text after (Direct target end) = IsTailEnd text after end
+EndsWithin text after (ByLabel label end) = IsTailEnd text after end
+EndsWithin text after NoLabel = Unit {0}
+
+labelled_ends : (text : List ℕ) (after end : ℕ) (label : Option (List ℕ)) → IsTailEnd text after end → EndsWithin text after (by_label label end)
+unfolding EndsWithin
+labelled_ends text after end None h = tt
+labelled_ends text after end (Some label) h = h
+
 reference_ends : (entities : EntityTable) (text : List ℕ) (after : ℕ) (inside : List ℕ) (r : Option Tail) (s : Option Span) → after ≤ length text →
     IfSome r (λ tail. IsEndIn text after tail.end) → IfSome s (λ span. IsEndIn text after (span.end + 1)) →
-    IsTailEnd text after (end_of (link_tail_by entities text after inside r s))
-unfolding end_of
+    EndsWithin text after (link_tail_by entities text after inside r s)
+unfolding EndsWithin
 reference_ends entities text after inside (Some tail) s le h k = (omega arith, h.1)
-reference_ends entities text after inside None (Some span) le h k = (omega arith, k.1)
-reference_ends entities text after inside None None le h k = (empty_end text after le, empty_within text after le)
+reference_ends entities text after inside None (Some span) le h k = labelled_ends text after (span.end + 1) (label_of (part text span)) (omega arith, k.1)
+reference_ends entities text after inside None None le h k =
+    labelled_ends text after (if empty_brackets_at text after then after + 2 else after) (label_of inside) (empty_end text after le, empty_within text after le)
 
 abbrev Fits : List ℕ → ℕ → ℕ → Type 0
 Fits text at size = (0 < size) × (at + size ≤ length text)
@@ -236,11 +246,11 @@ looked_up_fits : (text : List ℕ) (at end : ℕ) (label : List ℕ) (r : Option
 looked_up_fits text at end label None below le within = (omega arith, omega arith)
 looked_up_fits text at end label (Some target) below le within = (omega arith, omega arith)
 
-by_link_tail_fits : (table : Table) (text : List ℕ) (at : ℕ) (r : LinkTail) → at < length text → IsTailEnd text (at + 1) (end_of r) → Fits text at (by_link_tail table at r).size
-unfolding end_of
+by_link_tail_fits : (table : Table) (text : List ℕ) (at : ℕ) (r : LinkTail) → at < length text → EndsWithin text (at + 1) r → Fits text at (by_link_tail table at r).size
+unfolding EndsWithin
 by_link_tail_fits table text at (Direct target end) below h = (omega arith, omega arith)
-by_link_tail_fits table text at (ByLabel None end) below h = (omega arith, omega arith)
-by_link_tail_fits table text at (ByLabel (Some label) end) below h = looked_up_fits text at end label (table label) below h.0 h.1
+by_link_tail_fits table text at NoLabel below h = (omega arith, omega arith)
+by_link_tail_fits table text at (ByLabel label end) below h = looked_up_fits text at end label (table label) below h.0 h.1
 
 reference_fits : (entities : EntityTable) (table : Table) (text : List ℕ) (at : ℕ) (inside : List ℕ) → at < length text →
     Fits text at (by_link_tail table at (link_tail_at entities text (at + 1) inside)).size

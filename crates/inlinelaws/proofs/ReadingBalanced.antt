@@ -18,7 +18,7 @@ use Rattle.inlinespec.specs.CodeSpans.{backticks, code_content, code_inside}
 use Rattle.inlinespec.specs.InlineEvents.{Event, HardBreak, SoftBreak, LinkTo, written, rows_of}
 use Rattle.inlinespec.specs.LineBreaks.{LineBreak, spaced_break, backslash_break}
 use Rattle.inlinespec.specs.Lexing.{Kind, Leaf, Delimiters, OpenBracket, CloseBracket, leaf, as_written, Sign, Backslash, Ampersand, Backtick, LessThan, Blank, DelimiterMark, Bracket, Exclamation, ClosingBracket, Other, sign_of, break_or_written, escape_lexeme, reference_lexeme, code_lexeme, angle_lexeme, run_lexeme, bracket_lexeme, lexeme_by, lex}
-use Rattle.inlinespec.specs.LinkTails.{Table, LinkTail, Direct, ByLabel, link_tail_at}
+use Rattle.inlinespec.specs.LinkTails.{Table, LinkTail, Direct, ByLabel, NoLabel, link_tail_at}
 use Rattle.inlinespec.specs.Settled.{Piece, Made, Run, Opening, settled}
 use Rattle.inlinespec.specs.TextReading.{Opened, opened_with, nearest_opener, is_live, Deed, Adds, Spends, Links, closing_bracket, looked_up, by_link_tail, closing, item_by, item_at, spent, span_to, linked, after_deed, items_from, reading, pieces_after}
 use Rattle.inlinespec.specs.TextTree.{events_of}
@@ -113,8 +113,8 @@ found_balanced at end label (Some target) = tt
 referred_balanced : (table : Table) (at : ℕ) (r : LinkTail) → IsDeedBalanced (by_link_tail table at r).deed
 unfolding IsDeedBalanced
 referred_balanced table at (Direct target end) = tt
-referred_balanced table at (ByLabel None end) = tt
-referred_balanced table at (ByLabel (Some label) end) = found_balanced at end label (table label)
+referred_balanced table at NoLabel = tt
+referred_balanced table at (ByLabel label end) = found_balanced at end label (table label)
 
 closing_balanced : (entities : EntityTable) (table : Table) (text : List ℕ) (at : ℕ) (r : Option Opened) → IsDeedBalanced (closing entities table text at r).deed
 unfolding IsDeedBalanced

@@ -15,11 +15,16 @@ use Rattle.inlinespec.specs.LabelMap.{LinkTarget}
 abbrev pub Table : Type 0
 Table = List ℕ → Option LinkTarget
 
--- A link says where it leads (an inline link), or by which label to look it up; where its `]` is not followed by either and its text is no
--- label, there is none. The number is the place behind it.
+-- A link says where it leads (an inline link), or by which label to look it up; there is none where neither stands behind its `]` and its text is no
+-- label. The number is the place behind it.
 pub data LinkTail : Type 0 where
   Direct : LinkTarget → ℕ → LinkTail
-  ByLabel : Option (List ℕ) → ℕ → LinkTail
+  ByLabel : List ℕ → ℕ → LinkTail
+  NoLabel : LinkTail
+
+abbrev pub by_label : Option (List ℕ) → ℕ → LinkTail
+by_label None end = NoLabel
+by_label (Some label) end = ByLabel label end
 
 -- a destination or a title with escapes and references replaced (CommonMark 2.4, 2.5); one that is missing is empty
 abbrev pub part_text : EntityTable → List ℕ → Option Span → List ℕ
@@ -37,8 +42,8 @@ empty_brackets_at text at = begins_with 91 (drop at text) && begins_with 93 (dro
 -- (shortcut). Labels are matched by their folded text.
 abbrev pub link_tail_by : EntityTable → List ℕ → ℕ → List ℕ → Option Tail → Option Span → LinkTail
 link_tail_by entities text after inside (Some tail) label = Direct (tail_target entities text tail) tail.end
-link_tail_by entities text after inside None (Some span) = ByLabel (label_of (part text span)) (span.end + 1)
-link_tail_by entities text after inside None None = ByLabel (label_of inside) (if empty_brackets_at text after then after + 2 else after)
+link_tail_by entities text after inside None (Some span) = by_label (label_of (part text span)) (span.end + 1)
+link_tail_by entities text after inside None None = by_label (label_of inside) (if empty_brackets_at text after then after + 2 else after)
 
 -- what a `]` makes of the text between it and its opener, by what stands from the place behind it on
 unfoldable pub link_tail_at : EntityTable → List ℕ → ℕ → List ℕ → LinkTail

@@ -4,7 +4,7 @@ use Rattle.mdtext.specs.EntityTable.{EntityTable}
 use Rattle.inlinespec.specs.LabelMap.{LinkTarget}
 use Rattle.inlinespec.specs.InlineEvents.{InlineSpan, LinkTo, ImageOf, written, within}
 use Rattle.inlinespec.specs.Lexing.{Kind, Leaf, Delimiters, OpenBracket, CloseBracket, lex}
-use Rattle.inlinespec.specs.LinkTails.{Table, LinkTail, Direct, ByLabel, link_tail_at}
+use Rattle.inlinespec.specs.LinkTails.{Table, LinkTail, Direct, ByLabel, NoLabel, link_tail_at}
 use Rattle.inlinespec.specs.Settled.{Piece, Made, Run, Opening, bracket_text, settled}
 
 -- Pieces so far are read backwards: the first is the last.
@@ -57,8 +57,8 @@ looked_up at end label (Some target) = record { size = end - at; deed = Links ta
 
 abbrev pub by_link_tail : Table → ℕ → LinkTail → Item
 by_link_tail table at (Direct target end) = record { size = end - at; deed = Links target; asks = [] }
-by_link_tail table at (ByLabel None end) = closing_bracket []
-by_link_tail table at (ByLabel (Some label) end) = looked_up at end label (table label)
+by_link_tail table at (ByLabel label end) = looked_up at end label (table label)
+by_link_tail table at NoLabel = closing_bracket []
 
 -- A `]` uses up the nearest unused opener. If there is none, or no link may be made, it is text.
 abbrev pub closing : EntityTable → Table → List ℕ → ℕ → Option Opened → Item

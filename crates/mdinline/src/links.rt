@@ -8,7 +8,7 @@ ghost use Rattle.mdscan.specs.Spans.{IsSpanOf};
 ghost use Rattle.mdinline.specs.held.Brackets.{IsBehindBracket, IsLinkEnd};
 ghost use Rattle.mdinline.specs.held.FoundLinks.{IsLinkOf, with_asked};
 ghost use Rattle.inlinespec.specs.LabelMap.{target_of};
-ghost use Rattle.inlinespec.specs.LinkTails.{ByLabel, empty_brackets_at, part_text, link_tail_at, tail_target};
+ghost use Rattle.inlinespec.specs.LinkTails.{by_label, empty_brackets_at, part_text, link_tail_at, tail_target};
 ghost use Rattle.inlinespec.specs.TextReading.{by_link_tail};
 
 use crate::labels::Labels;
@@ -121,8 +121,8 @@ fn look_up<L: Labels>(
     asked: &mut BTreeSet<Label, Global>,
 ) -> Result<Option<FoundLink>, AllocError>
     ensures end { IfOk result (λ found. IfSome found (λ reference. reference.end ≡ end)) }
-    ensures value { IfOk result (λ found. (at : ℕ) → IsLinkOf at (by_link_tail (L.target labels.now) at (ByLabel (label_of inside.now) end)) found) }
-    ensures asks { OnOk result ((at : ℕ) → asked.new.keys ≡ with_asked asked.old.keys (by_link_tail (L.target labels.now) at (ByLabel (label_of inside.now) end)).asks) }
+    ensures value { IfOk result (λ found. (at : ℕ) → IsLinkOf at (by_link_tail (L.target labels.now) at (by_label (label_of inside.now) end)) found) }
+    ensures asks { OnOk result ((at : ℕ) → asked.new.keys ≡ with_asked asked.old.keys (by_link_tail (L.target labels.now) at (by_label (label_of inside.now) end)).asks) }
 {
     let Some(label) = fold_label(alloc, inside)? else {
         return Ok(None);

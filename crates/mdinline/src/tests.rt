@@ -8,6 +8,8 @@ mod others;
 mod references;
 mod rows;
 
+ghost use Rattle.std.specs.Prelude.{◌≤◌};
+
 use self::rows::{read_text, read_within};
 use crate::{Inline, InlineFault, LabelTable, Labels, read};
 use mdtext::{Entities, Label, Tally, Target, fold_label};

@@ -27,8 +27,8 @@ pub fn delimiter_run(text: &str, at: usize) -> Option<DelimiterRun>
     Some(DelimiterRun {
         delimiter,
         length,
-        can_open: can_open(delimiter, length, before, after),
-        can_close: can_close(delimiter, length, before, after),
+        can_open: can_bound(delimiter, length, before, after),
+        can_close: can_bound(delimiter, length, after, before),
     })
 }
 
@@ -75,56 +75,34 @@ fn last_char(front: &str) -> Option<char>
     front.chars().next_back()
 }
 
-/// Whether a run of `length` such characters between these neighbours can open (rules 1, 2, 5 and 6).
-#[tactic(auto, unfolding(crate::specs::Neighbours::opens_between))]
-fn can_open(
+/// Whether a run of `length` such characters can bound emphasis, with these neighbours outside of it and inside. An opener's inside follows it (rules 1, 2,
+/// 5 and 6); a closer's stands before it (rules 3, 4, 7 and 8, which are the same read from the right).
+#[tactic(auto, unfolding(crate::specs::Neighbours::opens_between, crate::specs::Neighbours::closes_between))]
+fn can_bound(
     delimiter: DelimiterChar,
     length: usize,
-    before: Option<char>,
-    after: Option<char>,
+    outside: Option<char>,
+    inside: Option<char>,
 ) -> bool
-    ensures { result ≡ opens_between delimiter length before after }
+    ensures opens { result ≡ opens_between delimiter length outside inside }
+    ensures closes { result ≡ closes_between delimiter length inside outside }
 {
-    let left = is_left_flanking(before, after);
+    let flanks = is_flanking(outside, inside);
     match delimiter {
-        DelimiterChar::Asterisk => left,
-        DelimiterChar::Underscore => left
-            && (!is_right_flanking(before, after) || is_punct_at(before)),
-        DelimiterChar::Tilde => left && length < 3,
+        DelimiterChar::Asterisk => flanks,
+        DelimiterChar::Underscore => flanks
+            && (!is_flanking(inside, outside) || is_punct_at(outside)),
+        DelimiterChar::Tilde => flanks && length < 3,
     }
 }
 
-/// Whether a run of `length` such characters between these neighbours can close (rules 3, 4, 7 and 8).
-#[tactic(auto, unfolding(crate::specs::Neighbours::closes_between))]
-fn can_close(
-    delimiter: DelimiterChar,
-    length: usize,
-    before: Option<char>,
-    after: Option<char>,
-) -> bool
-    ensures { result ≡ closes_between delimiter length before after }
+/// Whether a run is flanking on its inside: an opener left-flanking, a closer right-flanking.
+#[tactic(auto, unfolding(crate::specs::Neighbours::left_flanking, crate::specs::Neighbours::right_flanking))]
+fn is_flanking(outside: Option<char>, inside: Option<char>) -> bool
+    ensures left { result ≡ left_flanking outside inside }
+    ensures right { result ≡ right_flanking inside outside }
 {
-    let right = is_right_flanking(before, after);
-    match delimiter {
-        DelimiterChar::Asterisk => right,
-        DelimiterChar::Underscore => right
-            && (!is_left_flanking(before, after) || is_punct_at(after)),
-        DelimiterChar::Tilde => right && length < 3,
-    }
-}
-
-#[tactic(auto, unfolding(crate::specs::Neighbours::left_flanking))]
-fn is_left_flanking(before: Option<char>, after: Option<char>) -> bool
-    ensures { result ≡ left_flanking before after }
-{
-    !is_white_at(after) && (!is_punct_at(after) || is_white_at(before) || is_punct_at(before))
-}
-
-#[tactic(auto, unfolding(crate::specs::Neighbours::right_flanking))]
-fn is_right_flanking(before: Option<char>, after: Option<char>) -> bool
-    ensures { result ≡ right_flanking before after }
-{
-    !is_white_at(before) && (!is_punct_at(before) || is_white_at(after) || is_punct_at(after))
+    !is_white_at(inside) && (!is_punct_at(inside) || is_white_at(outside) || is_punct_at(outside))
 }
 
 /// Whether a neighbour is Unicode whitespace; one beyond the text's ends is.

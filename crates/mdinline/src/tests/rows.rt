@@ -1,5 +1,7 @@
 //! How tables of texts are read and compared.
 
+ghost use Rattle.std.specs.Prelude.{◌≤◌};
+
 use crate::{InlineFault, LabelTable, Parsed, read};
 use mdtext::{Entities, Tally, Target, fold_label};
 use std::alloc::{AllocError, Global};
