@@ -1,4 +1,4 @@
--- Rows of block quotes, list items and lazy lines (CommonMark 5.1, 5.2; GFM Task list items), by computation.
+-- Rows of block quotes, list items and lazy lines (CommonMark 5.1, 5.2; GFM Task list items (extension)), by computation.
 use Rattle.std.proofs.Common.{◌≡◌, [], ◌∷◌, Some, None, refl, codes, true, false}
 use Rattle.blockspec.specs.BlockTree.{bullet, ordered, paragraph, heading, thematic_break, code_block, block_quote, list, blocks_of, items_of}
 use Rattle.block_rows.proofs.ReadText.{units_read, found, defines}

@@ -1,4 +1,5 @@
 -- Rows of link reference definitions (CommonMark 4.7), by computation.
+use Rattle.std.specs.Prelude.{replicate}
 use Rattle.std.proofs.Common.{◌≡◌, [], ◌∷◌, ◌++◌, None, refl, codes, true}
 use Rattle.blockspec.specs.BlockTree.{bullet, paragraph, block_quote, list, blocks_of, items_of}
 use Rattle.block_rows.proofs.ReadText.{units_read, found, defines}
@@ -52,3 +53,24 @@ definition_in_containers : units_read (codes "> [a]: /1\n- [a]: /2\n") ≡
     found 0 1 (block_quote (blocks_of []) ∷ []) (defines (codes "a") (codes "/1") [] ∷ []) [] ∷ found 1 1 (list (bullet 45) true (items_of (blocks_of [] ∷ [])) ∷ []) (defines (codes "a") (codes "/2") [] ∷ []) [] ∷ []
 unfolding units_read
 definition_in_containers = refl
+
+-- a choice of ours: at most thirty-two parentheses of a bare destination are open at once
+definition_parentheses : units_read (codes "[a]: " ++ replicate 32 40 ++ codes "x" ++ replicate 32 41 ++ codes "\n") ≡
+    found 0 1 [] (defines (codes "a") (replicate 32 40 ++ codes "x" ++ replicate 32 41) [] ∷ []) [] ∷ []
+unfolding units_read
+definition_parentheses = refl
+
+definition_parentheses_past : units_read (codes "[a]: " ++ replicate 33 40 ++ codes "x" ++ replicate 33 41 ++ codes "\n") ≡
+    found 0 1 (paragraph 0 None ∷ []) [] ((codes "[a]: " ++ replicate 33 40 ++ codes "x" ++ replicate 33 41) ∷ []) ∷ []
+unfolding units_read
+definition_parentheses_past = refl
+
+-- a label has at most 999 characters
+definition_longest_label : units_read (91 ∷ replicate 999 97 ++ codes "]: /u\n") ≡ found 0 1 [] (defines (replicate 999 97) (codes "/u") [] ∷ []) [] ∷ []
+unfolding units_read
+definition_longest_label = refl
+
+definition_label_too_long : units_read (91 ∷ replicate 1000 97 ++ codes "]: /u\n") ≡
+    found 0 1 (paragraph 0 None ∷ []) [] ((91 ∷ replicate 1000 97 ++ codes "]: /u") ∷ []) ∷ []
+unfolding units_read
+definition_label_too_long = refl

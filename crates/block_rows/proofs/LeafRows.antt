@@ -99,7 +99,12 @@ fence_language : units_read (codes "``` a\\*&amp;b c\n```\n") ≡ found 0 2 (cod
 unfolding units_read
 fence_language = refl
 
--- a choice of ours: it ends at a vertical tab too
+-- a choice of ours: it ends at a form feed
+fence_language_feed : units_read (codes "``` a" ++ (12 ∷ []) ++ codes "b c\nd\n```\n") ≡ found 0 3 (code_block (codes "a") (codes "d\n") ∷ []) [] [] ∷ []
+unfolding units_read
+fence_language_feed = refl
+
+-- and at a vertical tab
 fence_language_tab : units_read (codes "~~~a" ++ (11 ∷ []) ++ codes "b\n") ≡ found 0 1 (code_block (codes "a") [] ∷ []) [] [] ∷ []
 unfolding units_read
 fence_language_tab = refl

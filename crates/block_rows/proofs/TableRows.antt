@@ -1,4 +1,4 @@
--- Rows of tables (GFM Tables), by computation.
+-- Rows of tables (GFM Tables (extension)), by computation.
 use Rattle.std.proofs.Common.{◌≡◌, [], ◌∷◌, None, refl, codes, true}
 use Rattle.mdscan.specs.declared.delimiter_rows.Align.TheVariants.{Plain, Left, Center, Right}
 use Rattle.blockspec.specs.BlockTree.{bullet, ordered, paragraph, code_block, block_quote, list, table, blocks_of, items_of}
@@ -33,10 +33,16 @@ unfolding units_read
 text_before = refl
 
 -- and definitions are looked for in them alone
-definitions_before : units_read (codes "[a]: /u\n[b]: /v |\n- |\n") ≡
-    found 0 2 (paragraph 0 None ∷ []) (defines (codes "a") (codes "/u") [] ∷ []) (codes "[b]: /v |" ∷ []) ∷ found 2 1 (list (bullet 45) true (items_of (blocks_of (paragraph 0 None ∷ []) ∷ [])) ∷ []) [] (codes "|" ∷ []) ∷ []
+definitions_before : units_read (codes "[a]: /u\n[b]: /v |\n-|\n") ≡
+    found 0 3 (table (Plain ∷ []) (0 ∷ []) [] ∷ []) (defines (codes "a") (codes "/u") [] ∷ []) (codes "[b]: /v" ∷ []) ∷ []
 unfolding units_read
 definitions_before = refl
+
+-- a choice of ours: a bar directly behind a backslash ends no cell, even if another backslash stands before that
+two_backslashes : units_read (codes "a | b\n:-- | -\nc \\\\| d | e\n") ≡
+    found 0 3 (table (Left ∷ Plain ∷ []) (0 ∷ 1 ∷ []) ((2 ∷ 3 ∷ []) ∷ []) ∷ []) [] (codes "a" ∷ codes "b" ∷ codes "c \\| d" ∷ codes "e" ∷ []) ∷ []
+unfolding units_read
+two_backslashes = refl
 
 -- a table ends before a blank line
 before_blank : units_read (codes "| a |\n| - |\nb\n\nc\n") ≡

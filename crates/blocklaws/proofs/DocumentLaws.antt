@@ -12,65 +12,65 @@ use Rattle.blockspec.specs.FirstDefinitions.{first_definition}
 use Rattle.blockspec.specs.Meetings.{IsBeginning}
 use Rattle.blockspec.specs.UnitBegin.{begins_unit, units_of, shift_found}
 use Rattle.blockspec.specs.UnitTree.{FoundUnit}
-use Rattle.blocklaws.proofs.VisibleLaws.{visible-append}
-use Rattle.blocklaws.proofs.DepthLaws.{groups-deep, begins-deep}
-use Rattle.blocklaws.proofs.UnitLaws.{units_within, units-split}
+use Rattle.blocklaws.proofs.VisibleLaws.{visible_append}
+use Rattle.blocklaws.proofs.DepthLaws.{groups_deep, begins_deep}
+use Rattle.blocklaws.proofs.UnitLaws.{units_within, units_split}
 
-units-deep : (e : EntityTable) (d : ℕ) (ls : List BlockLine) → visible_in ls < d → units_within e d ls ≡ units_of e ls
-units-deep e d ls h = ap (λ z. found_units z (length ls)) (groups-deep e d ls h)
+units_deep : (e : EntityTable) (d : ℕ) (ls : List BlockLine) → visible_in ls < d → units_within e d ls ≡ units_of e ls
+units_deep e d ls h = ap (λ z. found_units z (length ls)) (groups_deep e d ls h)
 
 -- Where a line begins a unit, the units before it are those of the lines before it alone, whatever comes after; and from
 -- it on they are those of the lines from it on alone, so many lines further on.
-pub units-meet : (e : EntityTable) (xs : List BlockLine) (l : BlockLine) (ys : List BlockLine) → begins_unit xs l ≡ true →
+pub units_meet : (e : EntityTable) (xs : List BlockLine) (l : BlockLine) (ys : List BlockLine) → begins_unit xs l ≡ true →
     units_of e (xs ++ l ∷ ys) ≡ units_of e xs ++ map (shift_found (length xs)) (units_of e (l ∷ ys))
-units-meet e xs l ys b =
+units_meet e xs l ys b =
     let all = xs ++ l ∷ ys in
     let d = suc (visible_in all) in
-    let v = visible-append xs (l ∷ ys) in
+    let v = visible_append xs (l ∷ ys) in
     let front : visible_in xs < d = omega (arith, v) in
     let back : visible_in (l ∷ ys) < suc d = omega (arith, v) in
-    sym (units-deep e (suc d) all (omega arith))
-    ∙ units-split e d xs l ys (begins-deep d xs l front ∙ b)
-    ∙ ap (λ z. z ++ map (shift_found (length xs)) (units_within e (suc d) (l ∷ ys))) (units-deep e (suc d) xs (omega (arith, front)))
-    ∙ ap (λ z. units_of e xs ++ map (shift_found (length xs)) z) (units-deep e (suc d) (l ∷ ys) back)
+    sym (units_deep e (suc d) all (omega arith))
+    ∙ units_split e d xs l ys (begins_deep d xs l front ∙ b)
+    ∙ ap (λ z. z ++ map (shift_found (length xs)) (units_within e (suc d) (l ∷ ys))) (units_deep e (suc d) xs (omega (arith, front)))
+    ∙ ap (λ z. units_of e xs ++ map (shift_found (length xs)) z) (units_deep e (suc d) (l ∷ ys) back)
 
 -- the same of a document
-pub map-length : {A B : Type 0} (f : A → B) (xs : List A) → length (map f xs) ≡ length xs
-map-length f [] = refl
-map-length f (x ∷ xs) = ap (λ z. suc z) (map-length f xs)
+pub map_length : {A B : Type 0} (f : A → B) (xs : List A) → length (map f xs) ≡ length xs
+map_length f [] = refl
+map_length f (x ∷ xs) = ap (λ z. suc z) (map_length f xs)
 
-pub document-units : (e : EntityTable) (lines : List (List ℕ)) → units e lines ≡ units_of e (map document_line lines)
-document-units e lines = ap (λ z. found_units (groups e (map document_line lines)) z) (sym (map-length document_line lines))
+pub document_units : (e : EntityTable) (lines : List (List ℕ)) → units e lines ≡ units_of e (map document_line lines)
+document_units e lines = ap (λ z. found_units (groups e (map document_line lines)) z) (sym (map_length document_line lines))
 
-pub document-meets : (e : EntityTable) (front : List (List ℕ)) (line : List ℕ) (later : List (List ℕ)) →
+pub document_meets : (e : EntityTable) (front : List (List ℕ)) (line : List ℕ) (later : List (List ℕ)) →
     IsBeginning front line →
     units e (front ++ line ∷ later) ≡ units e front ++ map (shift_found (length front)) (units e (line ∷ later))
-document-meets e front line later b =
+document_meets e front line later b =
     let xs = map document_line front in
     let ys = map document_line later in
-    document-units e (front ++ line ∷ later)
+    document_units e (front ++ line ∷ later)
     ∙ ap (λ z. units_of e z) (map-append document_line front (line ∷ later))
-    ∙ units-meet e xs (document_line line) ys b
-    ∙ ap (λ z. units_of e xs ++ map (shift_found z) (units_of e (document_line line ∷ ys))) (map-length document_line front)
-    ∙ ap (λ z. z ++ map (shift_found (length front)) (units_of e (document_line line ∷ ys))) (sym (document-units e front))
-    ∙ ap (λ z. units e front ++ map (shift_found (length front)) z) (sym (document-units e (line ∷ later)))
+    ∙ units_meet e xs (document_line line) ys b
+    ∙ ap (λ z. units_of e xs ++ map (shift_found z) (units_of e (document_line line ∷ ys))) (map_length document_line front)
+    ∙ ap (λ z. z ++ map (shift_found (length front)) (units_of e (document_line line ∷ ys))) (sym (document_units e front))
+    ∙ ap (λ z. units e front ++ map (shift_found (length front)) z) (sym (document_units e (line ∷ later)))
 
 -- ---- definitions
 
-pub definitions-append : (us vs : List FoundUnit) → definitions_of (us ++ vs) ≡ definitions_of us ++ definitions_of vs
-definitions-append [] vs = refl
-definitions-append (u ∷ us) vs =
-    ap (λ z. u.unit.definitions ++ z) (definitions-append us vs) ∙ sym (append_assoc u.unit.definitions (definitions_of us) (definitions_of vs))
+pub definitions_append : (us vs : List FoundUnit) → definitions_of (us ++ vs) ≡ definitions_of us ++ definitions_of vs
+definitions_append [] vs = refl
+definitions_append (u ∷ us) vs =
+    ap (λ z. u.unit.definitions ++ z) (definitions_append us vs) ∙ sym (append_assoc u.unit.definitions (definitions_of us) (definitions_of vs))
 
-pub definitions-moved : (k : ℕ) (us : List FoundUnit) → definitions_of (map (shift_found k) us) ≡ definitions_of us
-definitions-moved k [] = refl
-definitions-moved k (u ∷ us) = ap (λ z. u.unit.definitions ++ z) (definitions-moved k us)
+pub definitions_moved : (k : ℕ) (us : List FoundUnit) → definitions_of (map (shift_found k) us) ≡ definitions_of us
+definitions_moved k [] = refl
+definitions_moved k (u ∷ us) = ap (λ z. u.unit.definitions ++ z) (definitions_moved k us)
 
 -- Of two lists of definitions one after the other the first counts that has the label.
-pub first-of-both : (ds fs : List LinkDefinition) (label : List ℕ) →
+pub first_of_both : (ds fs : List LinkDefinition) (label : List ℕ) →
     first_definition (ds ++ fs) label ≡ option_or (first_definition ds label) (first_definition fs label)
-first-of-both [] fs label = refl
-first-of-both (d ∷ ds) fs label = go (bytes_eq d.label label) (first-of-both ds fs label)
+first_of_both [] fs label = refl
+first_of_both (d ∷ ds) fs label = go (bytes_eq d.label label) (first_of_both ds fs label)
   where
     go : (b : Bool) → first_definition (ds ++ fs) label ≡ option_or (first_definition ds label) (first_definition fs label) →
         cond b (Some d) (first_definition (ds ++ fs) label) ≡ option_or (cond b (Some d) (first_definition ds label)) (first_definition fs label)
@@ -78,7 +78,7 @@ first-of-both (d ∷ ds) fs label = go (bytes_eq d.label label) (first-of-both d
     go false h = h
 
 -- The table of units one after the other: of both definitions of a label the first counts.
-pub tables-append : (us vs : List FoundUnit) (label : List ℕ) →
+pub tables_append : (us vs : List FoundUnit) (label : List ℕ) →
     first_definition (definitions_of (us ++ vs)) label ≡ option_or (first_definition (definitions_of us) label) (first_definition (definitions_of vs) label)
-tables-append us vs label =
-    ap (λ z. first_definition z label) (definitions-append us vs) ∙ first-of-both (definitions_of us) (definitions_of vs) label
+tables_append us vs label =
+    ap (λ z. first_definition z label) (definitions_append us vs) ∙ first_of_both (definitions_of us) (definitions_of vs) label

@@ -5,8 +5,8 @@ use Rattle.blockspec.specs.BlockLine.{BlockLine, is_blank_line}
 use Rattle.blockspec.specs.BlockStart.{Free, Inside, Container, Kind, Paragraph, SetextHeading, Table, AtxHeading, ThematicBreak, FencedCode, IndentedCode, HtmlBlock, Holds, start, begun}
 use Rattle.blockspec.specs.Laziness.{Tip}
 use Rattle.blockspec.specs.ContainerLines.{inner, is_bare}
-use Rattle.blockspec.specs.Stretches.{Stretch, Step, Takes, Ends, Stops, takes_if, goes_on, closes, ends_html, is_row, is_code, fence_step, html_step, interrupted, paragraph_step, step, is_single, Tail, Empty, Going, Over, Cut, ended, gap_behind, first_of, tail_of, begin_where, after_step, add_at, add, cut_from}
-use Rattle.blocklaws.proofs.StartKinds.{Kinds, IfBegun, start-kinds, begun-kinds}
+use Rattle.blockspec.specs.Stretches.{Stretch, Step, Continues, IsLastLine, IsOverBefore, continues_if, goes_on, closes, ends_html, is_row, is_code, fence_step, html_step, interrupted, paragraph_step, step, is_single, Tail, Empty, Going, Over, Cut, ended, gap_behind, first_of, tail_of, begin_where, after_step, add_at, add, cut_from}
+use Rattle.blocklaws.proofs.StartKinds.{Kinds, IfBegun, start_kinds, begun_kinds}
 
 -- ---- a leaf stays one
 
@@ -38,51 +38,51 @@ sort_of IndentedCode = is_leaf tt
 sort_of (HtmlBlock kind) = is_leaf tt
 
 abbrev pub LeafStep : Step → Type 0
-LeafStep (Takes kind) = IsLeaf kind
-LeafStep (Ends kind) = IsLeaf kind
-LeafStep Stops = Unit {0}
+LeafStep (Continues kind) = IsLeaf kind
+LeafStep (IsLastLine kind) = IsLeaf kind
+LeafStep IsOverBefore = Unit {0}
 
-takes-leaf : (b : Bool) (k : Kind) → IsLeaf k → LeafStep (takes_if b k)
-takes-leaf true k w = w
-takes-leaf false k w = tt
+takes_leaf : (b : Bool) (k : Kind) → IsLeaf k → LeafStep (continues_if b k)
+takes_leaf true k w = w
+takes_leaf false k w = tt
 
-fence-leaf : (b : Bool) (i m n : ℕ) (info : List ℕ) → LeafStep (fence_step b (FencedCode i m n info))
-fence-leaf true i m n info = tt
-fence-leaf false i m n info = tt
+fence_leaf : (b : Bool) (i m n : ℕ) (info : List ℕ) → LeafStep (fence_step b (FencedCode i m n info))
+fence_leaf true i m n info = tt
+fence_leaf false i m n info = tt
 
-html-leaf : (blank ends : Bool) (kind : ℕ) → LeafStep (html_step blank ends kind)
-html-leaf true ends kind = takes-leaf (nat_lt kind 6) (HtmlBlock kind) tt
-html-leaf false true kind = tt
-html-leaf false false kind = tt
+leaf_of_html : (blank ends : Bool) (kind : ℕ) → LeafStep (html_step blank ends kind)
+leaf_of_html true ends kind = takes_leaf (nat_lt kind 6) (HtmlBlock kind) tt
+leaf_of_html false true kind = tt
+leaf_of_html false false kind = tt
 
-interrupted-leaf : (k : Option Kind) → LeafStep (interrupted k)
-interrupted-leaf None = tt
-interrupted-leaf (Some (SetextHeading level)) = tt
-interrupted-leaf (Some (Table above)) = tt
-interrupted-leaf (Some (Holds container)) = tt
-interrupted-leaf (Some Paragraph) = tt
-interrupted-leaf (Some (AtxHeading level content)) = tt
-interrupted-leaf (Some ThematicBreak) = tt
-interrupted-leaf (Some (FencedCode i m n info c)) = tt
-interrupted-leaf (Some IndentedCode) = tt
-interrupted-leaf (Some (HtmlBlock kind)) = tt
+interrupted_leaf : (k : Option Kind) → LeafStep (interrupted k)
+interrupted_leaf None = tt
+interrupted_leaf (Some (SetextHeading level)) = tt
+interrupted_leaf (Some (Table above)) = tt
+interrupted_leaf (Some (Holds container)) = tt
+interrupted_leaf (Some Paragraph) = tt
+interrupted_leaf (Some (AtxHeading level content)) = tt
+interrupted_leaf (Some ThematicBreak) = tt
+interrupted_leaf (Some (FencedCode i m n info c)) = tt
+interrupted_leaf (Some IndentedCode) = tt
+interrupted_leaf (Some (HtmlBlock kind)) = tt
 
-paragraph-leaf : (lazy blank : Bool) (k : Option Kind) → LeafStep (paragraph_step lazy blank k)
-paragraph-leaf true blank k = tt
-paragraph-leaf false true k = tt
-paragraph-leaf false false k = interrupted-leaf k
+leaf_of_paragraph : (lazy blank : Bool) (k : Option Kind) → LeafStep (paragraph_step lazy blank k)
+leaf_of_paragraph true blank k = tt
+leaf_of_paragraph false true k = tt
+leaf_of_paragraph false false k = interrupted_leaf k
 
-pub step-leaf : (T : List BlockLine → Tip) (k : Kind) (f : BlockLine) (r : List BlockLine) (l : BlockLine) → IsLeaf k → LeafStep (step T k f r l)
+pub step_leaf : (T : List BlockLine → Tip) (k : Kind) (f : BlockLine) (r : List BlockLine) (l : BlockLine) → IsLeaf k → LeafStep (step T k f r l)
 unfolding step
-step-leaf T (Holds container) f r l w = absurd w
-step-leaf T (FencedCode i m n info c) f r l w = fence-leaf (closes m n l) i m n info
-step-leaf T (HtmlBlock kind) f r l w = html-leaf (is_blank_line l) (ends_html kind l) kind
-step-leaf T Paragraph f r l w = paragraph-leaf l.lazy (is_blank_line l) (start Inside (f ∷ r) l)
-step-leaf T (Table above) f r l w = takes-leaf (is_row l) (Table above) tt
-step-leaf T IndentedCode f r l w = takes-leaf (is_code l) IndentedCode tt
-step-leaf T (SetextHeading level) f r l w = tt
-step-leaf T (AtxHeading level content) f r l w = tt
-step-leaf T ThematicBreak f r l w = tt
+step_leaf T (Holds container) f r l w = absurd w
+step_leaf T (FencedCode i m n info c) f r l w = fence_leaf (closes m n l) i m n info
+step_leaf T (HtmlBlock kind) f r l w = leaf_of_html (is_blank_line l) (ends_html kind l) kind
+step_leaf T Paragraph f r l w = leaf_of_paragraph l.lazy (is_blank_line l) (start Inside (f ∷ r) l)
+step_leaf T (Table above) f r l w = takes_leaf (is_row l) (Table above) tt
+step_leaf T IndentedCode f r l w = takes_leaf (is_code l) IndentedCode tt
+step_leaf T (SetextHeading level) f r l w = tt
+step_leaf T (AtxHeading level content) f r l w = tt
+step_leaf T ThematicBreak f r l w = tt
 
 -- ---- a table has its first two rows, and fenced code that lines may go on with has no closing fence
 
@@ -98,43 +98,43 @@ IsMade (HtmlBlock kind) later = Unit {0}
 IsMade (Holds container) later = Unit {0}
 
 abbrev StepMade : (later : List BlockLine) → Step → Type 0
-StepMade later (Takes kind) = IsMade kind later
-StepMade later (Ends kind) = Unit {0}
-StepMade later Stops = Unit {0}
+StepMade later (Continues kind) = IsMade kind later
+StepMade later (IsLastLine kind) = Unit {0}
+StepMade later IsOverBefore = Unit {0}
 
-takes-made : (later : List BlockLine) (b : Bool) (k : Kind) → IsMade k later → StepMade later (takes_if b k)
-takes-made later true k w = w
-takes-made later false k w = tt
+takes_made : (later : List BlockLine) (b : Bool) (k : Kind) → IsMade k later → StepMade later (continues_if b k)
+takes_made later true k w = w
+takes_made later false k w = tt
 
-fence-made : (later : List BlockLine) (b : Bool) (i m n : ℕ) (info : List ℕ) → StepMade later (fence_step b (FencedCode i m n info))
-fence-made later true i m n info = tt
-fence-made later false i m n info = refl
+fence_made : (later : List BlockLine) (b : Bool) (i m n : ℕ) (info : List ℕ) → StepMade later (fence_step b (FencedCode i m n info))
+fence_made later true i m n info = tt
+fence_made later false i m n info = refl
 
-html-made : (later : List BlockLine) (blank ends : Bool) (kind : ℕ) → StepMade later (html_step blank ends kind)
-html-made later true ends kind = takes-made later (nat_lt kind 6) (HtmlBlock kind) tt
-html-made later false true kind = tt
-html-made later false false kind = tt
+html_made : (later : List BlockLine) (blank ends : Bool) (kind : ℕ) → StepMade later (html_step blank ends kind)
+html_made later true ends kind = takes_made later (nat_lt kind 6) (HtmlBlock kind) tt
+html_made later false true kind = tt
+html_made later false false kind = tt
 
-interrupted-made : (later : List BlockLine) (k : Option Kind) → IfBegun (λ z. IsMade z later) k → StepMade later (interrupted k)
-interrupted-made later None w = tt
-interrupted-made later (Some (SetextHeading level)) w = tt
-interrupted-made later (Some (Table above)) w = w
-interrupted-made later (Some (Holds container)) w = tt
-interrupted-made later (Some Paragraph) w = tt
-interrupted-made later (Some (AtxHeading level content)) w = tt
-interrupted-made later (Some ThematicBreak) w = tt
-interrupted-made later (Some (FencedCode i m n info c)) w = tt
-interrupted-made later (Some IndentedCode) w = tt
-interrupted-made later (Some (HtmlBlock kind)) w = tt
+interrupted_made : (later : List BlockLine) (k : Option Kind) → IfBegun (λ z. IsMade z later) k → StepMade later (interrupted k)
+interrupted_made later None w = tt
+interrupted_made later (Some (SetextHeading level)) w = tt
+interrupted_made later (Some (Table above)) w = w
+interrupted_made later (Some (Holds container)) w = tt
+interrupted_made later (Some Paragraph) w = tt
+interrupted_made later (Some (AtxHeading level content)) w = tt
+interrupted_made later (Some ThematicBreak) w = tt
+interrupted_made later (Some (FencedCode i m n info c)) w = tt
+interrupted_made later (Some IndentedCode) w = tt
+interrupted_made later (Some (HtmlBlock kind)) w = tt
 
-paragraph-made : (later : List BlockLine) (lazy blank : Bool) (k : Option Kind) → IfBegun (λ z. IsMade z later) k → StepMade later (paragraph_step lazy blank k)
-paragraph-made later true blank k w = tt
-paragraph-made later false true k w = tt
-paragraph-made later false false k w = interrupted-made later k w
+paragraph_made : (later : List BlockLine) (lazy blank : Bool) (k : Option Kind) → IfBegun (λ z. IsMade z later) k → StepMade later (paragraph_step lazy blank k)
+paragraph_made later true blank k w = tt
+paragraph_made later false true k w = tt
+paragraph_made later false false k w = interrupted_made later k w
 
 -- a block that begins behind a paragraph, or where none is open
-turns-made : (f : BlockLine) (r : List BlockLine) (l : BlockLine) → Kinds (λ z. IsMade z (r ++ l ∷ [])) Inside (f ∷ r) l
-turns-made f r l = record {
+turns_made : (f : BlockLine) (r : List BlockLine) (l : BlockLine) → Kinds (λ z. IsMade z (r ++ l ∷ [])) Inside (f ∷ r) l
+turns_made f r l = record {
   quote = tt;
   atx = λ level content. tt;
   fence = λ i m n info. refl;
@@ -146,8 +146,8 @@ turns-made f r l = record {
   code = tt;
 }
 
-begins-made : (l : BlockLine) → Kinds (λ z. IsMade z []) Free [] l
-begins-made l = record {
+begins_made : (l : BlockLine) → Kinds (λ z. IsMade z []) Free [] l
+begins_made l = record {
   quote = tt;
   atx = λ level content. tt;
   fence = λ i m n info. refl;
@@ -159,54 +159,54 @@ begins-made l = record {
   code = tt;
 }
 
-pub begun-made : (l : BlockLine) → IsMade (begun l) []
-begun-made l = begun-kinds (λ z. IsMade z []) l (begins-made l) tt
+pub begun_made : (l : BlockLine) → IsMade (begun l) []
+begun_made l = begun_kinds (λ z. IsMade z []) l (begins_made l) tt
 
-step-made : (T : List BlockLine → Tip) (k : Kind) (f : BlockLine) (r : List BlockLine) (l : BlockLine) → IsMade k r → StepMade (r ++ l ∷ []) (step T k f r l)
+step_made : (T : List BlockLine → Tip) (k : Kind) (f : BlockLine) (r : List BlockLine) (l : BlockLine) → IsMade k r → StepMade (r ++ l ∷ []) (step T k f r l)
 unfolding step
-step-made T (Holds container) f r l w = takes-made (r ++ l ∷ []) (goes_on container (is_bare container f r) (T (inner container f r)) l) (Holds container) tt
-step-made T (FencedCode i m n info c) f r l w = fence-made (r ++ l ∷ []) (closes m n l) i m n info
-step-made T (HtmlBlock kind) f r l w = html-made (r ++ l ∷ []) (is_blank_line l) (ends_html kind l) kind
-step-made T Paragraph f r l w =
-    paragraph-made (r ++ l ∷ []) l.lazy (is_blank_line l) (start Inside (f ∷ r) l) (start-kinds (λ z. IsMade z (r ++ l ∷ [])) Inside (f ∷ r) l (turns-made f r l))
-step-made T (Table above) f r l w = takes-made (r ++ l ∷ []) (is_row l) (Table above) (w.0, let p = length-append r (l ∷ []) in omega (arith, p, w.1))
-step-made T IndentedCode f r l w = takes-made (r ++ l ∷ []) (is_code l) IndentedCode tt
-step-made T (SetextHeading level) f r l w = tt
-step-made T (AtxHeading level content) f r l w = tt
-step-made T ThematicBreak f r l w = tt
+step_made T (Holds container) f r l w = takes_made (r ++ l ∷ []) (goes_on container (is_bare container f r) (T (inner container f r)) l) (Holds container) tt
+step_made T (FencedCode i m n info c) f r l w = fence_made (r ++ l ∷ []) (closes m n l) i m n info
+step_made T (HtmlBlock kind) f r l w = html_made (r ++ l ∷ []) (is_blank_line l) (ends_html kind l) kind
+step_made T Paragraph f r l w =
+    paragraph_made (r ++ l ∷ []) l.lazy (is_blank_line l) (start Inside (f ∷ r) l) (start_kinds (λ z. IsMade z (r ++ l ∷ [])) Inside (f ∷ r) l (turns_made f r l))
+step_made T (Table above) f r l w = takes_made (r ++ l ∷ []) (is_row l) (Table above) (w.0, let p = length-append r (l ∷ []) in omega (arith, p, w.1))
+step_made T IndentedCode f r l w = takes_made (r ++ l ∷ []) (is_code l) IndentedCode tt
+step_made T (SetextHeading level) f r l w = tt
+step_made T (AtxHeading level content) f r l w = tt
+step_made T ThematicBreak f r l w = tt
 
 abbrev pub TailMade : Tail → Type 0
 TailMade Empty = Unit {0}
 TailMade (Going s) = IsMade s.kind s.later
 TailMade (Over s) = Unit {0}
 
-ended-made : (t : Tail) → TailMade (ended t)
-ended-made Empty = tt
-ended-made (Going s) = tt
-ended-made (Over s) = tt
+ended_made : (t : Tail) → TailMade (ended t)
+ended_made Empty = tt
+ended_made (Going s) = tt
+ended_made (Over s) = tt
 
-single-made : (b : Bool) (m : ℕ) (g : Bool) (l : BlockLine) → TailMade (tail_of b (first_of m g l))
-single-made true m g l = tt
-single-made false m g l = begun-made l
+single_made : (b : Bool) (m : ℕ) (g : Bool) (l : BlockLine) → TailMade (tail_of b (first_of m g l))
+single_made true m g l = tt
+single_made false m g l = begun_made l
 
-begin-made : (T : List BlockLine → Tip) (c : Cut) (l : BlockLine) (blank : Bool) → TailMade (begin_where blank T c l).tail
+begin_made : (T : List BlockLine → Tip) (c : Cut) (l : BlockLine) (blank : Bool) → TailMade (begin_where blank T c l).tail
 unfolding begin_where
-begin-made T c l true = ended-made c.tail
-begin-made T c l false = single-made (is_single (begun l) l) c.lines (gap_behind T c) l
+begin_made T c l true = ended_made c.tail
+begin_made T c l false = single_made (is_single (begun l) l) c.lines (gap_behind T c) l
 
-after-made : (T : List BlockLine → Tip) (c : Cut) (s : Stretch) (l : BlockLine) (st : Step) → StepMade (s.later ++ l ∷ []) st → TailMade (after_step T c s l st).tail
+after_made : (T : List BlockLine → Tip) (c : Cut) (s : Stretch) (l : BlockLine) (st : Step) → StepMade (s.later ++ l ∷ []) st → TailMade (after_step T c s l st).tail
 unfolding after_step
-after-made T c s l (Takes kind) w = w
-after-made T c s l (Ends kind) w = tt
-after-made T c s l Stops w = begin-made T c l (is_blank_line l)
+after_made T c s l (Continues kind) w = w
+after_made T c s l (IsLastLine kind) w = tt
+after_made T c s l IsOverBefore w = begin_made T c l (is_blank_line l)
 
-add-made : (T : List BlockLine → Tip) (c : Cut) (l : BlockLine) (t : Tail) → TailMade t → TailMade (add_at T c l t).tail
+add_made : (T : List BlockLine → Tip) (c : Cut) (l : BlockLine) (t : Tail) → TailMade t → TailMade (add_at T c l t).tail
 unfolding add_at
-add-made T c l Empty w = begin-made T c l (is_blank_line l)
-add-made T c l (Over s) w = begin-made T c l (is_blank_line l)
-add-made T c l (Going s) w = after-made T c s l (step T s.kind s.first s.later l) (step-made T s.kind s.first s.later l w)
+add_made T c l Empty w = begin_made T c l (is_blank_line l)
+add_made T c l (Over s) w = begin_made T c l (is_blank_line l)
+add_made T c l (Going s) w = after_made T c s l (step T s.kind s.first s.later l) (step_made T s.kind s.first s.later l w)
 
-pub cut-made : (T : List BlockLine → Tip) (c : Cut) (xs : List BlockLine) → TailMade c.tail → TailMade (cut_from T c xs).tail
+pub cut_made : (T : List BlockLine → Tip) (c : Cut) (xs : List BlockLine) → TailMade c.tail → TailMade (cut_from T c xs).tail
 unfolding cut_from
-cut-made T c [] w = w
-cut-made T c (x ∷ xs) w = cut-made T (add T c x) xs (add-made T c x c.tail w)
+cut_made T c [] w = w
+cut_made T c (x ∷ xs) w = cut_made T (add T c x) xs (add_made T c x c.tail w)

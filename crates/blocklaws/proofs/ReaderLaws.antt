@@ -13,11 +13,11 @@ use Rattle.blockspec.specs.Nesting.{deep_within}
 use Rattle.blockspec.specs.Stretches.{Stretch, Tail, Empty, Going, Over, Cut, no_lines, cut_by, tip_within}
 use Rattle.blockspec.specs.SummaryDepth.{sinks}
 use Rattle.blockspec.specs.UnitBegin.{begins_unit}
-use Rattle.blocklaws.proofs.DepthLaws.{at-depth, IsMarked, TailLight, tips-agree, cut-agrees, cut-light, none-light, groups-agree, part-agrees, map-agrees, begins-deep}
+use Rattle.blocklaws.proofs.DepthLaws.{at_depth, IsMarked, TailLight, tips_agree, cut_agrees, cut_light, none_light, groups_agree, part_agrees, map_agrees, begins_deep}
 use Rattle.blocklaws.proofs.LeafSteps.{Sort, is_container, is_leaf, sort_of}
-use Rattle.blocklaws.proofs.NestingLaws.{deep-next}
-use Rattle.blocklaws.proofs.SummaryLaws.{leaf-last, laws, begins-law}
-use Rattle.blocklaws.proofs.VisibleLaws.{inner-visible, visible-append}
+use Rattle.blocklaws.proofs.NestingLaws.{deep_next}
+use Rattle.blocklaws.proofs.SummaryLaws.{leaf_last, laws, begins_law}
+use Rattle.blocklaws.proofs.VisibleLaws.{inner_visible, visible_append}
 
 -- ---- every depth that suffices
 
@@ -27,74 +27,74 @@ record SummariesAgree (e : EntityTable) (d : ℕ) : Type 0 where
 abbrev of_kind : ℕ → Bool → Kind → BlockLine → List BlockLine → Stretch
 of_kind b g k f r = record { begin = b; gap = g; kind = k; first = f; later = r }
 
-at-agrees : {e : EntityTable} {d : ℕ} (a : SummariesAgree e d) (n : ℕ) (g : Bool) (k : Kind) (f : BlockLine) (r : List BlockLine) → Sort k → IsMarked k f → visible_in (f ∷ r) ≤ d →
+at_agrees : {e : EntityTable} {d : ℕ} (a : SummariesAgree e d) (n : ℕ) (g : Bool) (k : Kind) (f : BlockLine) (r : List BlockLine) → Sort k → IsMarked k f → visible_in (f ∷ r) ≤ d →
     last_at (summary_within e d) k (of_kind n g k f r) ≡ last_at (summary_within e (suc d)) k (of_kind n g k f r)
 unfolding last_at
-at-agrees a n g (Holds c) f r is_container w v =
-    let u = inner-visible c f r w.0 w.1 in ap (λ z. open_container n g (is_bare c f r) c z) (a.same (inner c f r) (omega (arith, u, v)))
-at-agrees {e = e} {d = d} a n g k f r (is_leaf u) w v =
-    leaf-last (summary_within e d) k (of_kind n g k f r) u ∙ sym (leaf-last (summary_within e (suc d)) k (of_kind n g k f r) u)
+at_agrees a n g (Holds c) f r is_container w v =
+    let u = inner_visible c f r w.0 w.1 in ap (λ z. open_container n g (is_bare c f r) c z) (a.same (inner c f r) (omega (arith, u, v)))
+at_agrees {e = e} {d = d} a n g k f r (is_leaf u) w v =
+    leaf_last (summary_within e d) k (of_kind n g k f r) u ∙ sym (leaf_last (summary_within e (suc d)) k (of_kind n g k f r) u)
 
-of-agrees : {e : EntityTable} {d : ℕ} (a : SummariesAgree e d) (t : Tail) → TailLight d t 0 →
+of_agrees : {e : EntityTable} {d : ℕ} (a : SummariesAgree e d) (t : Tail) → TailLight d t 0 →
     last_of e (groups_within e d) (summary_within e d) t ≡ last_of e (groups_within e (suc d)) (summary_within e (suc d)) t
 unfolding last_of
-of-agrees a Empty w = refl
-of-agrees a (Going s) w = at-agrees a s.begin s.gap s.kind s.first s.later (sort_of s.kind) w.0 (omega (arith, w.1))
-of-agrees {e = e} {d = d} a (Over s) w = ap (λ z. ended_block (record { begin = s.begin; gap = s.gap; part = z })) (part-agrees (groups-agree e d) s.kind s.first s.later w.0.0 w.0.1)
+of_agrees a Empty w = refl
+of_agrees a (Going s) w = at_agrees a s.begin s.gap s.kind s.first s.later (sort_of s.kind) w.0 (omega (arith, w.1))
+of_agrees {e = e} {d = d} a (Over s) w = ap (λ z. ended_block (record { begin = s.begin; gap = s.gap; part = z })) (part_agrees (groups_agree e d) s.kind s.first s.later w.0.0 w.0.1)
 
-agree-next : {e : EntityTable} {d : ℕ} → SummariesAgree e d → SummariesAgree e (suc d)
+agree_next : {e : EntityTable} {d : ℕ} → SummariesAgree e d → SummariesAgree e (suc d)
 unfolding summary_within
-agree-next {e = e} {d = d} a = record {
+agree_next {e = e} {d = d} a = record {
   same = λ ls h.
       let U = tip_within (suc d) in
       let k : visible_in ls ≤ d = omega (arith, h) in
-      let w = none-light d ls k in
+      let w = none_light d ls k in
       let c : Cut = cut_by U ls in
-      let v = cut-light U d no_lines ls w in
-      ap (λ (z : Cut). summary_by e (groups_within e d) (summary_within e d) z) (cut-agrees (tips-agree d) no_lines ls w)
-      ∙ ap (λ z. summary (grouped z) (last_of e (groups_within e d) (summary_within e d) c.tail) c.blank c.lines) (map-agrees (groups-agree e d) c.before v.0)
-      ∙ ap (λ z. summary (grouped (map (group_of e (groups_within e (suc d))) c.before)) z c.blank c.lines) (of-agrees a c.tail v.1);
+      let v = cut_light U d no_lines ls w in
+      ap (λ (z : Cut). summary_by e (groups_within e d) (summary_within e d) z) (cut_agrees (tips_agree d) no_lines ls w)
+      ∙ ap (λ z. summary (grouped z) (last_of e (groups_within e d) (summary_within e d) c.tail) c.blank c.lines) (map_agrees (groups_agree e d) c.before v.0)
+      ∙ ap (λ z. summary (grouped (map (group_of e (groups_within e (suc d))) c.before)) z c.blank c.lines) (of_agrees a c.tail v.1);
 }
 
-summaries-agree : (e : EntityTable) (d : ℕ) → SummariesAgree e d
-summaries-agree e zero = record { same = λ ls h. absurd (omega (arith, h)) }
-summaries-agree e (suc d) = agree-next (summaries-agree e d)
+summaries_agree : (e : EntityTable) (d : ℕ) → SummariesAgree e d
+summaries_agree e zero = record { same = λ ls h. absurd (omega (arith, h)) }
+summaries_agree e (suc d) = agree_next (summaries_agree e d)
 
 -- Any depth above the number of characters that count gives the summary.
-pub summary-deep : (e : EntityTable) (d : ℕ) (ls : List BlockLine) → visible_in ls < d → summary_within e d ls ≡ summary_of e ls
-summary-deep e d ls h = at-depth (λ n. summary_within e n ls) (depth_of ls) d (λ n w. (summaries-agree e n).same ls (omega (arith, w))) (omega (arith, h))
+pub summary_deep : (e : EntityTable) (d : ℕ) (ls : List BlockLine) → visible_in ls < d → summary_within e d ls ≡ summary_of e ls
+summary_deep e d ls h = at_depth (λ n. summary_within e n ls) (depth_of ls) d (λ n w. (summaries_agree e n).same ls (omega (arith, w))) (omega (arith, h))
 
 -- ---- one line after the other
 
-pub summary-none : (e : EntityTable) → summary_of e [] ≡ no_summary
-summary-none e = (laws e (depth_of [])).none
+pub summary_none : (e : EntityTable) → summary_of e [] ≡ no_summary
+summary_none e = (laws e (depth_of [])).none
 
 -- what the lines give
-pub summary-closed : (e : EntityTable) (ls : List BlockLine) → groups e ls ≡ closed e (summary_of e ls)
-summary-closed e ls = (laws e (depth_of ls)).reads ls
+pub summary_closed : (e : EntityTable) (ls : List BlockLine) → groups e ls ≡ closed e (summary_of e ls)
+summary_closed e ls = (laws e (depth_of ls)).reads ls
 
 -- one line more
-pub summary-added : (e : EntityTable) (d : ℕ) (ls : List BlockLine) (l : BlockLine) → visible_in (ls ++ l ∷ []) < d →
+pub summary_added : (e : EntityTable) (d : ℕ) (ls : List BlockLine) (l : BlockLine) → visible_in (ls ++ l ∷ []) < d →
     summary_of e (ls ++ l ∷ []) ≡ line_added e d (summary_of e ls) l
-summary-added e d ls l h =
-    let a = visible-append ls (l ∷ []) in
-    sym (summary-deep e d (ls ++ l ∷ []) h)
+summary_added e d ls l h =
+    let a = visible_append ls (l ∷ []) in
+    sym (summary_deep e d (ls ++ l ∷ []) h)
     ∙ (laws e d).adds ls l
-    ∙ ap (λ z. line_added e d z l) (summary-deep e d ls (omega (arith, a, h)))
+    ∙ ap (λ z. line_added e d z l) (summary_deep e d ls (omega (arith, a, h)))
 
 -- whether it begins a unit
-pub summary-begins : (e : EntityTable) (ls : List BlockLine) (l : BlockLine) → begins_unit ls l ≡ begins_after (summary_of e ls) l
-summary-begins e ls l =
+pub summary_begins : (e : EntityTable) (ls : List BlockLine) (l : BlockLine) → begins_unit ls l ≡ begins_after (summary_of e ls) l
+summary_begins e ls l =
     let d = depth_of ls in
-    sym (begins-deep d ls l (omega arith))
-    ∙ begins-law e d ls l
-    ∙ ap (λ z. begins_after z l) (summary-deep e (suc d) ls (omega arith))
+    sym (begins_deep d ls l (omega arith))
+    ∙ begins_law e d ls l
+    ∙ ap (λ z. begins_after z l) (summary_deep e (suc d) ls (omega arith))
 
 -- whether it is the first with a container too many
-pub summary-sinks : (e : EntityTable) (limit : ℕ) (ls : List BlockLine) (l : BlockLine) →
+pub summary_sinks : (e : EntityTable) (limit : ℕ) (ls : List BlockLine) (l : BlockLine) →
     deep_within limit (ls ++ l ∷ []) ≡ option_or (deep_within limit ls) (if sinks limit (summary_of e ls) l then Some (length ls) else None)
-summary-sinks e limit ls l =
+summary_sinks e limit ls l =
     let d = suc (visible_in (ls ++ l ∷ [])) in
-    let a = visible-append ls (l ∷ []) in
-    deep-next e limit d ls l (omega arith)
-    ∙ ap (λ z. option_or (deep_within limit ls) (if sinks limit z l then Some (length ls) else None)) (summary-deep e d ls (omega (arith, a)))
+    let a = visible_append ls (l ∷ []) in
+    deep_next e limit d ls l (omega arith)
+    ∙ ap (λ z. option_or (deep_within limit ls) (if sinks limit z l then Some (length ls) else None)) (summary_deep e d ls (omega (arith, a)))

@@ -32,61 +32,61 @@ abbrev pub IfBegun : (Kind → Type 0) → Option Kind → Type 0
 IfBegun P None = Unit {0}
 IfBegun P (Some k) = P k
 
-or-kinds : (P : Kind → Type 0) (p q : Option Kind) → IfBegun P p → IfBegun P q → IfBegun P (option_or p q)
-or-kinds P None q v w = w
-or-kinds P (Some k) q v w = v
+or_kinds : (P : Kind → Type 0) (p q : Option Kind) → IfBegun P p → IfBegun P q → IfBegun P (option_or p q)
+or_kinds P None q v w = w
+or_kinds P (Some k) q v w = v
 
-if-kinds : (P : Kind → Type 0) (b : Bool) (k : Kind) → P k → IfBegun P (cond b (Some k) None)
-if-kinds P true k w = w
-if-kinds P false k w = tt
+if_kinds : (P : Kind → Type 0) (b : Bool) (k : Kind) → P k → IfBegun P (cond b (Some k) None)
+if_kinds P true k w = w
+if_kinds P false k w = tt
 
-map-kinds : {A : Type 0} (P : Kind → Type 0) (f : A → Kind) (o : Option A) → ((a : A) → P (f a)) → IfBegun P (option_map f o)
-map-kinds P f None w = tt
-map-kinds P f (Some a) w = w a
+map_kinds : {A : Type 0} (P : Kind → Type 0) (f : A → Kind) (o : Option A) → ((a : A) → P (f a)) → IfBegun P (option_map f o)
+map_kinds P f None w = tt
+map_kinds P f (Some a) w = w a
 
-html-kinds : (P : Kind → Type 0) (free : Bool) (o : Option ℕ) → ((kind : ℕ) → P (HtmlBlock kind)) → IfBegun P (html_by free o)
-html-kinds P free None w = tt
-html-kinds P free (Some kind) w = if-kinds P (nat_lt kind 7 || free) (HtmlBlock kind) (w kind)
+html_kinds : (P : Kind → Type 0) (free : Bool) (o : Option ℕ) → ((kind : ℕ) → P (HtmlBlock kind)) → IfBegun P (html_by free o)
+html_kinds P free None w = tt
+html_kinds P free (Some kind) w = if_kinds P (nat_lt kind 7 || free) (HtmlBlock kind) (w kind)
 
-underline-kinds : (P : Kind → Type 0) (b : Bool) (o : Option ℕ) → ((level : ℕ) → P (SetextHeading level)) → IfBegun P (cond b (option_map SetextHeading o) None)
-underline-kinds P true o w = map-kinds P SetextHeading o w
-underline-kinds P false o w = tt
+underline_kinds : (P : Kind → Type 0) (b : Bool) (o : Option ℕ) → ((level : ℕ) → P (SetextHeading level)) → IfBegun P (cond b (option_map SetextHeading o) None)
+underline_kinds P true o w = map_kinds P SetextHeading o w
+underline_kinds P false o w = tt
 
-item-kinds : (P : Kind → Type 0) (mode : Mode) (l : BlockLine) (o : Option Marker) → ((m : Marker) → o ≡ Some m → P (Holds (item_of l m))) → IfBegun P (item_by mode l o)
-item-kinds P mode l None w = tt
-item-kinds P mode l (Some m) w = if-kinds P (may_begin_item mode m (behind_marker l m.width)) (Holds (item_of l m)) (w m refl)
+item_kinds : (P : Kind → Type 0) (mode : Mode) (l : BlockLine) (o : Option Marker) → ((m : Marker) → o ≡ Some m → P (Holds (item_of l m))) → IfBegun P (item_by mode l o)
+item_kinds P mode l None w = tt
+item_kinds P mode l (Some m) w = if_kinds P (may_begin_item mode m (behind_marker l m.width)) (Holds (item_of l m)) (w m refl)
 
-rows-kinds : (P : Kind → Type 0) (inside begins : Bool) (k : Kind) → (inside ≡ true → P k) → IfBegun P (cond (inside && begins) (Some k) None)
-rows-kinds P true begins k w = if-kinds P begins k (w refl)
-rows-kinds P false begins k w = tt
+rows_kinds : (P : Kind → Type 0) (inside begins : Bool) (k : Kind) → (inside ≡ true → P k) → IfBegun P (cond (inside && begins) (Some k) None)
+rows_kinds P true begins k w = if_kinds P begins k (w refl)
+rows_kinds P false begins k w = tt
 
-near-kinds : (P : Kind → Type 0) (mode : Mode) (p : List BlockLine) (l : BlockLine) → Kinds P mode p l → IfBegun P (start_near mode p l)
+near_kinds : (P : Kind → Type 0) (mode : Mode) (p : List BlockLine) (l : BlockLine) → Kinds P mode p l → IfBegun P (start_near mode p l)
 unfolding start_near
-near-kinds P mode p l w =
-    or-kinds P (begins_quote l) _ (if-kinds P (is_quote_marker (rest l)) (Holds Quote) w.quote)
-    (or-kinds P (begins_atx l) _ (map-kinds P (λ (a : AtxLine). AtxHeading a.level (part (rest l) a.content)) (atx_heading (rest l)) (λ a. w.atx a.level (part (rest l) a.content)))
-    (or-kinds P (begins_fence l) _ (map-kinds P (λ (f : FenceLine). FencedCode (indentation l) f.mark f.length (part (rest l) f.info) false) (opening_fence (rest l)) (λ f. w.fence (indentation l) f.mark f.length (part (rest l) f.info)))
-    (or-kinds P (begins_html mode l) _ (html-kinds P (is_free mode) (html_kind (rest l)) w.html)
-    (or-kinds P (begins_underline mode p l) _ (underline-kinds P (underlines mode p) (underline_level (rest l)) w.underline)
-    (or-kinds P (begins_break l) _ (if-kinds P (is_thematic_break (rest l)) ThematicBreak w.break)
-    (or-kinds P (begins_item mode l) _ (item-kinds P mode l (marker (rest l)) w.item)
-    (rows-kinds P (is_inside mode) (begins_table (last_text p) (rest l)) (Table (length p)) w.rows)))))))
+near_kinds P mode p l w =
+    or_kinds P (begins_quote l) _ (if_kinds P (is_quote_marker (rest l)) (Holds Quote) w.quote)
+    (or_kinds P (begins_atx l) _ (map_kinds P (λ (a : AtxLine). AtxHeading a.level (part (rest l) a.content)) (atx_heading (rest l)) (λ a. w.atx a.level (part (rest l) a.content)))
+    (or_kinds P (begins_fence l) _ (map_kinds P (λ (f : FenceLine). FencedCode (indentation l) f.mark f.length (part (rest l) f.info) false) (opening_fence (rest l)) (λ f. w.fence (indentation l) f.mark f.length (part (rest l) f.info)))
+    (or_kinds P (begins_html mode l) _ (html_kinds P (is_free mode) (html_kind (rest l)) w.html)
+    (or_kinds P (begins_underline mode p l) _ (underline_kinds P (underlines mode p) (underline_level (rest l)) w.underline)
+    (or_kinds P (begins_break l) _ (if_kinds P (is_thematic_break (rest l)) ThematicBreak w.break)
+    (or_kinds P (begins_item mode l) _ (item_kinds P mode l (marker (rest l)) w.item)
+    (rows_kinds P (is_inside mode) (begins_table (last_text p) (rest l)) (Table (length p)) w.rows)))))))
 
-at-kinds : (P : Kind → Type 0) (near : Bool) (mode : Mode) (p : List BlockLine) (l : BlockLine) → Kinds P mode p l → IfBegun P (start_at near mode p l)
-at-kinds P true mode p l w = near-kinds P mode p l w
-at-kinds P false mode p l w = if-kinds P (is_free mode) IndentedCode w.code
+at_kinds : (P : Kind → Type 0) (near : Bool) (mode : Mode) (p : List BlockLine) (l : BlockLine) → Kinds P mode p l → IfBegun P (start_at near mode p l)
+at_kinds P true mode p l w = near_kinds P mode p l w
+at_kinds P false mode p l w = if_kinds P (is_free mode) IndentedCode w.code
 
-where-kinds : (P : Kind → Type 0) (blank : Bool) (mode : Mode) (p : List BlockLine) (l : BlockLine) → Kinds P mode p l → IfBegun P (start_where blank mode p l)
-where-kinds P true mode p l w = tt
-where-kinds P false mode p l w = at-kinds P (nat_le (indentation l) 3) mode p l w
+where_kinds : (P : Kind → Type 0) (blank : Bool) (mode : Mode) (p : List BlockLine) (l : BlockLine) → Kinds P mode p l → IfBegun P (start_where blank mode p l)
+where_kinds P true mode p l w = tt
+where_kinds P false mode p l w = at_kinds P (nat_le (indentation l) 3) mode p l w
 
-pub start-kinds : (P : Kind → Type 0) (mode : Mode) (p : List BlockLine) (l : BlockLine) → Kinds P mode p l → IfBegun P (start mode p l)
+pub start_kinds : (P : Kind → Type 0) (mode : Mode) (p : List BlockLine) (l : BlockLine) → Kinds P mode p l → IfBegun P (start mode p l)
 unfolding start
-start-kinds P mode p l w = where-kinds P (is_blank_line l) mode p l w
+start_kinds P mode p l w = where_kinds P (is_blank_line l) mode p l w
 
-or-paragraph : (P : Kind → Type 0) (o : Option Kind) → IfBegun P o → P Paragraph → P (unwrap_or o Paragraph)
-or-paragraph P None w v = v
-or-paragraph P (Some k) w v = w
+or_paragraph : (P : Kind → Type 0) (o : Option Kind) → IfBegun P o → P Paragraph → P (unwrap_or o Paragraph)
+or_paragraph P None w v = v
+or_paragraph P (Some k) w v = w
 
-pub begun-kinds : (P : Kind → Type 0) (l : BlockLine) → Kinds P Free [] l → P Paragraph → P (begun l)
-begun-kinds P l w v = or-paragraph P (start Free [] l) (start-kinds P Free [] l w) v
+pub begun_kinds : (P : Kind → Type 0) (l : BlockLine) → Kinds P Free [] l → P Paragraph → P (begun l)
+begun_kinds P l w v = or_paragraph P (start Free [] l) (start_kinds P Free [] l w) v

@@ -1,4 +1,4 @@
-//! What holds of the blocks of a document (CommonMark 3 to 5; GFM, Tables), whatever reads them.
+//! What holds of the blocks of a document (CommonMark 3 to 5; GFM Tables (extension)), whatever reads them.
 
 ghost use Rattle.std.specs.Prelude.{◌≡◌, ◌≤◌, ℕ, suc, true, Some, None, if◌then◌else◌, List, [], ◌∷◌, ◌++◌, length, map, Contains};
 ghost use Rattle.std.specs.Option.{option_or};
@@ -45,7 +45,8 @@ pub fn lines_before_tell_beginnings()
 /// many lines further on; and before it that of the lines before it, but that the two make one list.
 pub fn items_meet()
     ensures { (entities : EntityTable) (front : List BlockLine) (line : BlockLine) (later : List BlockLine) → joins_list front line ≡ true
-        → groups entities (front ++ line ∷ later) ≡ merged (groups entities front) (shift_groups (gap_after front) (length front) (groups entities (line ∷ later))) }
+        → groups entities (front ++ line ∷ later)
+        ≡ merged (groups entities front) (shift_groups (gap_after front) (length front) (groups entities (line ∷ later))) }
 {}
 
 /// The summary of some lines tells what they give, whether the next line begins a unit, and whether it is the first on which
@@ -54,9 +55,11 @@ pub fn items_meet()
 pub fn summary_goes_on()
     ensures none { (entities : EntityTable) → summary_of entities [] ≡ no_summary }
     ensures gives { (entities : EntityTable) (front : List BlockLine) → closed entities (summary_of entities front) ≡ groups entities front }
-    ensures begins { (entities : EntityTable) (front : List BlockLine) (line : BlockLine) → begins_after (summary_of entities front) line ≡ begins_unit front line }
+    ensures begins { (entities : EntityTable) (front : List BlockLine) (line : BlockLine)
+        → begins_after (summary_of entities front) line ≡ begins_unit front line }
     ensures sinks { (entities : EntityTable) (limit : ℕ) (front : List BlockLine) (line : BlockLine)
-        → deep_within limit (front ++ line ∷ []) ≡ option_or (deep_within limit front) (if sinks limit (summary_of entities front) line then Some (length front) else None) }
+        → deep_within limit (front ++ line ∷ [])
+        ≡ option_or (deep_within limit front) (if sinks limit (summary_of entities front) line then Some (length front) else None) }
     ensures adds { (entities : EntityTable) (limit : ℕ) (front : List BlockLine) (line : BlockLine) → deep_within limit (front ++ line ∷ []) ≡ None
         → summary_of entities (front ++ line ∷ []) ≡ line_added entities (suc limit) (summary_of entities front) line }
 {}
@@ -64,7 +67,8 @@ pub fn summary_goes_on()
 /// Who keeps a summary alone, line by line, and allows so many containers to be open, holds that of the lines, and refuses the
 /// first line on which a container begins that lies in too many others, whatever comes later.
 pub fn summaries_tell_the_first_too_deep()
-    ensures holds { (entities : EntityTable) (limit : ℕ) (lines : List BlockLine) → deep_within limit lines ≡ None → lines_added entities limit no_summary lines ≡ summary_of entities lines }
+    ensures holds { (entities : EntityTable) (limit : ℕ) (lines : List BlockLine) → deep_within limit lines ≡ None
+        → lines_added entities limit no_summary lines ≡ summary_of entities lines }
     ensures refuses { (entities : EntityTable) (limit : ℕ) (lines : List BlockLine) → refused_line entities limit no_summary 0 lines ≡ deep_within limit lines }
     ensures stays { (limit : ℕ) (lines more : List (List ℕ)) (n : ℕ) → first_too_deep limit lines ≡ Some n → first_too_deep limit (lines ++ more) ≡ Some n }
 {}

@@ -1,4 +1,4 @@
--- Which block a line begins (CommonMark 4, 5; GFM Tables).
+-- Which block a line begins (CommonMark 4, 5; GFM Tables (extension)).
 use Rattle.std.specs.Prelude.{ℕ, ◌+◌, Bool, true, false, not, ◌||◌, ◌&&◌, ◌==◌, nat_lt, nat_le, List, [], ◌∷◌, length, map, unwrap_or, Option, Some, None, if◌then◌else◌}
 use Rattle.std.specs.Option.{option_or, option_map}
 use Rattle.mdscan.specs.declared.list_markers.Marker.{Marker}
@@ -107,7 +107,7 @@ item_by mode l (Some m) = if may_begin_item mode m (behind_marker l m.width) the
 abbrev pub begins_item : Mode → BlockLine → Option Kind
 begins_item mode l = item_by mode l (marker (rest l))
 
--- Table (GFM Tables): a delimiter row with as many cells as the open paragraph's last line, which is the header row.
+-- Table (GFM Tables (extension)): a delimiter row with as many cells as the open paragraph's last line, which is the header row.
 abbrev pub last_text : List BlockLine → List ℕ
 last_text [] = []
 last_text (l ∷ []) = rest l

@@ -1,4 +1,4 @@
--- Trees of blocks (CommonMark 4 and 5; GFM, Tables and Task list items), as definitions speak of them: a text is its bytes, an inline text its position in the unit.
+-- Trees of blocks (CommonMark 4 and 5; GFM Tables (extension), GFM Task list items (extension)), as definitions speak of them: a text is its bytes, an inline text its position in the unit.
 use Rattle.std.specs.Prelude.{ℕ, List, [], ◌∷◌, Bool, Option}
 use Rattle.mdscan.specs.declared.delimiter_rows.Align.{Align}
 

@@ -1,4 +1,4 @@
--- What the lines of a leaf block give (CommonMark 4; GFM Tables).
+-- What the lines of a leaf block give (CommonMark 4; GFM Tables (extension)).
 use Rattle.std.specs.Prelude.{ℕ, ◌-◌, Bool, true, false, List, [], ◌∷◌, ◌++◌, length, map, take}
 use Rattle.std.specs.List.{flat_map, suffix_len}
 use Rattle.mdtext.specs.EntityTable.{EntityTable}

@@ -9,7 +9,7 @@ use Rattle.blockspec.specs.ContainerLines.{opened, inside, inner, is_bare}
 use Rattle.blockspec.specs.Laziness.{Tip, Closed, is_verbatim}
 use Rattle.blockspec.specs.BlockTree.{ListKind}
 use Rattle.blockspec.specs.ListGroups.{Part, Leaves, Quoted, Listed, Group, grouped, merged}
-use Rattle.blockspec.specs.OpenLeaf.{OpenLeaf, open_tip, open_leaves, leaf_from, Turn, Continues, Closes, Parts, turn_at, is_parted}
+use Rattle.blockspec.specs.OpenLeaf.{OpenLeaf, open_tip, open_leaves, leaf_from, Turn, ContinuesAs, EndsAs, EndedBefore, turn_at, is_parted}
 use Rattle.blockspec.specs.UnitBegin.{list_mark, same_mark}
 use Rattle.blockspec.specs.Stretches.{Stretch, goes_on, is_single, Tail, Empty, Going, Over, Cut, first_of, cut_within}
 
@@ -77,9 +77,9 @@ begin_after entities more false before last blank lines l =
     summary (merged before (last_groups entities last)) (new_last entities more (is_single (begun l) l) (begun l) (first_of lines (summary_gap last blank) l)) false (suc lines)
 
 unfoldable pub leaf_after : EntityTable → (more : Summary → BlockLine → Summary) → List Group → (begin : ℕ) → (gap : Bool) → OpenLeaf → (blank : Bool) → (lines : ℕ) → BlockLine → Turn → Summary
-leaf_after entities more before begin gap leaf blank lines l (Continues next) = summary before (open_leaf begin gap next) (is_blank_line l) (suc lines)
-leaf_after entities more before begin gap leaf blank lines l (Closes next) = summary before (ended_block (leaf_group entities begin gap next)) (is_blank_line l) (suc lines)
-leaf_after entities more before begin gap leaf blank lines l Parts = begin_after entities more (is_blank_line l) before (open_leaf begin gap leaf) blank lines l
+leaf_after entities more before begin gap leaf blank lines l (ContinuesAs next) = summary before (open_leaf begin gap next) (is_blank_line l) (suc lines)
+leaf_after entities more before begin gap leaf blank lines l (EndsAs next) = summary before (ended_block (leaf_group entities begin gap next)) (is_blank_line l) (suc lines)
+leaf_after entities more before begin gap leaf blank lines l EndedBefore = begin_after entities more (is_blank_line l) before (open_leaf begin gap leaf) blank lines l
 
 unfoldable pub container_after : EntityTable → (more : Summary → BlockLine → Summary) → (takes : Bool) → List Group → (begin : ℕ) → (gap bare : Bool) → Container → Summary → (blank : Bool) → (lines : ℕ) → BlockLine → Summary
 container_after entities more true before begin gap bare container inner blank lines l =

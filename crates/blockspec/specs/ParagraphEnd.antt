@@ -1,4 +1,4 @@
--- What a paragraph's lines give (CommonMark 4.3, 4.7, 4.8; GFM Tables): first the link reference definitions at the
+-- What a paragraph's lines give (CommonMark 4.3, 4.7, 4.8; GFM Tables (extension)): first the link reference definitions at the
 -- front of their text, and then what is left, if anything is.
 use Rattle.std.specs.Prelude.{ℕ, ◌-◌, List, [], ◌∷◌, ◌++◌, length, map, take, drop, None}
 use Rattle.mdtext.specs.EntityTable.{EntityTable}

@@ -30,15 +30,15 @@ abbrev aligns_from : List ℕ → List Align
 aligns_from [] = []
 aligns_from (n ∷ ns) = align_from n ∷ aligns_from ns
 
-align-number : (a : Align) → align_from (align_number a) ≡ a
-align-number Plain = refl
-align-number Left = refl
-align-number Center = refl
-align-number Right = refl
+align_from_number : (a : Align) → align_from (align_number a) ≡ a
+align_from_number Plain = refl
+align_from_number Left = refl
+align_from_number Center = refl
+align_from_number Right = refl
 
-aligns-numbers : (rest : List Align) → aligns_from (numbers rest) ≡ rest
-aligns-numbers [] = refl
-aligns-numbers (a ∷ rest) = ap (λ b. b ∷ aligns_from (numbers rest)) (align-number a) ∙ ap (λ bs. a ∷ bs) (aligns-numbers rest)
+aligns_numbers : (rest : List Align) → aligns_from (numbers rest) ≡ rest
+aligns_numbers [] = refl
+aligns_numbers (a ∷ rest) = ap (λ b. b ∷ aligns_from (numbers rest)) (align_from_number a) ∙ ap (λ bs. a ∷ bs) (aligns_numbers rest)
 
 abbrev task_number : Option Bool → ℕ
 task_number None = 0
@@ -48,18 +48,18 @@ task_number (Some true) = 2
 abbrev task_from : ℕ → Option Bool
 task_from n = cond (n == 0) None (cond (n == 1) (Some false) (Some true))
 
-task-number : (t : Option Bool) → task_from (task_number t) ≡ t
-task-number None = refl
-task-number (Some false) = refl
-task-number (Some true) = refl
+task_from_number : (t : Option Bool) → task_from (task_number t) ≡ t
+task_from_number None = refl
+task_from_number (Some false) = refl
+task_from_number (Some true) = refl
 
 abbrev bit : Bool → ℕ
 bit false = 0
 bit true = 1
 
-bit-number : (b : Bool) → bit b == 1 ≡ b
-bit-number false = refl
-bit-number true = refl
+bit_number : (b : Bool) → bit b == 1 ≡ b
+bit_number false = refl
+bit_number true = refl
 
 abbrev kind_numbers : ListKind → List ℕ
 kind_numbers (bullet m) = m ∷ []
@@ -70,9 +70,9 @@ kind_from [] = bullet 0
 kind_from (m ∷ []) = bullet m
 kind_from (d ∷ s ∷ rest) = ordered d s
 
-kind-numbers : (k : ListKind) → kind_from (kind_numbers k) ≡ k
-kind-numbers (bullet m) = refl
-kind-numbers (ordered d s) = refl
+kind_from_numbers : (k : ListKind) → kind_from (kind_numbers k) ≡ k
+kind_from_numbers (bullet m) = refl
+kind_from_numbers (ordered d s) = refl
 
 abbrev mutual
   stored : Blocks → List Mark → List Mark
@@ -141,29 +141,29 @@ first (items_part is ∷ rest) = no_blocks
 first (blocks_part bs ∷ rest) = bs
 
 mutual
-  pub restored-stored : (bs : Blocks) (ms : List Mark) → restored (stored bs ms) ≡ blocks_part bs ∷ restored ms
-  restored-stored no_blocks ms = refl
-  restored-stored (block (paragraph at task) bs) ms =
-      ap (before (paragraph at (task_from (task_number task)))) (restored-stored bs ms) ∙ ap (λ t. blocks_part (block (paragraph at t) bs) ∷ restored ms) (task-number task)
-  restored-stored (block (heading level at) bs) ms = ap (before (heading level at)) (restored-stored bs ms)
-  restored-stored (block thematic_break bs) ms = ap (before thematic_break) (restored-stored bs ms)
-  restored-stored (block (code_block lang body) bs) ms = ap (before (code_block lang body)) (restored-stored bs ms)
-  restored-stored (block (html_block lines) bs) ms = ap (before (html_block lines)) (restored-stored bs ms)
-  restored-stored (block (block_quote inner) bs) ms =
-      ap in_quote (restored-stored inner (stored bs ms)) ∙ ap (before (block_quote inner)) (restored-stored bs ms)
-  restored-stored (block (list kind tight is) bs) ms =
-      ap (in_list (kind_from (kind_numbers kind)) (bit tight == 1)) (items-stored is (stored bs ms))
-      ∙ ap (before (list (kind_from (kind_numbers kind)) (bit tight == 1) is)) (restored-stored bs ms)
-      ∙ ap (λ k. blocks_part (block (list k (bit tight == 1) is) bs) ∷ restored ms) (kind-numbers kind)
-      ∙ ap (λ t. blocks_part (block (list kind t is) bs) ∷ restored ms) (bit-number tight)
-  restored-stored (block (table aligns head rows) bs) ms =
-      ap (before (table (aligns_from (numbers aligns)) head rows)) (restored-stored bs ms) ∙ ap (λ a. blocks_part (block (table a head rows) bs) ∷ restored ms) (aligns-numbers aligns)
+  pub restored_stored : (bs : Blocks) (ms : List Mark) → restored (stored bs ms) ≡ blocks_part bs ∷ restored ms
+  restored_stored no_blocks ms = refl
+  restored_stored (block (paragraph at task) bs) ms =
+      ap (before (paragraph at (task_from (task_number task)))) (restored_stored bs ms) ∙ ap (λ t. blocks_part (block (paragraph at t) bs) ∷ restored ms) (task_from_number task)
+  restored_stored (block (heading level at) bs) ms = ap (before (heading level at)) (restored_stored bs ms)
+  restored_stored (block thematic_break bs) ms = ap (before thematic_break) (restored_stored bs ms)
+  restored_stored (block (code_block lang body) bs) ms = ap (before (code_block lang body)) (restored_stored bs ms)
+  restored_stored (block (html_block lines) bs) ms = ap (before (html_block lines)) (restored_stored bs ms)
+  restored_stored (block (block_quote inner) bs) ms =
+      ap in_quote (restored_stored inner (stored bs ms)) ∙ ap (before (block_quote inner)) (restored_stored bs ms)
+  restored_stored (block (list kind tight is) bs) ms =
+      ap (in_list (kind_from (kind_numbers kind)) (bit tight == 1)) (items_stored is (stored bs ms))
+      ∙ ap (before (list (kind_from (kind_numbers kind)) (bit tight == 1) is)) (restored_stored bs ms)
+      ∙ ap (λ k. blocks_part (block (list k (bit tight == 1) is) bs) ∷ restored ms) (kind_from_numbers kind)
+      ∙ ap (λ t. blocks_part (block (list kind t is) bs) ∷ restored ms) (bit_number tight)
+  restored_stored (block (table aligns head rows) bs) ms =
+      ap (before (table (aligns_from (numbers aligns)) head rows)) (restored_stored bs ms) ∙ ap (λ a. blocks_part (block (table a head rows) bs) ∷ restored ms) (aligns_numbers aligns)
 
-  pub items-stored : (is : Items) (ms : List Mark) → restored (stored_items is ms) ≡ items_part is ∷ restored ms
-  items-stored no_items ms = refl
-  items-stored (item bs is) ms = ap in_item (restored-stored bs (stored_items is ms)) ∙ ap (with_item bs) (items-stored is ms)
+  pub items_stored : (is : Items) (ms : List Mark) → restored (stored_items is ms) ≡ items_part is ∷ restored ms
+  items_stored no_items ms = refl
+  items_stored (item bs is) ms = ap in_item (restored_stored bs (stored_items is ms)) ∙ ap (with_item bs) (items_stored is ms)
 
 abbrev pub blocks_code : Coded Blocks
 blocks_code =
     code_by (List Mark) (coded_list (coded× coded_ℕ (coded× (coded_list coded_ℕ) (coded× (coded_list coded_ℕ) (coded_list (coded_list coded_ℕ))))))
-    (λ bs. stored bs []) (λ ms. first (restored ms)) (λ bs. ap first (restored-stored bs []))
+    (λ bs. stored bs []) (λ ms. first (restored ms)) (λ bs. ap first (restored_stored bs []))

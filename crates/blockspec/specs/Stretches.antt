@@ -18,13 +18,13 @@ pub record Stretch : Type 0 where
 -- What the next line does to an open block: it is one of its lines; its last one; the block is over before it. A line
 -- can tell that the block is of another kind: an underline, a delimiter row, a closing fence.
 pub data Step : Type 0 where
-  Takes : Kind → Step
-  Ends : Kind → Step
-  Stops : Step
+  Continues : Kind → Step
+  IsLastLine : Kind → Step
+  IsOverBefore : Step
 
-abbrev pub takes_if : Bool → Kind → Step
-takes_if true kind = Takes kind
-takes_if false kind = Stops
+abbrev pub continues_if : Bool → Kind → Step
+continues_if true kind = Continues kind
+continues_if false kind = IsOverBefore
 
 -- Containers (CommonMark 5.1, 5.2): a line that matches, or is lazy here. An item can begin with one blank line, so a
 -- second one ends it.
@@ -36,32 +36,32 @@ abbrev pub closes : (mark length : ℕ) → BlockLine → Bool
 closes mark length l = nat_le (indentation l) 3 && is_closing_fence mark length (rest l)
 
 abbrev pub fence_step : (closed : Bool) → (Bool → Kind) → Step
-fence_step true fence = Ends (fence true)
-fence_step false fence = Takes (fence false)
+fence_step true fence = IsLastLine (fence true)
+fence_step false fence = Continues (fence false)
 
 -- HTML block (CommonMark 4.6): kinds 1 to 5 up to the line that holds what ends them, kinds 6 and 7 before a blank line.
 abbrev pub ends_html : (kind : ℕ) → BlockLine → Bool
 ends_html kind l = nat_lt kind 6 && holds_end kind l.line.text
 
 abbrev pub html_step : (blank ends : Bool) → (kind : ℕ) → Step
-html_step true ends kind = takes_if (nat_lt kind 6) (HtmlBlock kind)
-html_step false true kind = Ends (HtmlBlock kind)
-html_step false false kind = Takes (HtmlBlock kind)
+html_step true ends kind = continues_if (nat_lt kind 6) (HtmlBlock kind)
+html_step false true kind = IsLastLine (HtmlBlock kind)
+html_step false false kind = Continues (HtmlBlock kind)
 
 -- Paragraph (CommonMark 4.8): up to a blank line or one that begins a block. An underline is its last line (CommonMark
--- 4.3); a delimiter row makes a table of it and its last line (GFM Tables).
+-- 4.3); a delimiter row makes a table of it and its last line (GFM Tables (extension)).
 abbrev pub interrupted : Option Kind → Step
-interrupted None = Takes Paragraph
-interrupted (Some (SetextHeading level)) = Ends (SetextHeading level)
-interrupted (Some (Table above)) = Takes (Table above)
-interrupted (Some kind) = Stops
+interrupted None = Continues Paragraph
+interrupted (Some (SetextHeading level)) = IsLastLine (SetextHeading level)
+interrupted (Some (Table above)) = Continues (Table above)
+interrupted (Some kind) = IsOverBefore
 
 abbrev pub paragraph_step : (lazy blank : Bool) → Option Kind → Step
-paragraph_step true blank kind = Takes Paragraph
-paragraph_step false true kind = Stops
+paragraph_step true blank kind = Continues Paragraph
+paragraph_step false true kind = IsOverBefore
 paragraph_step false false kind = interrupted kind
 
--- Table (GFM Tables): up to a blank line or one that begins a block.
+-- Table (GFM Tables (extension)): up to a blank line or one that begins a block.
 abbrev pub is_row : BlockLine → Bool
 is_row l = not l.lazy && not (is_blank_line l) && is_none (start Free [] l)
 
@@ -72,15 +72,15 @@ is_code l = is_blank_line l || nat_le 4 (indentation l)
 
 -- What the next line does to the block of these lines, where `tip` tells what is open at the end of a container's lines.
 unfoldable pub step : (tip : List BlockLine → Tip) → Kind → (first : BlockLine) → (later : List BlockLine) → BlockLine → Step
-step tip (Holds container) first later l = takes_if (goes_on container (is_bare container first later) (tip (inner container first later)) l) (Holds container)
+step tip (Holds container) first later l = continues_if (goes_on container (is_bare container first later) (tip (inner container first later)) l) (Holds container)
 step tip (FencedCode indentation mark length info closed) first later l = fence_step (closes mark length l) (FencedCode indentation mark length info)
 step tip (HtmlBlock kind) first later l = html_step (is_blank_line l) (ends_html kind l) kind
 step tip Paragraph first later l = paragraph_step l.lazy (is_blank_line l) (start Inside (first ∷ later) l)
-step tip (Table above) first later l = takes_if (is_row l) (Table above)
-step tip IndentedCode first later l = takes_if (is_code l) IndentedCode
-step tip (SetextHeading level) first later l = Stops
-step tip (AtxHeading level content) first later l = Stops
-step tip ThematicBreak first later l = Stops
+step tip (Table above) first later l = continues_if (is_row l) (Table above)
+step tip IndentedCode first later l = continues_if (is_code l) IndentedCode
+step tip (SetextHeading level) first later l = IsOverBefore
+step tip (AtxHeading level content) first later l = IsOverBefore
+step tip ThematicBreak first later l = IsOverBefore
 
 -- a block that is over with its first line
 unfoldable pub is_single : Kind → BlockLine → Bool
@@ -160,9 +160,9 @@ abbrev pub grown : Stretch → Kind → BlockLine → Stretch
 grown s kind l = record { begin = s.begin; gap = s.gap; kind = kind; first = s.first; later = s.later ++ l ∷ [] }
 
 unfoldable pub after_step : (tip : List BlockLine → Tip) → Cut → Stretch → BlockLine → Step → Cut
-after_step tip cut s l (Takes kind) = record { before = cut.before; tail = Going (grown s kind l); blank = is_blank_line l; lines = suc cut.lines }
-after_step tip cut s l (Ends kind) = record { before = cut.before; tail = Over (grown s kind l); blank = is_blank_line l; lines = suc cut.lines }
-after_step tip cut s l Stops = begin tip cut l
+after_step tip cut s l (Continues kind) = record { before = cut.before; tail = Going (grown s kind l); blank = is_blank_line l; lines = suc cut.lines }
+after_step tip cut s l (IsLastLine kind) = record { before = cut.before; tail = Over (grown s kind l); blank = is_blank_line l; lines = suc cut.lines }
+after_step tip cut s l IsOverBefore = begin tip cut l
 
 unfoldable pub add_at : (tip : List BlockLine → Tip) → Cut → BlockLine → Tail → Cut
 add_at tip cut l Empty = begin tip cut l

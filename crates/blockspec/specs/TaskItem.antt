@@ -1,4 +1,4 @@
--- Task list items (GFM Task list items): an item whose first block is a paragraph that begins with a task marker. Here
+-- Task list items (GFM Task list items (extension)): an item whose first block is a paragraph that begins with a task marker. Here
 -- definitions before the paragraph don't hinder.
 use Rattle.std.specs.Prelude.{ℕ, List, drop, Option, Some, None}
 use Rattle.mdscan.specs.declared.tasks.TaskMark.{TaskMark}

@@ -7,13 +7,13 @@ use Rattle.blockspec.specs.BlockTree.{ListKind}
 use Rattle.blockspec.specs.BlockUnits.{depth_of, groups, found_units}
 use Rattle.blockspec.specs.Laziness.{Tip}
 use Rattle.blockspec.specs.ListGroups.{kind_of, is_same_list}
-use Rattle.blockspec.specs.Stretches.{Step, Takes, Ends, Stops, step, Tail, Empty, Going, Over, Cut, cut_within, tip_within}
+use Rattle.blockspec.specs.Stretches.{Step, Continues, IsLastLine, IsOverBefore, step, Tail, Empty, Going, Over, Cut, cut_within, tip_within}
 use Rattle.blockspec.specs.UnitTree.{FoundUnit}
 
 abbrev pub is_stop : Step → Bool
-is_stop (Takes kind) = false
-is_stop (Ends kind) = false
-is_stop Stops = true
+is_stop (Continues kind) = false
+is_stop (IsLastLine kind) = false
+is_stop IsOverBefore = true
 
 -- a line that goes on with no block
 unfoldable pub is_apart : (tip : List BlockLine → Tip) → Tail → BlockLine → Bool

@@ -1,5 +1,5 @@
 -- Autolinks and raw HTML (CommonMark 6.5, 6.6).
-use Rattle.std.proofs.Common.{◌≡◌, [], ◌∷◌, refl, codes}
+use Rattle.std.proofs.Common.{◌≡◌, [], ◌∷◌, ◌++◌, refl, codes, replicate}
 use Rattle.inlinespec.specs.InlineTree.{inlines_of, text, raw, link}
 use Rattle.inline_rows.specs.Opened.{inline_words}
 use Rattle.inline_rows.specs.Reads.{reads}
@@ -68,3 +68,12 @@ worked_tags = refl
 tag_before_emphasis : reads (codes "*a <b c=\"*\">") ≡ inlines_of (text (codes "*a ") ∷ raw (codes "<b c=\"*\">") ∷ [])
 unfolding inline_words
 tag_before_emphasis = refl
+
+-- a scheme has 32 characters at most
+longest_scheme : reads (codes "<" ++ replicate 32 97 ++ codes ":b>") ≡ inlines_of (link (replicate 32 97 ++ codes ":b") [] (inlines_of (text (replicate 32 97 ++ codes ":b") ∷ [])) ∷ [])
+unfolding inline_words
+longest_scheme = refl
+
+scheme_of_33 : reads (codes "<" ++ replicate 33 97 ++ codes ":b>") ≡ inlines_of (text (codes "<" ++ replicate 33 97 ++ codes ":b>") ∷ [])
+unfolding inline_words
+scheme_of_33 = refl

@@ -1,5 +1,5 @@
 -- The labels that are looked up, found or not (CommonMark 6.3).
-use Rattle.std.proofs.Common.{◌≡◌, [], ◌∷◌, refl, codes}
+use Rattle.std.proofs.Common.{◌≡◌, [], ◌∷◌, ◌++◌, refl, codes, replicate}
 use Rattle.inlinespec.specs.InlineTree.{inlines_of, text}
 use Rattle.inline_rows.specs.Opened.{inline_words}
 use Rattle.inline_rows.specs.Reads.{reads, asks, asks_under}
@@ -45,3 +45,12 @@ dead_asks_nothing_asks = refl
 code_asks_nothing_asks : asks (codes "`[a]`") ≡ []
 unfolding inline_words
 code_asks_nothing_asks = refl
+
+-- a label has 999 characters at most
+longest_label_asks : asks (codes "[" ++ replicate 999 97 ++ codes "]") ≡ replicate 999 97 ∷ []
+unfolding inline_words
+longest_label_asks = refl
+
+label_of_1000_asks : asks (codes "[" ++ replicate 1000 97 ++ codes "]") ≡ []
+unfolding inline_words
+label_of_1000_asks = refl

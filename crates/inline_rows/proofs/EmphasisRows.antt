@@ -1,4 +1,4 @@
--- Emphasis, strong emphasis and strikethrough (CommonMark 6.2; GFM, Strikethrough).
+-- Emphasis, strong emphasis and strikethrough (CommonMark 6.2; GFM Strikethrough (extension)).
 use Rattle.std.proofs.Common.{◌≡◌, [], ◌∷◌, ◌++◌, refl, codes}
 use Rattle.inlinespec.specs.InlineTree.{inlines_of, text, code, emph, strong, strike}
 use Rattle.inline_rows.specs.Opened.{inline_words}

@@ -57,3 +57,8 @@ escaped_reference = refl
 worked_references : reads (codes "&quot; &nope; &#0; &#x41;") ≡ inlines_of (text (codes "\" &nope; " ++ (239 ∷ 191 ∷ 189 ∷ []) ++ codes " A") ∷ [])
 unfolding inline_words
 worked_references = refl
+
+-- outside of a table a backslash before a bar is an escape as any other
+escaped_bar : reads (codes "a \\| b") ≡ inlines_of (text (codes "a | b") ∷ [])
+unfolding inline_words
+escaped_bar = refl

@@ -1,5 +1,5 @@
 -- Links and images (CommonMark 6.3, 6.4).
-use Rattle.std.proofs.Common.{◌≡◌, [], ◌∷◌, ◌++◌, refl, codes}
+use Rattle.std.proofs.Common.{◌≡◌, [], ◌∷◌, ◌++◌, refl, codes, replicate}
 use Rattle.inlinespec.specs.InlineTree.{inlines_of, text, soft, emph, link, image}
 use Rattle.inline_rows.specs.Opened.{inline_words}
 use Rattle.inline_rows.specs.Reads.{reads, reads_under, asks_under}
@@ -164,3 +164,12 @@ brackets_before_emphasis = refl
 emphasis_in_link : reads (codes "[*a*](b)") ≡ inlines_of (link (codes "b") [] (inlines_of (emph (inlines_of (text (codes "a") ∷ [])) ∷ [])) ∷ [])
 unfolding inline_words
 emphasis_in_link = refl
+
+-- in a destination 32 parentheses may be open at once
+most_parentheses : reads (codes "[a](" ++ replicate 32 40 ++ replicate 32 41 ++ codes ")") ≡ inlines_of (link (replicate 32 40 ++ replicate 32 41) [] (inlines_of (text (codes "a") ∷ [])) ∷ [])
+unfolding inline_words
+most_parentheses = refl
+
+parentheses_33 : reads (codes "[a](" ++ replicate 33 40 ++ replicate 33 41 ++ codes ")") ≡ inlines_of (text (codes "[a](" ++ replicate 33 40 ++ replicate 33 41 ++ codes ")") ∷ [])
+unfolding inline_words
+parentheses_33 = refl

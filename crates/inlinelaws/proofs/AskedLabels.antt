@@ -11,9 +11,9 @@ use Rattle.std.proofs.lemmas.Slice.Eq.{bytes_eq-Decides}
 use Rattle.mdtext.specs.EntityTable.{EntityTable}
 use Rattle.inlinespec.specs.LabelMap.{LinkTarget}
 use Rattle.inlinespec.specs.Lexing.{Kind, Leaf, Delimiters, OpenBracket, CloseBracket, lex}
-use Rattle.inlinespec.specs.LinkTails.{Table, Reference, Direct, ByLabel, reference_at}
+use Rattle.inlinespec.specs.LinkTails.{Table, LinkTail, Direct, ByLabel, link_tail_at}
 use Rattle.inlinespec.specs.Settled.{Piece}
-use Rattle.inlinespec.specs.TextReading.{Opened, nearest_opener, is_live, Item, closing_bracket, looked_up, by_reference, closing, item_by, item_at, after_deed, items_from, reading, asks_of}
+use Rattle.inlinespec.specs.TextReading.{Opened, nearest_opener, is_live, Item, closing_bracket, looked_up, by_link_tail, closing, item_by, item_at, after_deed, items_from, reading, asks_of}
 use Rattle.inlinespec.specs.TextTree.{events_of, as_set, inl, asked, Agree}
 use Rattle.inlinespec.specs.InlineEvents.{tree_of}
 
@@ -56,23 +56,23 @@ module _ (one other : Table) where
   asks_label at end label None h = h.0
   asks_label at end label (Some target) h = h.0
 
-  same_reference : (at : ℕ) (r : Reference) → Agree one other ((by_reference one at r).asks) → by_reference one at r ≡ by_reference other at r
-  same_reference at (Direct target end) h = refl
-  same_reference at (ByLabel None end) h = refl
-  same_reference at (ByLabel (Some label) end) h = ap (looked_up at end label) (asks_label at end label (one label) h)
+  same_tail : (at : ℕ) (r : LinkTail) → Agree one other ((by_link_tail one at r).asks) → by_link_tail one at r ≡ by_link_tail other at r
+  same_tail at (Direct target end) h = refl
+  same_tail at (ByLabel None end) h = refl
+  same_tail at (ByLabel (Some label) end) h = ap (looked_up at end label) (asks_label at end label (one label) h)
 
   same_closing : (entities : EntityTable) (text : List ℕ) (at : ℕ) (o : Option Opened) →
       Agree one other ((closing entities one text at o).asks) → closing entities one text at o ≡ closing entities other text at o
   same_closing entities text at None h = refl
   same_closing entities text at (Some o) h = by (is_live o) h
     where
-      r : Reference
-      r = reference_at entities text (at + 1) (take (at - o.begin) (drop o.begin text))
+      r : LinkTail
+      r = link_tail_at entities text (at + 1) (take (at - o.begin) (drop o.begin text))
 
-      by : (b : Bool) → Agree one other ((if b then by_reference one at r else closing_bracket []).asks) →
-          (if b then by_reference one at r else closing_bracket []) ≡ (if b then by_reference other at r else closing_bracket [])
+      by : (b : Bool) → Agree one other ((if b then by_link_tail one at r else closing_bracket []).asks) →
+          (if b then by_link_tail one at r else closing_bracket []) ≡ (if b then by_link_tail other at r else closing_bracket [])
       by false h = refl
-      by true h = same_reference at r h
+      by true h = same_tail at r h
 
   same_item_by : (entities : EntityTable) (text : List ℕ) (at : ℕ) (ps : List Piece) (size : ℕ) (k : Kind) →
       Agree one other ((item_by entities one text at ps size k).asks) → item_by entities one text at ps size k ≡ item_by entities other text at ps size k

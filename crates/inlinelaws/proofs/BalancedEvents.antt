@@ -3,12 +3,12 @@ use Rattle.std.proofs.Common.{◌≡◌, ℕ, suc, ◌+◌, ◌-◌, ◌<◌, �
 use Rattle.std.specs.Prelude.{if◌then◌else◌, codes}
 use Rattle.std.proofs.lemmas.Bool.Decides.{nat_tests}
 use Rattle.mdpair.specs.declared.runs.DelimiterChar.{DelimiterChar}
-use Rattle.mdpair.specs.declared.emphasis.Taking.{Taking}
+use Rattle.mdpair.specs.declared.emphasis.Match.{Match}
 use Rattle.mdpair.specs.Neighbours.{byte_of}
-use Rattle.mdpair.specs.Takings.{takings}
-use Rattle.mdpair.proofs.OrderedTakings.{AreOrdered, takings_ordered}
+use Rattle.mdpair.specs.Matches.{matches}
+use Rattle.mdpair.proofs.OrderedMatches.{AreOrdered, matches_ordered}
 use Rattle.inlinespec.specs.InlineTree.{Inlines, inline, code, raw, soft, hard}
-use Rattle.inlinespec.specs.InlineEvents.{Span, Event, CodeSpan, RawHtml, SoftBreak, HardBreak, Enter, Leave, written, within, in_front, with_byte, closed, rows_of}
+use Rattle.inlinespec.specs.InlineEvents.{InlineSpan, Event, CodeSpan, RawHtml, SoftBreak, HardBreak, Enter, Leave, written, within, in_front, with_byte, closed, rows_of}
 use Rattle.inlinelaws.proofs.TreeEvents.{AreSome, some_rows}
 use Rattle.inlinespec.specs.Settled.{span_by, Piece, Made, Run, Opening, runs_of, taken, ends, begins, bracket_text, settled_from, settled}
 
@@ -20,7 +20,7 @@ same_rows : (f : Inlines → Inlines) (rs : List Inlines) → length (in_front f
 same_rows f [] = refl
 same_rows f (r ∷ rs) = refl
 
-closed_rows : (span : Span) (rs : List Inlines) → 1 < length rs → length (closed span rs) + 1 ≡ length rs
+closed_rows : (span : InlineSpan) (rs : List Inlines) → 1 < length rs → length (closed span rs) + 1 ≡ length rs
 closed_rows span [] h = absurd (omega arith)
 closed_rows span (r ∷ []) h = absurd (omega arith)
 closed_rows span (r ∷ s ∷ rs) h = omega arith
@@ -28,10 +28,6 @@ closed_rows span (r ∷ s ∷ rs) h = omega arith
 -- events that leave the number of rows as it is, whatever follows
 unfoldable pub IsBalanced : List Event → Type 0
 IsBalanced es = (rest : List Event) → 0 < rows rest → rows (es ++ rest) ≡ rows rest
-
-none_balanced : IsBalanced []
-unfolding IsBalanced
-none_balanced = λ rest h. refl
 
 pub single_balanced : (e : Event) (f : Inlines → Inlines) → ((rest : List Event) → rows_of (e ∷ rest) ≡ in_front f (rows_of rest)) → IsBalanced (e ∷ [])
 unfolding IsBalanced rows
@@ -62,11 +58,11 @@ left_rows : (rest : List Event) → rows (Leave ∷ rest) ≡ suc (rows rest)
 unfolding rows rows_of
 left_rows rest = refl
 
-entered_rows : (span : Span) (rest : List Event) → 1 < rows rest → rows (Enter span ∷ rest) + 1 ≡ rows rest
+entered_rows : (span : InlineSpan) (rest : List Event) → 1 < rows rest → rows (Enter span ∷ rest) + 1 ≡ rows rest
 unfolding rows rows_of
 entered_rows span rest h = closed_rows span (rows_of rest) h
 
-pub within_balanced : (span : Span) (inside : List Event) → IsBalanced inside → IsBalanced (within span inside)
+pub within_balanced : (span : InlineSpan) (inside : List Event) → IsBalanced inside → IsBalanced (within span inside)
 unfolding IsBalanced
 within_balanced span inside h = λ rest some.
     let leaves = left_rows rest in
@@ -76,17 +72,17 @@ within_balanced span inside h = λ rest some.
     let enters = entered_rows span ((inside ++ Leave ∷ []) ++ rest) (omega arith) in
     omega arith
 
--- how many takings close, or open, at the nth run or behind it
+-- how many matches close, or open, at the nth run or behind it
 
 one_if : Bool → ℕ
 one_if true = 1
 one_if false = 0
 
-closings : ℕ → List Taking → ℕ
+closings : ℕ → List Match → ℕ
 closings n [] = 0
 closings n (t ∷ ts) = one_if (nat_le n t.closer) + closings n ts
 
-openings : ℕ → List Taking → ℕ
+openings : ℕ → List Match → ℕ
 openings n [] = 0
 openings n (t ∷ ts) = one_if (nat_le n t.opener) + openings n ts
 
@@ -103,7 +99,7 @@ stands n m = by (nat_le n m) (eqb m n) (nat_le (n + 1) m) refl refl refl
     by false false true e f g = absurd (grind (arith, nat_tests))
     by false false false e f g = refl
 
-closings_at : (n : ℕ) (ts : List Taking) → closings n ts ≡ length (ends n ts) + closings (n + 1) ts
+closings_at : (n : ℕ) (ts : List Match) → closings n ts ≡ length (ends n ts) + closings (n + 1) ts
 unfolding closings one_if
 closings_at n [] = refl
 closings_at n (t ∷ ts) = let here = stands n t.closer in let more = closings_at n ts in by (eqb t.closer n) here more
@@ -113,7 +109,7 @@ closings_at n (t ∷ ts) = let here = stands n t.closer in let more = closings_a
     by true here more = omega arith
     by false here more = omega arith
 
-openings_at : (n : ℕ) (d : DelimiterChar) (ts : List Taking) → openings n ts ≡ length (begins n d ts) + openings (n + 1) ts
+openings_at : (n : ℕ) (d : DelimiterChar) (ts : List Match) → openings n ts ≡ length (begins n d ts) + openings (n + 1) ts
 unfolding openings one_if
 openings_at n d [] = refl
 openings_at n d (t ∷ ts) = let here = stands n t.opener in let more = openings_at n d ts in by (eqb t.opener n) here more
@@ -132,7 +128,7 @@ one_fewer n o c h = by (nat_le n o) (nat_le (n + 1) c) refl refl
     by true true e f = omega arith
     by true false e f = absurd (grind (arith, nat_tests))
 
-fewer : (n m : ℕ) (ts : List Taking) → AreOrdered m ts → openings n ts ≤ closings (n + 1) ts
+fewer : (n m : ℕ) (ts : List Match) → AreOrdered m ts → openings n ts ≤ closings (n + 1) ts
 unfolding openings closings AreOrdered
 fewer n m [] h = omega arith
 fewer n m (t ∷ ts) h = let one = one_fewer n t.opener t.closer h.0 in let more = fewer n m ts h.2 in omega arith
@@ -145,12 +141,12 @@ none_past n c h = by (nat_le n c) refl
     by false e = refl
     by true e = absurd (grind (arith, nat_tests))
 
-past_closings : (m : ℕ) (ts : List Taking) → AreOrdered m ts → closings m ts ≡ 0
+past_closings : (m : ℕ) (ts : List Match) → AreOrdered m ts → closings m ts ≡ 0
 unfolding closings AreOrdered
 past_closings m [] h = refl
 past_closings m (t ∷ ts) h = let one = none_past m t.closer h.1 in let more = past_closings m ts h.2 in omega arith
 
-past_openings : (m : ℕ) (ts : List Taking) → AreOrdered m ts → openings m ts ≡ 0
+past_openings : (m : ℕ) (ts : List Match) → AreOrdered m ts → openings m ts ≡ 0
 unfolding openings AreOrdered
 past_openings m [] h = refl
 past_openings m (t ∷ ts) h =
@@ -165,14 +161,14 @@ all_from_zero k = by (nat_le 0 k) refl
     by true e = refl
     by false e = absurd (grind (arith, nat_tests))
 
-as_many : (ts : List Taking) → openings 0 ts ≡ closings 0 ts
+as_many : (ts : List Match) → openings 0 ts ≡ closings 0 ts
 unfolding openings closings
 as_many [] = refl
 as_many (t ∷ ts) = let one = all_from_zero t.opener in let other = all_from_zero t.closer in let more = as_many ts in omega arith
 
 -- the rows of a run
 
-ends_rows : (n : ℕ) (ts : List Taking) (rest : List Event) → rows (ends n ts ++ rest) ≡ length (ends n ts) + rows rest
+ends_rows : (n : ℕ) (ts : List Match) (rest : List Event) → rows (ends n ts ++ rest) ≡ length (ends n ts) + rows rest
 ends_rows n [] rest = omega arith
 ends_rows n (t ∷ ts) rest = let more = ends_rows n ts rest in by (eqb t.closer n) more
   where
@@ -181,7 +177,7 @@ ends_rows n (t ∷ ts) rest = let more = ends_rows n ts rest in by (eqb t.closer
     by true more = let one = left_rows (ends n ts ++ rest) in omega arith
     by false more = more
 
-begins_rows : (n : ℕ) (d : DelimiterChar) (ts : List Taking) (rest : List Event) → length (begins n d ts) < rows rest → rows (begins n d ts ++ rest) + length (begins n d ts) ≡ rows rest
+begins_rows : (n : ℕ) (d : DelimiterChar) (ts : List Match) (rest : List Event) → length (begins n d ts) < rows rest → rows (begins n d ts ++ rest) + length (begins n d ts) ≡ rows rest
 begins_rows n d [] rest h = omega arith
 begins_rows n d (t ∷ ts) rest h = by (eqb t.opener n) h (λ next g. begins_rows n d ts next g)
   where
@@ -226,7 +222,7 @@ written_front : (s : List ℕ) (rest : List Event) → rows (written s ++ rest) 
 unfolding IsBalanced
 written_front s rest = written_balanced s rest (rows_some rest)
 
-settled_rows : (n m : ℕ) (ts : List Taking) (ps : List Piece) (rest : List Event) → n + length (runs_of ps) ≡ m → AreOrdered m ts → AreBalanced ps →
+settled_rows : (n m : ℕ) (ts : List Match) (ps : List Piece) (rest : List Event) → n + length (runs_of ps) ≡ m → AreOrdered m ts → AreBalanced ps →
     rows (settled_from n ts ps ++ rest) + openings n ts ≡ rows rest + closings n ts
 unfolding AreBalanced
 settled_rows n m ts [] rest is ordered h =
@@ -263,6 +259,6 @@ settled_rows n m ts (Run r ∷ ps) rest is ordered h =
 pub settled_balanced : (ps : List Piece) → AreBalanced ps → IsBalanced (settled ps)
 unfolding settled IsBalanced
 settled_balanced ps h = λ rest some.
-    let all = settled_rows 0 (length (runs_of ps)) (takings (runs_of ps)) ps rest (omega arith) (takings_ordered (runs_of ps)) h in
-    let even = as_many (takings (runs_of ps)) in
+    let all = settled_rows 0 (length (runs_of ps)) (matches (runs_of ps)) ps rest (omega arith) (matches_ordered (runs_of ps)) h in
+    let even = as_many (matches (runs_of ps)) in
     omega arith

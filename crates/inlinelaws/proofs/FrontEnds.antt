@@ -7,6 +7,7 @@ use Rattle.std.specs.Char.{is_digit, is_ascii_alphabetic, is_ascii_alphanumeric}
 use Rattle.std.specs.Cmp.Lexicographic.{same_text}
 use Rattle.std.proofs.lemmas.List.{get_or_past}
 use Rattle.std.proofs.lemmas.Bool.Decides.{nat_tests}
+use Rattle.std.proofs.lemmas.Bool.{and_parts}
 use Rattle.mdtext.specs.EntityTable.{EntityTable, entity_text}
 use Rattle.mdtext.specs.References.{Meaning, numeric, named, reference}
 use Rattle.mdscan.specs.declared.autolinks.Auto.{Auto}
@@ -37,14 +38,6 @@ pub mapped : {X Y : Type 0} (r : Option X) (f : X → Y) (P : X → Type 0) (Q :
 mapped None f P Q g h = tt
 mapped (Some x) f P Q g h = g x h
 
-pub last : (a b : Bool) → (a && b) ≡ true → b ≡ true
-last true b h = h
-last false b h = cc
-
-pub front : (a b : Bool) → (a && b) ≡ true → a ≡ true
-front true b h = refl
-front false b h = cc
-
 pub begins_below : (mark k : ℕ) (text : List ℕ) → begins_with mark (drop k text) ≡ true → k < length text
 begins_below mark zero [] h = cc
 begins_below mark zero (b ∷ bs) h = omega arith
@@ -62,7 +55,7 @@ byte_below text i b h = grind (arith, nat_tests, get_or_past)
 
 -- what a test gives that ends with a mark at a place
 pub when_marked : {X : Type 0} (t : Bool) (mark k : ℕ) (text : List ℕ) (x : X) (P : X → Type 0) → (k < length text → P x) → IfSome (if t && begins_with mark (drop k text) then Some x else None) P
-when_marked t mark k text x P f = when (t && begins_with mark (drop k text)) x P (λ h. f (begins_below mark k text (last t (begins_with mark (drop k text)) h)))
+when_marked t mark k text x P f = when (t && begins_with mark (drop k text)) x P (λ h. f (begins_below mark k text (and_parts t (begins_with mark (drop k text)) h).1))
 
 -- what follows a front that has some bytes stands behind it
 pub behind : (text : List ℕ) (k n : ℕ) → 0 < n → n ≤ length (drop k text) → k + n ≤ length text
@@ -129,7 +122,7 @@ open_tag_size text =
     let end = open_end_length (drop k text) in
     let found : nat_lt 0 end ≡ true → IsSizeIn text (k + end) = λ some.
     let more : 0 < end = grind (arith, nat_tests) in (omega arith, behind text k end more (open_end_within (drop k text))) in
-    when _ _ (IsSizeIn text) (λ h. found (last _ _ h))
+    when _ _ (IsSizeIn text) (λ h. found (and_parts _ _ h).1)
 
 closing_tag_size : (text : List ℕ) → IfSome (closing_tag text) (IsSizeIn text)
 unfolding closing_tag
@@ -201,7 +194,7 @@ numeric_size : (text rest : List ℕ) (begin base most : ℕ) → begin + length
 numeric_size text rest begin base most room =
     let digits = prefix_len (λ b. is_digit b base) rest in
     let found : digits < length rest → (0 < begin + digits + 1) × (begin + digits + 1 ≤ 1 + length text) = λ below. (omega arith, omega arith) in
-    when _ _ (IsMeaningIn text) (λ h. found (byte_below rest digits 58 (last _ _ h)))
+    when _ _ (IsMeaningIn text) (λ h. found (byte_below rest digits 58 (and_parts _ _ h).1))
 
 named_size : (entities : EntityTable) (text : List ℕ) → IfSome (named entities text) (IsMeaningIn text)
 named_size entities text = by (nat_eq (slice_index text name) 59) (byte_below text name 58)

@@ -5,6 +5,7 @@ use Rattle.std.proofs.Math.Seq.{drop-cons}
 use Rattle.std.proofs.lemmas.Bool.{eqb-true}
 use Rattle.std.proofs.lemmas.Option.{slice_get-get_or}
 use Rattle.std.proofs.lemmas.List.Sums.{prefix_len-le-length}
+use Rattle.std.proofs.lemmas.Bool.{and_parts}
 use Rattle.mdtext.specs.EntityTable.{EntityTable}
 use Rattle.mdtext.specs.References.{Meaning, reference}
 use Rattle.mdscan.specs.declared.autolinks.Auto.{Auto}
@@ -24,10 +25,10 @@ use Rattle.inlinespec.specs.InlineEvents.{written}
 use Rattle.inlinespec.specs.CodeSpans.{backticks, before_backticks, code_inside}
 use Rattle.inlinespec.specs.LineBreaks.{LineBreak, spaces, break_after, spaced_break, backslash_break}
 use Rattle.inlinespec.specs.Lexing.{Kind, Leaf, Delimiters, OpenBracket, CloseBracket, leaf, as_written, Sign, Backslash, Ampersand, Backtick, LessThan, Blank, DelimiterMark, Bracket, Exclamation, ClosingBracket, Other, sign_of, break_or_written, escape_lexeme, reference_lexeme, code_lexeme, angle_lexeme, run_lexeme, bracket_lexeme, lexeme_by, lex}
-use Rattle.inlinespec.specs.LinkTails.{Table, Reference, Direct, ByLabel, empty_brackets_at, reference_by, reference_at}
+use Rattle.inlinespec.specs.LinkTails.{Table, LinkTail, Direct, ByLabel, empty_brackets_at, link_tail_by, link_tail_at}
 use Rattle.inlinespec.specs.Settled.{Piece}
-use Rattle.inlinespec.specs.TextReading.{Opened, nearest_opener, is_live, closing_bracket, looked_up, by_reference, closing, item_by, item_at}
-use Rattle.inlinelaws.proofs.FrontEnds.{IsSizeIn, IsEndIn, when, mapped, last, begins_below, behind, autolink_ends, raw_html_size, reference_size}
+use Rattle.inlinespec.specs.TextReading.{Opened, nearest_opener, is_live, closing_bracket, looked_up, by_link_tail, closing, item_by, item_at}
+use Rattle.inlinelaws.proofs.FrontEnds.{IsSizeIn, IsEndIn, when, mapped, begins_below, behind, autolink_ends, raw_html_size, reference_size}
 use Rattle.inlinelaws.proofs.TailEnds.{label_ends, inline_tail_ends}
 
 -- line breaks
@@ -44,7 +45,7 @@ spaced_size text = when _ _ (λ b. IsSizeIn text b.size) (λ h. break_after_size
 
 backslash_size : (text : List ℕ) → IfSome (backslash_break text) (λ b. IsSizeIn text b.size)
 unfolding backslash_break
-backslash_size text = when _ _ (λ b. IsSizeIn text b.size) (λ h. break_after_size 1 text true (begins_below 10 1 text (last _ _ h)))
+backslash_size text = when _ _ (λ b. IsSizeIn text b.size) (λ h. break_after_size 1 text true (begins_below 10 1 text (and_parts _ _ h).1))
 
 break_size : (text : List ℕ) (r : Option LineBreak) → 0 < length text → IfSome r (λ b. IsSizeIn text b.size) → IsSizeIn text (break_or_written text r).size
 break_size text None some h = (omega arith, omega arith)
@@ -199,7 +200,7 @@ lex_size entities text at below = lexeme_size entities text at below (sign_of (s
 
 -- a `]` with what stands behind it
 
-end_of : Reference → ℕ
+end_of : LinkTail → ℕ
 end_of (Direct target end) = end
 end_of (ByLabel label end) = end
 
@@ -211,18 +212,18 @@ empty_end text at h = by (empty_brackets_at text at)
     by false = omega arith
 
 empty_within : (text : List ℕ) (at : ℕ) → at ≤ length text → (if empty_brackets_at text at then at + 2 else at) ≤ length text
-empty_within text at h = by (empty_brackets_at text at) (λ e. begins_below 93 (at + 1) text (last _ _ e))
+empty_within text at h = by (empty_brackets_at text at) (λ e. begins_below 93 (at + 1) text (and_parts _ _ e).1)
   where
     by : (t : Bool) → (t ≡ true → at + 1 < length text) → (if t then at + 2 else at) ≤ length text
     by true k = let below = k refl in omega arith
     by false k = h
 
-abbrev IsReferenceEnd : List ℕ → ℕ → ℕ → Type 0
-IsReferenceEnd text after end = (after ≤ end) × (end ≤ length text)
+abbrev IsTailEnd : List ℕ → ℕ → ℕ → Type 0
+IsTailEnd text after end = (after ≤ end) × (end ≤ length text)
 
 reference_ends : (entities : EntityTable) (text : List ℕ) (after : ℕ) (inside : List ℕ) (r : Option Tail) (s : Option Span) → after ≤ length text →
     IfSome r (λ tail. IsEndIn text after tail.end) → IfSome s (λ span. IsEndIn text after (span.end + 1)) →
-    IsReferenceEnd text after (end_of (reference_by entities text after inside r s))
+    IsTailEnd text after (end_of (link_tail_by entities text after inside r s))
 unfolding end_of
 reference_ends entities text after inside (Some tail) s le h k = (omega arith, h.1)
 reference_ends entities text after inside None (Some span) le h k = (omega arith, k.1)
@@ -235,24 +236,24 @@ looked_up_fits : (text : List ℕ) (at end : ℕ) (label : List ℕ) (r : Option
 looked_up_fits text at end label None below le within = (omega arith, omega arith)
 looked_up_fits text at end label (Some target) below le within = (omega arith, omega arith)
 
-by_reference_fits : (table : Table) (text : List ℕ) (at : ℕ) (r : Reference) → at < length text → IsReferenceEnd text (at + 1) (end_of r) → Fits text at (by_reference table at r).size
+by_link_tail_fits : (table : Table) (text : List ℕ) (at : ℕ) (r : LinkTail) → at < length text → IsTailEnd text (at + 1) (end_of r) → Fits text at (by_link_tail table at r).size
 unfolding end_of
-by_reference_fits table text at (Direct target end) below h = (omega arith, omega arith)
-by_reference_fits table text at (ByLabel None end) below h = (omega arith, omega arith)
-by_reference_fits table text at (ByLabel (Some label) end) below h = looked_up_fits text at end label (table label) below h.0 h.1
+by_link_tail_fits table text at (Direct target end) below h = (omega arith, omega arith)
+by_link_tail_fits table text at (ByLabel None end) below h = (omega arith, omega arith)
+by_link_tail_fits table text at (ByLabel (Some label) end) below h = looked_up_fits text at end label (table label) below h.0 h.1
 
 reference_fits : (entities : EntityTable) (table : Table) (text : List ℕ) (at : ℕ) (inside : List ℕ) → at < length text →
-    Fits text at (by_reference table at (reference_at entities text (at + 1) inside)).size
-unfolding reference_at
+    Fits text at (by_link_tail table at (link_tail_at entities text (at + 1) inside)).size
+unfolding link_tail_at
 reference_fits entities table text at inside below =
-    by_reference_fits table text at (reference_by entities text (at + 1) inside (inline_tail_at text (at + 1)) (label_at text (at + 1))) below
+    by_link_tail_fits table text at (link_tail_by entities text (at + 1) inside (inline_tail_at text (at + 1)) (label_at text (at + 1))) below
     (reference_ends entities text (at + 1) inside (inline_tail_at text (at + 1)) (label_at text (at + 1)) (omega arith) (inline_tail_ends text (at + 1)) (label_ends text (at + 1)))
 
 closing_fits : (entities : EntityTable) (table : Table) (text : List ℕ) (at : ℕ) (r : Option Opened) → at < length text → Fits text at (closing entities table text at r).size
 closing_fits entities table text at None below = (omega arith, omega arith)
 closing_fits entities table text at (Some o) below = by (is_live o)
   where
-    by : (t : Bool) → Fits text at ((if t then by_reference table at (reference_at entities text (at + 1) (take (at - o.begin) (drop o.begin text))) else closing_bracket []).size)
+    by : (t : Bool) → Fits text at ((if t then by_link_tail table at (link_tail_at entities text (at + 1) (take (at - o.begin) (drop o.begin text))) else closing_bracket []).size)
     by true = reference_fits entities table text at (take (at - o.begin) (drop o.begin text)) below
     by false = (omega arith, omega arith)
 

@@ -1,7 +1,7 @@
 -- The tree of a list of events has no empty text and no two texts side by side.
 use Rattle.std.proofs.Common.{ℕ, ◌<◌, List, [], ◌∷◌, length, refl, arith}
 use Rattle.inlinespec.specs.InlineTree.{Inlines, no_inlines, inline, text, code, raw, soft, hard, emph, strong, strike, link, image}
-use Rattle.inlinespec.specs.InlineEvents.{Span, Emphasis, StrongEmphasis, Strikethrough, LinkTo, ImageOf, Event, Byte, CodeSpan, RawHtml, SoftBreak, HardBreak, Enter, Leave, span_tree, with_byte, with_event, rows_of, first_row, tree_of}
+use Rattle.inlinespec.specs.InlineEvents.{InlineSpan, Emphasis, StrongEmphasis, Strikethrough, LinkTo, ImageOf, Event, Byte, CodeSpan, RawHtml, SoftBreak, HardBreak, Enter, Leave, span_tree, with_byte, with_event, rows_of, first_row, tree_of}
 use Rattle.inlinespec.specs.JoinedTexts.{AreJoined}
 
 AreRowsJoined : List Inlines → Type 0
@@ -24,7 +24,7 @@ byte_joined b (inline (strike k) is) h = ((one_byte b, refl), tt, h)
 byte_joined b (inline (link u t k) is) h = ((one_byte b, refl), tt, h)
 byte_joined b (inline (image u t k) is) h = ((one_byte b, refl), tt, h)
 
-span_joined : (span : Span) (inside after : Inlines) → AreJoined inside → AreJoined after → AreJoined (inline (span_tree span inside) after)
+span_joined : (span : InlineSpan) (inside after : Inlines) → AreJoined inside → AreJoined after → AreJoined (inline (span_tree span inside) after)
 span_joined Emphasis inside after h k = (tt, h, k)
 span_joined StrongEmphasis inside after h k = (tt, h, k)
 span_joined Strikethrough inside after h k = (tt, h, k)

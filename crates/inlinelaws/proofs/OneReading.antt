@@ -51,5 +51,5 @@ module _ (entities : EntityTable) (table : Table) (text : List ℕ) where
   reading_reads : IsReading entities table text (reading entities table text)
   reading_reads = reads text 0 0 [] refl (omega arith) (omega arith)
 
-  pub one_reading : (xs : List Item) × IsReading entities table text xs × ((ys : List Item) → IsReading entities table text ys → ys ≡ xs)
-  one_reading = (reading entities table text, reading_reads, λ ys is. same_items 0 [] ys (reading entities table text) is reading_reads)
+  pub one_reading : IsReading entities table text (reading entities table text) × ((items : List Item) → IsReading entities table text items → items ≡ reading entities table text)
+  one_reading = (reading_reads, λ items is. same_items 0 [] items (reading entities table text) is reading_reads)

@@ -1,7 +1,7 @@
 -- No more spans are open at a place of a text than its tree is deep.
 use Rattle.std.proofs.Common.{◌≡◌, ℕ, suc, ◌+◌, ◌≤◌, max, List, [], ◌∷◌, ◌++◌, length, arith}
 use Rattle.inlinespec.specs.InlineTree.{Inline, Inlines, no_inlines, inline, text, code, raw, soft, hard, emph, strong, strike, link, image}
-use Rattle.inlinespec.specs.InlineEvents.{Span, Emphasis, StrongEmphasis, Strikethrough, LinkTo, ImageOf, Event, Byte, CodeSpan, RawHtml, SoftBreak, HardBreak, Enter, Leave, span_tree, with_byte, in_front, closed, with_event, rows_of, first_row, tree_of}
+use Rattle.inlinespec.specs.InlineEvents.{InlineSpan, Emphasis, StrongEmphasis, Strikethrough, LinkTo, ImageOf, Event, Byte, CodeSpan, RawHtml, SoftBreak, HardBreak, Enter, Leave, span_tree, with_byte, in_front, closed, with_event, rows_of, first_row, tree_of}
 use Rattle.inlinespec.specs.Nesting.{nest, nest_of}
 
 -- the deepest of these rows, each in as many spans as rows follow it
@@ -27,7 +27,7 @@ before_nests : (i : Inline) (is : Inlines) → nest is ≤ nest (inline i is)
 unfolding nest
 before_nests i is = omega arith
 
-span_nests : (span : Span) (inside : Inlines) → suc (nest inside) ≤ nest_of (span_tree span inside)
+span_nests : (span : InlineSpan) (inside : Inlines) → suc (nest inside) ≤ nest_of (span_tree span inside)
 unfolding nest
 span_nests Emphasis inside = omega arith
 span_nests StrongEmphasis inside = omega arith
@@ -40,7 +40,7 @@ unfolding deepest
 front_deeper f [] h = omega arith
 front_deeper f (row ∷ rows) h = let more = h row in omega arith
 
-closed_deeper : (span : Span) (rows : List Inlines) → deepest rows ≤ deepest (closed span rows)
+closed_deeper : (span : InlineSpan) (rows : List Inlines) → deepest rows ≤ deepest (closed span rows)
 unfolding deepest nest
 closed_deeper span [] = omega arith
 closed_deeper span (row ∷ []) = omega arith

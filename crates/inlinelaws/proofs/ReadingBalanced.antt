@@ -1,5 +1,5 @@
 -- In the events of a reading each span that begins also ends.
-use Rattle.std.proofs.Common.{◌≡◌, ℕ, zero, suc, ◌+◌, ◌-◌, Bool, true, false, List, [], ◌∷◌, ◌++◌, length, take, drop, reverse, Option, Some, None, IfSome, sym, ap, ◌∙◌, subst, append-nil, arith}
+use Rattle.std.proofs.Common.{◌≡◌, ℕ, zero, suc, ◌+◌, ◌-◌, ◌<◌, Bool, true, false, List, [], ◌∷◌, ◌++◌, length, take, drop, reverse, Option, Some, None, IfSome, sym, subst, arith}
 use Rattle.std.specs.Prelude.{if◌then◌else◌, slice_index}
 use Rattle.std.proofs.lemmas.Grind.{reverse_onto}
 use Rattle.mdtext.specs.EntityTable.{EntityTable}
@@ -11,16 +11,18 @@ use Rattle.mdscan.specs.Escapes.{begins_escape}
 use Rattle.mdscan.specs.RawHtml.{raw_html}
 use Rattle.mdpair.specs.declared.runs.DelimiterRun.{DelimiterRun}
 use Rattle.mdpair.specs.Neighbours.{run_at}
+use Rattle.inlinespec.specs.InlineTree.{Inlines}
 use Rattle.inlinespec.specs.LabelMap.{LinkTarget}
 use Rattle.inlinespec.specs.AutolinkText.{autolink_text, autolink_target}
 use Rattle.inlinespec.specs.CodeSpans.{backticks, code_content, code_inside}
-use Rattle.inlinespec.specs.InlineEvents.{HardBreak, SoftBreak, LinkTo, written, rows_of}
+use Rattle.inlinespec.specs.InlineEvents.{Event, HardBreak, SoftBreak, LinkTo, written, rows_of}
 use Rattle.inlinespec.specs.LineBreaks.{LineBreak, spaced_break, backslash_break}
 use Rattle.inlinespec.specs.Lexing.{Kind, Leaf, Delimiters, OpenBracket, CloseBracket, leaf, as_written, Sign, Backslash, Ampersand, Backtick, LessThan, Blank, DelimiterMark, Bracket, Exclamation, ClosingBracket, Other, sign_of, break_or_written, escape_lexeme, reference_lexeme, code_lexeme, angle_lexeme, run_lexeme, bracket_lexeme, lexeme_by, lex}
-use Rattle.inlinespec.specs.LinkTails.{Table, Reference, Direct, ByLabel, reference_at}
+use Rattle.inlinespec.specs.LinkTails.{Table, LinkTail, Direct, ByLabel, link_tail_at}
 use Rattle.inlinespec.specs.Settled.{Piece, Made, Run, Opening, settled}
-use Rattle.inlinespec.specs.TextReading.{Opened, opened_with, nearest_opener, is_live, Deed, Adds, Spends, Links, closing_bracket, looked_up, by_reference, closing, item_by, item_at, spent, span_to, linked, after_deed, items_from, reading, pieces_after}
+use Rattle.inlinespec.specs.TextReading.{Opened, opened_with, nearest_opener, is_live, Deed, Adds, Spends, Links, closing_bracket, looked_up, by_link_tail, closing, item_by, item_at, spent, span_to, linked, after_deed, items_from, reading, pieces_after}
 use Rattle.inlinespec.specs.TextTree.{events_of}
+use Rattle.inlinelaws.proofs.TreeEvents.{AreSome, some_rows}
 use Rattle.inlinelaws.proofs.BalancedEvents.{IsBalanced, written_balanced, code_balanced, raw_balanced, soft_balanced, hard_balanced, within_balanced, AreBalanced, bracket_balanced, settled_balanced, rows}
 
 -- leaves
@@ -108,7 +110,7 @@ unfolding IsDeedBalanced
 found_balanced at end label None = tt
 found_balanced at end label (Some target) = tt
 
-referred_balanced : (table : Table) (at : ℕ) (r : Reference) → IsDeedBalanced (by_reference table at r).deed
+referred_balanced : (table : Table) (at : ℕ) (r : LinkTail) → IsDeedBalanced (by_link_tail table at r).deed
 unfolding IsDeedBalanced
 referred_balanced table at (Direct target end) = tt
 referred_balanced table at (ByLabel None end) = tt
@@ -119,8 +121,8 @@ unfolding IsDeedBalanced
 closing_balanced entities table text at None = tt
 closing_balanced entities table text at (Some o) = by (is_live o)
   where
-    by : (t : Bool) → IsDeedBalanced ((if t then by_reference table at (reference_at entities text (at + 1) (take (at - o.begin) (drop o.begin text))) else closing_bracket []).deed)
-    by true = referred_balanced table at (reference_at entities text (at + 1) (take (at - o.begin) (drop o.begin text)))
+    by : (t : Bool) → IsDeedBalanced ((if t then by_link_tail table at (link_tail_at entities text (at + 1) (take (at - o.begin) (drop o.begin text))) else closing_bracket []).deed)
+    by true = referred_balanced table at (link_tail_at entities text (at + 1) (take (at - o.begin) (drop o.begin text)))
     by false = tt
 
 item_by_balanced : (entities : EntityTable) (table : Table) (text : List ℕ) (at : ℕ) (ps : List Piece) (size : ℕ) (k : Kind) → IsLeafBalanced k →
@@ -205,10 +207,14 @@ reverse_balanced (p ∷ ps) h =
     let parts = apart p ps h in
     subst AreBalanced (sym (reverse_onto ps p [])) (joined_balanced (reverse ps) (p ∷ []) (reverse_balanced ps parts.1) parts.0)
 
-pub reading_balanced : (entities : EntityTable) (table : Table) (text : List ℕ) → length (rows_of (events_of (reading entities table text))) ≡ 1
-unfolding IsBalanced rows rows_of
-reading_balanced entities table text =
+some_more : (rs : List Inlines) → AreSome rs → 0 < length rs
+unfolding AreSome
+some_more [] h = absurd h
+some_more (r ∷ rs) h = omega arith
+
+pub reading_balanced : (entities : EntityTable) (table : Table) (text : List ℕ) (rest : List Event) → length (rows_of (events_of (reading entities table text) ++ rest)) ≡ length (rows_of rest)
+unfolding IsBalanced rows
+reading_balanced entities table text rest =
     let pieces = pieces_after (reading entities table text) [] in
     let made = pieces_balanced entities table text text 0 0 [] nothing_balanced in
-    let even : rows (events_of (reading entities table text) ++ []) ≡ 1 = settled_balanced (reverse pieces) (reverse_balanced pieces made) [] (omega arith) in
-    ap rows (sym (append-nil (events_of (reading entities table text)))) ∙ even
+    settled_balanced (reverse pieces) (reverse_balanced pieces made) rest (some_more (rows_of rest) (some_rows rest))

@@ -2,6 +2,7 @@
 use Rattle.std.proofs.Common.{ℕ, ◌+◌, ◌<◌, ◌≤◌, Bool, true, false, List, [], ◌∷◌, length, drop, Option, Some, None, IfSome, arith}
 use Rattle.std.specs.Prelude.{if◌then◌else◌, nat_lt}
 use Rattle.std.proofs.lemmas.Bool.Decides.{nat_tests}
+use Rattle.std.proofs.lemmas.Bool.{and_parts}
 use Rattle.mdscan.specs.declared.spans.Span.{Span}
 use Rattle.mdscan.specs.declared.links.Dest.{Dest}
 use Rattle.mdscan.specs.declared.inline_tails.Tail.{Tail}
@@ -12,7 +13,7 @@ use Rattle.mdscan.specs.InlineTail.{tail_to, tail_titled, titled_tail, tail_from
 use Rattle.mdscan.specs.LinkDestination.{angle_destination, bare_end, bare_dest, destination_at}
 use Rattle.mdscan.specs.LinkLabel.{label_at}
 use Rattle.mdscan.specs.LinkTitle.{title_to, title_at}
-use Rattle.inlinelaws.proofs.FrontEnds.{IsEndIn, when, either_some, last, front, begins_below}
+use Rattle.inlinelaws.proofs.FrontEnds.{IsEndIn, when, either_some, begins_below}
 
 pub label_ends : (text : List ℕ) (at : ℕ) → IfSome (label_at text at) (λ span. IsEndIn text at (span.end + 1))
 unfolding label_at
@@ -20,7 +21,7 @@ label_ends text at =
     let inside = run_before (91 ∷ 93 ∷ []) (drop (at + 1) text) in
     let k : ℕ = at + 1 + inside in
     let found : k < length text → IsEndIn text at (k + 1) = λ below. (omega arith, omega arith) in
-    when _ _ (λ span. IsEndIn text at (span.end + 1)) (λ h. found (begins_below 93 k text (last _ _ (front _ _ h))))
+    when _ _ (λ span. IsEndIn text at (span.end + 1)) (λ h. found (begins_below 93 k text (and_parts _ _ (and_parts _ _ h).0).1))
 
 tail_to_ends : (text : List ℕ) (from at : ℕ) (d t : Option Span) → from ≤ at → IfSome (tail_to text at d t) (λ tail. IsEndIn text from tail.end)
 unfolding tail_to

@@ -1,7 +1,7 @@
 -- A tree whose texts are joined is the tree of its events.
 use Rattle.std.proofs.Common.{◌≡◌, ℕ, false, List, [], ◌∷◌, ◌++◌, refl, sym, ap, ◌∙◌, append_assoc, append-nil, arith}
 use Rattle.inlinespec.specs.InlineTree.{Inline, Inlines, no_inlines, inline, text, code, raw, soft, hard, emph, strong, strike, link, image}
-use Rattle.inlinespec.specs.InlineEvents.{Span, Emphasis, StrongEmphasis, Strikethrough, LinkTo, ImageOf, Event, Byte, CodeSpan, RawHtml, SoftBreak, HardBreak, Enter, Leave, written, within, span_tree, with_byte, in_front, closed, with_event, rows_of, first_row, tree_of, tree_events, inline_events}
+use Rattle.inlinespec.specs.InlineEvents.{InlineSpan, Emphasis, StrongEmphasis, Strikethrough, LinkTo, ImageOf, Event, Byte, CodeSpan, RawHtml, SoftBreak, HardBreak, Enter, Leave, written, within, span_tree, with_byte, in_front, closed, with_event, rows_of, first_row, tree_of, tree_events, inline_events}
 use Rattle.inlinespec.specs.JoinedTexts.{begins_with_text, IsApart, AreJoined, IsJoinedInside}
 
 with_bytes : List ℕ → Inlines → Inlines
@@ -35,7 +35,7 @@ unfolding AreSome
 still_some f [] h = h
 still_some f (row ∷ rows) h = tt
 
-some_closed : (span : Span) (rows : List Inlines) → AreSome rows → AreSome (closed span rows)
+some_closed : (span : InlineSpan) (rows : List Inlines) → AreSome rows → AreSome (closed span rows)
 unfolding AreSome
 some_closed span [] h = h
 some_closed span (row ∷ []) h = tt
@@ -102,12 +102,12 @@ stays (inline i is) h = ap (put i) (stays is h.2) ∙ put_apart i is h.0
 
 -- a span
 
-closed_row : (span : Span) (inside : Inlines) (rows : List Inlines) → AreSome rows → closed span (inside ∷ rows) ≡ in_front (inline (span_tree span inside)) rows
+closed_row : (span : InlineSpan) (inside : Inlines) (rows : List Inlines) → AreSome rows → closed span (inside ∷ rows) ≡ in_front (inline (span_tree span inside)) rows
 unfolding AreSome
 closed_row span inside [] h = absurd h
 closed_row span inside (row ∷ rows) h = refl
 
-span_rows : (span : Span) (inside : Inlines) (es : List Event) → AreJoined inside →
+span_rows : (span : InlineSpan) (inside : Inlines) (es : List Event) → AreJoined inside →
     rows_of (tree_events inside ++ Leave ∷ es) ≡ in_front (put_all inside) (rows_of (Leave ∷ es)) →
     rows_of (within span (tree_events inside) ++ es) ≡ in_front (inline (span_tree span inside)) (rows_of es)
 unfolding rows_of

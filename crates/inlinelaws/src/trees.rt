@@ -16,7 +16,8 @@ pub fn events_make_the_tree()
     ensures { (tree : Inlines) → AreJoined tree → tree_of (tree_events tree) ≡ tree }
 {}
 
-/// Where each span that begins also ends, no place of the events is deeper than the tree: what is made so far at the place, in the spans that are open there.
+/// Where events leave one row, as those of a reading do (`spans_end`), no place of them is deeper than their tree: at the place, the spans that are open
+/// there and what follows it inside the innermost of them.
 pub fn open_spans_nest()
     ensures { (front rest : List Event) → length (rows_of (front ++ rest)) ≡ 1
         → nest (first_row (rows_of rest)) + length (rows_of rest) ≤ 1 + nest (tree_of (front ++ rest)) }

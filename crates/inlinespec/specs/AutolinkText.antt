@@ -1,4 +1,4 @@
--- The text and the destination of an autolink (CommonMark 6.5): entity and numeric character references (2.5) are replaced in both; backslash escapes (2.4) do not work in them.
+-- The text and the destination of an autolink (CommonMark 6.5): entity and numeric character references (CommonMark 2.5) are replaced in both; backslash escapes (CommonMark 2.4) do not work in them.
 use Rattle.std.specs.Prelude.{ℕ, zero, suc, ◌+◌, ◌-◌, Bool, true, false, ◌==◌, List, [], ◌∷◌, ◌++◌, take, drop, codes, if◌then◌else◌}
 use Rattle.mdtext.specs.EntityTable.{EntityTable}
 use Rattle.mdtext.specs.References.{reference, reference_or}

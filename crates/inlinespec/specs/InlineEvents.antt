@@ -1,14 +1,14 @@
--- What comes in an inline text from left to right, and the tree that it makes (CommonMark 6; GFM, Strikethrough).
+-- What comes in an inline text from left to right, and the tree that it makes (CommonMark 6; GFM Strikethrough (extension)).
 use Rattle.std.specs.Prelude.{ℕ, List, [], ◌∷◌, ◌++◌, map}
 use Rattle.inlinespec.specs.InlineTree.{Inline, Inlines, no_inlines, inline, text, code, raw, soft, hard, emph, strong, strike, link, image}
 use Rattle.inlinespec.specs.LabelMap.{LinkTarget}
 
-pub data Span : Type 0 where
-  Emphasis : Span
-  StrongEmphasis : Span
-  Strikethrough : Span
-  LinkTo : LinkTarget → Span
-  ImageOf : LinkTarget → Span
+pub data InlineSpan : Type 0 where
+  Emphasis : InlineSpan
+  StrongEmphasis : InlineSpan
+  Strikethrough : InlineSpan
+  LinkTo : LinkTarget → InlineSpan
+  ImageOf : LinkTarget → InlineSpan
 
 -- A text is its bytes, one after the other. What stands between the beginning of a span and its end is inside it.
 pub data Event : Type 0 where
@@ -17,16 +17,16 @@ pub data Event : Type 0 where
   RawHtml : List ℕ → Event
   SoftBreak : Event
   HardBreak : Event
-  Enter : Span → Event
+  Enter : InlineSpan → Event
   Leave : Event
 
 abbrev pub written : List ℕ → List Event
 written bytes = map (λ b. Byte b) bytes
 
-abbrev pub within : Span → List Event → List Event
+abbrev pub within : InlineSpan → List Event → List Event
 within span inside = Enter span ∷ inside ++ Leave ∷ []
 
-abbrev pub span_tree : Span → Inlines → Inline
+abbrev pub span_tree : InlineSpan → Inlines → Inline
 span_tree Emphasis inside = emph inside
 span_tree StrongEmphasis inside = strong inside
 span_tree Strikethrough inside = strike inside
@@ -45,7 +45,7 @@ in_front f [] = []
 in_front f (row ∷ rows) = f row ∷ rows
 
 -- the row inside a span becomes that span, in front of the row that follows it
-abbrev pub closed : Span → List Inlines → List Inlines
+abbrev pub closed : InlineSpan → List Inlines → List Inlines
 closed span (inside ∷ after ∷ rows) = inline (span_tree span inside) after ∷ rows
 closed span rows = rows
 

@@ -1,4 +1,4 @@
--- Trees of inlines (CommonMark 6; GFM, Strikethrough), as definitions speak of them: a text is its bytes.
+-- Trees of inlines (CommonMark 6; GFM Strikethrough (extension)), as definitions speak of them: a text is its bytes.
 use Rattle.std.specs.Prelude.{ℕ, List, [], ◌∷◌}
 
 mutual

@@ -1,4 +1,4 @@
--- What begins at a place of a text, whatever labels are defined (CommonMark 2.4, 2.5, 6; GFM, Strikethrough). The text is read from the left;
+-- What begins at a place of a text, whatever labels are defined (CommonMark 2.4, 2.5, 6; GFM Strikethrough (extension)). The text is read from the left;
 -- what none of the rules takes is text, byte by byte.
 use Rattle.std.specs.Prelude.{ℕ, ◌+◌, ◌-◌, Bool, true, false, ◌||◌, ◌==◌, List, [], ◌∷◌, length, take, drop, slice_index, Option, Some, None, if◌then◌else◌}
 use Rattle.mdtext.specs.EntityTable.{EntityTable}
@@ -59,21 +59,21 @@ sign_of b =
     if b == 33 then Exclamation else
     if b == 93 then ClosingBracket else Other
 
--- a line break, or a text as it is written (6.7, 6.8)
+-- a line break, or a text as it is written (CommonMark 6.7, 6.8)
 abbrev pub break_or_written : List ℕ → Option LineBreak → Lexeme
 break_or_written text None = as_written 1 text
 break_or_written text (Some b) = leaf b.size ((if b.is_hard then HardBreak else SoftBreak) ∷ [])
 
--- A backslash before ASCII punctuation is dropped (2.4), and before a line ending it makes a hard break (6.7).
+-- A backslash before ASCII punctuation is dropped (CommonMark 2.4), and before a line ending it makes a hard break (CommonMark 6.7).
 unfoldable pub escape_lexeme : List ℕ → Lexeme
 escape_lexeme text = if begins_escape text then leaf 2 (written (take 1 (drop 1 text))) else break_or_written text (backslash_break text)
 
--- An entity or numeric character reference stands for its text (2.5).
+-- An entity or numeric character reference stands for its text (CommonMark 2.5).
 abbrev pub reference_lexeme : List ℕ → Option Meaning → Lexeme
 reference_lexeme text None = as_written 1 text
 reference_lexeme text (Some m) = leaf m.0 (written m.1)
 
--- A backtick string without a closing one of its length is text as a whole (6.1).
+-- A backtick string without a closing one of its length is text as a whole (CommonMark 6.1).
 abbrev pub code_lexeme : List ℕ → Option (List ℕ) → Lexeme
 code_lexeme text None = as_written (backticks text) text
 code_lexeme text (Some inside) = leaf (backticks text + length inside + backticks text) (CodeSpan (code_content inside) ∷ [])
@@ -83,13 +83,13 @@ autolink_lexeme entities text at auto =
     let shown = autolink_text entities text at auto in
     leaf (auto.end - at) (within (LinkTo (autolink_target auto shown)) (written shown))
 
--- An autolink (6.5) comes before raw HTML (6.6).
+-- An autolink (CommonMark 6.5) comes before raw HTML (CommonMark 6.6).
 abbrev pub angle_lexeme : EntityTable → List ℕ → ℕ → Option Auto → Option ℕ → Lexeme
 angle_lexeme entities text at (Some auto) tag = autolink_lexeme entities text at auto
 angle_lexeme entities text at None (Some size) = leaf size (RawHtml (take size (drop at text)) ∷ [])
 angle_lexeme entities text at None None = as_written 1 (drop at text)
 
--- a run of delimiters with what it can do (6.2)
+-- a run of delimiters with what it can do (CommonMark 6.2)
 abbrev pub run_lexeme : List ℕ → Option DelimiterRun → Lexeme
 run_lexeme text None = as_written 1 text
 run_lexeme text (Some run) = record { size = run.length; kind = Delimiters run }

@@ -17,11 +17,11 @@ Table = List ℕ → Option LinkTarget
 
 -- A link says where it leads (an inline link), or by which label to look it up; where its `]` is not followed by either and its text is no
 -- label, there is none. The number is the place behind it.
-pub data Reference : Type 0 where
-  Direct : LinkTarget → ℕ → Reference
-  ByLabel : Option (List ℕ) → ℕ → Reference
+pub data LinkTail : Type 0 where
+  Direct : LinkTarget → ℕ → LinkTail
+  ByLabel : Option (List ℕ) → ℕ → LinkTail
 
--- a destination or a title with escapes and references replaced (2.4, 2.5); one that is missing is empty
+-- a destination or a title with escapes and references replaced (CommonMark 2.4, 2.5); one that is missing is empty
 abbrev pub part_text : EntityTable → List ℕ → Option Span → List ℕ
 part_text entities text None = []
 part_text entities text (Some span) = unescaped entities (part text span)
@@ -35,12 +35,12 @@ empty_brackets_at text at = begins_with 91 (drop at text) && begins_with 93 (dro
 
 -- An inline tail comes first; then a label in brackets (a full reference); then the text itself, with `[]` behind it (collapsed) or without
 -- (shortcut). Labels are matched by their folded text.
-abbrev pub reference_by : EntityTable → List ℕ → ℕ → List ℕ → Option Tail → Option Span → Reference
-reference_by entities text after inside (Some tail) label = Direct (tail_target entities text tail) tail.end
-reference_by entities text after inside None (Some span) = ByLabel (label_of (part text span)) (span.end + 1)
-reference_by entities text after inside None None = ByLabel (label_of inside) (if empty_brackets_at text after then after + 2 else after)
+abbrev pub link_tail_by : EntityTable → List ℕ → ℕ → List ℕ → Option Tail → Option Span → LinkTail
+link_tail_by entities text after inside (Some tail) label = Direct (tail_target entities text tail) tail.end
+link_tail_by entities text after inside None (Some span) = ByLabel (label_of (part text span)) (span.end + 1)
+link_tail_by entities text after inside None None = ByLabel (label_of inside) (if empty_brackets_at text after then after + 2 else after)
 
 -- what a `]` makes of the text between it and its opener, by what stands from the place behind it on
-unfoldable pub reference_at : EntityTable → List ℕ → ℕ → List ℕ → Reference
-reference_at entities text after inside =
-    reference_by entities text after inside (inline_tail_at text after) (label_at text after)
+unfoldable pub link_tail_at : EntityTable → List ℕ → ℕ → List ℕ → LinkTail
+link_tail_at entities text after inside =
+    link_tail_by entities text after inside (inline_tail_at text after) (label_at text after)

@@ -1,10 +1,10 @@
--- The one reading of a text (CommonMark 6; GFM, Strikethrough): the items that tile it, each with what it does.
+-- The one reading of a text (CommonMark 6; GFM Strikethrough (extension)): the items that tile it, each with what it does.
 use Rattle.std.specs.Prelude.{◌≡◌, ℕ, zero, suc, ◌+◌, ◌-◌, ◌<◌, Bool, true, false, ◌||◌, not, length, take, drop, List, [], ◌∷◌, ◌++◌, Option, Some, None, if◌then◌else◌}
 use Rattle.mdtext.specs.EntityTable.{EntityTable}
 use Rattle.inlinespec.specs.LabelMap.{LinkTarget}
-use Rattle.inlinespec.specs.InlineEvents.{Span, LinkTo, ImageOf, written, within}
+use Rattle.inlinespec.specs.InlineEvents.{InlineSpan, LinkTo, ImageOf, written, within}
 use Rattle.inlinespec.specs.Lexing.{Kind, Leaf, Delimiters, OpenBracket, CloseBracket, lex}
-use Rattle.inlinespec.specs.LinkTails.{Table, Reference, Direct, ByLabel, reference_at}
+use Rattle.inlinespec.specs.LinkTails.{Table, LinkTail, Direct, ByLabel, link_tail_at}
 use Rattle.inlinespec.specs.Settled.{Piece, Made, Run, Opening, bracket_text, settled}
 
 -- Pieces so far are read backwards: the first is the last.
@@ -30,12 +30,12 @@ holds_link [] = false
 holds_link (Made has_link es ∷ ps) = has_link || holds_link ps
 holds_link (_ ∷ ps) = holds_link ps
 
--- Links may not contain other links (6.3), but images may (6.4).
+-- Links may not contain other links (CommonMark 6.3), but images may (CommonMark 6.4).
 abbrev pub is_live : Opened → Bool
 is_live o = o.image || not (holds_link o.inside)
 
--- An item adds a piece; or is a `]` that uses up its opener and makes no link, so that both are text; or makes a link or an image of what
--- stands between its opener and it.
+-- An item adds a piece; or is a `]` that makes no link, so that it is text and so is the nearest unused opener, if there is one; or is a `]` that makes
+-- a link or an image of what stands between that opener and it.
 pub data Deed : Type 0 where
   Adds : Piece → Deed
   Spends : Deed
@@ -55,16 +55,16 @@ abbrev pub looked_up : ℕ → ℕ → List ℕ → Option LinkTarget → Item
 looked_up at end label None = closing_bracket (label ∷ [])
 looked_up at end label (Some target) = record { size = end - at; deed = Links target; asks = label ∷ [] }
 
-abbrev pub by_reference : Table → ℕ → Reference → Item
-by_reference table at (Direct target end) = record { size = end - at; deed = Links target; asks = [] }
-by_reference table at (ByLabel None end) = closing_bracket []
-by_reference table at (ByLabel (Some label) end) = looked_up at end label (table label)
+abbrev pub by_link_tail : Table → ℕ → LinkTail → Item
+by_link_tail table at (Direct target end) = record { size = end - at; deed = Links target; asks = [] }
+by_link_tail table at (ByLabel None end) = closing_bracket []
+by_link_tail table at (ByLabel (Some label) end) = looked_up at end label (table label)
 
 -- A `]` uses up the nearest unused opener. If there is none, or no link may be made, it is text.
 abbrev pub closing : EntityTable → Table → List ℕ → ℕ → Option Opened → Item
 closing entities table text at None = closing_bracket []
 closing entities table text at (Some o) =
-    if is_live o then by_reference table at (reference_at entities text (at + 1) (take (at - o.begin) (drop o.begin text)))
+    if is_live o then by_link_tail table at (link_tail_at entities text (at + 1) (take (at - o.begin) (drop o.begin text)))
     else closing_bracket []
 
 abbrev pub adds : ℕ → Piece → Item
@@ -92,7 +92,7 @@ spent [] = []
 spent (Opening image begin ∷ below) = Made false (bracket_text image) ∷ below
 spent (p ∷ below) = p ∷ spent below
 
-abbrev pub span_to : (image : Bool) → LinkTarget → Span
+abbrev pub span_to : (image : Bool) → LinkTarget → InlineSpan
 span_to true target = ImageOf target
 span_to false target = LinkTo target
 

@@ -1,4 +1,4 @@
--- The tree of a text under a table of labels, and the labels that are looked up for it (CommonMark 6; GFM, Strikethrough).
+-- The tree of a text under a table of labels, and the labels that are looked up for it (CommonMark 6; GFM Strikethrough (extension)).
 use Rattle.std.specs.Prelude.{◌≡◌, ℕ, List, [], ◌∷◌, fold, reverse}
 use Rattle.std.specs.BTreeSet.{insert_key}
 use Rattle.std.specs.Cmp.Lexicographic.{slice_cmp}

@@ -8,7 +8,7 @@ use Rattle.blockspec.specs.ListGroups.{Part, Leaves, Quoted, Listed, Group, is_s
 use Rattle.blockspec.specs.NodeTree.{Leaf, Nodes, no_nodes, quote_node, list_node, ItemNodes, texts_in, definitions_in, placed}
 use Rattle.blockspec.specs.TaskItem.{with_task}
 use Rattle.mdblock.specs.held.TreesBehind.{nodes_before}
-use Rattle.mdblock.proofs.PlacedNodes.{nodes-assoc, part-behind}
+use Rattle.mdblock.proofs.PlacedNodes.{nodes_assoc, part_behind}
 
 abbrev item_group : ℕ → Bool → ListKind → Bool → ItemNodes → Group
 item_group b gap kind tight items = record { begin = b; gap = gap; part = Listed kind tight items }
@@ -17,87 +17,87 @@ item_group b gap kind tight items = record { begin = b; gap = gap; part = Listed
 abbrev pub list_nodes : ListSoFar → (tight : Bool) → ItemNodes → Nodes
 list_nodes l tight items = nodes_before (nodes_of l.front) (list_node l.kind (l.tight && tight) (items_before l.items items) no_nodes)
 
-one-apart : (g : Group) (b : ℕ) (gap : Bool) (kind : ListKind) (t : Bool) (items : ItemNodes) →
+one_apart : (g : Group) (b : ℕ) (gap : Bool) (kind : ListKind) (t : Bool) (items : ItemNodes) →
     nodes_of (g ∷ item_group b gap kind t items ∷ []) ≡ list_nodes (list_behind (g ∷ []) kind) t items
 unfolding nodes_of
-one-apart g b gap kind t items = part-behind g.part (list_node kind t items no_nodes) ∙ refl
+one_apart g b gap kind t items = part_behind g.part (list_node kind t items no_nodes) ∙ refl
 
-where-list : (same : Bool) (b' : ℕ) (gap' : Bool) (first : ListKind) (t' : Bool) (items' : ItemNodes) (b : ℕ) (gap : Bool) (kind : ListKind) (t : Bool) (items : ItemNodes) →
+where_list : (same : Bool) (b' : ℕ) (gap' : Bool) (first : ListKind) (t' : Bool) (items' : ItemNodes) (b : ℕ) (gap : Bool) (kind : ListKind) (t : Bool) (items : ItemNodes) →
     nodes_of (joined_where same (item_group b' gap' first t' items') first t' items' (item_group b gap kind t items) t items [])
     ≡ list_nodes (list_where same (item_group b' gap' first t' items') first t' items' kind gap) t items
 unfolding nodes_of
-where-list true b' gap' first t' items' b gap kind t items = refl
-where-list false b' gap' first t' items' b gap kind t items = refl
+where_list true b' gap' first t' items' b gap kind t items = refl
+where_list false b' gap' first t' items' b gap kind t items = refl
 
-part-list : (b' : ℕ) (gap' : Bool) (p : Part) (b : ℕ) (gap : Bool) (kind : ListKind) (t : Bool) (items : ItemNodes) →
+part_list : (b' : ℕ) (gap' : Bool) (p : Part) (b : ℕ) (gap : Bool) (kind : ListKind) (t : Bool) (items : ItemNodes) →
     nodes_of (merged (record { begin = b'; gap = gap'; part = p } ∷ []) (item_group b gap kind t items ∷ []))
     ≡ list_nodes (list_at (record { begin = b'; gap = gap'; part = p }) p kind gap) t items
-part-list b' gap' (Leaves leaves) b gap kind t items = one-apart (record { begin = b'; gap = gap'; part = Leaves leaves }) b gap kind t items
-part-list b' gap' (Quoted nodes) b gap kind t items = one-apart (record { begin = b'; gap = gap'; part = Quoted nodes }) b gap kind t items
-part-list b' gap' (Listed first t' items') b gap kind t items = where-list (is_same_list first kind) b' gap' first t' items' b gap kind t items
+part_list b' gap' (Leaves leaves) b gap kind t items = one_apart (record { begin = b'; gap = gap'; part = Leaves leaves }) b gap kind t items
+part_list b' gap' (Quoted nodes) b gap kind t items = one_apart (record { begin = b'; gap = gap'; part = Quoted nodes }) b gap kind t items
+part_list b' gap' (Listed first t' items') b gap kind t items = where_list (is_same_list first kind) b' gap' first t' items' b gap kind t items
 
 -- an item behind some groups is the last one of its list
-pub merged-list : (before : List Group) (b : ℕ) (gap : Bool) (kind : ListKind) (t : Bool) (items : ItemNodes) →
+pub merged_list : (before : List Group) (b : ℕ) (gap : Bool) (kind : ListKind) (t : Bool) (items : ItemNodes) →
     nodes_of (merged before (item_group b gap kind t items ∷ [])) ≡ list_nodes (list_of before kind gap) t items
 unfolding nodes_of
-merged-list [] b gap kind t items = refl
-merged-list (g ∷ []) b gap kind t items = part-list g.begin g.gap g.part b gap kind t items
-merged-list (g ∷ n ∷ gs) b gap kind t items =
+merged_list [] b gap kind t items = refl
+merged_list (g ∷ []) b gap kind t items = part_list g.begin g.gap g.part b gap kind t items
+merged_list (g ∷ n ∷ gs) b gap kind t items =
     let l = list_of (n ∷ gs) kind gap in
     let node = list_node l.kind (l.tight && t) (items_before l.items items) no_nodes in
-    ap (part_before g.part) (merged-list (n ∷ gs) b gap kind t items)
-    ∙ part-behind g.part (nodes_before (nodes_of l.front) node)
-    ∙ nodes-assoc (part_before g.part no_nodes) (nodes_of l.front) node
-    ∙ ap (λ z. nodes_before z node) (sym (part-behind g.part (nodes_of l.front)))
+    ap (part_before g.part) (merged_list (n ∷ gs) b gap kind t items)
+    ∙ part_behind g.part (nodes_before (nodes_of l.front) node)
+    ∙ nodes_assoc (part_before g.part no_nodes) (nodes_of l.front) node
+    ∙ ap (λ z. nodes_before z node) (sym (part_behind g.part (nodes_of l.front)))
 
 -- a leaf or a quote behind some groups is a block of its own
-pub merged-leaves : (before : List Group) (b : ℕ) (gap : Bool) (leaves : List Leaf) →
+pub merged_leaves : (before : List Group) (b : ℕ) (gap : Bool) (leaves : List Leaf) →
     nodes_of (merged before (record { begin = b; gap = gap; part = Leaves leaves } ∷ [])) ≡ nodes_before (nodes_of before) (leaves_before leaves no_nodes)
 unfolding nodes_of
-merged-leaves [] b gap leaves = refl
-merged-leaves (g ∷ []) b gap leaves = leaves-last g.begin g.gap g.part b gap leaves where
-  leaves-last : (b' : ℕ) (gap' : Bool) (p : Part) (b : ℕ) (gap : Bool) (leaves : List Leaf) →
+merged_leaves [] b gap leaves = refl
+merged_leaves (g ∷ []) b gap leaves = leaves_last g.begin g.gap g.part b gap leaves where
+  leaves_last : (b' : ℕ) (gap' : Bool) (p : Part) (b : ℕ) (gap : Bool) (leaves : List Leaf) →
       nodes_of (joined (record { begin = b'; gap = gap'; part = p }) p (record { begin = b; gap = gap; part = Leaves leaves } ∷ [])) ≡ nodes_before (part_before p no_nodes) (leaves_before leaves no_nodes)
-  leaves-last b' gap' (Leaves ls) b gap leaves = part-behind (Leaves ls) (leaves_before leaves no_nodes)
-  leaves-last b' gap' (Quoted inner) b gap leaves = refl
-  leaves-last b' gap' (Listed kind t items) b gap leaves = refl
-merged-leaves (g ∷ n ∷ gs) b gap leaves =
-    ap (part_before g.part) (merged-leaves (n ∷ gs) b gap leaves)
-    ∙ part-behind g.part (nodes_before (nodes_of (n ∷ gs)) (leaves_before leaves no_nodes))
-    ∙ nodes-assoc (part_before g.part no_nodes) (nodes_of (n ∷ gs)) (leaves_before leaves no_nodes)
-    ∙ ap (λ z. nodes_before z (leaves_before leaves no_nodes)) (sym (part-behind g.part (nodes_of (n ∷ gs))))
+  leaves_last b' gap' (Leaves ls) b gap leaves = part_behind (Leaves ls) (leaves_before leaves no_nodes)
+  leaves_last b' gap' (Quoted inner) b gap leaves = refl
+  leaves_last b' gap' (Listed kind t items) b gap leaves = refl
+merged_leaves (g ∷ n ∷ gs) b gap leaves =
+    ap (part_before g.part) (merged_leaves (n ∷ gs) b gap leaves)
+    ∙ part_behind g.part (nodes_before (nodes_of (n ∷ gs)) (leaves_before leaves no_nodes))
+    ∙ nodes_assoc (part_before g.part no_nodes) (nodes_of (n ∷ gs)) (leaves_before leaves no_nodes)
+    ∙ ap (λ z. nodes_before z (leaves_before leaves no_nodes)) (sym (part_behind g.part (nodes_of (n ∷ gs))))
 
-pub merged-quote : (before : List Group) (b : ℕ) (gap : Bool) (inner : Nodes) →
+pub merged_quote : (before : List Group) (b : ℕ) (gap : Bool) (inner : Nodes) →
     nodes_of (merged before (record { begin = b; gap = gap; part = Quoted inner } ∷ [])) ≡ nodes_before (nodes_of before) (quote_node inner no_nodes)
 unfolding nodes_of
-merged-quote [] b gap inner = refl
-merged-quote (g ∷ []) b gap inner = quote-last g.begin g.gap g.part b gap inner where
-  quote-last : (b' : ℕ) (gap' : Bool) (p : Part) (b : ℕ) (gap : Bool) (inner : Nodes) →
+merged_quote [] b gap inner = refl
+merged_quote (g ∷ []) b gap inner = quote_last g.begin g.gap g.part b gap inner where
+  quote_last : (b' : ℕ) (gap' : Bool) (p : Part) (b : ℕ) (gap : Bool) (inner : Nodes) →
       nodes_of (joined (record { begin = b'; gap = gap'; part = p }) p (record { begin = b; gap = gap; part = Quoted inner } ∷ [])) ≡ nodes_before (part_before p no_nodes) (quote_node inner no_nodes)
-  quote-last b' gap' (Leaves ls) b gap inner = part-behind (Leaves ls) (quote_node inner no_nodes)
-  quote-last b' gap' (Quoted i) b gap inner = refl
-  quote-last b' gap' (Listed kind t items) b gap inner = refl
-merged-quote (g ∷ n ∷ gs) b gap inner =
-    ap (part_before g.part) (merged-quote (n ∷ gs) b gap inner)
-    ∙ part-behind g.part (nodes_before (nodes_of (n ∷ gs)) (quote_node inner no_nodes))
-    ∙ nodes-assoc (part_before g.part no_nodes) (nodes_of (n ∷ gs)) (quote_node inner no_nodes)
-    ∙ ap (λ z. nodes_before z (quote_node inner no_nodes)) (sym (part-behind g.part (nodes_of (n ∷ gs))))
+  quote_last b' gap' (Leaves ls) b gap inner = part_behind (Leaves ls) (quote_node inner no_nodes)
+  quote_last b' gap' (Quoted i) b gap inner = refl
+  quote_last b' gap' (Listed kind t items) b gap inner = refl
+merged_quote (g ∷ n ∷ gs) b gap inner =
+    ap (part_before g.part) (merged_quote (n ∷ gs) b gap inner)
+    ∙ part_behind g.part (nodes_before (nodes_of (n ∷ gs)) (quote_node inner no_nodes))
+    ∙ nodes_assoc (part_before g.part no_nodes) (nodes_of (n ∷ gs)) (quote_node inner no_nodes)
+    ∙ ap (λ z. nodes_before z (quote_node inner no_nodes)) (sym (part_behind g.part (nodes_of (n ∷ gs))))
 
 -- ---- no lines
 
-pub none-over : (at : ℕ) (in_item : Bool) → placed at (tasked in_item (nodes_of [])) ≡ no_blocks
+pub none_over : (at : ℕ) (in_item : Bool) → placed at (tasked in_item (nodes_of [])) ≡ no_blocks
 unfolding nodes_of placed with_task
-none-over at true = refl
-none-over at false = refl
+none_over at true = refl
+none_over at false = refl
 
-pub none-spaced : (entities : EntityTable) → is_tight_inside (closed entities no_summary) ≡ true
+pub none_spaced : (entities : EntityTable) → is_tight_inside (closed entities no_summary) ≡ true
 unfolding closed
-none-spaced entities = refl
+none_spaced entities = refl
 
-pub none-texts : (entities : EntityTable) → texts_in (handed_nodes entities false no_summary) ≡ []
+pub none_texts : (entities : EntityTable) → texts_in (handed_nodes entities false no_summary) ≡ []
 unfolding handed_groups nodes_of texts_in
-none-texts entities = refl
+none_texts entities = refl
 
-pub none-definitions : (entities : EntityTable) → definitions_in (handed_nodes entities false no_summary) ≡ []
+pub none_definitions : (entities : EntityTable) → definitions_in (handed_nodes entities false no_summary) ≡ []
 unfolding handed_groups nodes_of definitions_in
-none-definitions entities = refl
+none_definitions entities = refl

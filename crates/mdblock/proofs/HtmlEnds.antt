@@ -1,12 +1,9 @@
 -- What ends an HTML block is not changed by spaces in front of it, and blocks of the kinds 6 and 7 have none.
 use Rattle.std.proofs.Common.{◌≡◌, ℕ, zero, suc, Bool, true, false, ◌&&◌, ◌||◌, ◌==◌, List, [], ◌∷◌, ◌++◌, replicate, refl, ap, sym, ◌∙◌, arith, nat_lt}
+use Rattle.std.proofs.Math.Bool.{and-false}
 use Rattle.std.proofs.lemmas.Bool.Decides.{nat_tests}
 use Rattle.mdscan.specs.Blanks.{is_blank, is_blank_text}
 use Rattle.mdscan.specs.HtmlBlock.{begins_raw_end, ends_kind, holds_end}
-
-pub and_false : (a : Bool) → (a && false) ≡ false
-and_false true = refl
-and_false false = refl
 
 no_raw_end : (bs : List ℕ) → begins_raw_end (32 ∷ bs) ≡ false
 unfolding begins_raw_end
@@ -14,7 +11,7 @@ no_raw_end bs = refl
 
 no_end : (kind : ℕ) (bs : List ℕ) → ends_kind kind (32 ∷ bs) ≡ false
 unfolding ends_kind
-no_end kind bs = rw (no_raw_end bs) (rw (and_false (kind == 1), and_false (kind == 2), and_false (kind == 3), and_false (kind == 4), and_false (kind == 5)) refl)
+no_end kind bs = rw (no_raw_end bs) (rw (and-false (kind == 1), and-false (kind == 2), and-false (kind == 3), and-false (kind == 4), and-false (kind == 5)) refl)
 
 one_space : (kind : ℕ) (bs : List ℕ) → holds_end kind (32 ∷ bs) ≡ holds_end kind bs
 unfolding holds_end
@@ -26,7 +23,7 @@ end_behind_spaces kind (suc n) text = one_space kind (replicate n 32 ++ text) �
 
 no_end_behind_tab : (kind : ℕ) (bs : List ℕ) → ends_kind kind (9 ∷ bs) ≡ false
 unfolding ends_kind begins_raw_end
-no_end_behind_tab kind bs = rw (and_false (kind == 1), and_false (kind == 2), and_false (kind == 3), and_false (kind == 4), and_false (kind == 5)) refl
+no_end_behind_tab kind bs = rw (and-false (kind == 1), and-false (kind == 2), and-false (kind == 3), and-false (kind == 4), and-false (kind == 5)) refl
 
 no_end_behind_blank : (kind b : ℕ) (bs : List ℕ) → is_blank b ≡ true → ends_kind kind (b ∷ bs) ≡ false
 no_end_behind_blank kind b bs h = by (b == 32) refl h where

@@ -6,7 +6,7 @@ use Rattle.blockspec.specs.BlockStart.{Kind, Paragraph, FencedCode, IndentedCode
 use Rattle.blockspec.specs.Laziness.{Tip}
 use Rattle.mdblock.specs.held.OpenLeaves.{IsLeafOf}
 use Rattle.mdblock.specs.held.ParagraphLines.{HeldText, HoldsLines}
-use Rattle.blockspec.specs.Stretches.{takes_if, fence_step, closes, html_step, ends_html, is_code, is_row, paragraph_step, step}
+use Rattle.blockspec.specs.Stretches.{continues_if, fence_step, closes, html_step, ends_html, is_code, is_row, paragraph_step, step}
 use Rattle.blockspec.specs.UnitBegin.{is_stop}
 use Rattle.mdblock.specs.declared.leaf.fences.Fence.{Fence}
 use Rattle.mdblock.specs.declared.leaf.html_blocks.HtmlBlock as html
@@ -14,7 +14,7 @@ use Rattle.mdblock.specs.declared.leaf.indented_code.IndentedCode as code
 use Rattle.mdblock.specs.declared.leaf.tables.Table as table
 use Rattle.mdblock.specs.declared.leaf.Leaf.TheVariants as leaf
 
-if_taken : (t : Bool) (kind : Kind) → t ≡ not (is_stop (takes_if t kind))
+if_taken : (t : Bool) (kind : Kind) → t ≡ not (is_stop (continues_if t kind))
 if_taken true kind = refl
 if_taken false kind = refl
 
@@ -24,7 +24,7 @@ fence_goes false fence = refl
 
 html_goes : (blank ends : Bool) (kind : ℕ) → (nat_lt kind 6 || not blank) ≡ not (is_stop (html_step blank ends kind))
 html_goes true ends kind = go (nat_lt kind 6) where
-  go : (t : Bool) → (t || false) ≡ not (is_stop (takes_if t (HtmlBlock kind)))
+  go : (t : Bool) → (t || false) ≡ not (is_stop (continues_if t (HtmlBlock kind)))
   go true = refl
   go false = refl
 html_goes false true kind = go (nat_lt kind 6) where

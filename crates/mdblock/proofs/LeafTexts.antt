@@ -12,9 +12,10 @@ use Rattle.mdtext.specs.EntityTable.{EntityTable}
 use Rattle.mdtext.specs.References.{unescaped}
 use Rattle.mdleaf.specs.CodeLanguage.{code_language, ends_language}
 use Rattle.mdleaf.specs.ParagraphText.{joined_lines}
+use Rattle.blocklaws.proofs.OpenLeafLaws.{joined_next}
 use Rattle.blockspec.specs.BlockLine.{BlockLine, is_blank_line, without_columns}
 use Rattle.blockspec.specs.LeafContents.{code_text, without_end_blank_lines}
-use Rattle.mdblock.specs.held.OpenLeaves.{end_blank_lines}
+use Rattle.blockspec.specs.OpenLeaf.{end_blank_lines}
 
 -- ---- lines with a line ending between them
 
@@ -25,12 +26,6 @@ joined_more x y ys = refl
 pub joined_one : (x : List ℕ) → joined_lines (x ∷ []) ≡ x
 unfolding joined_lines
 joined_one x = refl
-
-pub joined_next : (x : List ℕ) (xs : List (List ℕ)) (y : List ℕ) → joined_lines (x ∷ xs ++ y ∷ []) ≡ joined_lines (x ∷ xs) ++ 10 ∷ y
-joined_next x [] y = joined_more x y [] ∙ ap (λ t. x ++ 10 ∷ t) (joined_one y) ∙ ap (λ t. t ++ 10 ∷ y) (sym (joined_one x))
-joined_next x (z ∷ zs) y =
-    joined_more x z (zs ++ y ∷ []) ∙ ap (λ t. x ++ 10 ∷ t) (joined_next z zs y)
-    ∙ sym (append_assoc x (10 ∷ joined_lines (z ∷ zs)) (10 ∷ y)) ∙ ap (λ t. t ++ 10 ∷ y) (sym (joined_more x z zs))
 
 pub html_next : (first : BlockLine) (later : List BlockLine) (l : BlockLine) (old ended new : List ℕ)
     → old ≡ joined_lines (map (λ l. l.line.text) (first ∷ later)) → ended ≡ old ++ 10 ∷ [] → new ≡ ended ++ l.line.text
@@ -55,22 +50,8 @@ code_next columns ls l old mid new o m n =
 suffix_front : (p : BlockLine → Bool) (ls : List BlockLine) (l : BlockLine) (n : ℕ) → n ≡ prefix_len p (l ∷ reverse ls) → suffix_len p (ls ++ l ∷ []) ≡ n
 suffix_front p ls l n e = ap (prefix_len p) (reverse-append ls (l ∷ [])) ∙ sym e
 
-suffix_blank : (ls : List BlockLine) (l : BlockLine) → is_blank_line l ≡ true → suffix_len is_blank_line (ls ++ l ∷ []) ≡ 1 + suffix_len is_blank_line ls
-suffix_blank ls l h = suffix_front is_blank_line ls l (1 + suffix_len is_blank_line ls) (rw h refl)
-
 suffix_none : (ls : List BlockLine) (l : BlockLine) → is_blank_line l ≡ false → suffix_len is_blank_line (ls ++ l ∷ []) ≡ 0
 suffix_none ls l h = suffix_front is_blank_line ls l 0 (rw h refl)
-
-same_cut : (ls : List BlockLine) (l : BlockLine) → is_blank_line l ≡ true → length (ls ++ l ∷ []) - suffix_len is_blank_line (ls ++ l ∷ []) ≡ length ls - suffix_len is_blank_line ls
-same_cut ls l h = omega (arith, suffix_blank ls l h, length-append ls (l ∷ []))
-
-pub front_stays : (ls : List BlockLine) (l : BlockLine) → is_blank_line l ≡ true → without_end_blank_lines (ls ++ l ∷ []) ≡ without_end_blank_lines ls
-front_stays ls l h =
-    ap (λ n. take n (ls ++ l ∷ [])) (same_cut ls l h) ∙ take-append-le (length ls - suffix_len is_blank_line ls) ls (l ∷ []) (omega arith)
-
-pub end_grows : (ls : List BlockLine) (l : BlockLine) → is_blank_line l ≡ true → end_blank_lines (ls ++ l ∷ []) ≡ end_blank_lines ls ++ l ∷ []
-end_grows ls l h =
-    ap (λ n. drop n (ls ++ l ∷ [])) (same_cut ls l h) ∙ drop-append-le (length ls - suffix_len is_blank_line ls) ls (l ∷ []) (omega arith)
 
 pub front_is_all : (ls : List BlockLine) (l : BlockLine) → is_blank_line l ≡ false → without_end_blank_lines (ls ++ l ∷ []) ≡ ls ++ l ∷ []
 front_is_all ls l h = take_all _ (ls ++ l ∷ []) (omega (arith, suffix_none ls l h))

@@ -11,7 +11,6 @@ pub mod LeafTurns
 pub mod Markers
 pub mod ParagraphLaws
 pub mod PlacedNodes
-pub mod Ranges
 pub mod ReadsLaws
 pub mod RowStarts
 pub mod Skips

@@ -3,6 +3,7 @@ use Rattle.std.proofs.Common.{◌≡◌, ℕ, ◌+◌, ◌<◌, ◌≤◌, Bool,
 use Rattle.std.specs.Prelude.{◌||◌, ◌&&◌, nat_le}
 use Rattle.std.specs.Char.{is_ascii_digit}
 use Rattle.std.specs.List.{prefix_len}
+use Rattle.std.proofs.lemmas.Bool.{and_parts, or_cases}
 use Rattle.std.proofs.lemmas.Bool.Decides.{nat_tests}
 use Rattle.std.proofs.lemmas.List.Sums.{prefix_len_passes}
 use Rattle.mdtext.specs.Columns.{AreMarks, is_space_or_tab}
@@ -10,6 +11,7 @@ use Rattle.mdscan.specs.Blanks.{begins_with, ends_or_blank}
 use Rattle.mdscan.specs.BlockQuote.{is_quote_marker}
 use Rattle.mdscan.specs.ListMarker.{marker, ordered_marker, begins_bullet, begins_delimiter, bullet, ordered, is_ordered}
 use Rattle.mdscan.specs.declared.list_markers.Marker.{Marker}
+use Rattle.mdblock.proofs.Skips.{at_most_or_more}
 
 abbrev pub IsMark : ℕ → Type 0
 IsMark b = (b < 128) × (is_space_or_tab b ≡ false)
@@ -28,28 +30,14 @@ pub quote_mark : (text : List ℕ) → is_quote_marker text ≡ true → AreMark
 unfolding is_quote_marker
 quote_mark text h = one_mark text 62 (omega arith, refl) h
 
-or_is : (a b : Bool) → (a || b) ≡ true → (a ≡ true) ⊎ (b ≡ true)
-or_is true b h = inl refl
-or_is false b h = inr h
-
-and_is : (a b : Bool) → (a && b) ≡ true → (a ≡ true) × (b ≡ true)
-and_is true b h = (refl, h)
-and_is false b h = absurd (never h)
-
 bullet_mark : (text : List ℕ) → begins_bullet text ≡ true → AreMarks 1 text
-bullet_mark text h = elim (or_is (begins_with 45 text || begins_with 43 text) (begins_with 42 text) h) [
-  | inl rest ↦ elim (or_is (begins_with 45 text) (begins_with 43 text) rest) [
+bullet_mark text h = elim (or_cases (begins_with 45 text || begins_with 43 text) (begins_with 42 text) h) [
+  | inl rest ↦ elim (or_cases (begins_with 45 text) (begins_with 43 text) rest) [
     | inl dash ↦ one_mark text 45 (omega arith, refl) dash
     | inr plus ↦ one_mark text 43 (omega arith, refl) plus
   ]
   | inr star ↦ one_mark text 42 (omega arith, refl) star
 ]
-
-at_most_or_more : (m n : ℕ) → (m ≤ n) ⊎ (n < m)
-at_most_or_more m n = by_test (nat_le m n) refl where
-  by_test : (t : Bool) → nat_le m n ≡ t → (m ≤ n) ⊎ (n < m)
-  by_test true e = inl (grind (arith, nat_tests, e))
-  by_test false e = inr (grind (arith, nat_tests, e))
 
 abbrev width_of : Option Marker → ℕ
 width_of None = 0
@@ -66,7 +54,7 @@ first_is [] b h = absurd (never h)
 first_is (c ∷ cs) b h = (omega arith, grind (arith, nat_tests, h))
 
 delimiter_is : (text : List ℕ) → begins_delimiter text ≡ true → (0 < length text) × IsMark (get_or text 0 0)
-delimiter_is text h = elim (or_is (begins_with 46 text) (begins_with 41 text) h) [
+delimiter_is text h = elim (or_cases (begins_with 46 text) (begins_with 41 text) h) [
   | inl dot ↦ let f = first_is text 46 dot in (f.0, rw f.1 (omega arith, refl))
   | inr round ↦ let f = first_is text 41 round in (f.0, rw f.1 (omega arith, refl))
 ]
@@ -94,8 +82,8 @@ by_ordered : (text : List ℕ) (m : Marker) (t : Bool) → is_ordered (prefix_le
 by_ordered text m true h e =
     let n : ℕ = prefix_len is_ascii_digit text in
     let width : n + 1 ≡ m.width = ap width_of e in
-    let front = and_is _ _ h in
-    let delimiter = and_is _ _ front.0 in
+    let front = and_parts _ _ h in
+    let delimiter = and_parts _ _ front.0 in
     subst (λ (w : ℕ). AreMarks w text) width (ordered_mark text n refl delimiter.1)
 by_ordered text m false h e = absurd (none_is e)
 
@@ -104,7 +92,7 @@ by_bullet : (text : List ℕ) (m : Marker) (t : Bool) → (begins_bullet text &&
 unfolding ordered_marker
 by_bullet text m true h e =
     let width : 1 ≡ m.width = ap width_of e in
-    subst (λ (w : ℕ). AreMarks w text) width (bullet_mark text (and_is (begins_bullet text) _ h).0)
+    subst (λ (w : ℕ). AreMarks w text) width (bullet_mark text (and_parts (begins_bullet text) _ h).0)
 by_bullet text m false h e = by_ordered text m (is_ordered (prefix_len is_ascii_digit text) text) refl e
 
 -- the marker of a list item

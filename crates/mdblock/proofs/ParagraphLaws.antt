@@ -11,13 +11,14 @@ use Rattle.mdleaf.specs.ParagraphText.{joined_lines, without_end_blanks}
 use Rattle.mdleaf.specs.TableRows.{begins_table}
 use Rattle.blockspec.specs.BlockLine.{BlockLine, rest, indentation, is_blank_line}
 use Rattle.blockspec.specs.BlockStart.{Inside, Kind, Paragraph, SetextHeading, Table, begins_underline, begins_rows, last_text, start_near, start}
-use Rattle.mdblock.specs.held.OpeningKind.{kind_of_opening}
+use Rattle.mdblock.specs.held.StartKind.{kind_of_start}
 use Rattle.mdblock.specs.held.ParagraphLines.{HeldText, HoldsLines}
 use Rattle.mdblock.specs.held.StartParts.{start_before_underline, start_after_underline}
-use Rattle.blockspec.specs.Stretches.{Takes, Ends, Stops, interrupted, paragraph_step}
-use Rattle.mdblock.specs.declared.starts.Opening.{Opening}
-use Rattle.mdblock.specs.declared.starts.Opening.TheVariants as o
-use Rattle.mdblock.proofs.LeafTexts.{joined_more, joined_one, joined_next}
+use Rattle.blockspec.specs.Stretches.{Continues, IsLastLine, IsOverBefore, interrupted, paragraph_step}
+use Rattle.mdblock.specs.declared.block_starts.BlockStart.{BlockStart}
+use Rattle.mdblock.specs.declared.block_starts.BlockStart.TheVariants as o
+use Rattle.blocklaws.proofs.OpenLeafLaws.{joined_next, last_next}
+use Rattle.mdblock.proofs.LeafTexts.{joined_more, joined_one}
 use Rattle.mdblock.proofs.StartLaws.{near_in_parts}
 
 -- ---- the text
@@ -59,10 +60,6 @@ first_line l text e = record { whole = e ∙ sym (joined_one (rest l)); last_one
 
 lines_next : (first : BlockLine) (later : List BlockLine) (l : BlockLine) → joined_lines (map rest (first ∷ later ++ l ∷ [])) ≡ joined_lines (map rest (first ∷ later)) ++ 10 ∷ rest l
 lines_next first later l = ap (λ ts. joined_lines (rest first ∷ ts)) (map-append rest later (l ∷ [])) ∙ joined_next (rest first) (map rest later) (rest l)
-
-last_next : (first : BlockLine) (later : List BlockLine) (l : BlockLine) → last_text (first ∷ later ++ l ∷ []) ≡ rest l
-last_next first [] l = refl
-last_next first (m ∷ ls) l = last_next m ls l
 
 -- one line more
 pub next_line : (first : BlockLine) (later : List BlockLine) (l : BlockLine) (held new : HeldText) → HoldsLines (first ∷ later) held
@@ -110,7 +107,7 @@ at_front text u = (IsCharBoundary-start text u, λ h. absurd (omega (arith, h)))
 
 -- ---- what a line does to it
 
-pub opening_stops : (l : BlockLine) (o : Opening) → interrupted (Some (kind_of_opening l o)) ≡ Stops
+pub opening_stops : (l : BlockLine) (o : BlockStart) → interrupted (Some (kind_of_start l o)) ≡ IsOverBefore
 opening_stops l o.Quote = refl
 opening_stops l (o.Heading heading) = refl
 opening_stops l (o.Fence fence) = refl
@@ -125,11 +122,11 @@ unfolding start
 step_near lines l lazy blank near = rw (lazy, blank, near) refl
 
 pub step_far : (lines : List BlockLine) (l : BlockLine) → l.lazy ≡ false → is_blank_line l ≡ false → nat_le (indentation l) 3 ≡ false
-    → paragraph_step l.lazy (is_blank_line l) (start Inside lines l) ≡ Takes Paragraph
+    → paragraph_step l.lazy (is_blank_line l) (start Inside lines l) ≡ Continues Paragraph
 unfolding start
 step_far lines l lazy blank near = rw (lazy, blank, near) refl
 
-stops_by : {A : Type 0} (f : A → Kind) (o : Option A) (k behind : Option Kind) → ((x : A) → interrupted (Some (f x)) ≡ Stops) → option_map f o ≡ k → is_some o ≡ true → interrupted (option_or k behind) ≡ Stops
+stops_by : {A : Type 0} (f : A → Kind) (o : Option A) (k behind : Option Kind) → ((x : A) → interrupted (Some (f x)) ≡ IsOverBefore) → option_map f o ≡ k → is_some o ≡ true → interrupted (option_or k behind) ≡ IsOverBefore
 stops_by f None k behind plain e h = cc
 stops_by f (Some x) k behind plain e h = ap (λ k. interrupted (option_or k behind)) (sym e) ∙ plain x
 
@@ -147,19 +144,19 @@ parts_are lines l before underline after rows b u a r =
     ∙ ap (λ k. option_or before (option_or underline (option_or k (begins_rows Inside lines l)))) a
     ∙ ap (λ k. option_or before (option_or underline (option_or after k))) r
 
-pub ends_before : {A : Type 0} (f : A → Kind) (o : Option A) (lines : List BlockLine) (l : BlockLine) → ((x : A) → interrupted (Some (f x)) ≡ Stops)
-    → option_map f o ≡ start_before_underline Inside l → is_some o ≡ true → interrupted (start_near Inside lines l) ≡ Stops
+pub ends_before : {A : Type 0} (f : A → Kind) (o : Option A) (lines : List BlockLine) (l : BlockLine) → ((x : A) → interrupted (Some (f x)) ≡ IsOverBefore)
+    → option_map f o ≡ start_before_underline Inside l → is_some o ≡ true → interrupted (start_near Inside lines l) ≡ IsOverBefore
 ends_before f o lines l plain e h =
     ap interrupted (near_in_parts Inside lines l) ∙ stops_by f o (start_before_underline Inside l) _ plain e h
 
 pub underlined : {A : Type 0} (f : A → Kind) (o : Option A) (lines : List BlockLine) (l : BlockLine) (level : ℕ)
     → option_map f o ≡ start_before_underline Inside l → is_some o ≡ false → begins_underline Inside lines l ≡ Some (SetextHeading level)
-    → interrupted (start_near Inside lines l) ≡ Ends (SetextHeading level)
+    → interrupted (start_near Inside lines l) ≡ IsLastLine (SetextHeading level)
 underlined f o lines l level e h u = ap interrupted (parts_are lines l None (Some (SetextHeading level)) _ _ (none_by f o _ e h) u refl refl)
 
-pub ends_after : {A : Type 0} (f : A → Kind) (o p : Option A) (lines : List BlockLine) (l : BlockLine) → ((x : A) → interrupted (Some (f x)) ≡ Stops)
+pub ends_after : {A : Type 0} (f : A → Kind) (o p : Option A) (lines : List BlockLine) (l : BlockLine) → ((x : A) → interrupted (Some (f x)) ≡ IsOverBefore)
     → option_map f o ≡ start_before_underline Inside l → is_some o ≡ false → begins_underline Inside lines l ≡ None
-    → option_map f p ≡ start_after_underline Inside l → is_some p ≡ true → interrupted (start_near Inside lines l) ≡ Stops
+    → option_map f p ≡ start_after_underline Inside l → is_some p ≡ true → interrupted (start_near Inside lines l) ≡ IsOverBefore
 ends_after f o p lines l plain e h u d g =
     ap interrupted (parts_are lines l None None _ _ (none_by f o _ e h) u refl refl) ∙ stops_by f p (start_after_underline Inside l) _ plain d g
 

@@ -10,7 +10,7 @@ use Rattle.mdtext.proofs.Indents.{steps, lands, indent_nil, indent_spaces, width
 use Rattle.mdscan.specs.Blanks.{is_blank}
 use Rattle.blockspec.specs.Indentation.{unindented}
 
-at_most_or_more : (m n : ℕ) → (m ≤ n) ⊎ (n < m)
+pub at_most_or_more : (m n : ℕ) → (m ≤ n) ⊎ (n < m)
 at_most_or_more m n = by_test (nat_le m n) refl where
   by_test : (t : Bool) → nat_le m n ≡ t → (m ≤ n) ⊎ (n < m)
   by_test true e = inl (grind (arith, nat_tests, e))
@@ -182,12 +182,6 @@ mark_kept old skipped marked columns width text e s m within t short =
     let same : reach skipped ≡ reach (skip old columns) = ap (λ (p : Place). reach p) s in
     let there : reach marked ≡ skipped.column + width + 0 + 4 * length (drop width skipped.rest) = ap (λ (p : Place). reach p) m in
     (t ∙ sym (unindented_line marked), omega (arith, less, same, there, length-drop width skipped.rest, within, short))
-
--- as many columns as there are at most are all that is taken
-pub strip_most : (line : Line) (columns taken : ℕ) → taken ≡ min columns (indent line) → strip line taken ≡ strip line columns
-strip_most line columns taken e =
-    let same : min taken (indent line) ≡ min columns (indent line) = omega (arith, e) in
-    ap (λ n. record { column = line.column + n; text = strip_at line.column n line.text }) same
 
 never_empty : (n : ℕ) → false ≡ (suc n == 0)
 never_empty n = grind (arith, nat_tests)

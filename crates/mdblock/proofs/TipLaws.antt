@@ -13,58 +13,58 @@ use Rattle.mdblock.specs.held.OpenLeaves.{IsLeafOf}
 use Rattle.mdblock.specs.declared.container.lists.OpenList.{OpenList}
 use Rattle.mdblock.specs.declared.leaf.Leaf as held
 use Rattle.mdblock.specs.declared.leaf.Leaf.TheVariants as leaf
-use Rattle.mdblock.specs.declared.levels.Level.{Level}
-use Rattle.mdblock.specs.declared.levels.Spine.{Spine}
-use Rattle.mdblock.specs.declared.levels.Spine as spine
-use Rattle.mdblock.proofs.CloseLaws.{not-both}
+use Rattle.mdblock.specs.declared.open_blocks.Level.{Level}
+use Rattle.mdblock.specs.declared.open_blocks.OpenBlock.{OpenBlock}
+use Rattle.mdblock.specs.declared.open_blocks.OpenBlock as open_block
+use Rattle.mdblock.proofs.CloseLaws.{not_both}
 
-abbrev LastEnds : Spine → Bool → Type 0
+abbrev LastEnds : OpenBlock → Bool → Type 0
 LastEnds x result = (e : EntityTable) (at : ℕ) (before : List Group) (last : Last) → StandsForLast e at x before last → result ≡ is_text (last_tip last)
 
-from-last : (level : Level) (x : Spine) (result : Bool) → level.last ≡ x → LastEnds x result → EndsIn level result
+counted_from_last : (level : Level) (x : OpenBlock) (result : Bool) → level.last ≡ x → LastEnds x result → EndsIn level result
 unfolding summary_tip
-from-last level x result is f e at in_item (summary before last blank lines) st =
+counted_from_last level x result is f e at in_item (summary before last blank lines) st =
     f e (behind_over e at in_item before last) before last (subst (λ z. StandsForLast e (behind_over e at in_item before last) z before last) is st.1)
 
-pub shut-tip : (level : Level) → level.last ≡ spine.Shut → EndsIn level false
+pub shut_tip : (level : Level) → level.last ≡ open_block.Shut → EndsIn level false
 unfolding last_tip
-shut-tip level is = from-last level spine.Shut false is go
+shut_tip level is = counted_from_last level open_block.Shut false is go
   where
-    go : LastEnds spine.Shut false
+    go : LastEnds open_block.Shut false
     go e at before nothing_yet st = refl
     go e at before (ended_block g) st = refl
     go e at before (open_leaf begin gap kept) st = absurd st
     go e at before (open_container begin gap bare container inner) st = absurd st
 
-made-tip : (e : EntityTable) (x : held.Leaf) (kind : Kind) (first : BlockLine) (later : List BlockLine) → IsLeafOf e x kind first later → (at : ℕ) → CellsStand at x (leaf_from kind first later) → is_paragraph x ≡ is_text (open_tip (leaf_from kind first later))
+made_tip : (e : EntityTable) (x : held.Leaf) (kind : Kind) (first : BlockLine) (later : List BlockLine) → IsLeafOf e x kind first later → (at : ℕ) → CellsStand at x (leaf_from kind first later) → is_paragraph x ≡ is_text (open_tip (leaf_from kind first later))
 unfolding leaf_from
-made-tip e (leaf.Paragraph p) Paragraph first later h at cells = refl
-made-tip e (leaf.Fence f) (FencedCode i m n info closed) first later h at cells = refl
-made-tip e (leaf.Html f) (HtmlBlock kind) first later h at cells = refl
-made-tip e (leaf.Code f) IndentedCode first later h at cells = refl
-made-tip e (leaf.Table t) kind first later h at cells = go (leaf_from kind first later) cells
+made_tip e (leaf.Paragraph p) Paragraph first later h at cells = refl
+made_tip e (leaf.Fence f) (FencedCode i m n info closed) first later h at cells = refl
+made_tip e (leaf.Html f) (HtmlBlock kind) first later h at cells = refl
+made_tip e (leaf.Code f) IndentedCode first later h at cells = refl
+made_tip e (leaf.Table t) kind first later h at cells = go (leaf_from kind first later) cells
   where
     go : (kept : OpenLeaf) → CellsStand at (leaf.Table t) kept → false ≡ is_text (open_tip kept)
     go (open_table above aligns head rows) cells = refl
     go kept cells = absurd cells
-made-tip e x kind first later h at cells = absurd h
+made_tip e x kind first later h at cells = absurd h
 
-pub leaf-tip-is : (level : Level) (x : held.Leaf) → level.last ≡ spine.Leaf x → EndsIn level (is_paragraph x)
+pub leaf_tip_is : (level : Level) (x : held.Leaf) → level.last ≡ open_block.Leaf x → EndsIn level (is_paragraph x)
 unfolding last_tip
-leaf-tip-is level x is = from-last level (spine.Leaf x) (is_paragraph x) is go
+leaf_tip_is level x is = counted_from_last level (open_block.Leaf x) (is_paragraph x) is go
   where
-    go : LastEnds (spine.Leaf x) (is_paragraph x)
+    go : LastEnds (open_block.Leaf x) (is_paragraph x)
     go e at before nothing_yet st = absurd st
     go e at before (ended_block g) st = absurd st
     go e at before (open_leaf begin gap kept) st =
-        made-tip e x st.kind st.first st.later st.held_is at (subst (CellsStand at x) st.kept_is st.cells) ∙ ap (λ z. is_text (open_tip z)) (sym st.kept_is)
+        made_tip e x st.kind st.first st.later st.held_is at (subst (CellsStand at x) st.kept_is st.cells) ∙ ap (λ z. is_text (open_tip z)) (sym st.kept_is)
     go e at before (open_container begin gap bare container inner) st = absurd st
 
-pub quote-tip : (level : Level) (inner : Box Level Global) (result : Bool) → level.last ≡ spine.Quote inner → EndsIn inner.value result → EndsIn level result
+pub quote_tip : (level : Level) (inner : Box Level Global) (result : Bool) → level.last ≡ open_block.Quote inner → EndsIn inner.value result → EndsIn level result
 unfolding last_tip
-quote-tip level inner result is f = from-last level (spine.Quote inner) result is go
+quote_tip level inner result is f = counted_from_last level (open_block.Quote inner) result is go
   where
-    go : LastEnds (spine.Quote inner) result
+    go : LastEnds (open_block.Quote inner) result
     go e at before nothing_yet st = absurd st
     go e at before (ended_block g) st = absurd st
     go e at before (open_leaf begin gap kept) st = absurd st
@@ -76,24 +76,24 @@ ended list before at gap (Leaves leaves) st = absurd st
 ended list before at gap (Quoted nodes) st = absurd st
 ended list before at gap (Listed kind tight items) st = st.0
 
-pub item-tip : (level : Level) (inner : Box Level Global) (list : OpenList) (result : Bool) → level.last ≡ spine.List inner list → list.item_open ≡ true → EndsIn inner.value result → EndsIn level result
+pub item_tip : (level : Level) (inner : Box Level Global) (list : OpenList) (result : Bool) → level.last ≡ open_block.List inner list → list.item_open ≡ true → EndsIn inner.value result → EndsIn level result
 unfolding last_tip
-item-tip level inner list result is opened f = from-last level (spine.List inner list) result is go
+item_tip level inner list result is opened f = counted_from_last level (open_block.List inner list) result is go
   where
-    go : LastEnds (spine.List inner list) result
+    go : LastEnds (open_block.List inner list) result
     go e at before nothing_yet st = absurd st
-    go e at before (ended_block g) st = absurd (not-both list.item_open opened (ended list before at g.gap g.part st.0))
+    go e at before (ended_block g) st = absurd (not_both list.item_open opened (ended list before at g.gap g.part st.0))
     go e at before (open_leaf begin gap kept) st = absurd st
     go e at before (open_container begin gap bare Quote s) st = absurd st
     go e at before (open_container begin gap bare (Item marker needed) (summary b l k n)) st = f e _ true (summary b l k n) (st.4, st.5)
 
-pub ended-tip : (level : Level) (inner : Box Level Global) (list : OpenList) → level.last ≡ spine.List inner list → list.item_open ≡ false → EndsIn level false
+pub ended_tip : (level : Level) (inner : Box Level Global) (list : OpenList) → level.last ≡ open_block.List inner list → list.item_open ≡ false → EndsIn level false
 unfolding last_tip
-ended-tip level inner list is shut = from-last level (spine.List inner list) false is go
+ended_tip level inner list is shut = counted_from_last level (open_block.List inner list) false is go
   where
-    go : LastEnds (spine.List inner list) false
+    go : LastEnds (open_block.List inner list) false
     go e at before nothing_yet st = absurd st
     go e at before (ended_block g) st = refl
     go e at before (open_leaf begin gap kept) st = absurd st
     go e at before (open_container begin gap bare Quote s) st = absurd st
-    go e at before (open_container begin gap bare (Item marker needed) (summary b l k n)) st = absurd (not-both list.item_open st.0 shut)
+    go e at before (open_container begin gap bare (Item marker needed) (summary b l k n)) st = absurd (not_both list.item_open st.0 shut)

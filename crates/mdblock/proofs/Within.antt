@@ -5,14 +5,14 @@ use Rattle.blockspec.specs.BlockTree.{Block, paragraph, heading, thematic_break,
 use Rattle.mdblock.specs.BlockView.{block_view, blocks_view, item_view, items_view}
 use Rattle.mdblock.specs.declared.blocks.Block as b
 use Rattle.mdblock.specs.declared.blocks.Item as i
-use Rattle.mdblock.specs.declared.levels.Spine.{Spine}
-use Rattle.mdblock.specs.declared.levels.Spine as spine
+use Rattle.mdblock.specs.declared.open_blocks.OpenBlock.{OpenBlock}
+use Rattle.mdblock.specs.declared.open_blocks.OpenBlock as open_block
 use Rattle.mdblock.specs.declared.leaf.Leaf.{Leaf}
 use Rattle.mdblock.specs.declared.leaf.Leaf.TheVariants as leaf
 use Rattle.mdblock.specs.declared.leaf.tables.Table.{Table}
-use Rattle.mdblock.specs.declared.levels.Level.{Level}
+use Rattle.mdblock.specs.declared.open_blocks.Level.{Level}
 use Rattle.mdblock.specs.Positions.{CellsIn, BlockIn, BlocksIn, ItemsIn}
-use Rattle.mdblock.specs.held.OpenPositions.{TableIn, LeafIn, SpineIn, LevelIn}
+use Rattle.mdblock.specs.held.OpenPositions.{TableIn, LeafIn, OpenBlockIn, LevelIn}
 
 pub cells_grow : (n m : ℕ) (cells : List ℕ) → n ≤ m → CellsIn n cells → CellsIn m cells
 cells_grow n m [] le h = h
@@ -60,12 +60,12 @@ leaf_grows n m (leaf.Html b) le h = h
 leaf_grows n m (leaf.Code c) le h = h
 leaf_grows n m (leaf.Table t) le h = (cells_grow n m t.head.items le h.0, rows_grow n m (map (λ row. row.items) t.rows.items) le h.1)
 
-pub spine_grows : (n m : ℕ) (s : Spine) → n ≤ m → SpineIn n s → SpineIn m s
-spine_grows n m spine.Shut le h = h
-spine_grows n m (spine.Leaf l) le h = leaf_grows n m l le h
-spine_grows n m (spine.Quote' p over last in_item begun blank spaced) le h =
+pub spine_grows : (n m : ℕ) (s : OpenBlock) → n ≤ m → OpenBlockIn n s → OpenBlockIn m s
+spine_grows n m open_block.Shut le h = h
+spine_grows n m (open_block.Leaf l) le h = leaf_grows n m l le h
+spine_grows n m (open_block.Quote' p over last in_item begun blank spaced) le h =
     (blocks_grow n m (blocks_view over.items) le h.0, spine_grows n m last le h.1)
-spine_grows n m (spine.List' p over last in_item begun blank spaced items) le h =
+spine_grows n m (open_block.List' p over last in_item begun blank spaced items) le h =
     ((blocks_grow n m (blocks_view over.items) le h.0.0, spine_grows n m last le h.0.1), items_grow n m (items_view items.items.items) le h.1)
 
 pub level_grows : (n m : ℕ) (l : Level) → n ≤ m → LevelIn n l → LevelIn m l

@@ -6,11 +6,11 @@ pub mod HeldNodes
 pub mod LeafEnds
 pub mod OpenLeaves
 pub mod OpenPositions
-pub mod OpeningKind
-pub mod Openings
+pub mod StartKind
+pub mod StartSpans
 pub mod ParagraphLines
-pub mod ParagraphTurns
-pub mod Reading
+pub mod ParagraphSteps
+pub mod ReaderState
 pub mod Reads
 pub mod StartParts
 pub mod TreesBehind

@@ -77,7 +77,8 @@ impl<'e> Gathering<'e> {
         ensures texts { self.new.texts ≡ self.old.texts }
         ensures entities { self.new.entities.now ≡ self.old.entities.now }
         ensures left { OnOk result (string_bytes text.new ≡ behind_definitions (string_bytes text.old)) }
-        ensures found { OnOk result (gathered_definitions self.new ≡ gathered_definitions self.old ++ leading_of self.old.entities.now (string_bytes text.old)) }
+        ensures found { OnOk result (gathered_definitions self.new
+            ≡ gathered_definitions self.old ++ leading_of self.old.entities.now (string_bytes text.old)) }
     {
         let mut leading = leading_definitions(self.alloc, text.as_str(), self.entities)?;
         self.definitions.append(&mut leading.definitions)?;

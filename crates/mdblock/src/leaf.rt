@@ -9,12 +9,12 @@ ghost use Rattle.mdblock.specs.held.HandedIn.{gathered_texts, gathered_definitio
 ghost use Rattle.blockspec.specs.Laziness.{Tip};
 ghost use Rattle.mdblock.specs.held.LeafEnds.{IsEndOf, IsTableEnd, is_paragraph, end_definitions};
 ghost use Rattle.mdblock.specs.held.OpenLeaves.{IsBegun, begun_texts, IsLeafOf, IsLeft, IsOver};
-ghost use Rattle.mdblock.specs.held.OpeningKind.{opened_kind};
+ghost use Rattle.mdblock.specs.held.StartKind.{opened_kind};
 ghost use Rattle.mdblock.specs.Positions.{BlockIn};
 ghost use Rattle.blockspec.specs.Stretches.{step};
 ghost use Rattle.blockspec.specs.UnitBegin.{is_stop};
-ghost use Rattle.mdblock.specs.held.OpenPositions.{LeafIn, StepIn};
-ghost use Rattle.mdblock.specs.held.Openings.{IsOpeningOf};
+ghost use Rattle.mdblock.specs.held.OpenPositions.{LeafIn, LeafAfterIn};
+ghost use Rattle.mdblock.specs.held.StartSpans.{IsStartOf};
 
 pub(crate) mod fences;
 pub(crate) mod headings;
@@ -22,11 +22,12 @@ pub(crate) mod html_blocks;
 pub(crate) mod indented_code;
 pub(crate) mod paragraphs;
 pub(crate) mod tables;
+pub(crate) mod thematic_breaks;
 
+use crate::block_starts::BlockStart;
 use crate::blocks::Block;
 use crate::gathering::Gathering;
 use crate::lines::Line;
-use crate::starts::Opening;
 use fences::Fence;
 use html_blocks::HtmlBlock;
 use indented_code::IndentedCode;
@@ -46,7 +47,7 @@ pub(crate) enum Leaf {
 
 /// What a line leaves of a leaf: a block that is over, and a leaf that is open behind it.
 #[derive(Drop)]
-pub(crate) struct Step {
+pub(crate) struct LeafAfter {
     pub(crate) over: Option<Block>,
     pub(crate) going: Option<Leaf>,
 }
@@ -54,27 +55,27 @@ pub(crate) struct Step {
 impl Leaf {
     /// The leaf that a line begins.
     pub(crate) fn begin(
-        opening: Option<Opening>,
+        opening: Option<BlockStart>,
         line: Line,
         gathering: &mut Gathering,
-    ) -> Result<Step, AllocError>
-        requires { IfSome opening (λ o. IsOpeningOf (rest line) o) }
-        ensures within { IfOk result (λ step. StepIn (length gathering.new.texts.items) step) }
+    ) -> Result<LeafAfter, AllocError>
+        requires { IfSome opening (λ o. IsStartOf (rest line) o) }
+        ensures within { IfOk result (λ step. LeafAfterIn (length gathering.new.texts.items) step) }
         ensures grows { length gathering.old.texts.items ≤ length gathering.new.texts.items }
         ensures entities { gathering.new.entities.now ≡ gathering.old.entities.now }
-        ensures step { IfOk result (λ step. IsBegun gathering.old.entities.now (length gathering.old.texts.items) (opened_kind line.entry opening) line.entry step) }
-        ensures texts { OnOk result (map string_bytes gathering.new.texts.items ≡ map string_bytes gathering.old.texts.items ++ begun_texts (opened_kind line.entry opening)) }
+        ensures step { IfOk result (λ step. IsBegun gathering.old.entities.now (length gathering.old.texts.items)
+            (opened_kind line.entry opening) line.entry step) }
+        ensures texts { OnOk result (map string_bytes gathering.new.texts.items
+            ≡ map string_bytes gathering.old.texts.items ++ begun_texts (opened_kind line.entry opening)) }
     {
         match opening {
-            Some(Opening::Heading(heading)) => {
-                headings::atx_heading(heading, line.text(), gathering)
-            }
-            Some(Opening::Fence(fence)) => fences::begin(fence, &line, gathering),
-            Some(Opening::Html(kind)) => html_blocks::begin(kind, &line, gathering.alloc()),
-            Some(Opening::Break) => Ok(over(Block::Break)),
-            Some(Opening::Code) => indented_code::begin(line, gathering.alloc()),
-            Some(Opening::Quote) | Some(Opening::Item(_)) | None => {
-                paragraphs::begin(&line, gathering.alloc())
+            Some(BlockStart::Heading(heading)) => headings::begin(heading, line, gathering),
+            Some(BlockStart::Fence(fence)) => fences::begin(fence, line, gathering),
+            Some(BlockStart::Html(kind)) => html_blocks::begin(kind, line, gathering),
+            Some(BlockStart::Break) => Ok(thematic_breaks::begin()),
+            Some(BlockStart::Code) => indented_code::begin(line, gathering),
+            Some(BlockStart::Quote) | Some(BlockStart::Item(_)) | None => {
+                paragraphs::begin(line, gathering)
             }
         }
     }
@@ -91,14 +92,15 @@ impl Leaf {
 
     /// Whether the leaf takes a line, all of whose containers match it.
     pub(crate) fn takes(&self, line: &Line) -> bool
-        ensures { (entities : EntityTable) (kind : Kind) (first : BlockLine) (later : List BlockLine) → IsLeafOf entities self.now kind first later → (tip : List BlockLine → Tip) → result ≡ not (is_stop (step tip kind first later line.now)) }
+        ensures { (entities : EntityTable) (kind : Kind) (first : BlockLine) (later : List BlockLine) → IsLeafOf entities self.now kind first later
+            → (tip : List BlockLine → Tip) → result ≡ not (is_stop (step tip kind first later line.now)) }
     {
         match self {
             Leaf::Paragraph(paragraph) => paragraph.takes(line),
-            Leaf::Fence(_) => true,
+            Leaf::Fence(fence) => fence.takes(line),
             Leaf::Html(html) => html.takes(line),
-            Leaf::Code(_) => indented_code::takes(line),
-            Leaf::Table(_) => tables::takes(line),
+            Leaf::Code(code) => code.takes(line),
+            Leaf::Table(table) => table.takes(line),
         }
     }
 
@@ -108,19 +110,20 @@ impl Leaf {
         line: Line,
         first: bool,
         gathering: &mut Gathering,
-    ) -> Result<Step, AllocError>
+    ) -> Result<LeafAfter, AllocError>
         requires { LeafIn (length gathering.old.texts.items) self }
-        ensures within { IfOk result (λ step. StepIn (length gathering.new.texts.items) step) }
+        ensures within { IfOk result (λ step. LeafAfterIn (length gathering.new.texts.items) step) }
         ensures grows { length gathering.old.texts.items ≤ length gathering.new.texts.items }
         ensures entities { gathering.new.entities.now ≡ gathering.old.entities.now }
-        ensures step { (entities : EntityTable) (kind : Kind) (begin : BlockLine) (later : List BlockLine) → IsLeafOf entities self kind begin later → (tip : List BlockLine → Tip) → IfOk result (IsLeft entities (step tip kind begin later line.entry) begin (later ++ line.entry ∷ [])) }
+        ensures step { (entities : EntityTable) (kind : Kind) (begin : BlockLine) (later : List BlockLine) → IsLeafOf entities self kind begin later
+            → (tip : List BlockLine → Tip) → IfOk result (IsLeft entities (step tip kind begin later line.entry) begin (later ++ line.entry ∷ [])) }
     {
         match self {
-            Leaf::Paragraph(paragraph) => paragraph.add(&line, first, gathering),
+            Leaf::Paragraph(paragraph) => paragraph.add(line, first, gathering),
             Leaf::Fence(fence) => fence.add(line),
-            Leaf::Html(html) => html.add(&line),
+            Leaf::Html(html) => html.add(line),
             Leaf::Code(code) => code.add(line),
-            Leaf::Table(table) => table.add(&line, gathering),
+            Leaf::Table(table) => table.add(line, gathering),
         }
     }
 
@@ -134,9 +137,13 @@ impl Leaf {
         ensures within { IfOk result (λ found. IfSome found (λ block. BlockIn (length gathering.new.texts.items) (block_view block))) }
         ensures grows { length gathering.old.texts.items ≤ length gathering.new.texts.items }
         ensures entities { gathering.new.entities.now ≡ gathering.old.entities.now }
-        ensures left { (kind : Kind) (begin : BlockLine) (later : List BlockLine) → IsLeafOf gathering.old.entities.now self kind begin later → IfOk result (IsEndOf gathering.old.entities.now first kind begin later (gathered_texts gathering.old) (gathered_texts gathering.new)) }
-        ensures rows { IfOk result (IsTableEnd self (gathered_texts gathering.old) (gathered_texts gathering.new) (gathered_definitions gathering.old) (gathered_definitions gathering.new)) }
-        ensures found { (kind : Kind) (begin : BlockLine) (later : List BlockLine) → IsLeafOf gathering.old.entities.now self kind begin later → OnOk result (gathered_definitions gathering.new ≡ gathered_definitions gathering.old ++ end_definitions gathering.old.entities.now kind begin later) }
+        ensures left { (kind : Kind) (begin : BlockLine) (later : List BlockLine) → IsLeafOf gathering.old.entities.now self kind begin later
+            → IfOk result (IsEndOf gathering.old.entities.now first kind begin later (gathered_texts gathering.old) (gathered_texts gathering.new)) }
+        ensures rows { IfOk result (IsTableEnd self (gathered_texts gathering.old) (gathered_texts gathering.new)
+            (gathered_definitions gathering.old) (gathered_definitions gathering.new)) }
+        ensures found { (kind : Kind) (begin : BlockLine) (later : List BlockLine) → IsLeafOf gathering.old.entities.now self kind begin later
+            → OnOk result (gathered_definitions gathering.new
+            ≡ gathered_definitions gathering.old ++ end_definitions gathering.old.entities.now kind begin later) }
     {
         match self {
             Leaf::Paragraph(paragraph) => paragraph.end(first, gathering),
@@ -149,22 +156,22 @@ impl Leaf {
 }
 
 /// A block that is over with its line.
-pub(crate) fn over(block: Block) -> Step
+pub(crate) fn over(block: Block) -> LeafAfter
     ensures value { result ≡ record { over = Some block; going = None } }
-    ensures within { (n : ℕ) → BlockIn n (block_view block) → StepIn n result }
+    ensures within { (n : ℕ) → BlockIn n (block_view block) → LeafAfterIn n result }
 {
-    Step {
+    LeafAfter {
         over: Some(block),
         going: None,
     }
 }
 
 /// A leaf that stays open.
-pub(crate) fn going(leaf: Leaf) -> Step
+pub(crate) fn going(leaf: Leaf) -> LeafAfter
     ensures value { result ≡ record { over = None; going = Some leaf } }
-    ensures within { (n : ℕ) → LeafIn n leaf → StepIn n result }
+    ensures within { (n : ℕ) → LeafIn n leaf → LeafAfterIn n result }
 {
-    Step {
+    LeafAfter {
         over: None,
         going: Some(leaf),
     }

@@ -1,16 +1,16 @@
 //! The blocks of a document, cut into units: top-level blocks with their definitions and inline texts.
 #![tactic(auto)]
 
+mod block_starts;
 mod blocks;
+mod closed_blocks;
 mod container;
 mod faults;
 mod gathering;
 mod leaf;
-mod levels;
 mod lines;
-mod over;
+mod open_blocks;
 mod readers;
-mod starts;
 mod units;
 
 pub use blocks::{Block, Item, ListKind};

@@ -3,28 +3,25 @@
 ghost use Rattle.std.specs.Prelude.{List, [], ℕ, ◌≡◌, ◌+◌, ◌*◌, ◌^◌, ◌<◌, ◌≤◌, false, true, None, Some, IfOk, OnOk, OnErr, IsErrOf, is_some, length};
 ghost use Rattle.mdtext.specs.Counted.{counted};
 ghost use Rattle.mdblock.specs.declared.faults.BlockFault.TheVariants.{Failed};
-ghost use Rattle.mdblock.specs.held.HeldLevel.{HoldsLines, GivesUnit};
+ghost use Rattle.mdblock.specs.held.HeldLevel.{HoldsSummary, GivesUnit};
 ghost use Rattle.blockspec.specs.LineSummary.{no_summary};
-ghost use Rattle.mdblock.specs.held.Reading.{AreKept, held_begin};
+ghost use Rattle.mdblock.specs.held.ReaderState.{AreKept, held_begin};
 ghost use Rattle.mdblock.specs.held.Reads.{Reads, open_begin};
 ghost use Rattle.mdtext.specs.EntityTable.{EntityTable};
 
 use crate::faults::BlockFault;
 use crate::gathering::Gathering;
-use crate::levels::{Level, Place};
 use crate::lines::Line;
+use crate::open_blocks::{Continuation, Level};
 use crate::units::Found;
 use mdtext::{Count, Entities};
 use std::alloc::{AllocError, Global};
 use std::marker::Model;
 use std::mem;
 
-/// How many containers may be open inside one another; a list counts nothing.
-const LIMIT: usize = 64;
-
 /// What is read and not handed out yet.
 #[derive(Drop)]
-struct Held<'e> {
+struct OpenUnit<'e> {
     level: Level,
     gathering: Gathering<'e>,
     begin: Option<usize>,
@@ -35,38 +32,43 @@ struct Held<'e> {
 pub struct Reader<'e> {
     alloc: Global,
     entities: &'e Entities,
+    limit: usize,
     fed: usize,
-    held: Option<Held<'e>>,
+    held: Option<OpenUnit<'e>>,
 }
 
 impl<'e> Model for Reader<'e> {
     ghost use Rattle.std.specs.Prelude.{◌≡◌, IfSome, option_map};
-    ghost use Rattle.mdblock.specs.held.Reading.{Reading, held_view, AreKept};
+    ghost use Rattle.mdblock.specs.held.ReaderState.{ReaderState, unit_so_far, AreKept};
 
-    ghost Value = { Reading };
+    ghost Value = { ReaderState };
 
-    ghost use Rattle.mdblock.specs.contracts.levels.Level as level;
+    ghost use Rattle.mdblock.specs.contracts.open_blocks.Level as level;
     ghost use Rattle.std.specs.Coded.{codes};
     ghost use Rattle.mdleaf.specs.LinkDefinition.{definition_code};
 
     ghost coded = { Prim.hlevel (codes, level.the_row.coded, definition_code) };
 
-    ghost view = { λ r. record { entities = r.entities.now; fed = r.fed; held = option_map held_view r.held } };
+    ghost view = { λ r. record { entities = r.entities.now; limit = r.limit; fed = r.fed; held = option_map unit_so_far r.held } };
 
     ghost invariant = { λ r. IfSome r.held (λ held. AreKept held × (held.gathering.entities.now ≡ r.entities.now)) };
 }
 
 impl<'e> Reader<'e> {
-    /// A reader that has read nothing. References are read by these entities. Takes no memory.
-    pub fn new(alloc: Global, entities: &'e Entities) -> Reader<'e>
+    /// A reader that has read nothing. References are read by these entities. So many containers, 1 to 256, may be open inside
+    /// one another; a list counts nothing. Takes no memory.
+    pub fn new(alloc: Global, entities: &'e Entities, limit: usize) -> Reader<'e>
+        requires some { 1 ≤ limit }
+        requires few { limit ≤ 256 }
         ensures fed { result.fed ≡ 0 }
-        ensures reads { Reads LIMIT entities.now result [] }
+        ensures reads { Reads limit entities.now result [] }
     {
         Reader {
             alloc,
             entities,
+            limit,
             fed: 0,
-            held: Some(Held::new(alloc, entities, None)),
+            held: Some(OpenUnit::new(alloc, entities, None)),
         }
     }
 
@@ -87,7 +89,7 @@ impl<'e> Reader<'e> {
         let Some(mut held) = self.held.take() else {
             return Err(BlockFault::Failed);
         };
-        let found = held.read(text, self.fed)?;
+        let found = held.read(text, self.fed, self.limit)?;
         self.fed += 1;
         self.held = Some(held);
         Ok(found)
@@ -115,7 +117,7 @@ impl<'e> Reader<'e> {
     /// Takes no memory.
     pub fn open_at(&self) -> Option<usize>
         ensures value { result ≡ held_begin self.now.held }
-        ensures open { (e : EntityTable) (ls : List (List ℕ)) → Reads LIMIT e self.now ls → result ≡ open_begin e ls }
+        ensures open { (limit : ℕ) (e : EntityTable) (ls : List (List ℕ)) → Reads limit e self.now ls → result ≡ open_begin e ls }
     {
         match &self.held {
             Some(held) => held.begin,
@@ -124,35 +126,36 @@ impl<'e> Reader<'e> {
     }
 }
 
-impl<'e> Held<'e> {
-    fn new(alloc: Global, entities: &'e Entities, begin: Option<usize>) -> Held<'e>
-        ensures empty { HoldsLines result no_summary }
+impl<'e> OpenUnit<'e> {
+    fn new(alloc: Global, entities: &'e Entities, begin: Option<usize>) -> OpenUnit<'e>
+        ensures empty { HoldsSummary result no_summary }
         ensures kept { AreKept result }
         ensures begin { result.begin ≡ begin }
         ensures entities { result.gathering.entities.now ≡ entities.now }
     {
-        Held {
+        OpenUnit {
             level: Level::new(alloc, false),
             gathering: Gathering::new(alloc, entities),
             begin,
         }
     }
 
-    /// Reads a line before which `fed` lines were read.
-    fn read(&mut self, text: &str, fed: usize) -> Result<Option<Found>, BlockFault>
+    /// Reads a line before which `fed` lines were read, where so many containers may be open inside one another.
+    fn read(&mut self, text: &str, fed: usize, limit: usize) -> Result<Option<Found>, BlockFault>
         requires short { 4 * length text.now < 2 ^ 64 }
         requires kept { AreKept self.old }
         ensures kept { OnOk result (AreKept self.new) }
         ensures entities { OnOk result (self.new.gathering.entities.now ≡ self.old.gathering.entities.now) }
     {
         let line = Line::new(text);
-        let place = self.level.place(&line);
-        let found = if place == Place::Outside && !line.is_blank() {
+        let continuation = self.level.continuation(&line);
+        let found = if continuation == Continuation::Outside && !line.is_blank() {
             self.begin_unit(fed)?
         } else {
             None
         };
-        self.level.add(line, place, LIMIT, &mut self.gathering)?;
+        self.level
+            .add(line, continuation, limit, &mut self.gathering)?;
         Ok(found)
     }
 
@@ -162,7 +165,7 @@ impl<'e> Held<'e> {
         ensures kept { OnOk result (AreKept self.new) }
         ensures entities { OnOk result (self.new.gathering.entities.now ≡ self.old.gathering.entities.now) }
     {
-        let next = Held::new(self.gathering.alloc(), self.gathering.entities(), Some(fed));
+        let next = OpenUnit::new(self.gathering.alloc(), self.gathering.entities(), Some(fed));
         mem::replace(self, next).into_unit(fed)
     }
 

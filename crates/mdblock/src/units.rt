@@ -30,7 +30,11 @@ impl Model for Unit {
     ghost use Rattle.mdleaf.specs.LinkDefinition.{definition_of};
     ghost use Rattle.std.specs.Prelude.{map, length, string_bytes};
 
-    ghost view = { λ u. record { blocks = blocks_view u.blocks.items; definitions = map definition_of u.definitions.items; texts = map string_bytes u.texts.items } };
+    ghost view = { λ u. record {
+      blocks = blocks_view u.blocks.items;
+      definitions = map definition_of u.definitions.items;
+      texts = map string_bytes u.texts.items;
+    } };
 
     ghost invariant = { λ u. BlocksIn (length u.texts.items) (blocks_view u.blocks.items) };
 }
@@ -87,7 +91,15 @@ impl Found {
         texts: Vec<String>,
     ) -> Found
         requires { BlocksIn (length texts.items) (blocks_view blocks.items) }
-        ensures { result ≡ record { begin = begin; lines = lines; unit = record { blocks = blocks_view blocks.items; definitions = map definition_of definitions.items; texts = map string_bytes texts.items } } }
+        ensures { result ≡ record {
+          begin = begin;
+          lines = lines;
+          unit = record {
+            blocks = blocks_view blocks.items;
+            definitions = map definition_of definitions.items;
+            texts = map string_bytes texts.items;
+          };
+        } }
     {
         Found {
             begin,

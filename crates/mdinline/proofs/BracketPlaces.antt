@@ -3,7 +3,7 @@ use Rattle.std.proofs.Common.{◌≡◌, ℕ, ◌+◌, ◌≤◌, List, [], ◌�
 use Rattle.std.proofs.lemmas.List.{get_or_append_left}
 use Rattle.mdscan.specs.Spans.{IsEndAfter}
 use Rattle.mdinline.specs.held.Brackets.{IsBehindBracket, AreBracketsOf, IsLinkEnd}
-use Rattle.mdinline.specs.declared.openings.Opening.{Opening}
+use Rattle.mdinline.specs.declared.bracket_stack.Opening.{Opening}
 
 pub brackets_later : (text : List ℕ) (at end : ℕ) (openings : List Opening) → at ≤ end → AreBracketsOf text at openings → AreBracketsOf text end openings
 brackets_later text at end openings le h = λ k d lt. (let b = h k d lt in let before = b.before in record { whole = b.whole; before = omega (arith, before, le) })

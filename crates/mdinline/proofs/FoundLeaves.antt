@@ -10,8 +10,8 @@ use Rattle.mdinline.specs.declared.inlines.Inline.TheViews.{roll-Inline}
 use denote.Hole.Carrier.{roll}
 use Rattle.inlinespec.specs.Lexing.{Lexeme, leaf}
 use Rattle.mdinline.specs.held.Recognised.{made_events, lexeme_of, bracket_of, kind_of}
-use Rattle.mdinline.specs.declared.openings.Bracket.{Bracket}
-use Rattle.mdinline.specs.declared.openings.BracketKind.{BracketKind}
+use Rattle.mdinline.specs.declared.bracket_stack.Bracket.{Bracket}
+use Rattle.mdinline.specs.declared.bracket_stack.BracketKind.{BracketKind}
 use Rattle.mdinline.specs.declared.scanner.Found.{Found}
 
 pub found_is : (at end : ℕ) (found : Found) (es : List Event) → found.end ≡ end → made_events found.inline ≡ es → lexeme_of at found ≡ leaf (end - at) es

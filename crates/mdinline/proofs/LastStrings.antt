@@ -131,14 +131,6 @@ module _ (text : List ℕ) (from start end : ℕ) (old new : ℕ → Option ℕ)
   pub held_more : HoldsLast text end new
   held_more = λ j lt b. place j b lt (nat_lt j from) refl
 
--- behind the last string all are held
-pub held_all : (text : List ℕ) (from : ℕ) (table : ℕ → Option ℕ) → ((j : ℕ) → from ≤ j → get_or text j 0 ≡ 96 → ⊥) → HoldsLast text from table → (at : ℕ) → HoldsLast text at table
-held_all text from table none holds at = λ j lt b. by j b (nat_lt j from) refl
-  where
-    by : (j : ℕ) → BeginsString text j → (t : Bool) → nat_lt j from ≡ t → (last : ℕ) × (table (backticks (drop j text)) ≡ Some last) × (j ≤ last)
-    by j b true e = holds j (lt_true j from e) b
-    by j b false e = absurd (none j (lt_false j from e) b.there)
-
 -- a table that answers a place answers no other
 pub same_place : (place last from : ℕ) (o : Option ℕ) → Some place ≡ o → o ≡ Some last → place < from → last < from
 same_place place last from o e f lt = let same : place ≡ last = grind (arith, e, f) in omega (arith, same, lt)

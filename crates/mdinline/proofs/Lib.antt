@@ -1,4 +1,4 @@
-pub mod Autolinks
+pub mod AutolinkPlaces
 pub mod BracketPlaces
 pub mod BuiltRows
 pub mod FoundLeaves
@@ -7,7 +7,7 @@ pub mod LongTagEnds
 pub mod Marks
 pub mod NearestOpeners
 pub mod PairedEvents
-pub mod PairedTakings
+pub mod PairedMatches
 pub mod SignItems
 pub mod TakenOpeners
 pub mod WrittenRuns

@@ -6,9 +6,9 @@ use Rattle.mdscan.proofs.Stops.{from_here}
 use Rattle.mdscan.specs.Tag.{first_is}
 use Rattle.mdscan.specs.RawHtml.{place_of, raw_html}
 use Rattle.mdinline.specs.held.LongTags.{BeginsTag, FollowsMark, KnowsEnds, close_text}
-use Rattle.mdinline.specs.declared.angles.Angles.{Angles}
-use Rattle.mdinline.specs.declared.angles.LongTag.{LongTag}
-use Rattle.mdinline.specs.declared.angles.LongTag.TheVariants.{Comment, Instruction, Declaration, Section}
+use Rattle.mdinline.specs.declared.raw_html.EndlessTags.{EndlessTags}
+use Rattle.mdinline.specs.declared.raw_html.LongTag.{LongTag}
+use Rattle.mdinline.specs.declared.raw_html.LongTag.TheVariants.{Comment, Instruction, Declaration, Section}
 use Rattle.inlinespec.proofs.EndlessHtml.{front_of, no_long_comment, no_long_instruction, no_long_section, no_long_declaration}
 
 two_bytes : (text : List ℕ) (at b : ℕ) → get_or text at 0 ≡ 60 → at + 2 ≤ length text → get_or text (at + 1) 0 ≡ b → drop at text ≡ 60 ∷ b ∷ drop (at + 2) text
@@ -40,8 +40,8 @@ endless Declaration text at first inside h none = ap raw_html (two_bytes text at
 endless Section text at first inside h none = ap raw_html (two_bytes text at 33 first inside h.0) ∙ by_kind Section (drop (at + 2) text) h.1 none
 
 -- what is known at a place is known at a later one
-pub known_later : (text : List ℕ) (at later : ℕ) (angles : Angles) → at ≤ later → KnowsEnds text at angles → KnowsEnds text later angles
-known_later text at later angles le h kind endless = none_from (close_text kind) text (at + 2) (later + 2) (omega (arith, le)) (h kind endless)
+pub known_later : (text : List ℕ) (at later : ℕ) (tags : EndlessTags) → at ≤ later → KnowsEnds text at tags → KnowsEnds text later tags
+known_later text at later tags le h kind endless = none_from (close_text kind) text (at + 2) (later + 2) (omega (arith, le)) (h kind endless)
 
 unmapped : (k : ℕ) (o : Option ℕ) → is_some (option_map (λ n. k + n) o) ≡ false → o ≡ None
 unmapped k None e = refl

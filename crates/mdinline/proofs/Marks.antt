@@ -10,13 +10,7 @@ use Rattle.mdscan.specs.Spans.{IsEndAfter, EndsAfterMark, IsEnclosed}
 use Rattle.mdscan.specs.declared.spans.Span.{Span}
 use Rattle.mdinline.specs.held.Brackets.{IsLinkEnd}
 use Rattle.mdinline.specs.held.Ticks.{AreTicksFrom}
-use Rattle.mdinline.specs.declared.backticks.Ticks.{Ticks}
-
--- a place at an ASCII byte, or at the text's end
-pub before_mark : (text line : List ℕ) (at end : ℕ) → line ≡ text → at < end → end ≤ length line → (end < length line → slice_index line end < 128) → IsEndAfter text at end
-before_mark text line at end same later within mark =
-    subst (λ t. IsEndAfter t at end) same
-    (record { later = later; within = within; whole = (within, λ lt big. omega (arith, mark lt)) })
+use Rattle.mdinline.specs.declared.code_spans.Ticks.{Ticks}
 
 -- a place behind an ASCII byte
 pub behind : (text line : List ℕ) (at : ℕ) → line ≡ text → IsUtf8 text → at < length line → slice_index line at < 128 → IsCharBoundary text (at + 1)

@@ -1,17 +1,17 @@
 -- The events of a run that is paired.
 use Rattle.std.proofs.Common.{◌≡◌, ℕ, ◌-◌, ◌==◌, Bool, true, false, List, [], ◌∷◌, ◌++◌, length, map, replicate, append_assoc, refl, ap, ◌∙◌, if◌then◌else◌}
 use Rattle.mdpair.specs.Neighbours.{byte_of}
-use Rattle.mdpair.specs.declared.emphasis.Taking.{Taking}
+use Rattle.mdpair.specs.declared.emphasis.Match.{Match}
 use Rattle.mdpair.specs.declared.runs.DelimiterChar.{DelimiterChar}
 use Rattle.mdpair.specs.declared.runs.DelimiterRun.{DelimiterRun}
-use Rattle.inlinespec.specs.InlineEvents.{Span, Event, Enter, Leave, written}
+use Rattle.inlinespec.specs.InlineEvents.{InlineSpan, Event, Enter, Leave, written}
 use Rattle.mdinline.specs.held.PairedRuns.{IsPaired, entered, opened_spans, paired_events}
 use Rattle.inlinespec.specs.Settled.{begins, ends, run_events, span_by, taken}
 use Rattle.mdinline.specs.held.TreeBuilding.{span_of}
-use Rattle.mdinline.specs.declared.settling.PairedRun.{PairedRun}
+use Rattle.mdinline.specs.declared.emphasis.PairedRun.{PairedRun}
 use Rattle.mdinline.specs.declared.trees.SpanKind.{SpanKind}
 
-all_leave : (n : ℕ) (ts : List Taking) → replicate (length (ends n ts)) Leave ≡ ends n ts
+all_leave : (n : ℕ) (ts : List Match) → replicate (length (ends n ts)) Leave ≡ ends n ts
 all_leave n [] = refl
 all_leave n (t ∷ ts) = by (t.closer == n) (all_leave n ts)
   where
@@ -19,7 +19,7 @@ all_leave n (t ∷ ts) = by (t.closer == n) (all_leave n ts)
     by true e = ap (λ es. Leave ∷ es) e
     by false e = e
 
-abbrev enters : List Span → List Event
+abbrev enters : List InlineSpan → List Event
 enters [] = []
 enters (s ∷ ss) = enters ss ++ Enter s ∷ []
 
@@ -27,7 +27,7 @@ entered_is : (kinds : List SpanKind) → entered kinds ≡ enters (map span_of k
 entered_is [] = refl
 entered_is (k ∷ ks) = ap (λ es. es ++ Enter (span_of k) ∷ []) (entered_is ks)
 
-begins_is : (n : ℕ) (d : DelimiterChar) (ts : List Taking) → enters (opened_spans n d ts) ≡ begins n d ts
+begins_is : (n : ℕ) (d : DelimiterChar) (ts : List Match) → enters (opened_spans n d ts) ≡ begins n d ts
 begins_is n d [] = refl
 begins_is n d (t ∷ ts) = by (t.opener == n) (begins_is n d ts)
   where
@@ -36,7 +36,7 @@ begins_is n d (t ∷ ts) = by (t.opener == n) (begins_is n d ts)
     by true e = ap (λ es. es ++ Enter (span_by d t.width) ∷ []) e
     by false e = e
 
-pub paired_is : (n : ℕ) (ts : List Taking) (r : DelimiterRun) (p : PairedRun) → IsPaired n ts r p → paired_events p ≡ run_events n ts r
+pub paired_is : (n : ℕ) (ts : List Match) (r : DelimiterRun) (p : PairedRun) → IsPaired n ts r p → paired_events p ≡ run_events n ts r
 paired_is n ts r p h =
     ap (λ k. replicate k Leave ++ written (replicate p.left (byte_of p.delimiter)) ++ entered p.begins.items) h.ends
     ∙ ap (λ es. es ++ written (replicate p.left (byte_of p.delimiter)) ++ entered p.begins.items) (all_leave n ts)

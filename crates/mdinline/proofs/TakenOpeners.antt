@@ -7,12 +7,12 @@ use Rattle.inlinespec.specs.LabelMap.{LinkTarget}
 use Rattle.inlinespec.specs.Settled.{Piece, Made, Opening, settled}
 use Rattle.inlinespec.specs.TextReading.{Opened, nearest_opener, spent, holds_link, linked, span_to}
 use Rattle.mdinline.specs.held.UnusedOpeners.{openers, before_link, shown, AreOpenersOf, IsTaken}
-use Rattle.mdinline.specs.declared.openings.Opening as held
-use Rattle.mdinline.specs.declared.openings.Openings.{Openings}
+use Rattle.mdinline.specs.declared.bracket_stack.Opening as held
+use Rattle.mdinline.specs.declared.bracket_stack.BracketStack.{BracketStack}
 use Rattle.mdinline.proofs.NearestOpeners.{IsNearest, has_nearest, nothing_spent, alive, no_nearest, nearest, over_image}
 
 -- one more
-pub put_on : (ps : List Piece) (old new : Openings) (o : held.Opening) → new.unused.items ≡ old.unused.items ++ o ∷ [] → new.before_link ≡ old.before_link →
+pub put_on : (ps : List Piece) (old new : BracketStack) (o : held.Opening) → new.unused.items ≡ old.unused.items ++ o ∷ [] → new.before_link ≡ old.before_link →
     AreOpenersOf ps old → AreOpenersOf (Opening o.is_image o.begin ∷ ps) new
 put_on ps old new o e same h = record {
   all = ap (map shown) e ∙ map-append shown old.unused.items (o ∷ []) ∙ ap (λ xs. xs ++ shown o ∷ []) h.all;
@@ -20,7 +20,7 @@ put_on ps old new o e same h = record {
 }
 
 -- all stand before a link that is made
-pub link_made : (ps : List Piece) (es : List Event) (old new : Openings) → new.unused.items ≡ old.unused.items → new.before_link ≡ length old.unused.items →
+pub link_made : (ps : List Piece) (es : List Event) (old new : BracketStack) → new.unused.items ≡ old.unused.items → new.before_link ≡ length old.unused.items →
     AreOpenersOf ps old → AreOpenersOf (Made true es ∷ ps) new
 link_made ps es old new e is h = record {
   all = ap (map shown) e ∙ h.all;
@@ -35,7 +35,7 @@ last_of xs ys x y e =
     (append_cancel_right xs ys (x ∷ []) (e ∙ ap (λ z. ys ++ z ∷ []) (sym equal)), equal)
 
 -- the nearest one is taken, and its bracket is text or makes a link
-module _ (ps : List Piece) (old new : Openings) (o : held.Opening) (live : Bool) (e : old.unused.items ≡ new.unused.items ++ o ∷ [])
+module _ (ps : List Piece) (old new : BracketStack) (o : held.Opening) (live : Bool) (e : old.unused.items ≡ new.unused.items ++ o ∷ [])
     (is : live ≡ (o.is_image || nat_le old.before_link (length new.unused.items))) (few : new.before_link ≡ min old.before_link (length new.unused.items)) (h : AreOpenersOf ps old) where
   ends : openers ps ≡ map shown new.unused.items ++ shown o ∷ []
   ends = sym h.all ∙ ap (map shown) e ∙ map-append shown new.unused.items (o ∷ [])
@@ -75,7 +75,7 @@ no_items [] e = refl
 no_items (x ∷ xs) e = absurd (omega (arith, e))
 
 -- where none is held, none is unused
-module _ (ps : List Piece) (old new : Openings) (e : length old.unused.items ≡ 0) (f : length new.unused.items ≡ 0) (same : new.before_link ≡ old.before_link) (h : AreOpenersOf ps old) where
+module _ (ps : List Piece) (old new : BracketStack) (e : length old.unused.items ≡ 0) (f : length new.unused.items ≡ 0) (same : new.before_link ≡ old.before_link) (h : AreOpenersOf ps old) where
   all_used : openers ps ≡ []
   all_used = sym h.all ∙ ap (map shown) (no_items old.unused.items e)
 
@@ -89,7 +89,7 @@ module _ (ps : List Piece) (old new : Openings) (e : length old.unused.items ≡
   }
 
 -- an image keeps what stands before the links in it; before a link stand all that are left
-module _ (ps : List Piece) (o : Opened) (es : List Event) (openings : Openings) (e : nearest_opener ps ≡ Some o) where
+module _ (ps : List Piece) (o : Opened) (es : List Event) (openings : BracketStack) (e : nearest_opener ps ≡ Some o) where
   same_openers : (b : Bool) → openers (Made b es ∷ o.below) ≡ openers o.below
   same_openers true = refl
   same_openers false = refl
@@ -107,7 +107,7 @@ module _ (ps : List Piece) (o : Opened) (es : List Event) (openings : Openings) 
   }
 
 -- what is held after a link or an image was made
-module _ (ps : List Piece) (bracket : held.Opening) (o : Opened) (t : LinkTarget) (openings : Openings) (taken : IsTaken ps (bracket, true) o) where
+module _ (ps : List Piece) (bracket : held.Opening) (o : Opened) (t : LinkTarget) (openings : BracketStack) (taken : IsTaken ps (bracket, true) o) where
   made_of : Bool → List Piece
   made_of image = Made (not image || holds_link o.inside) (within (span_to image t) (settled o.inside)) ∷ o.below
 

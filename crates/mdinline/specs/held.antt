@@ -1,6 +1,6 @@
 pub mod BacktickTable
 pub mod Brackets
-pub mod FoundReferences
+pub mod FoundLinks
 pub mod KnownText
 pub mod LongTags
 pub mod PairedRuns

@@ -1,22 +1,25 @@
 //! The inlines of a text: its tree, the labels that were looked up for it, and where those lead.
 #![tactic(auto)]
 
-mod angles;
 mod asked;
-mod backticks;
-mod brackets;
+mod autolinks;
+mod bracket_stack;
+mod character_references;
+mod code_spans;
 mod copies;
+mod emphasis;
+mod escapes;
 mod faults;
 mod inlines;
 mod labels;
-mod openings;
+mod line_breaks;
+mod links;
 mod parsed;
 mod pieces;
-mod plain;
+mod raw_html;
 mod reading;
-mod references;
 mod scanner;
-mod settling;
+mod texts;
 mod trees;
 
 pub use asked::Asked;

@@ -1,11 +1,11 @@
-//! The reading of a text (CommonMark 6; GFM, Strikethrough).
+//! The reading of a text (CommonMark 6; GFM Strikethrough (extension)).
 
 ghost use Rattle.std.specs.Prelude.{◌≡◌, ◌+◌, ◌∷◌, ◌-◌, ◌<◌, ◌≤◌, ℕ, true, List, [], IfOk, IfSome, OnOk, length, slice_index, option_map};
 ghost use Rattle.std.specs.Str.{IsCharBoundary};
 ghost use Rattle.mdscan.specs.Spans.{IsEndAfter};
 ghost use Rattle.mdtext.specs.Counted.{counted};
 ghost use Rattle.mdinline.specs.held.Brackets.{AreBracketsOf, IsLinkEnd};
-ghost use Rattle.mdinline.specs.held.FoundReferences.{IsReferenceOf, with_asked};
+ghost use Rattle.mdinline.specs.held.FoundLinks.{IsLinkOf, with_asked};
 ghost use Rattle.inlinespec.specs.LabelMap.{LinkTarget};
 ghost use Rattle.mdinline.specs.held.Recognised.{kind_of};
 ghost use Rattle.inlinespec.specs.Settled as settled;
@@ -13,16 +13,15 @@ ghost use Rattle.inlinespec.specs.TextReading.{Opened, after_deed, closing, item
 ghost use Rattle.mdinline.specs.held.UnusedOpeners.{AreOpenersOf, IsTaken};
 
 use crate::asked::Asked;
-use crate::brackets::{Reference, reference_of};
+use crate::bracket_stack::{Bracket, BracketKind, BracketStack, Opening, bracket_at};
+use crate::emphasis::settle;
 use crate::faults::InlineFault;
 use crate::inlines::Inline;
 use crate::labels::Labels;
-use crate::openings::{Bracket, BracketKind, Opening, Openings, bracket_at};
+use crate::links::{FoundLink, link_of};
 use crate::parsed::Parsed;
 use crate::pieces::Piece;
 use crate::scanner::Scanner;
-use crate::settling::settle;
-use crate::trees::MOST_SPANS;
 use mdpair::delimiter_run;
 use mdtext::{Count, Entities, Label, Target};
 use std::alloc::{AllocError, Global};
@@ -32,44 +31,50 @@ use std::collections::BTreeSet;
 #[derive(Drop)]
 struct Reading {
     pieces: Vec<Piece>,
-    openings: Openings,
+    openings: BracketStack,
     asked: BTreeSet<Label, Global>,
+    /// How many spans may lie in one another.
+    limit: usize,
 }
 
 /// Reads an inline text, and counts it.
 ///
-/// Labels that are looked up are asked for, found or not. `TooDeep` where more than 64 spans (emphasis, strong emphasis, strikethrough, links, images) lie in
-/// one another. After a fault nothing is left but the count.
+/// Labels that are looked up are asked for, found or not. `TooDeep` where more than `limit` spans (emphasis, strong emphasis, strikethrough, links, images)
+/// lie in one another; the limit is 1 to 256. After a fault nothing is left but the count.
 pub fn read<L: Labels, C: Count>(
     alloc: Global,
     text: &str,
     labels: &L,
     entities: &Entities,
+    limit: usize,
     count: &mut C,
 ) -> Result<Parsed, InlineFault>
+    requires least { 1 ≤ limit }
+    requires most { limit ≤ 256 }
     ensures inlines { C.inlines count.new ≡ counted (C.inlines count.old) }
     ensures lines { C.lines count.new ≡ C.lines count.old }
 {
     count.inline();
     let mut scanner = Scanner::of(alloc, text)?;
-    let mut reading = Reading::new(alloc);
+    let mut reading = Reading::new(alloc, limit);
     let mut at = 0;
     while at < text.len() {
         at = reading.step(alloc, text, at, &mut scanner, labels, entities)?;
     }
     let Reading { pieces, asked, .. } = reading;
-    let tree = settle(alloc, pieces)?;
+    let tree = settle(alloc, pieces, limit)?;
     Ok(Parsed::new(tree.inlines, Asked::of(alloc, asked)?))
 }
 
 impl Reading {
-    fn new(alloc: Global) -> Reading
+    fn new(alloc: Global, limit: usize) -> Reading
         ensures { result.openings.unused.items ≡ [] }
     {
         Reading {
             pieces: Vec::new(alloc),
-            openings: Openings::new(alloc),
+            openings: BracketStack::new(alloc),
             asked: BTreeSet::new(alloc),
+            limit,
         }
     }
 
@@ -173,10 +178,10 @@ impl Reading {
         ensures openers { (ps : List settled.Piece) → AreOpenersOf ps self.old.openings
             → OnOk result (AreOpenersOf (after_deed (closing entities.now (L.target labels.now) text.now at (nearest_opener ps)).deed ps) self.new.openings) }
     {
-        match self.reference(alloc, text, at, labels, entities)? {
-            Some((opening, reference)) => {
-                self.link(alloc, opening, reference.target)?;
-                Ok(reference.end)
+        match self.find_link(alloc, text, at, labels, entities)? {
+            Some((opening, found)) => {
+                self.link(alloc, opening, found.target)?;
+                Ok(found.end)
             }
             None => {
                 let inline = Inline::Text(String::from_str(alloc, "]")?);
@@ -187,21 +192,21 @@ impl Reading {
     }
 
     /// Uses up the nearest unused bracket for the `]` at a place, and answers it with what makes a link or an image of it, if anything does.
-    fn reference<L: Labels>(
+    fn find_link<L: Labels>(
         &mut self,
         alloc: Global,
         text: &str,
         at: usize,
         labels: &L,
         entities: &Entities,
-    ) -> Result<Option<(Opening, Reference)>, AllocError>
+    ) -> Result<Option<(Opening, FoundLink)>, AllocError>
         requires at { IsCharBoundary text.now at }
         requires after { IsCharBoundary text.now (at + 1) }
         requires brackets { AreBracketsOf text.now at self.old.openings.unused.items }
         ensures end { IfOk result (λ found. IfSome found (λ found. IsLinkEnd text.now (at + 1) found.1.end)) }
         ensures brackets { OnOk result (AreBracketsOf text.now at self.new.openings.unused.items) }
         ensures value { (ps : List settled.Piece) → AreOpenersOf ps self.old.openings
-            → IfOk result (λ found. IsReferenceOf at (closing entities.now (L.target labels.now) text.now at (nearest_opener ps)) (option_map (λ found. found.1) found)) }
+            → IfOk result (λ found. IsLinkOf at (closing entities.now (L.target labels.now) text.now at (nearest_opener ps)) (option_map (λ found. found.1) found)) }
         ensures asks { (ps : List settled.Piece) → AreOpenersOf ps self.old.openings
             → OnOk result (self.new.asked.keys ≡ with_asked self.old.asked.keys (closing entities.now (L.target labels.now) text.now at (nearest_opener ps)).asks) }
         ensures taken { (ps : List settled.Piece) → AreOpenersOf ps self.old.openings → IfOk result (λ found. IfSome found (λ found. (o : Opened) × IsTaken ps (found.0, true) o)) }
@@ -214,7 +219,7 @@ impl Reading {
         if !is_live {
             return Ok(None);
         }
-        let found = reference_of(
+        let found = link_of(
             alloc,
             text,
             opening.begin,
@@ -224,7 +229,7 @@ impl Reading {
             &mut self.asked,
         )?;
         match found {
-            Some(reference) => Ok(Some((opening, reference))),
+            Some(found) => Ok(Some((opening, found))),
             None => Ok(None),
         }
     }
@@ -237,8 +242,8 @@ impl Reading {
         ensures asked { OnOk result (self.new.asked ≡ self.old.asked) }
     {
         let inside = self.take_inside(alloc, opening.piece)?;
-        let tree = settle(alloc, inside)?;
-        if tree.depth >= MOST_SPANS {
+        let tree = settle(alloc, inside, self.limit)?;
+        if tree.depth >= self.limit {
             return Err(InlineFault::TooDeep);
         }
         let inline = if opening.is_image {

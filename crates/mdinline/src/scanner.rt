@@ -9,11 +9,13 @@ ghost use Rattle.inlinespec.specs.Lexing.{lex};
 ghost use Rattle.mdinline.specs.held.PlainText.{is_bracket};
 ghost use Rattle.mdinline.specs.held.Recognised.{IsFound, made_events};
 
-use crate::angles::Angles;
-use crate::backticks::Backticks;
+use crate::character_references::reference;
+use crate::code_spans::Backticks;
+use crate::escapes::escape;
 use crate::inlines::Inline;
-use crate::plain::{escape, line_break, plain};
-use crate::references::reference;
+use crate::line_breaks::line_break;
+use crate::raw_html::EndlessTags;
+use crate::texts::plain;
 use mdtext::Entities;
 use std::alloc::{AllocError, Global};
 
@@ -41,7 +43,7 @@ pub(crate) fn simple(inline: Inline, end: usize) -> Found
 #[derive(Drop)]
 pub(crate) struct Scanner {
     backticks: Backticks,
-    angles: Angles,
+    endless_tags: EndlessTags,
 }
 
 impl Scanner {
@@ -50,7 +52,7 @@ impl Scanner {
     {
         Ok(Scanner {
             backticks: Backticks::of(alloc, text.as_bytes())?,
-            angles: Angles::new(),
+            endless_tags: EndlessTags::new(),
         })
     }
 
@@ -93,7 +95,9 @@ impl Scanner {
             b'\\' => escape(alloc, text, at),
             b'&' => reference(alloc, text, at, entities),
             b'`' => self.backticks.code_or_run(alloc, text, at),
-            b'<' => self.angles.autolink_or_html(alloc, text, at, entities),
+            b'<' => self
+                .endless_tags
+                .autolink_or_html(alloc, text, at, entities),
             b' ' => Ok(line_break(text, at)),
             b'\n' => Ok(line_break(text, at)),
             _ => Ok(None),

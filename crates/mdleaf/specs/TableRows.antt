@@ -1,4 +1,4 @@
--- The rows of a table (GFM Tables).
+-- The rows of a table (GFM Tables (extension)).
 use Rattle.std.specs.Prelude.{ℕ, zero, suc, Bool, false, ◌&&◌, ◌==◌, List, [], ◌∷◌, length, map, string_bytes, Option, Some, None, if◌then◌else◌}
 use Rattle.mdscan.specs.declared.delimiter_rows.Align.{Align}
 use Rattle.mdscan.specs.declared.spans.Span.{Span}

@@ -16,7 +16,7 @@ pub struct Header {
     pub cells: Vec<String>,
 }
 
-/// The header of the table that a delimiter row makes of the line before it (GFM Tables). `None` where the two have
+/// The header of the table that a delimiter row makes of the line before it (GFM Tables (extension)). `None` where the two have
 /// not equally many cells, or the second is no delimiter row.
 #[tactic(auto, unfolding(crate::specs::TableRows::table_header))]
 pub fn table_header(alloc: Global, head: &str, delimiters: &str) -> Result<Option<Header>, NoMemory>
@@ -31,7 +31,7 @@ pub fn table_header(alloc: Global, head: &str, delimiters: &str) -> Result<Optio
     Ok(Some(Header { aligns, cells }))
 }
 
-/// Whether a delimiter row makes a table of the line before it (GFM Tables). Takes no memory.
+/// Whether a delimiter row makes a table of the line before it (GFM Tables (extension)). Takes no memory.
 #[tactic(auto, unfolding(crate::specs::TableRows::begins_table))]
 pub fn begins_table(head: &str, delimiters: &str) -> bool
     ensures { result ≡ begins_table head.now delimiters.now }
@@ -42,7 +42,7 @@ pub fn begins_table(head: &str, delimiters: &str) -> bool
     }
 }
 
-/// The texts of a table's row with so many columns (GFM Tables): missing cells are empty, and excess cells left out. A
+/// The texts of a table's row with so many columns (GFM Tables (extension)): missing cells are empty, and excess cells left out. A
 /// bar that a backslash stands directly before is written without it.
 pub fn data_row(alloc: Global, row: &str, columns: usize) -> Result<Vec<String>, NoMemory>
     ensures { IfOk result (λ cells. map string_bytes cells.items ≡ filled columns (row_texts row.now)) }

@@ -6,7 +6,7 @@ ghost use Rattle.mdscan.specs.TaskMarker.{task_marker};
 
 use mdscan::{TaskMark, task};
 
-/// The task list item marker that a paragraph's text begins with (GFM 5.3): whether it is ticked, and where the
+/// The task list item marker that a paragraph's text begins with (GFM Task list items (extension)): whether it is ticked, and where the
 /// text goes on after it and the spaces and tabs behind it, in bytes.
 pub fn task_mark(text: &str) -> Option<TaskMark>
     ensures mark { result ≡ task_marker text.now }

@@ -8,7 +8,7 @@ use Rattle.mdpair.specs.declared.runs.DelimiterChar.TheVariants.{Asterisk, Under
 use Rattle.mdpair.specs.declared.runs.DelimiterRun.{DelimiterRun}
 use Rattle.mdpair.specs.declared.emphasis.Remaining.{Remaining}
 use Rattle.mdpair.specs.DelimiterRun.{same_delimiter, can_both, lengths_fit, lengths_match, is_admissible}
-use Rattle.mdpair.specs.Takings.{nearest, without, left_of, stack, IsBelow}
+use Rattle.mdpair.specs.Matches.{nearest, without, left_of, stack, IsBelow}
 use Rattle.mdpair.specs.declared.searches.Bottom.{Bottom}
 use Rattle.mdpair.proofs.Sweep.{nearest-keeps, stack_at}
 use Rattle.mdpair.specs.OpenersBottom.{IsSameKind, IsBottom, IsBottomUpTo, Descends}
@@ -45,7 +45,7 @@ missed p c d (l ∷ ls) none k = at (is_admissible l.run c) refl none (λ h. mis
     at true e h later = cc
     at false e h later = (λ _. sym (same_kind l.run c d k) ∙ e, later h)
 
--- what a taking leaves of the stack keeps its bottoms; so does a run that is put on it, above them
+-- what a match leaves of the stack keeps its bottoms; so does a run that is put on it, above them
 pub kept : (bottom n : ℕ) (c : DelimiterRun) (o : Remaining) (below : List Remaining) → IsBottom bottom c (o ∷ below) → IsBottom bottom c (without n o ++ below)
 kept bottom n c o below sound = at (eqb (o.left - n) 0)
   where
@@ -76,13 +76,6 @@ left_of-falls n run o below falls = at (eqb n 0)
     at false = falls
 
 -- what is left of a run goes onto the stack
-pub pushed-falls : (place n : ℕ) (run : DelimiterRun) (ls : List Remaining) → AllByRecursion (IsBelow place) ls → Descends ls → Descends (left_of place n run ++ ls)
-pushed-falls place n run ls low falls = at (eqb n 0)
-  where
-    at : (b : Bool) → Descends (cond b [] (record { place = place; left = n; run = run } ∷ []) ++ ls)
-    at true = falls
-    at false = (low, falls)
-
 pub pushed-bottom : (bottom : ℕ) (c : DelimiterRun) (place n : ℕ) (run : DelimiterRun) (ls : List Remaining) → bottom ≤ place → IsBottom bottom c ls → IsBottom bottom c (left_of place n run ++ ls)
 pushed-bottom bottom c place n run ls le sound = at (eqb n 0)
   where

@@ -1,6 +1,6 @@
 pub mod BottomKept
 pub mod Characters
-pub mod OrderedTakings
+pub mod OrderedMatches
 pub mod RunEnds
 pub mod Sweep
 pub mod Thirds

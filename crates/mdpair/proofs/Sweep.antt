@@ -5,11 +5,11 @@ use Rattle.std.proofs.lemmas.Bool.Decides.{nat_tests}
 use Rattle.std.specs.List.{AllByRecursion}
 use Rattle.std.proofs.Math.Seq.{drop-cons}
 use Rattle.mdpair.specs.declared.runs.DelimiterRun.{DelimiterRun}
-use Rattle.mdpair.specs.declared.emphasis.Taking.{Taking}
+use Rattle.mdpair.specs.declared.emphasis.Match.{Match}
 use Rattle.mdpair.specs.declared.emphasis.Remaining.{Remaining}
 use Rattle.mdpair.specs.DelimiterRun.{is_admissible}
 use Rattle.mdpair.proofs.Widths.{takes, opener_whole, closer_whole, pushed_left}
-use Rattle.mdpair.specs.Takings.{nearest, width_of, taken_of, left_of, without, onto, stack, taking, after_taking, take_with, turn, and_on, takings_in, whole, left_in, takings, Leads, IsClear, IsLeft, IsBelow}
+use Rattle.mdpair.specs.Matches.{nearest, width_of, taken_of, left_of, without, onto, stack, matched, after_match, match_with, turn, and_on, matches_in, whole, left_in, matches, Leads, IsClear, IsLeft, IsBelow}
 
 -- the stack of a longer list
 
@@ -54,24 +54,24 @@ nearest_below c xs i d low le fails =
 
 -- a search from the left comes to where those passed are clear
 
-skips-at : (c : Remaining) (rest : List Remaining) (other : Option (Taking × List Remaining)) (b : Bool) (o : Option (Remaining × List Remaining)) →
-    (b ≡ true → o ≡ None) → cond b (take_with c rest o other) other ≡ other
+skips-at : (c : Remaining) (rest : List Remaining) (other : Option (Match × List Remaining)) (b : Bool) (o : Option (Remaining × List Remaining)) →
+    (b ≡ true → o ≡ None) → cond b (match_with c rest o other) other ≡ other
 skips-at c rest other false o h = refl
-skips-at c rest other true o h = ap (λ o. take_with c rest o other) (h refl)
+skips-at c rest other true o h = ap (λ o. match_with c rest o other) (h refl)
 
 turn-passed : (passed rest : List Remaining) → IsClear passed → turn [] (onto passed rest) ≡ turn passed rest
 turn-passed [] rest clear = refl
 turn-passed (c ∷ below) rest clear =
     turn-passed below (c ∷ rest) clear.1 ∙ skips-at c rest (turn (c ∷ below) rest) c.run.can_close (nearest c.run below) clear.0
 
-taken-at : (c : Remaining) (rest : List Remaining) (other : Option (Taking × List Remaining)) (b : Bool) (found : Option (Remaining × List Remaining)) (o : Remaining) (below : List Remaining) →
-    b ≡ true → found ≡ Some (o, below) → cond b (take_with c rest found other) other ≡ take_with c rest (Some (o, below)) other
+taken-at : (c : Remaining) (rest : List Remaining) (other : Option (Match × List Remaining)) (b : Bool) (found : Option (Remaining × List Remaining)) (o : Remaining) (below : List Remaining) →
+    b ≡ true → found ≡ Some (o, below) → cond b (match_with c rest found other) other ≡ match_with c rest (Some (o, below)) other
 taken-at c rest other b found o below holds is =
-    ap (λ b. cond b (take_with c rest found other) other) holds ∙ ap (λ f. take_with c rest f other) is
+    ap (λ b. cond b (match_with c rest found other) other) holds ∙ ap (λ f. match_with c rest f other) is
 
 pub turn-takes : (passed rest : List Remaining) (c o : Remaining) (below : List Remaining) → IsClear passed → c.run.can_close ≡ true →
     nearest c.run passed ≡ Some (o, below) →
-    turn [] (onto passed (c ∷ rest)) ≡ Some (taking o c, after_taking (taken_of o c) o below c rest)
+    turn [] (onto passed (c ∷ rest)) ≡ Some (matched o c, after_match (taken_of o c) o below c rest)
 turn-takes passed rest c o below clear can_close is =
     turn-passed passed (c ∷ rest) clear ∙ taken-at c rest (turn (c ∷ passed) rest) c.run.can_close (nearest c.run passed) o below can_close is
 
@@ -121,35 +121,32 @@ left_of-clear n o below clear = at (eqb (o.left - n) 0)
     at true = clear.1
     at false = clear
 
--- takings in a row
+-- matches in a row
 
-pub Leads-push : (ls : List Remaining) (ts : List Taking) (middle end : List Remaining) (t : Taking) →
+pub Leads-push : (ls : List Remaining) (ts : List Match) (middle end : List Remaining) (t : Match) →
     Leads ls ts middle → turn [] middle ≡ Some (t, end) → Leads ls (ts ++ t ∷ []) end
 Leads-push ls [] middle end t h e = (end, ap (turn []) h ∙ e, refl)
 Leads-push ls (u ∷ ts) middle end t h e = (h.0, h.1, Leads-push h.0 ts middle end t h.2 e)
 
-pub Leads-same : (ls : List Remaining) (ts : List Taking) (a b : List Remaining) → a ≡ b → Leads ls ts a → Leads ls ts b
-Leads-same ls ts a b e h = subst (Leads ls ts) e h
+-- such a row is the matches, where each of them takes something
 
--- such a row is the takings, where each of them takes something
+matches_in-Leads : (n : ℕ) (ls : List Remaining) (ts : List Match) (end : List Remaining) →
+    Leads ls ts end → turn [] end ≡ None → length ts ≤ n → matches_in n ls ≡ ts
+unfolding matches_in
+matches_in-Leads zero ls [] end h stop few = refl
+matches_in-Leads (suc n) ls [] end h stop few = ap (λ o. and_on o (matches_in n)) (ap (turn []) h ∙ stop)
+matches_in-Leads zero ls (t ∷ ts) end h stop few = absurd (omega arith)
+matches_in-Leads (suc n) ls (t ∷ ts) end h stop few =
+    ap (λ o. and_on o (matches_in n)) h.1 ∙ ap (λ us. t ∷ us) (matches_in-Leads n h.0 ts end h.2 stop (omega arith))
 
-takings_in-Leads : (n : ℕ) (ls : List Remaining) (ts : List Taking) (end : List Remaining) →
-    Leads ls ts end → turn [] end ≡ None → length ts ≤ n → takings_in n ls ≡ ts
-unfolding takings_in
-takings_in-Leads zero ls [] end h stop few = refl
-takings_in-Leads (suc n) ls [] end h stop few = ap (λ o. and_on o (takings_in n)) (ap (turn []) h ∙ stop)
-takings_in-Leads zero ls (t ∷ ts) end h stop few = absurd (omega arith)
-takings_in-Leads (suc n) ls (t ∷ ts) end h stop few =
-    ap (λ o. and_on o (takings_in n)) h.1 ∙ ap (λ us. t ∷ us) (takings_in-Leads n h.0 ts end h.2 stop (omega arith))
-
--- one turn of the loop is one taking
+-- one turn of the loop is one match
 
 left_of-some : (place left : ℕ) (run : DelimiterRun) → 0 < left → left_of place left run ≡ record { place = place; left = left; run = run } ∷ []
 left_of-some place left run some =
     let is : eqb left 0 ≡ false = grind (arith, nat_tests) in
     ap (λ b. cond b [] (record { place = place; left = left; run = run } ∷ [])) is
 
-pub turn_leads : (start rest : List Remaining) (ts new : List Taking) (passed passed' below : List Remaining) (o : Remaining) (place left w : ℕ) (run : DelimiterRun) →
+pub turn_leads : (start rest : List Remaining) (ts new : List Match) (passed passed' below : List Remaining) (o : Remaining) (place left w : ℕ) (run : DelimiterRun) →
     IsClear passed → run.can_close ≡ true → 0 < left → nearest run passed ≡ Some (o, below) → w ≡ width_of run.delimiter run.length o.left left →
     new ≡ ts ++ (record { opener = o.place; closer = place; width = w }) ∷ [] →
     passed' ≡ left_of o.place (o.left - w) o.run ++ below →
@@ -159,9 +156,9 @@ turn_leads start rest ts new passed passed' below o place left w run clear can_c
     let c : Remaining = record { place = place; left = left; run = run } in
     let before : Leads start ts (onto passed (c ∷ rest)) = subst (λ l. Leads start ts (onto passed (l ++ rest))) (left_of-some place left run some) leads in
     let taken = turn-takes passed rest c o below clear can_close found in
-    let t : Taking = record { opener = o.place; closer = place; width = w } in
+    let t : Match = record { opener = o.place; closer = place; width = w } in
     let after : Leads start (ts ++ t ∷ []) (onto (left_of o.place (o.left - w) o.run ++ below) (left_of place (left - w) run ++ rest)) =
-    rw wide (Leads-push start ts _ _ (taking o c) before taken) in
+    rw wide (Leads-push start ts _ _ (matched o c) before taken) in
     rw (pushed, kept) after
 
 pub found_item : (c : DelimiterRun) (s items : List Remaining) (i : ℕ) (o : Remaining) → s ≡ items → o ≡ get_or items i o →
@@ -169,7 +166,7 @@ pub found_item : (c : DelimiterRun) (s items : List Remaining) (i : ℕ) (o : Re
 found_item c s items i o same is h =
     subst (λ z. nearest c (stack z) ≡ Some (get_or z i o, stack (take i z))) same h ∙ ap (λ x. Some (x, stack (take i items))) (sym is)
 
--- each taking leaves less
+-- each match leaves less
 
 left_in-append : (xs ys : List Remaining) → left_in (xs ++ ys) ≡ left_in xs + left_in ys
 left_in-append [] ys = omega arith
@@ -195,7 +192,7 @@ IsLess passed rest next = (left_in next + 1 ≤ left_in passed + left_in rest) �
 
 taken-less : (c o : Remaining) (passed below rest : List Remaining) → AllByRecursion IsLeft passed → AllByRecursion IsLeft (c ∷ rest) →
     nearest c.run passed ≡ Some (o, below) →
-    IsLess passed (c ∷ rest) (after_taking (taken_of o c) o below c rest)
+    IsLess passed (c ∷ rest) (after_match (taken_of o c) o below c rest)
 taken-less c o passed below rest p q found =
     let w = taken_of o c in
     let kept : AllByRecursion IsLeft (o ∷ below) = nearest-left c.run passed o below found p in
@@ -207,7 +204,7 @@ taken-less c o passed below rest p q found =
           (pushed_left c.place (c.left - w) c.run rest (λ t some. absurd (omega (arith, closer_whole c.run o.left c.left q.0.1 t))) q.1),
     )
 
-turn-less : (passed rest : List Remaining) (t : Taking) (next : List Remaining) → AllByRecursion IsLeft passed → AllByRecursion IsLeft rest →
+turn-less : (passed rest : List Remaining) (t : Match) (next : List Remaining) → AllByRecursion IsLeft passed → AllByRecursion IsLeft rest →
     turn passed rest ≡ Some (t, next) → IsLess passed rest next
 turn-less passed [] t next p q e = cc
 turn-less passed (c ∷ rest) t next p q e =
@@ -217,17 +214,17 @@ turn-less passed (c ∷ rest) t next p q e =
     later : IsLess (c ∷ passed) rest next → IsLess passed (c ∷ rest) next
     later h = (omega (arith, h.0), h.1)
 
-    at : (b : Bool) (found : Option (Remaining × List Remaining)) (other : Option (Taking × List Remaining)) →
+    at : (b : Bool) (found : Option (Remaining × List Remaining)) (other : Option (Match × List Remaining)) →
         (other ≡ Some (t, next) → IsLess passed (c ∷ rest) next) →
-        ((o : Remaining) (below : List Remaining) → found ≡ Some (o, below) → IsLess passed (c ∷ rest) (after_taking (taken_of o c) o below c rest)) →
-        cond b (take_with c rest found other) other ≡ Some (t, next) → IsLess passed (c ∷ rest) next
+        ((o : Remaining) (below : List Remaining) → found ≡ Some (o, below) → IsLess passed (c ∷ rest) (after_match (taken_of o c) o below c rest)) →
+        cond b (match_with c rest found other) other ≡ Some (t, next) → IsLess passed (c ∷ rest) next
     at false found other f g e = f e
     at true None other f g e = f e
     at true (Some (o, below)) other f g e =
-        let same : ◌≡◌ {A = Taking × List Remaining} (taking o c, after_taking (taken_of o c) o below c rest) (t, next) = cc in
-        subst (λ (z : Taking × List Remaining). IsLess passed (c ∷ rest) (z.1)) same (g o below refl)
+        let same : ◌≡◌ {A = Match × List Remaining} (matched o c, after_match (taken_of o c) o below c rest) (t, next) = cc in
+        subst (λ (z : Match × List Remaining). IsLess passed (c ∷ rest) (z.1)) same (g o below refl)
 
-Leads-few : (ls : List Remaining) (ts : List Taking) (end : List Remaining) → AllByRecursion IsLeft ls → Leads ls ts end → length ts ≤ left_in ls
+Leads-few : (ls : List Remaining) (ts : List Match) (end : List Remaining) → AllByRecursion IsLeft ls → Leads ls ts end → length ts ≤ left_in ls
 Leads-few ls [] end p h = omega arith
 Leads-few ls (t ∷ ts) end p h =
     let less = turn-less [] ls t h.0 tt p h.1 in omega (arith, less.0, Leads-few h.0 ts end less.1 h.2)
@@ -236,12 +233,12 @@ whole-left : (n : ℕ) (rs : List DelimiterRun) → AllByRecursion IsLeft (whole
 whole-left n [] = tt
 whole-left n (r ∷ rs) = pushed_left n r.length r (whole (n + 1) rs) (λ _ _. refl) (whole-left (n + 1) rs)
 
--- takings in a row up to where there is none are all the takings
-pub all_takings : (runs : List DelimiterRun) (ts : List Taking) (passed : List Remaining) → IsClear passed →
-    Leads (whole 0 runs) ts (onto passed []) → ts ≡ takings runs
-unfolding takings
-all_takings runs ts passed clear leads =
-    sym (takings_in-Leads (left_in (whole 0 runs)) (whole 0 runs) ts (onto passed []) leads (turn-end passed clear) (Leads-few (whole 0 runs) ts (onto passed []) (whole-left 0 runs) leads))
+-- matches in a row up to where there is none are all the matches
+pub all_matches : (runs : List DelimiterRun) (ts : List Match) (passed : List Remaining) → IsClear passed →
+    Leads (whole 0 runs) ts (onto passed []) → ts ≡ matches runs
+unfolding matches
+all_matches runs ts passed clear leads =
+    sym (matches_in-Leads (left_in (whole 0 runs)) (whole 0 runs) ts (onto passed []) leads (turn-end passed clear) (Leads-few (whole 0 runs) ts (onto passed []) (whole-left 0 runs) leads))
 
 -- places
 
@@ -269,14 +266,6 @@ onto_left ls rest place left run = at (eqb left 0)
     at : (b : Bool) → onto (cond b [] (record { place = place; left = left; run = run } ∷ []) ++ ls) rest ≡ onto ls (cond b [] (record { place = place; left = left; run = run } ∷ []) ++ rest)
     at true = refl
     at false = refl
-
-pub clear_left : (ls : List Remaining) (place left : ℕ) (run : DelimiterRun) → IsClear ls → (0 < left → run.can_close ≡ true → nearest run ls ≡ None) → IsClear (left_of place left run ++ ls)
-clear_left ls place zero run clear h = clear
-clear_left ls place (suc n) run clear h = at (eqb (suc n) 0)
-  where
-    at : (b : Bool) → IsClear (cond b [] (record { place = place; left = suc n; run = run } ∷ []) ++ ls)
-    at true = clear
-    at false = (h (omega arith), clear)
 
 pub lives_at : (rs : List DelimiterRun) (i : ℕ) (d : DelimiterRun) → i < length rs →
     whole i (drop i rs) ≡ left_of i (get_or rs i d).length (get_or rs i d) ++ whole (i + 1) (drop (i + 1) rs)

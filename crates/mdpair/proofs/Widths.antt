@@ -1,4 +1,4 @@
--- What a taking takes of each: something, and no more than is left; of tildes all.
+-- What a match takes of each: something, and no more than is left; of tildes all.
 use Rattle.std.proofs.Common.{◌≡◌, ℕ, zero, suc, ◌-◌, ◌<◌, ◌≤◌, Bool, true, false, ◌&&◌, cond, eqb, nat_lt, List, [], ◌∷◌, ◌++◌, refl, arith}
 use Rattle.std.proofs.lemmas.Bool.Decides.{nat_tests}
 use Rattle.std.specs.List.{AllByRecursion}
@@ -7,7 +7,7 @@ use Rattle.mdpair.specs.declared.runs.DelimiterChar.TheVariants.{Asterisk, Under
 use Rattle.mdpair.specs.declared.runs.DelimiterRun.{DelimiterRun}
 use Rattle.mdpair.specs.declared.emphasis.Remaining.{Remaining}
 use Rattle.mdpair.specs.DelimiterRun.{same_delimiter, lengths_match, is_admissible}
-use Rattle.mdpair.specs.Takings.{width_of, left_of, IsLeft}
+use Rattle.mdpair.specs.Matches.{width_of, left_of, IsLeft}
 
 -- the opener of a run of tildes is one of the same length
 

@@ -1,4 +1,4 @@
--- Which delimiter runs may open and close emphasis together (CommonMark 6.2; of tildes: GFM, Strikethrough).
+-- Which delimiter runs may open and close emphasis together (CommonMark 6.2; of tildes: GFM Strikethrough (extension)).
 use Rattle.std.specs.Prelude.{◌+◌, ◌%◌, Bool, true, false, ◌&&◌, ◌||◌, not, eqb}
 use Rattle.mdpair.specs.declared.runs.DelimiterChar.{DelimiterChar}
 use Rattle.mdpair.specs.declared.runs.DelimiterChar.TheVariants.{Asterisk, Underscore, Tilde}

@@ -1,4 +1,4 @@
 pub mod DelimiterRun
 pub mod Neighbours
-pub mod Takings
+pub mod Matches
 pub mod OpenersBottom

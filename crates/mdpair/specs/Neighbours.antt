@@ -27,7 +27,7 @@ left_flanking before after = not (white_at after) && (not (punct_at after) || wh
 unfoldable pub right_flanking : Option ℕ → Option ℕ → Bool
 right_flanking before after = not (white_at before) && (not (punct_at before) || white_at after || punct_at after)
 
--- Rules 1, 2, 5 and 6 on what can open. Of tildes (GFM, Strikethrough), three or more make no strikethrough.
+-- Rules 1, 2, 5 and 6 on what can open. Of tildes (GFM Strikethrough (extension)), three or more make no strikethrough.
 unfoldable pub opens_between : DelimiterChar → ℕ → Option ℕ → Option ℕ → Bool
 opens_between Asterisk n before after = left_flanking before after
 opens_between Underscore n before after = left_flanking before after && (not (right_flanking before after) || punct_at before)

@@ -6,7 +6,7 @@ use Rattle.mdpair.specs.declared.runs.DelimiterRun.{DelimiterRun}
 use Rattle.mdpair.specs.declared.emphasis.Remaining.{Remaining}
 use Rattle.mdpair.specs.declared.searches.Bottom.{Bottom}
 use Rattle.mdpair.specs.DelimiterRun.{can_both, is_admissible}
-use Rattle.mdpair.specs.Takings.{IsBelow}
+use Rattle.mdpair.specs.Matches.{IsBelow}
 
 -- Closers that share a bottom: of one character, with one remainder of the length by 3, and alike in whether they can also open; tildes of one length.
 pub record IsSameKind (c d : DelimiterRun) : Type 0 where

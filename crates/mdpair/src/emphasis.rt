@@ -6,7 +6,7 @@ ghost use Rattle.mdpair.specs.declared.emphasis.Remaining.{Remaining as Left};
 ghost use Rattle.mdpair.specs.DelimiterRun.{is_admissible};
 ghost use Rattle.mdpair.specs.declared.runs.DelimiterRun.{DelimiterRun};
 ghost use Rattle.mdpair.specs.OpenersBottom.{IsBottom, IsBottomUpTo, Descends};
-ghost use Rattle.mdpair.specs.Takings.{nearest, onto, stack, width_of, left_of, Leads, IsClear, IsLeft, IsOrdered, IsBelow, IsProcessed, takings};
+ghost use Rattle.mdpair.specs.Matches.{nearest, onto, stack, width_of, left_of, Leads, IsClear, IsLeft, IsOrdered, IsBelow, IsProcessed, matches};
 
 use crate::runs::{DelimiterChar, DelimiterRun};
 use crate::searches::{Bottom, bottom_for, keep_bottom};
@@ -16,7 +16,7 @@ use std::alloc::{AllocError, Global};
 ///
 /// Of asterisks and underscores one makes emphasis and two make strong emphasis; a run of tildes is taken whole and makes a strikethrough.
 #[derive(Clone, Copy, Debug, Drop)]
-pub struct Taking {
+pub struct Match {
     pub opener: usize,
     pub closer: usize,
     pub width: usize,
@@ -34,25 +34,25 @@ pub(crate) struct Remaining {
 ///
 /// Again and again the leftmost closer that has an admissible opener takes the nearest such opener; the runs between the two are then text, and
 /// so is what is left of runs in the end. `runs` are all runs of one text, in its order; the inside of a link is a text of its own.
-pub fn pair(alloc: Global, runs: &[DelimiterRun]) -> Result<Vec<Taking>, AllocError>
-    ensures value { IfOk result (λ ts. ts.items ≡ takings runs.now) }
+pub fn pair(alloc: Global, runs: &[DelimiterRun]) -> Result<Vec<Match>, AllocError>
+    ensures value { IfOk result (λ ts. ts.items ≡ matches runs.now) }
     ensures processed { IfOk result (λ ts. IsProcessed runs.now ts.items) }
     ensures ordered { IfOk result (λ ts. All (IsOrdered (length runs.now)) ts.items) }
 {
-    let mut takings = Vec::new(alloc);
+    let mut matches = Vec::new(alloc);
     let mut passed = Vec::new(alloc);
     let mut bottoms = Vec::new(alloc);
     for (place, run) in runs.iter().enumerate() {
-        pass(&mut passed, &mut takings, &mut bottoms, place, *run)?;
+        pass(&mut passed, &mut matches, &mut bottoms, place, *run)?;
     }
-    Ok(takings)
+    Ok(matches)
 }
 
 /// Takes what a run can close, and puts what is left of it on the stack.
 #[tactic(auto, using(crate::proofs::Sweep::pushed_below, crate::proofs::Sweep::onto_left, crate::proofs::Widths::pushed_left))]
 fn pass(
     passed: &mut Vec<Remaining>,
-    takings: &mut Vec<Taking>,
+    matches: &mut Vec<Match>,
     bottoms: &mut Vec<Bottom>,
     place: usize,
     run: DelimiterRun,
@@ -62,12 +62,12 @@ fn pass(
     requires bottoms { All (IsBottomUpTo place (stack passed.old.items)) bottoms.old.items }
     requires each { AllByRecursion IsLeft (stack passed.old.items) }
     requires low { AllByRecursion (IsBelow place) (stack passed.old.items) }
-    ensures leads { IfOk result (λ _. (start rest : List Left) → Leads start takings.old.items (onto (stack passed.old.items) (left_of place run.length run ++ rest))
-        → Leads start takings.new.items (onto (stack passed.new.items) rest)) }
+    ensures leads { IfOk result (λ _. (start rest : List Left) → Leads start matches.old.items (onto (stack passed.old.items) (left_of place run.length run ++ rest))
+        → Leads start matches.new.items (onto (stack passed.new.items) rest)) }
     ensures clear { IfOk result (λ _. IsClear (stack passed.new.items)) }
     ensures each { IfOk result (λ _. AllByRecursion IsLeft (stack passed.new.items)) }
     ensures low { IfOk result (λ _. AllByRecursion (IsBelow (place + 1)) (stack passed.new.items)) }
-    ensures ordered { IfOk result (λ _. (k : ℕ) → place < k → All (IsOrdered k) takings.old.items → All (IsOrdered k) takings.new.items) }
+    ensures ordered { IfOk result (λ _. (k : ℕ) → place < k → All (IsOrdered k) matches.old.items → All (IsOrdered k) matches.new.items) }
     ensures falls { IfOk result (λ _. Descends (stack passed.new.items)) }
     ensures bottoms { IfOk result (λ _. All (IsBottomUpTo (place + 1) (stack passed.new.items)) bottoms.new.items) }
 {
@@ -79,7 +79,7 @@ fn pass(
         left: run.length,
         run,
     };
-    let left = close(passed, takings, closer, bottom_for(bottoms, &run))?;
+    let left = close(passed, matches, closer, bottom_for(bottoms, &run))?;
     keep_bottom(bottoms, left, place, run)?;
     push_left(passed, place, left, run)
 }
@@ -87,7 +87,7 @@ fn pass(
 /// Takes what the closer can take, and answers how many of its characters are left.
 fn close(
     passed: &mut Vec<Remaining>,
-    takings: &mut Vec<Taking>,
+    matches: &mut Vec<Match>,
     closer: Remaining,
     bottom: usize,
 ) -> Result<usize, AllocError>
@@ -98,14 +98,14 @@ fn close(
     requires clear { IsClear (stack passed.old.items) }
     requires each { AllByRecursion IsLeft (stack passed.old.items) }
     requires low { AllByRecursion (IsBelow closer.place) (stack passed.old.items) }
-    ensures leads { IfOk result (λ left. (start rest : List Left) → Leads start takings.old.items (onto (stack passed.old.items) (closer ∷ rest))
-        → Leads start takings.new.items (onto (stack passed.new.items) (left_of closer.place left closer.run ++ rest))) }
+    ensures leads { IfOk result (λ left. (start rest : List Left) → Leads start matches.old.items (onto (stack passed.old.items) (closer ∷ rest))
+        → Leads start matches.new.items (onto (stack passed.new.items) (left_of closer.place left closer.run ++ rest))) }
     ensures done { IfOk result (λ left. 0 < left → nearest closer.run (stack passed.new.items) ≡ None) }
     ensures left { IfOk result (λ left. closer.run.delimiter ≡ DelimiterChar.Tilde → 0 < left → left ≡ closer.run.length) }
     ensures clear { IfOk result (λ _. IsClear (stack passed.new.items)) }
     ensures each { IfOk result (λ _. AllByRecursion IsLeft (stack passed.new.items)) }
     ensures low { IfOk result (λ _. AllByRecursion (IsBelow closer.place) (stack passed.new.items)) }
-    ensures ordered { IfOk result (λ _. (k : ℕ) → closer.place < k → All (IsOrdered k) takings.old.items → All (IsOrdered k) takings.new.items) }
+    ensures ordered { IfOk result (λ _. (k : ℕ) → closer.place < k → All (IsOrdered k) matches.old.items → All (IsOrdered k) matches.new.items) }
     ensures falls { IfOk result (λ _. Descends (stack passed.new.items)) }
     ensures bottoms { IfOk result (λ _. (b : ℕ) (c : DelimiterRun) → IsBottom b c (stack passed.old.items) → IsBottom b c (stack passed.new.items)) }
 {
@@ -116,7 +116,7 @@ fn close(
         };
         let open = passed[at];
         let width = width(&open, &closer.run, left);
-        takings.push(Taking {
+        matches.push(Match {
             opener: open.place,
             closer: closer.place,
             width,

@@ -1,7 +1,7 @@
 //! Delimiter runs of `*`, `_` and `~`, and their pairing: which of them open and close emphasis, strong emphasis and strikethrough together.
 //!
 //! A delimiter run is read by [`delimiter_run`], from the characters beside it (CommonMark 6.2, left-flanking and right-flanking). What the runs of
-//! one text take of each other is [`pair`]'s answer (CommonMark 6.2, rules 9 to 17; of tildes GFM, Strikethrough): again and again the leftmost
+//! one text take of each other is [`pair`]'s answer (CommonMark 6.2, rules 9 to 17; of tildes GFM Strikethrough (extension)): again and again the leftmost
 //! closer that has an admissible opener takes the nearest one. Nothing is known here of the text between the runs.
 #![tactic(auto)]
 
@@ -10,7 +10,7 @@ mod flanking;
 mod runs;
 mod searches;
 
-pub use emphasis::{Taking, pair};
+pub use emphasis::{Match, pair};
 pub use flanking::delimiter_run;
 pub use runs::{DelimiterChar, DelimiterRun};
 

@@ -12,7 +12,7 @@ pub enum DelimiterChar {
     Tilde,
 }
 
-/// A delimiter run of an inline text (CommonMark 6.2; of tildes GFM, Strikethrough).
+/// A delimiter run of an inline text (CommonMark 6.2; of tildes GFM Strikethrough (extension)).
 #[derive(Clone, Copy, Debug, Drop)]
 pub struct DelimiterRun {
     pub delimiter: DelimiterChar,

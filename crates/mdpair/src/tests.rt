@@ -1,4 +1,4 @@
-//! Rows of the standard (CommonMark 6.2; GFM, Strikethrough), read from their texts.
+//! Rows of the standard (CommonMark 6.2; GFM Strikethrough (extension)), read from their texts.
 
 use crate::{DelimiterRun, delimiter_run, pair};
 use std::alloc::{AllocError, Global};
@@ -27,17 +27,17 @@ fn check(
     want: &[(usize, usize, usize)],
 ) -> Result<(), AllocError> {
     let runs = runs_of(alloc, text)?;
-    let takings = pair(alloc, &runs)?;
-    assert_eq!(rt; takings.len(), want.len(), "in {text}");
-    for (taking, &(opener, closer, width)) in takings.iter().zip(want) {
-        assert_eq!(rt; taking.opener, opener, "in {text}");
-        assert_eq!(rt; taking.closer, closer, "in {text}");
-        assert_eq!(rt; taking.width, width, "in {text}");
+    let matches = pair(alloc, &runs)?;
+    assert_eq!(rt; matches.len(), want.len(), "in {text}");
+    for (matched, &(opener, closer, width)) in matches.iter().zip(want) {
+        assert_eq!(rt; matched.opener, opener, "in {text}");
+        assert_eq!(rt; matched.closer, closer, "in {text}");
+        assert_eq!(rt; matched.width, width, "in {text}");
     }
     Ok(())
 }
 
-/// Each row is a text and the takings of its runs: opener, closer, width.
+/// Each row is a text and the matches of its runs: opener, closer, width.
 #[test]
 fn runs_are_paired(rt: HostRuntime) -> Result<(), Fail> {
     let rows: &[(&str, &[(usize, usize, usize)])] = &[

@@ -1,4 +1,4 @@
--- What an open paragraph hands in at its end (CommonMark 4.7, 4.8; GFM Task list items).
+-- What an open paragraph hands in at its end (CommonMark 4.7, 4.8; GFM Task list items (extension)).
 use Rattle.std.specs.Prelude.{◌≡◌, ℕ, Bool, true, false, List, [], ◌∷◌, ◌++◌, length, map, Option, None, string_bytes}
 use Rattle.std.specs.Option.{MatchOption}
 use Rattle.mdscan.specs.TaskMarker.{task_marker}
@@ -30,7 +30,8 @@ left_behind first (b ∷ text) = taken first (b ∷ text) ∷ []
 abbrev pub IsLeafIn : Leaf → (old new : List (List ℕ)) → Option Block → Type 0
 IsLeafIn leaf old new found = MatchOption found ⊥ (λ b. block (block_view b) no_blocks ≡ leaf_block (length old) leaf no_blocks) × (new ≡ old ++ leaf_texts leaf)
 
--- at most one leaf
+-- of no leaf or one; more are not handed in at once
 abbrev pub IsHandedIn : List Leaf → (old new : List (List ℕ)) → Option Block → Type 0
 IsHandedIn [] old new found = (found ≡ None) × (new ≡ old)
-IsHandedIn (leaf ∷ leaves) old new found = IsLeafIn leaf old new found
+IsHandedIn (leaf ∷ []) old new found = IsLeafIn leaf old new found
+IsHandedIn (leaf ∷ other ∷ leaves) old new found = ⊥

@@ -21,10 +21,10 @@ use Rattle.mdblock.specs.declared.container.lists.OpenList.{OpenList}
 use Rattle.mdblock.specs.declared.gathering.Gathering.{Gathering}
 use Rattle.mdblock.specs.declared.leaf.Leaf.{Leaf}
 use Rattle.mdblock.specs.declared.leaf.Leaf.TheVariants as leaf
-use Rattle.mdblock.specs.declared.levels.Level.{Level}
-use Rattle.mdblock.specs.declared.levels.Spine.{Spine}
-use Rattle.mdblock.specs.declared.levels.Spine as spine
-use Rattle.mdblock.specs.declared.readers.Held.{Held}
+use Rattle.mdblock.specs.declared.open_blocks.Level.{Level}
+use Rattle.mdblock.specs.declared.open_blocks.OpenBlock.{OpenBlock}
+use Rattle.mdblock.specs.declared.open_blocks.OpenBlock as open_block
+use Rattle.mdblock.specs.declared.readers.OpenUnit.{OpenUnit}
 
 -- ---- leaves
 
@@ -81,13 +81,13 @@ is_front in_item [] = in_item
 is_front in_item (block ∷ over) = false
 
 -- the level inside a list between two items: it holds nothing
-abbrev pub IsShut : Spine → Type 0
-IsShut spine.Shut = Unit {0}
-IsShut (spine.Leaf held) = ⊥
-IsShut (spine.Quote' p over last in_item begun blank spaced) = ⊥
-IsShut (spine.List' p over last in_item begun blank spaced list) = ⊥
+abbrev pub IsShut : OpenBlock → Type 0
+IsShut open_block.Shut = Unit {0}
+IsShut (open_block.Leaf held) = ⊥
+IsShut (open_block.Quote' p over last in_item begun blank spaced) = ⊥
+IsShut (open_block.List' p over last in_item begun blank spaced list) = ⊥
 
-abbrev pub IsFresh : List Block → Spine → (in_item begun blank spaced : Bool) → Type 0
+abbrev pub IsFresh : List Block → OpenBlock → (in_item begun blank spaced : Bool) → Type 0
 IsFresh over last in_item begun blank spaced =
     (over ≡ []) × IsShut last × (in_item ≡ true) × (begun ≡ false) × (blank ≡ false) × (spaced ≡ false)
 
@@ -116,16 +116,16 @@ StandsForOver entities at is_item over in_item begun blank spaced (summary befor
     × (spaced ≡ not (is_tight_inside (closed entities (summary before last blank_last lines))))
 
 -- the block that may go on, whose first text has a position
-abbrev pub StandsForLast : EntityTable → (at : ℕ) → Spine → (before : List Group) → Last → Type 0
-StandsForLast entities at spine.Shut before nothing_yet = before ≡ []
-StandsForLast entities at spine.Shut before (ended_block g) = is_list g.part ≡ false
-StandsForLast entities at (spine.Leaf held) before (open_leaf begin gap kept) = StandsForLeaf entities at held kept
-StandsForLast entities at (spine.Quote' p over last in_item begun blank spaced) before (open_container begin gap bare Quote (summary inner kept blank_last lines)) =
+abbrev pub StandsForLast : EntityTable → (at : ℕ) → OpenBlock → (before : List Group) → Last → Type 0
+StandsForLast entities at open_block.Shut before nothing_yet = before ≡ []
+StandsForLast entities at open_block.Shut before (ended_block g) = is_list g.part ≡ false
+StandsForLast entities at (open_block.Leaf held) before (open_leaf begin gap kept) = StandsForLeaf entities at held kept
+StandsForLast entities at (open_block.Quote' p over last in_item begun blank spaced) before (open_container begin gap bare Quote (summary inner kept blank_last lines)) =
     StandsForOver entities at false over.items in_item begun blank spaced (summary inner kept blank_last lines)
     × StandsForLast entities (behind_over entities at false inner kept) last inner kept
-StandsForLast entities at (spine.List' p over last in_item begun blank spaced list) before (ended_block g) =
+StandsForLast entities at (open_block.List' p over last in_item begun blank spaced list) before (ended_block g) =
     StandsForList (at) list before g.gap g.part × IsFresh over.items last in_item begun blank spaced
-StandsForLast entities at (spine.List' p over last in_item begun blank spaced list) before (open_container begin gap bare (Item marker needed) (summary inner kept blank_last lines)) =
+StandsForLast entities at (open_block.List' p over last in_item begun blank spaced list) before (open_container begin gap bare (Item marker needed) (summary inner kept blank_last lines)) =
     let items = list_of before (kind_of marker) gap in
     let from = at + length (texts_in_items items.items) in
     (list.item_open ≡ true) × (list.needed ≡ needed) × (bare ≡ not begun) × StandsForItems at list items
@@ -166,8 +166,8 @@ HasGathered gathering texts definitions nodes =
     × (map definition_of gathering.definitions.items ≡ definitions ++ definitions_in nodes)
 
 -- What a reader holds of the unit that it has not handed out yet stands for the summary of its lines.
-abbrev pub HoldsLines : Held → Summary → Type 0
-HoldsLines held s =
+abbrev pub HoldsSummary : OpenUnit → Summary → Type 0
+HoldsSummary held s =
     HasGathered held.gathering [] [] (handed_nodes held.gathering.entities.now false s)
     × StandsFor held.gathering.entities.now 0 false held.level s
 
@@ -185,8 +185,8 @@ abbrev pub found_between : EntityTable → Summary → (fed begin : ℕ) → Fou
 found_between entities s fed begin = record { begin = begin; lines = fed - begin; unit = unit_of (closed_nodes entities false s) }
 
 -- What a reader holds gives the unit of its lines, if one has begun.
-abbrev pub GivesUnit : Held → (fed : ℕ) → Option FoundUnit → Type 0
-GivesUnit held fed found = (s : Summary) → HoldsLines held s → found ≡ option_map (found_between held.gathering.entities.now s fed) held.begin
+abbrev pub GivesUnit : OpenUnit → (fed : ℕ) → Option FoundUnit → Type 0
+GivesUnit held fed found = (s : Summary) → HoldsSummary held s → found ≡ option_map (found_between held.gathering.entities.now s fed) held.begin
 
 -- whether a paragraph is open at the end
 abbrev pub EndsIn : Level → Bool → Type 0

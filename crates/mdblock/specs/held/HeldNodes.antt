@@ -43,7 +43,7 @@ list_of (g ∷ n ∷ gs) kind gap = behind_group g (list_of (n ∷ gs) kind gap)
 
 -- ---- what is over
 
--- of an open leaf: the blocks above a table (GFM Tables)
+-- of an open leaf: the blocks above a table (GFM Tables (extension))
 abbrev pub over_leaves : EntityTable → OpenLeaf → List Leaf
 over_leaves entities (open_table above aligns head rows) = text_leaves entities above
 over_leaves entities leaf = []
@@ -78,7 +78,7 @@ unfoldable mutual
   handed_last entities (open_leaf begin gap leaf) = record { begin = begin; gap = gap; part = Leaves (handed_leaves entities leaf) } ∷ []
   handed_last entities (open_container begin gap bare container inner) = container_group begin gap container (handed_groups entities inner) ∷ []
 
--- the nodes of an item lose their task marker (GFM Task list items)
+-- the nodes of an item lose their task marker (GFM Task list items (extension))
 abbrev pub tasked : (in_item : Bool) → Nodes → Nodes
 tasked true nodes = with_task nodes
 tasked false nodes = nodes

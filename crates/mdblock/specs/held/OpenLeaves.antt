@@ -1,27 +1,23 @@
--- What an open leaf holds of its lines (CommonMark 4.4, 4.5, 4.6, 4.8; GFM Tables).
-use Rattle.std.specs.Prelude.{◌≡◌, ℕ, ◌-◌, Bool, true, false, List, [], ◌∷◌, ◌++◌, length, map, drop, None, string_bytes}
-use Rattle.std.specs.List.{suffix_len}
+-- What an open leaf holds of its lines (CommonMark 4.4, 4.5, 4.6, 4.8; GFM Tables (extension)).
+use Rattle.std.specs.Prelude.{◌≡◌, ℕ, Bool, true, false, List, [], ◌∷◌, ◌++◌, map, None, string_bytes}
 use Rattle.std.specs.Option.{MatchOption}
 use Rattle.mdtext.specs.EntityTable.{EntityTable}
 use Rattle.mdleaf.specs.CodeLanguage.{code_language}
 use Rattle.mdleaf.specs.ParagraphText.{joined_lines}
-use Rattle.blockspec.specs.BlockLine.{BlockLine, is_blank_line}
+use Rattle.blockspec.specs.BlockLine.{BlockLine}
 use Rattle.blockspec.specs.BlockStart.{Kind, Paragraph, AtxHeading, ThematicBreak, FencedCode, IndentedCode, HtmlBlock, Table}
 use Rattle.blockspec.specs.BlockTree.{Block, heading, thematic_break, code_block, html_block}
 use Rattle.mdblock.specs.BlockView.{block_view}
 use Rattle.blockspec.specs.LeafContents.{code_text, without_last, without_end_blank_lines}
+use Rattle.blockspec.specs.OpenLeaf.{end_blank_lines}
 use Rattle.mdblock.specs.held.ParagraphLines.{HoldsLines}
-use Rattle.blockspec.specs.Stretches.{Step as LineStep, Takes, Ends, Stops, ends_html}
+use Rattle.blockspec.specs.Stretches.{Step as LineStep, Continues, IsLastLine, IsOverBefore, ends_html}
 use Rattle.mdblock.specs.declared.leaf.fences.Fence.{Fence}
 use Rattle.mdblock.specs.declared.leaf.html_blocks.HtmlBlock as html
 use Rattle.mdblock.specs.declared.leaf.indented_code.IndentedCode as code
 use Rattle.mdblock.specs.declared.leaf.Leaf.{Leaf}
 use Rattle.mdblock.specs.declared.leaf.Leaf.TheVariants as leaf
-use Rattle.mdblock.specs.declared.leaf.Step.{Step}
-
--- the blank lines at the end
-abbrev pub end_blank_lines : List BlockLine → List BlockLine
-end_blank_lines ls = drop (length ls - suffix_len is_blank_line ls) ls
+use Rattle.mdblock.specs.declared.leaf.LeafAfter.{LeafAfter}
 
 pub record IsFenceOf (entities : EntityTable) (indentation mark length : ℕ) (info : List ℕ) (later : List BlockLine) (f : Fence) : Type 0 where
   pub mark_is : f.mark ≡ mark
@@ -48,12 +44,12 @@ IsLeafOf entities (leaf.Table t) (Table above) first later = Unit {0}
 IsLeafOf entities leaf kind first later = ⊥
 
 -- a line leaves an open leaf, and nothing that is over
-pub record IsGoing (P : Leaf → Type 0) (s : Step) : Type 0 where
+pub record IsGoing (P : Leaf → Type 0) (s : LeafAfter) : Type 0 where
   pub nothing_over : s.over ≡ None
   pub going : MatchOption s.going ⊥ P
 
 -- a line leaves a block that is over, and nothing that is open
-pub record IsOver (block : Block) (s : Step) : Type 0 where
+pub record IsOver (block : Block) (s : LeafAfter) : Type 0 where
   pub over : MatchOption s.over ⊥ (λ found. block_view found ≡ block)
   pub nothing_going : s.going ≡ None
 
@@ -61,7 +57,7 @@ abbrev pub IsHtmlLeaf : (kind : ℕ) → (lines : List BlockLine) → Leaf → T
 IsHtmlLeaf kind lines (leaf.Html h) = IsHtmlOf kind lines h
 IsHtmlLeaf kind lines leaf = ⊥
 
-abbrev pub IsHtmlStep : (ends : Bool) → (kind : ℕ) → (lines : List BlockLine) → Step → Type 0
+abbrev pub IsHtmlStep : (ends : Bool) → (kind : ℕ) → (lines : List BlockLine) → LeafAfter → Type 0
 IsHtmlStep true kind lines s = IsOver (html_block (joined_lines (map (λ l. l.line.text) lines))) s
 IsHtmlStep false kind lines s = IsGoing (IsHtmlLeaf kind lines) s
 
@@ -73,7 +69,7 @@ abbrev pub IsFenceLeaf : EntityTable → (indentation mark length : ℕ) → (in
 IsFenceLeaf entities indentation mark length info later (leaf.Fence f) = IsFenceOf entities indentation mark length info later f
 IsFenceLeaf entities indentation mark length info later leaf = ⊥
 
-abbrev pub IsFenceStep : (closed : Bool) → EntityTable → (indentation mark length : ℕ) → (info : List ℕ) → (later : List BlockLine) → BlockLine → Step → Type 0
+abbrev pub IsFenceStep : (closed : Bool) → EntityTable → (indentation mark length : ℕ) → (info : List ℕ) → (later : List BlockLine) → BlockLine → LeafAfter → Type 0
 IsFenceStep true entities indentation mark length info later l s = IsOver (code_block (code_language entities info) (code_text indentation later)) s
 IsFenceStep false entities indentation mark length info later l s = IsGoing (IsFenceLeaf entities indentation mark length info (later ++ l ∷ [])) s
 
@@ -82,7 +78,7 @@ IsParagraphLeaf lines (leaf.Paragraph p) = HoldsLines lines p
 IsParagraphLeaf lines leaf = ⊥
 
 -- What the first line of a leaf leaves, where so many texts are handed in before it.
-abbrev pub IsBegun : EntityTable → (texts : ℕ) → Kind → (first : BlockLine) → Step → Type 0
+abbrev pub IsBegun : EntityTable → (texts : ℕ) → Kind → (first : BlockLine) → LeafAfter → Type 0
 IsBegun entities texts Paragraph first s = IsGoing (IsParagraphLeaf (first ∷ [])) s
 IsBegun entities texts (AtxHeading level content) first s = IsOver (heading level texts) s
 IsBegun entities texts ThematicBreak first s = IsOver thematic_break s
@@ -98,20 +94,20 @@ begun_texts kind = []
 
 -- What a later line leaves of a leaf: a kind that takes it goes on, and one that it ends is over. Of headings and tables
 -- nothing is said here, since texts are handed in with them.
-abbrev pub IsGrown : EntityTable → Kind → (first : BlockLine) → (later : List BlockLine) → Step → Type 0
+abbrev pub IsGrown : EntityTable → Kind → (first : BlockLine) → (later : List BlockLine) → LeafAfter → Type 0
 IsGrown entities Paragraph first later s = IsGoing (IsParagraphLeaf (first ∷ later)) s
 IsGrown entities (FencedCode indentation mark length info closed) first later s = IsGoing (IsFenceLeaf entities indentation mark length info later) s
 IsGrown entities IndentedCode first later s = IsGoing (IsCodeLeaf (first ∷ later)) s
 IsGrown entities (HtmlBlock kind) first later s = IsGoing (IsHtmlLeaf kind (first ∷ later)) s
 IsGrown entities kind first later s = Unit {0}
 
-abbrev pub IsEnded : EntityTable → Kind → (first : BlockLine) → (later : List BlockLine) → Step → Type 0
+abbrev pub IsEnded : EntityTable → Kind → (first : BlockLine) → (later : List BlockLine) → LeafAfter → Type 0
 IsEnded entities (FencedCode indentation mark length info closed) first later s = IsOver (code_block (code_language entities info) (code_text indentation (without_last later))) s
 IsEnded entities (HtmlBlock kind) first later s = IsOver (html_block (joined_lines (map (λ l. l.line.text) (first ∷ later)))) s
 IsEnded entities kind first later s = Unit {0}
 
 -- a line that the leaf does not take is not read by it
-abbrev pub IsLeft : EntityTable → LineStep → (first : BlockLine) → (later : List BlockLine) → Step → Type 0
-IsLeft entities (Takes kind) first later s = IsGrown entities kind first later s
-IsLeft entities (Ends kind) first later s = IsEnded entities kind first later s
-IsLeft entities Stops first later s = Unit {0}
+abbrev pub IsLeft : EntityTable → LineStep → (first : BlockLine) → (later : List BlockLine) → LeafAfter → Type 0
+IsLeft entities (Continues kind) first later s = IsGrown entities kind first later s
+IsLeft entities (IsLastLine kind) first later s = IsEnded entities kind first later s
+IsLeft entities IsOverBefore first later s = Unit {0}

@@ -8,7 +8,7 @@ use Rattle.mdblock.specs.held.HeldNodes.{handed_nodes}
 use Rattle.blockspec.specs.LineSummary.{Summary, summary_of}
 use Rattle.blockspec.specs.Nesting.{first_too_deep}
 use Rattle.blockspec.specs.NodeTree.{texts_in, definitions_in}
-use Rattle.mdblock.specs.held.Reading.{HeldUnit, Reading}
+use Rattle.mdblock.specs.held.ReaderState.{UnitSoFar, ReaderState}
 use Rattle.blockspec.specs.UnitReader.{lines_held}
 
 abbrev pub last_of : List ℕ → Option ℕ
@@ -20,17 +20,18 @@ last_of (n ∷ m ∷ ns) = last_of (m ∷ ns)
 abbrev pub open_begin : EntityTable → (lines : List (List ℕ)) → Option ℕ
 open_begin entities lines = last_of (begins entities lines)
 
-abbrev pub StandsForHeld : EntityTable → HeldUnit → Summary → Type 0
+abbrev pub StandsForHeld : EntityTable → UnitSoFar → Summary → Type 0
 StandsForHeld entities held s =
     (held.texts ≡ texts_in (handed_nodes entities false s)) × (held.definitions ≡ definitions_in (handed_nodes entities false s))
     × StandsFor entities 0 false held.level s
 
-abbrev pub HoldsUnit : EntityTable → Option HeldUnit → (lines : List (List ℕ)) → Type 0
+abbrev pub HoldsUnit : EntityTable → Option UnitSoFar → (lines : List (List ℕ)) → Type 0
 HoldsUnit entities None lines = ⊥
 HoldsUnit entities (Some held) lines =
     (held.begin ≡ open_begin entities lines) × StandsForHeld entities held (summary_of entities (lines_held [] (map document_line lines)))
 
 -- A reader that has read these lines, with no fault.
-unfoldable pub Reads : (limit : ℕ) → EntityTable → Reading → (lines : List (List ℕ)) → Type 0
+unfoldable pub Reads : (limit : ℕ) → EntityTable → ReaderState → (lines : List (List ℕ)) → Type 0
 Reads limit entities reading lines =
-    (reading.entities ≡ entities) × (reading.fed ≡ length lines) × (first_too_deep limit lines ≡ None) × HoldsUnit entities reading.held lines
+    (reading.entities ≡ entities) × (reading.limit ≡ limit) × (reading.fed ≡ length lines) × (first_too_deep limit lines ≡ None)
+    × HoldsUnit entities reading.held lines

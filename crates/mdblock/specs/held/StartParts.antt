@@ -1,5 +1,5 @@
 -- What a line begins by itself, in two parts: a setext underline is tried between them, and a delimiter row after them
--- (CommonMark 4, 5; GFM Tables).
+-- (CommonMark 4, 5; GFM Tables (extension)).
 use Rattle.std.specs.Prelude.{Bool, true, false, nat_le, Option, None}
 use Rattle.std.specs.Option.{option_or}
 use Rattle.blockspec.specs.BlockLine.{BlockLine, indentation, is_blank_line}

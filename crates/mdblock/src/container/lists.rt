@@ -11,9 +11,9 @@ ghost use Rattle.mdblock.specs.held.ClosedViews.{list_view, list_view_with};
 ghost use Rattle.mdblock.specs.Positions.{BlockIn, BlocksIn, ItemsIn};
 ghost use Rattle.blockspec.specs.UnitBegin.{list_mark, same_mark};
 
+use crate::block_starts::{BlockStart, Mode, start};
 use crate::blocks::{Block, Item, ListKind};
 use crate::lines::Line;
-use crate::starts::{Mode, Opening, start};
 use mdscan::Marker;
 use std::alloc::{AllocError, Global};
 
@@ -72,7 +72,7 @@ impl OpenList {
         ensures same { is_some result ≡ same_mark (Some (kind_view self.now.kind)) (list_mark (begun line.now)) }
     {
         match start(line, Mode::Free) {
-            Some(Opening::Item(marker)) => {
+            Some(BlockStart::Item(marker)) => {
                 if is_same_list(self.kind, kind_of(marker)) {
                     return Some(marker);
                 }
@@ -95,7 +95,8 @@ impl OpenList {
     pub(crate) fn push(&mut self, blocks: Vec<Block>, gap: bool) -> Result<(), AllocError>
         ensures pushed { OnOk result (list_view self.new ≡ list_view_with self.old blocks.items gap) }
         ensures ended { OnOk result (self.new.item_open ≡ false) }
-        ensures within { OnOk result ((n : ℕ) → ItemsIn n (items_view self.old.items.items) → BlocksIn n (blocks_view blocks.items) → ItemsIn n (items_view self.new.items.items)) }
+        ensures within { OnOk result ((n : ℕ) → ItemsIn n (items_view self.old.items.items) → BlocksIn n (blocks_view blocks.items)
+            → ItemsIn n (items_view self.new.items.items)) }
     {
         self.items.push(Item { blocks })?;
         self.loose = self.loose || gap;

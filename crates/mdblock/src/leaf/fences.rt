@@ -1,6 +1,6 @@
 //! Fenced code (CommonMark 4.5).
 
-ghost use Rattle.std.specs.Prelude.{◌≡◌, ℕ, ◌≤◌, not, List, [], IfOk, length, string_bytes};
+ghost use Rattle.std.specs.Prelude.{◌≡◌, ℕ, ◌≤◌, not, true, List, [], IfOk, length, string_bytes};
 ghost use Rattle.std.specs.List.{prefix_len};
 ghost use Rattle.mdtext.specs.EntityTable.{EntityTable};
 ghost use Rattle.mdleaf.specs.CodeLanguage.{code_language, ends_language};
@@ -10,13 +10,13 @@ ghost use Rattle.blockspec.specs.BlockLine.{BlockLine, rest, indentation};
 ghost use Rattle.blockspec.specs.BlockTree.{code_block};
 ghost use Rattle.mdblock.specs.BlockView.{block_view};
 ghost use Rattle.mdblock.specs.held.OpenLeaves.{IsFenceOf, IsFenceLeaf, IsFenceStep, IsGoing};
-ghost use Rattle.mdblock.specs.held.OpenPositions.{StepIn};
+ghost use Rattle.mdblock.specs.held.OpenPositions.{LeafAfterIn};
 ghost use Rattle.mdblock.specs.Positions.{BlockIn};
 ghost use Rattle.blockspec.specs.Stretches.{closes};
 
 use crate::blocks::Block;
 use crate::gathering::Gathering;
-use crate::leaf::{Leaf, Step, going, over};
+use crate::leaf::{Leaf, LeafAfter, going, over};
 use crate::lines::Line;
 use mdscan::{FenceLine, fence_end};
 use mdtext::unescape;
@@ -35,12 +35,13 @@ pub(crate) struct Fence {
 /// The code that a line opens.
 pub(crate) fn begin(
     fence: FenceLine,
-    line: &Line,
+    line: Line,
     gathering: &Gathering,
-) -> Result<Step, AllocError>
-    requires { IsSpanOf (rest line.now) fence.info }
-    ensures within { (n : ℕ) → IfOk result (λ step. StepIn n step) }
-    ensures step { IfOk result (λ step. IsGoing (IsFenceLeaf gathering.now.entities.now (indentation line.now) fence.mark fence.length (part (rest line.now) fence.info) []) step) }
+) -> Result<LeafAfter, AllocError>
+    requires { IsSpanOf (rest line) fence.info }
+    ensures within { (n : ℕ) → IfOk result (λ step. LeafAfterIn n step) }
+    ensures step { IfOk result (λ step. IsGoing (IsFenceLeaf gathering.now.entities.now
+        (indentation line.entry) fence.mark fence.length (part (rest line.entry) fence.info) []) step) }
 {
     let text = line.text();
     let info = &text[fence.info.start..fence.info.end];
@@ -54,6 +55,13 @@ pub(crate) fn begin(
 }
 
 impl Fence {
+    /// Whether a line goes on with the code: any line does, and a closing fence is the last.
+    pub(crate) fn takes(&self, _line: &Line) -> bool
+        ensures { result ≡ true }
+    {
+        true
+    }
+
     /// Whether a line is the closing fence.
     fn closes(&self, line: &Line) -> bool
         ensures { result ≡ closes self.now.mark self.now.length line.now }
@@ -62,9 +70,12 @@ impl Fence {
     }
 
     /// Reads a line: what closes the code, or a line of it.
-    pub(crate) fn add(mut self, mut line: Line) -> Result<Step, AllocError>
-        ensures within { (n : ℕ) → IfOk result (λ step. StepIn n step) }
-        ensures step { (entities : EntityTable) (info : List ℕ) (later : List BlockLine) → IsFenceOf entities self.indent self.mark self.length info later self → IfOk result (λ step. IsFenceStep (closes self.mark self.length line.entry) entities self.indent self.mark self.length info later line.entry step) }
+    pub(crate) fn add(mut self, mut line: Line) -> Result<LeafAfter, AllocError>
+        ensures within { (n : ℕ) → IfOk result (λ step. LeafAfterIn n step) }
+        ensures step { (entities : EntityTable) (info : List ℕ) (later : List BlockLine)
+            → IsFenceOf entities self.indent self.mark self.length info later self
+            → IfOk result (λ step. IsFenceStep (closes self.mark self.length line.entry) entities
+            self.indent self.mark self.length info later line.entry step) }
     {
         if self.closes(&line) {
             return Ok(over(self.end()));

@@ -2,30 +2,33 @@
 
 ghost use Rattle.std.specs.Prelude.{◌≡◌, ◌≤◌, [], ◌∷◌, ◌++◌, IfOk, OnOk, length, string_bytes};
 ghost use Rattle.mdscan.specs.Spans.{IsSpanOf, part};
+ghost use Rattle.blockspec.specs.BlockLine.{rest};
 ghost use Rattle.blockspec.specs.BlockTree.{heading as heading_block};
 ghost use Rattle.mdblock.specs.held.HandedIn.{gathered_texts};
 ghost use Rattle.mdblock.specs.held.OpenLeaves.{IsOver};
-ghost use Rattle.mdblock.specs.held.OpenPositions.{StepIn};
+ghost use Rattle.mdblock.specs.held.OpenPositions.{LeafAfterIn};
 
 use crate::blocks::Block;
 use crate::gathering::Gathering;
-use crate::leaf::{Step, over};
+use crate::leaf::{LeafAfter, over};
+use crate::lines::Line;
 use mdscan::AtxLine;
 use std::alloc::AllocError;
 
 /// The heading that a line is (CommonMark 4.2).
-pub(crate) fn atx_heading(
+pub(crate) fn begin(
     heading: AtxLine,
-    line: &str,
+    line: Line,
     gathering: &mut Gathering,
-) -> Result<Step, AllocError>
-    requires { IsSpanOf line.now heading.content }
-    ensures within { IfOk result (λ step. StepIn (length gathering.new.texts.items) step) }
+) -> Result<LeafAfter, AllocError>
+    requires { IsSpanOf (rest line) heading.content }
+    ensures within { IfOk result (λ step. LeafAfterIn (length gathering.new.texts.items) step) }
     ensures grows { length gathering.old.texts.items ≤ length gathering.new.texts.items }
     ensures entities { gathering.new.entities.now ≡ gathering.old.entities.now }
     ensures step { IfOk result (λ step. IsOver (heading_block heading.level (length gathering.old.texts.items)) step) }
-    ensures texts { OnOk result (gathered_texts gathering.new ≡ gathered_texts gathering.old ++ part line.now heading.content ∷ []) }
+    ensures texts { OnOk result (gathered_texts gathering.new ≡ gathered_texts gathering.old ++ part (rest line.entry) heading.content ∷ []) }
 {
+    let line = line.text();
     let content = &line[heading.content.start..heading.content.end];
     let text = gathering.text(String::from_str(gathering.alloc(), content)?)?;
     Ok(over(Block::Heading {
@@ -39,8 +42,8 @@ pub(crate) fn setext_heading(
     level: u8,
     text: String,
     gathering: &mut Gathering,
-) -> Result<Step, AllocError>
-    ensures within { IfOk result (λ step. StepIn (length gathering.new.texts.items) step) }
+) -> Result<LeafAfter, AllocError>
+    ensures within { IfOk result (λ step. LeafAfterIn (length gathering.new.texts.items) step) }
     ensures grows { length gathering.old.texts.items ≤ length gathering.new.texts.items }
     ensures entities { gathering.new.entities.now ≡ gathering.old.entities.now }
     ensures step { IfOk result (λ step. IsOver (heading_block level (length gathering.old.texts.items)) step) }

@@ -5,15 +5,16 @@ ghost use Rattle.blockspec.specs.BlockLine.{BlockLine, is_blank_line};
 ghost use Rattle.blockspec.specs.BlockTree.{html_block};
 ghost use Rattle.mdblock.specs.BlockView.{block_view};
 ghost use Rattle.mdblock.specs.held.OpenLeaves.{IsHtmlOf, IsHtmlStep};
-ghost use Rattle.mdblock.specs.held.OpenPositions.{StepIn};
+ghost use Rattle.mdblock.specs.held.OpenPositions.{LeafAfterIn};
 ghost use Rattle.mdblock.specs.Positions.{BlockIn};
 ghost use Rattle.blockspec.specs.Stretches.{ends_html};
 
 use crate::blocks::Block;
-use crate::leaf::{Leaf, Step, going, over};
+use crate::gathering::Gathering;
+use crate::leaf::{Leaf, LeafAfter, going, over};
 use crate::lines::Line;
 use mdscan::html_end;
-use std::alloc::{AllocError, Global};
+use std::alloc::AllocError;
 
 /// An open HTML block: which of the seven kinds it is, and its lines, joined by LF.
 #[derive(Drop)]
@@ -23,13 +24,13 @@ pub(crate) struct HtmlBlock {
 }
 
 /// The block that a line begins.
-pub(crate) fn begin(kind: u8, line: &Line, alloc: Global) -> Result<Step, AllocError>
-    ensures within { (n : ℕ) → IfOk result (λ step. StepIn n step) }
-    ensures step { IfOk result (λ step. IsHtmlStep (ends_html kind line.now) kind (line.now ∷ []) step) }
+pub(crate) fn begin(kind: u8, line: Line, gathering: &Gathering) -> Result<LeafAfter, AllocError>
+    ensures within { (n : ℕ) → IfOk result (λ step. LeafAfterIn n step) }
+    ensures step { IfOk result (λ step. IsHtmlStep (ends_html kind line.entry) kind (line.entry ∷ []) step) }
 {
-    let mut body = String::new(alloc);
+    let mut body = String::new(gathering.alloc());
     line.push_to(&mut body)?;
-    Ok(HtmlBlock { kind, body }.after(line))
+    Ok(HtmlBlock { kind, body }.after(&line))
 }
 
 impl HtmlBlock {
@@ -41,13 +42,14 @@ impl HtmlBlock {
     }
 
     /// Reads a line of the block.
-    pub(crate) fn add(mut self, line: &Line) -> Result<Step, AllocError>
-        ensures within { (n : ℕ) → IfOk result (λ step. StepIn n step) }
-        ensures step { (first : BlockLine) (later : List BlockLine) → IsHtmlOf self.kind (first ∷ later) self → IfOk result (λ step. IsHtmlStep (ends_html self.kind line.now) self.kind (first ∷ later ++ line.now ∷ []) step) }
+    pub(crate) fn add(mut self, line: Line) -> Result<LeafAfter, AllocError>
+        ensures within { (n : ℕ) → IfOk result (λ step. LeafAfterIn n step) }
+        ensures step { (first : BlockLine) (later : List BlockLine) → IsHtmlOf self.kind (first ∷ later) self
+            → IfOk result (λ step. IsHtmlStep (ends_html self.kind line.entry) self.kind (first ∷ later ++ line.entry ∷ []) step) }
     {
         self.body.push_str("\n")?;
         line.push_to(&mut self.body)?;
-        Ok(self.after(line))
+        Ok(self.after(&line))
     }
 
     /// Whether a line holds what ends the block.
@@ -58,8 +60,8 @@ impl HtmlBlock {
     }
 
     /// What a line that was read leaves: it may be the last one.
-    fn after(self, line: &Line) -> Step
-        ensures within { (n : ℕ) → StepIn n result }
+    fn after(self, line: &Line) -> LeafAfter
+        ensures within { (n : ℕ) → LeafAfterIn n result }
         ensures step { (lines : List BlockLine) → IsHtmlOf self.kind lines self → IsHtmlStep (ends_html self.kind line.now) self.kind lines result }
     {
         if self.ends(line) {

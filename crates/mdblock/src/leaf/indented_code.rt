@@ -5,12 +5,13 @@ ghost use Rattle.blockspec.specs.BlockLine.{BlockLine};
 ghost use Rattle.blockspec.specs.BlockTree.{code_block};
 ghost use Rattle.mdblock.specs.BlockView.{block_view};
 ghost use Rattle.mdblock.specs.held.OpenLeaves.{IsCodeOf, IsCodeLeaf, IsGoing};
-ghost use Rattle.mdblock.specs.held.OpenPositions.{StepIn};
+ghost use Rattle.mdblock.specs.held.OpenPositions.{LeafAfterIn};
 ghost use Rattle.mdblock.specs.Positions.{BlockIn};
 ghost use Rattle.blockspec.specs.Stretches.{is_code};
 
 use crate::blocks::Block;
-use crate::leaf::{Leaf, Step, going};
+use crate::gathering::Gathering;
+use crate::leaf::{Leaf, LeafAfter, going};
 use crate::lines::Line;
 use std::alloc::{AllocError, Global};
 
@@ -22,28 +23,28 @@ pub(crate) struct IndentedCode {
 }
 
 /// The code that a line begins.
-pub(crate) fn begin(line: Line, alloc: Global) -> Result<Step, AllocError>
-    ensures within { (n : ℕ) → IfOk result (λ step. StepIn n step) }
+pub(crate) fn begin(line: Line, gathering: &Gathering) -> Result<LeafAfter, AllocError>
+    ensures within { (n : ℕ) → IfOk result (λ step. LeafAfterIn n step) }
     ensures step { IfOk result (λ step. IsGoing (IsCodeLeaf (line.entry ∷ [])) step) }
 {
     let code = IndentedCode {
-        body: String::new(alloc),
-        blanks: String::new(alloc),
+        body: String::new(gathering.alloc()),
+        blanks: String::new(gathering.alloc()),
     };
     code.add(line)
 }
 
-/// Whether a line goes on with indented code.
-pub(crate) fn takes(line: &Line) -> bool
-    ensures { result ≡ is_code line.now }
-{
-    line.is_blank() || line.indent() >= 4
-}
-
 impl IndentedCode {
+    /// Whether a line goes on with the code.
+    pub(crate) fn takes(&self, line: &Line) -> bool
+        ensures { result ≡ is_code line.now }
+    {
+        line.is_blank() || line.indent() >= 4
+    }
+
     /// Reads a line of the code.
-    pub(crate) fn add(mut self, mut line: Line) -> Result<Step, AllocError>
-        ensures within { (n : ℕ) → IfOk result (λ step. StepIn n step) }
+    pub(crate) fn add(mut self, mut line: Line) -> Result<LeafAfter, AllocError>
+        ensures within { (n : ℕ) → IfOk result (λ step. LeafAfterIn n step) }
         ensures step { (lines : List BlockLine) → IsCodeOf lines self → IfOk result (λ step. IsGoing (IsCodeLeaf (lines ++ line.entry ∷ [])) step) }
     {
         let blank = line.is_blank();

@@ -14,22 +14,22 @@ ghost use Rattle.mdblock.specs.held.HandedIn.{gathered_definitions, gathered_tex
 ghost use Rattle.blockspec.specs.NodeTree.{paragraph_leaf};
 ghost use Rattle.mdblock.specs.Positions.{BlockIn};
 ghost use Rattle.mdblock.specs.held.OpenLeaves.{IsGoing, IsOver, IsParagraphLeaf};
-ghost use Rattle.mdblock.specs.held.OpenPositions.{StepIn};
+ghost use Rattle.mdblock.specs.held.OpenPositions.{LeafAfterIn};
 ghost use Rattle.mdblock.specs.held.ParagraphLines.{HoldsLines};
-ghost use Rattle.mdblock.specs.held.ParagraphTurns.{turn_step, begins_row};
-ghost use Rattle.blockspec.specs.Stretches.{Takes, Ends, paragraph_step, interrupted};
+ghost use Rattle.mdblock.specs.held.ParagraphSteps.{step_view, begins_row};
+ghost use Rattle.blockspec.specs.Stretches.{Continues, IsLastLine, paragraph_step, interrupted};
 ghost use Rattle.blockspec.specs.UnitBegin.{is_stop};
 
+use crate::block_starts::{Mode, after_underline, before_underline};
 use crate::blocks::Block;
 use crate::gathering::Gathering;
 use crate::leaf::headings::setext_heading;
 use crate::leaf::tables::Table;
-use crate::leaf::{Leaf, Step, going};
+use crate::leaf::{Leaf, LeafAfter, going};
 use crate::lines::{Line, trimmed_length};
-use crate::starts::{Mode, after_underline, before_underline};
 use mdleaf::{begins_table, is_only_definitions, table_header, task_mark};
 use mdscan::setext;
-use std::alloc::{AllocError, Global};
+use std::alloc::AllocError;
 use std::marker::Model;
 
 /// An open paragraph: its lines without their indentation, joined by LF, and where the last one begins.
@@ -53,23 +53,23 @@ impl Model for Paragraph {
 
 /// What a line does to an open paragraph.
 #[derive(Clone, Copy, Debug, PartialEq, Eq)]
-enum Turn {
+enum ParagraphStep {
     /// The paragraph has ended before the line.
-    Ends,
+    IsOverBefore,
     Continues,
     /// It becomes a setext heading of this level (CommonMark 4.3).
     Underlines(u8),
-    /// Its last line becomes the header row of a table (GFM 4.10).
+    /// Its last line becomes the header row of a table (GFM Tables (extension)).
     Delimits,
 }
 
 /// The paragraph that a line begins.
-pub(crate) fn begin(line: &Line, alloc: Global) -> Result<Step, AllocError>
-    ensures within { (n : ℕ) → IfOk result (λ step. StepIn n step) }
-    ensures step { IfOk result (λ step. IsGoing (IsParagraphLeaf (line.now ∷ [])) step) }
+pub(crate) fn begin(line: Line, gathering: &Gathering) -> Result<LeafAfter, AllocError>
+    ensures within { (n : ℕ) → IfOk result (λ step. LeafAfterIn n step) }
+    ensures step { IfOk result (λ step. IsGoing (IsParagraphLeaf (line.entry ∷ [])) step) }
 {
     Ok(going(Leaf::Paragraph(Paragraph {
-        text: String::from_str(alloc, line.text())?,
+        text: String::from_str(gathering.alloc(), line.text())?,
         last: 0,
     })))
 }
@@ -77,42 +77,44 @@ pub(crate) fn begin(line: &Line, alloc: Global) -> Result<Step, AllocError>
 impl Paragraph {
     /// Whether the paragraph takes a line, as its text or as what turns it into another block.
     pub(crate) fn takes(&self, line: &Line) -> bool
-        ensures { (lines : List BlockLine) → HoldsLines lines self.now → result ≡ not (is_stop (paragraph_step line.now.lazy (is_blank_line line.now) (start Inside lines line.now))) }
+        ensures { (lines : List BlockLine) → HoldsLines lines self.now
+            → result ≡ not (is_stop (paragraph_step line.now.lazy (is_blank_line line.now) (start Inside lines line.now))) }
     {
-        !matches!(self.turn(line), Turn::Ends)
+        !matches!(self.step(line), ParagraphStep::IsOverBefore)
     }
 
-    fn turn(&self, line: &Line) -> Turn
-        ensures { (lines : List BlockLine) → HoldsLines lines self.now → turn_step (length lines) result ≡ paragraph_step line.now.lazy (is_blank_line line.now) (start Inside lines line.now) }
+    fn step(&self, line: &Line) -> ParagraphStep
+        ensures { (lines : List BlockLine) → HoldsLines lines self.now
+            → step_view (length lines) result ≡ paragraph_step line.now.lazy (is_blank_line line.now) (start Inside lines line.now) }
     {
         if line.is_lazy() {
-            return Turn::Continues;
+            return ParagraphStep::Continues;
         }
         if line.is_blank() {
-            return Turn::Ends;
+            return ParagraphStep::IsOverBefore;
         }
         if line.is_near_margin() {
-            return self.turn_at_margin(line);
+            return self.step_at_margin(line);
         }
-        Turn::Continues
+        ParagraphStep::Continues
     }
 
-    fn turn_at_margin(&self, line: &Line) -> Turn
-        ensures { (lines : List BlockLine) → HoldsLines lines self.now → turn_step (length lines) result ≡ interrupted (start_near Inside lines line.now) }
+    fn step_at_margin(&self, line: &Line) -> ParagraphStep
+        ensures { (lines : List BlockLine) → HoldsLines lines self.now → step_view (length lines) result ≡ interrupted (start_near Inside lines line.now) }
     {
         if before_underline(line, Mode::Inside).is_some() {
-            return Turn::Ends;
+            return ParagraphStep::IsOverBefore;
         }
         if let Some(level) = self.underline(line) {
-            return Turn::Underlines(level);
+            return ParagraphStep::Underlines(level);
         }
         if after_underline(line, Mode::Inside).is_some() {
-            return Turn::Ends;
+            return ParagraphStep::IsOverBefore;
         }
         if self.is_delimited(line) {
-            return Turn::Delimits;
+            return ParagraphStep::Delimits;
         }
-        Turn::Continues
+        ParagraphStep::Continues
     }
 
     /// The level of the heading that a line makes of the paragraph (CommonMark 4.3).
@@ -153,13 +155,18 @@ impl Paragraph {
     }
 
     /// The heading that an underline makes of the paragraph.
-    fn turn_into_heading(self, level: u8, gathering: &mut Gathering) -> Result<Step, AllocError>
-        ensures within { IfOk result (λ step. StepIn (length gathering.new.texts.items) step) }
+    fn turn_into_heading(
+        self,
+        level: u8,
+        gathering: &mut Gathering,
+    ) -> Result<LeafAfter, AllocError>
+        ensures within { IfOk result (λ step. LeafAfterIn (length gathering.new.texts.items) step) }
         ensures grows { length gathering.old.texts.items ≤ length gathering.new.texts.items }
         ensures entities { gathering.new.entities.now ≡ gathering.old.entities.now }
         ensures step { IfOk result (λ step. IsOver (heading_block level (length gathering.old.texts.items)) step) }
         ensures texts { OnOk result (gathered_texts gathering.new ≡ gathered_texts gathering.old ++ behind_definitions (without_end_blanks self.text) ∷ []) }
-        ensures found { OnOk result (gathered_definitions gathering.new ≡ gathered_definitions gathering.old ++ leading_of gathering.old.entities.now (without_end_blanks self.text)) }
+        ensures found { OnOk result (gathered_definitions gathering.new
+            ≡ gathered_definitions gathering.old ++ leading_of gathering.old.entities.now (without_end_blanks self.text)) }
     {
         let text = content(self.text, gathering)?;
         setext_heading(level, text, gathering)
@@ -168,22 +175,35 @@ impl Paragraph {
     /// Reads a line that the paragraph takes.
     pub(crate) fn add(
         self,
-        line: &Line,
+        line: Line,
         first: bool,
         gathering: &mut Gathering,
-    ) -> Result<Step, AllocError>
-        ensures within { IfOk result (λ step. StepIn (length gathering.new.texts.items) step) }
+    ) -> Result<LeafAfter, AllocError>
+        ensures within { IfOk result (λ step. LeafAfterIn (length gathering.new.texts.items) step) }
         ensures grows { length gathering.old.texts.items ≤ length gathering.new.texts.items }
         ensures entities { gathering.new.entities.now ≡ gathering.old.entities.now }
-        ensures goes { (begin : BlockLine) (later : List BlockLine) → HoldsLines (begin ∷ later) self → paragraph_step line.now.lazy (is_blank_line line.now) (start Inside (begin ∷ later) line.now) ≡ Takes ParagraphKind → IfOk result (λ step. IsGoing (IsParagraphLeaf (begin ∷ later ++ line.now ∷ [])) step) }
-        ensures goes_texts { (lines : List BlockLine) → HoldsLines lines self → paragraph_step line.now.lazy (is_blank_line line.now) (start Inside lines line.now) ≡ Takes ParagraphKind → OnOk result ((gathered_texts gathering.new ≡ gathered_texts gathering.old) × (gathered_definitions gathering.new ≡ gathered_definitions gathering.old)) }
-        ensures underlined { (lines : List BlockLine) (level : ℕ) → HoldsLines lines self → paragraph_step line.now.lazy (is_blank_line line.now) (start Inside lines line.now) ≡ Ends (SetextHeading level) → IfOk result (λ step. IsOver (heading_block level (length gathering.old.texts.items)) step) }
-        ensures underlined_texts { (lines : List BlockLine) (level : ℕ) → HoldsLines lines self → paragraph_step line.now.lazy (is_blank_line line.now) (start Inside lines line.now) ≡ Ends (SetextHeading level) → OnOk result ((gathered_texts gathering.new ≡ gathered_texts gathering.old ++ behind_definitions (without_end_blanks self.text) ∷ []) × (gathered_definitions gathering.new ≡ gathered_definitions gathering.old ++ leading_of gathering.old.entities.now (without_end_blanks self.text))) }
+        ensures goes { (begin : BlockLine) (later : List BlockLine) → HoldsLines (begin ∷ later) self
+            → paragraph_step line.entry.lazy (is_blank_line line.entry) (start Inside (begin ∷ later) line.entry) ≡ Continues ParagraphKind
+            → IfOk result (λ step. IsGoing (IsParagraphLeaf (begin ∷ later ++ line.entry ∷ [])) step) }
+        ensures goes_texts { (lines : List BlockLine) → HoldsLines lines self
+            → paragraph_step line.entry.lazy (is_blank_line line.entry) (start Inside lines line.entry) ≡ Continues ParagraphKind
+            → OnOk result ((gathered_texts gathering.new ≡ gathered_texts gathering.old)
+            × (gathered_definitions gathering.new ≡ gathered_definitions gathering.old)) }
+        ensures underlined { (lines : List BlockLine) (level : ℕ) → HoldsLines lines self
+            → paragraph_step line.entry.lazy (is_blank_line line.entry) (start Inside lines line.entry) ≡ IsLastLine (SetextHeading level)
+            → IfOk result (λ step. IsOver (heading_block level (length gathering.old.texts.items)) step) }
+        ensures underlined_texts { (lines : List BlockLine) (level : ℕ) → HoldsLines lines self
+            → paragraph_step line.entry.lazy (is_blank_line line.entry) (start Inside lines line.entry) ≡ IsLastLine (SetextHeading level)
+            → OnOk result ((gathered_texts gathering.new ≡ gathered_texts gathering.old ++ behind_definitions (without_end_blanks self.text) ∷ [])
+            × (gathered_definitions gathering.new ≡ gathered_definitions gathering.old
+            ++ leading_of gathering.old.entities.now (without_end_blanks self.text))) }
     {
-        match self.turn(line) {
-            Turn::Underlines(level) => self.turn_into_heading(level, gathering),
-            Turn::Delimits => self.turn_into_table(line.text(), first, gathering),
-            Turn::Ends | Turn::Continues => Ok(going(Leaf::Paragraph(self.with_line(line)?))),
+        match self.step(&line) {
+            ParagraphStep::Underlines(level) => self.turn_into_heading(level, gathering),
+            ParagraphStep::Delimits => self.turn_into_table(line.text(), first, gathering),
+            ParagraphStep::IsOverBefore | ParagraphStep::Continues => Ok(going(Leaf::Paragraph(
+                self.with_line(&line)?,
+            ))),
         }
     }
 
@@ -204,8 +224,8 @@ impl Paragraph {
         delimiters: &str,
         first: bool,
         gathering: &mut Gathering,
-    ) -> Result<Step, AllocError>
-        ensures within { IfOk result (λ step. StepIn (length gathering.new.texts.items) step) }
+    ) -> Result<LeafAfter, AllocError>
+        ensures within { IfOk result (λ step. LeafAfterIn (length gathering.new.texts.items) step) }
         ensures grows { length gathering.old.texts.items ≤ length gathering.new.texts.items }
         ensures entities { gathering.new.entities.now ≡ gathering.old.entities.now }
     {
@@ -233,8 +253,10 @@ impl Paragraph {
         ensures within { IfOk result (λ found. IfSome found (λ block. BlockIn (length gathering.new.texts.items) (block_view block))) }
         ensures grows { length gathering.old.texts.items ≤ length gathering.new.texts.items }
         ensures entities { gathering.new.entities.now ≡ gathering.old.entities.now }
-        ensures left { IfOk result (λ found. IsHandedIn (left_behind first (behind_definitions (without_end_blanks self.text))) (gathered_texts gathering.old) (gathered_texts gathering.new) found) }
-        ensures found { OnOk result (gathered_definitions gathering.new ≡ gathered_definitions gathering.old ++ leading_of gathering.old.entities.now (without_end_blanks self.text)) }
+        ensures left { IfOk result (λ found. IsHandedIn (left_behind first (behind_definitions (without_end_blanks self.text)))
+            (gathered_texts gathering.old) (gathered_texts gathering.new) found) }
+        ensures found { OnOk result (gathered_definitions gathering.new
+            ≡ gathered_definitions gathering.old ++ leading_of gathering.old.entities.now (without_end_blanks self.text)) }
     {
         let mut text = content(self.text, gathering)?;
         if text.is_empty() {
@@ -258,7 +280,8 @@ fn content(mut text: String, gathering: &mut Gathering) -> Result<String, AllocE
     ensures texts { gathering.new.texts ≡ gathering.old.texts }
     ensures entities { gathering.new.entities.now ≡ gathering.old.entities.now }
     ensures left { IfOk result (λ rest. string_bytes rest ≡ behind_definitions (without_end_blanks (string_bytes text))) }
-    ensures found { OnOk result (gathered_definitions gathering.new ≡ gathered_definitions gathering.old ++ leading_of gathering.old.entities.now (without_end_blanks (string_bytes text))) }
+    ensures found { OnOk result (gathered_definitions gathering.new
+        ≡ gathered_definitions gathering.old ++ leading_of gathering.old.entities.now (without_end_blanks (string_bytes text))) }
 {
     let length = trimmed_length(text.as_str());
     text.truncate(length);
@@ -266,7 +289,7 @@ fn content(mut text: String, gathering: &mut Gathering) -> Result<String, AllocE
     Ok(text)
 }
 
-/// Takes a task marker off the first text of an item, and says whether it is ticked (GFM 5.3).
+/// Takes a task marker off the first text of an item, and says whether it is ticked (GFM Task list items (extension)).
 fn take_task(text: &mut String, first: bool) -> Result<Option<bool>, AllocError>
     ensures { IfOk result (λ task. paragraph_leaf task (string_bytes text.new) ≡ taken first (string_bytes text.old)) }
 {

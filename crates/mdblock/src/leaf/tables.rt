@@ -1,17 +1,17 @@
-//! Tables (GFM 4.10).
+//! Tables (GFM Tables (extension)).
 
 ghost use Rattle.std.specs.Prelude.{◌≡◌, ◌≤◌, ℕ, IfOk, IfSome, OnOk, length, map};
 ghost use Rattle.blockspec.specs.BlockTree.{table};
 ghost use Rattle.mdblock.specs.BlockView.{block_view};
-ghost use Rattle.mdblock.specs.held.OpenPositions.{StepIn, TableIn};
+ghost use Rattle.mdblock.specs.held.OpenPositions.{LeafAfterIn, TableIn};
 ghost use Rattle.mdblock.specs.Positions.{BlockIn, CellsIn};
 ghost use Rattle.blockspec.specs.Stretches.{is_row};
 
+use crate::block_starts::{Mode, start};
 use crate::blocks::Block;
 use crate::gathering::Gathering;
-use crate::leaf::{Leaf, Step, going};
+use crate::leaf::{Leaf, LeafAfter, going};
 use crate::lines::Line;
-use crate::starts::{Mode, start};
 use mdleaf::{Header, data_row};
 use mdscan::Align;
 use std::alloc::AllocError;
@@ -24,15 +24,15 @@ pub(crate) struct Table {
     rows: Vec<Vec<usize>>,
 }
 
-/// Whether a line is a row of an open table: it matches the containers around, is not blank, and begins no block.
-#[tactic(auto, using(crate::proofs::StartLaws::none_begins))]
-pub(crate) fn takes(line: &Line) -> bool
-    ensures { result ≡ is_row line.now }
-{
-    !line.is_lazy() && !line.is_blank() && start(line, Mode::Free).is_none()
-}
-
 impl Table {
+    /// Whether a line is a row of the table: it matches the containers around, is not blank, and begins no block.
+    #[tactic(auto, using(crate::proofs::StartLaws::none_begins))]
+    pub(crate) fn takes(&self, line: &Line) -> bool
+        ensures { result ≡ is_row line.now }
+    {
+        !line.is_lazy() && !line.is_blank() && start(line, Mode::Free).is_none()
+    }
+
     /// The table with this header row, which is handed in.
     pub(crate) fn new(header: Header, gathering: &mut Gathering) -> Result<Table, AllocError>
         ensures within { IfOk result (λ table. TableIn (length gathering.new.texts.items) table) }
@@ -47,9 +47,13 @@ impl Table {
     }
 
     /// Reads a data row.
-    pub(crate) fn add(mut self, line: &Line, gathering: &mut Gathering) -> Result<Step, AllocError>
+    pub(crate) fn add(
+        mut self,
+        line: Line,
+        gathering: &mut Gathering,
+    ) -> Result<LeafAfter, AllocError>
         requires { TableIn (length gathering.old.texts.items) self }
-        ensures within { IfOk result (λ step. StepIn (length gathering.new.texts.items) step) }
+        ensures within { IfOk result (λ step. LeafAfterIn (length gathering.new.texts.items) step) }
         ensures grows { length gathering.old.texts.items ≤ length gathering.new.texts.items }
         ensures entities { gathering.new.entities.now ≡ gathering.old.entities.now }
     {
@@ -67,10 +71,10 @@ impl Table {
     }
 
     /// The open table behind a paragraph that is over.
-    pub(crate) fn behind(self, over: Option<Block>) -> Step
-        ensures { (n : ℕ) → IfSome over (λ block. BlockIn n (block_view block)) → TableIn n self → StepIn n result }
+    pub(crate) fn behind(self, over: Option<Block>) -> LeafAfter
+        ensures { (n : ℕ) → IfSome over (λ block. BlockIn n (block_view block)) → TableIn n self → LeafAfterIn n result }
     {
-        Step {
+        LeafAfter {
             over,
             going: Some(Leaf::Table(self)),
         }

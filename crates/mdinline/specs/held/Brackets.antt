@@ -1,7 +1,7 @@
 -- Places of brackets in a text.
 use Rattle.std.specs.Prelude.{ℕ, ◌≤◌, List, All}
 use Rattle.std.specs.Str.{IsCharBoundary}
-use Rattle.mdinline.specs.declared.openings.Opening.{Opening}
+use Rattle.mdinline.specs.declared.bracket_stack.Opening.{Opening}
 
 -- what stands behind a bracket that was read before a place begins here
 pub record IsBehindBracket (text : List ℕ) (at begin : ℕ) : Type 0 where

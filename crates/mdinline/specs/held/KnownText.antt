@@ -14,7 +14,7 @@ use Rattle.mdinline.specs.declared.scanner.Scanner.{Scanner}
 -- what is kept is true of the text from a place on
 pub record KnowsText (text : List ℕ) (at : ℕ) (scanner : Scanner) : Type 0 where
   pub strings : (k : ℕ) → HoldsLast text k (get nat_cmp scanner.backticks.last)
-  pub ends : KnowsEnds text at scanner.angles
+  pub ends : KnowsEnds text at scanner.endless_tags
 
 -- A text that was found at a place is many leaves: one for each of its bytes.
 pub record IsPlainAt (entities : EntityTable) (text : List ℕ) (at : ℕ) (found : Found) : Type 0 where

@@ -4,9 +4,9 @@ use Rattle.std.specs.Char.{is_ascii_alphabetic}
 use Rattle.std.specs.List.{starts_with}
 use Rattle.mdscan.specs.Tag.{first_is}
 use Rattle.mdscan.specs.RawHtml.{place_of}
-use Rattle.mdinline.specs.declared.angles.Angles.{Angles}
-use Rattle.mdinline.specs.declared.angles.LongTag.{LongTag}
-use Rattle.mdinline.specs.declared.angles.LongTag.TheVariants.{Comment, Instruction, Declaration, Section}
+use Rattle.mdinline.specs.declared.raw_html.EndlessTags.{EndlessTags}
+use Rattle.mdinline.specs.declared.raw_html.LongTag.{LongTag}
+use Rattle.mdinline.specs.declared.raw_html.LongTag.TheVariants.{Comment, Instruction, Declaration, Section}
 
 -- what ends a kind
 abbrev pub close_text : LongTag → List ℕ
@@ -27,12 +27,12 @@ abbrev pub BeginsTag : LongTag → List ℕ → ℕ → Type 0
 BeginsTag Instruction text at = slice_index text (at + 1) ≡ 63
 BeginsTag kind text at = (slice_index text (at + 1) ≡ 33) × FollowsMark kind (drop (at + 2) text)
 
-abbrev pub is_endless : Angles → LongTag → Bool
-is_endless angles Comment = angles.no_comment
-is_endless angles Instruction = angles.no_instruction
-is_endless angles Declaration = angles.no_declaration
-is_endless angles Section = angles.no_section
+abbrev pub is_endless : EndlessTags → LongTag → Bool
+is_endless tags Comment = tags.no_comment
+is_endless tags Instruction = tags.no_instruction
+is_endless tags Declaration = tags.no_declaration
+is_endless tags Section = tags.no_section
 
 -- what ends a kind that is endless stands nowhere behind the two bytes at a place
-abbrev pub KnowsEnds : List ℕ → ℕ → Angles → Type 0
-KnowsEnds text at angles = (kind : LongTag) → is_endless angles kind ≡ true → place_of (close_text kind) (drop (at + 2) text) ≡ None
+abbrev pub KnowsEnds : List ℕ → ℕ → EndlessTags → Type 0
+KnowsEnds text at tags = (kind : LongTag) → is_endless tags kind ≡ true → place_of (close_text kind) (drop (at + 2) text) ≡ None

@@ -4,9 +4,9 @@ use Rattle.inlinespec.specs.InlineEvents.{Event, inline_events}
 use Rattle.inlinespec.specs.Lexing.{Lexeme, Kind, OpenBracket, CloseBracket, leaf, as_written}
 use Rattle.mdinline.specs.TreeView.{inline_view}
 use Rattle.mdinline.specs.declared.inlines.Inline.{Inline}
-use Rattle.mdinline.specs.declared.openings.Bracket.{Bracket}
-use Rattle.mdinline.specs.declared.openings.BracketKind.{BracketKind}
-use Rattle.mdinline.specs.declared.openings.BracketKind.TheVariants.{Link, Image, Closing}
+use Rattle.mdinline.specs.declared.bracket_stack.Bracket.{Bracket}
+use Rattle.mdinline.specs.declared.bracket_stack.BracketKind.{BracketKind}
+use Rattle.mdinline.specs.declared.bracket_stack.BracketKind.TheVariants.{Link, Image, Closing}
 use Rattle.mdinline.specs.declared.scanner.Found.{Found}
 
 -- the events of an inline that the reader made

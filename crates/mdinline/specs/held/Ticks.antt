@@ -1,7 +1,7 @@
 -- Runs of backticks.
 use Rattle.std.specs.Prelude.{ℕ, ◌<◌, ◌≤◌, List, slice_index}
 use Rattle.mdscan.specs.Spans.{EndsAfterMark}
-use Rattle.mdinline.specs.declared.backticks.Ticks.{Ticks}
+use Rattle.mdinline.specs.declared.code_spans.Ticks.{Ticks}
 
 -- a run in the text, from a place on
 pub record AreTicksFrom (text : List ℕ) (from : ℕ) (run : Ticks) : Type 0 where

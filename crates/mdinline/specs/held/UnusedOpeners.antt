@@ -2,8 +2,8 @@
 use Rattle.std.specs.Prelude.{◌≡◌, ℕ, Bool, true, List, [], ◌∷◌, ◌++◌, length, map, Some}
 use Rattle.inlinespec.specs.Settled.{Piece, Made, Opening}
 use Rattle.inlinespec.specs.TextReading.{Opened, nearest_opener, is_live}
-use Rattle.mdinline.specs.declared.openings.Opening as held
-use Rattle.mdinline.specs.declared.openings.Openings.{Openings}
+use Rattle.mdinline.specs.declared.bracket_stack.Opening as held
+use Rattle.mdinline.specs.declared.bracket_stack.BracketStack.{BracketStack}
 
 -- Pieces so far are read backwards: the first is the last. The openers are in the text's order: whether they are images, and where the text behind
 -- them begins.
@@ -23,7 +23,7 @@ abbrev pub shown : held.Opening → Bool × ℕ
 shown o = (o.is_image, o.begin)
 
 -- what is held is what these pieces leave unused
-pub record AreOpenersOf (ps : List Piece) (openings : Openings) : Type 0 where
+pub record AreOpenersOf (ps : List Piece) (openings : BracketStack) : Type 0 where
   pub all : map shown openings.unused.items ≡ openers ps
   pub links : openings.before_link ≡ before_link ps
 

@@ -1,4 +1,4 @@
-//! Emphasis and strong emphasis (CommonMark 6.2), and strikethrough (GFM, Strikethrough): examples of the standards, as trees.
+//! Emphasis and strong emphasis (CommonMark 6.2), and strikethrough (GFM Strikethrough (extension)): examples of the standards, as trees.
 
 use super::rows::check_texts;
 use std::test::Fail;

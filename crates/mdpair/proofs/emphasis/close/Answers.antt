@@ -3,7 +3,7 @@ use Rattle.std.proofs.lemmas.List.Elements.{All-push}
 use Rattle.std.specs.List.{AllByRecursion}
 use Rattle.mdpair.specs.OpenersBottom.{IsBottom, Descends}
 use Rattle.mdpair.proofs.BottomKept.{left_of-falls, nearest-falls, nearest-bottom, kept as kept_bottom}
-use Rattle.mdpair.specs.Takings.{stack, left_of, IsLeft, IsClear, IsBelow, IsOrdered}
+use Rattle.mdpair.specs.Matches.{stack, left_of, IsLeft, IsClear, IsBelow, IsOrdered}
 use Rattle.mdpair.proofs.Sweep.{found_item, nearest-below, left_of-below, nearest-left, nearest-clear, left_of-clear, nearest-admissible, turn_leads}
 use Rattle.mdpair.proofs.Widths.{opener_whole, closer_whole, pushed_left}
 use Rattle.mdpair.proofs.emphasis.close.Goals as goal
@@ -31,7 +31,7 @@ loop-left-preserved c =
     let clear = nearest-clear _ _ _ _ found c.loop-left.invariant.clear in
     let low = nearest-below _ _ _ _ _ found c.loop-left.invariant.low in
     record {
-      leads = λ start rest h. turn_leads start rest c.loop-left.takings.items c.push.new.self.items (stack items) (stack c.push_left.new.passed.items) (stack (take c.in-Some.at items)) open_run
+      leads = λ start rest h. turn_leads start rest c.loop-left.matches.items c.push.new.self.items (stack items) (stack c.push_left.new.passed.items) (stack (take c.in-Some.at items)) open_run
           c.args.closer.place c.loop-left.left c.width-width.result c.args.closer.run c.loop-left.invariant.clear c.requires.closes c.loop-left-test.true found c.width-width.ensures.value
           c.in_ok-push.ensures.items kept (c.loop-left.invariant.leads start rest h);
       clear = subst IsClear (sym kept) (left_of-clear _ open_run _ clear);

@@ -1,6 +1,6 @@
 use Rattle.std.proofs.Common.{◌-◌, sym, ap, ◌∙◌, arith, Some, take}
 use Rattle.std.proofs.lemmas.List.{get_or_default}
-use Rattle.mdpair.specs.Takings.{stack}
+use Rattle.mdpair.specs.Matches.{stack}
 use Rattle.mdpair.specs.OpenersBottom.{IsBottom, Descends}
 use Rattle.mdpair.proofs.Sweep.{nearest_here, nearest_below, front_keeps}
 use Rattle.mdpair.proofs.BottomKept.{front_none}

@@ -1,5 +1,5 @@
 use Rattle.std.proofs.Common.{◌≡◌, take}
-use Rattle.mdpair.specs.Takings.{nearest, stack}
+use Rattle.mdpair.specs.Matches.{nearest, stack}
 use Rattle.mdpair.specs.OpenersBottom.{IsBottom, Descends}
 use Rattle.mdpair.proofs.emphasis.opener.Given as goal
 

@@ -1,7 +1,7 @@
 use Rattle.std.proofs.Common.{All, sym, subst, ◌≡◌, ◌+◌, ◌++◌}
 use Rattle.std.proofs.lemmas.Result.{IfOk-weaker}
 use Rattle.std.proofs.lemmas.List.Elements.{All-weaker}
-use Rattle.mdpair.specs.Takings.{stack, left_of}
+use Rattle.mdpair.specs.Matches.{stack, left_of}
 use Rattle.mdpair.specs.OpenersBottom.{IsBottomUpTo}
 use Rattle.mdpair.proofs.BottomKept.{missed_here, pushed-bottoms}
 use Rattle.mdpair.proofs.emphasis.pass.Goals as goal

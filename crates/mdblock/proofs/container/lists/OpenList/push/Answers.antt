@@ -5,7 +5,7 @@ use Rattle.mdblock.specs.BlockView.{block_step, item_step, kind_view, blocks_vie
 use Rattle.mdblock.specs.Positions.{BlocksIn}
 use Rattle.mdblock.specs.held.TreesBehind.{placed_before}
 use Rattle.mdblock.specs.declared.blocks.Block.TheFolds.{fold-roll-Item}
-use Rattle.mdblock.proofs.Views.{items-push}
+use Rattle.mdblock.proofs.Views.{pushed_items}
 use Rattle.mdblock.proofs.Within.{items_push}
 use Rattle.mdblock.proofs.container.lists.OpenList.push.Goals as goal
 use Rattle.mdblock.proofs.container.lists.OpenList.push.Goals.{then-self, else-self}
@@ -19,7 +19,7 @@ returns-clause-pushed c =
       | else-self w ↦ w.self-is ∙ ap (λ z. z || c.args.gap) (sym w.if-self.false)
     ] in
     let items : items_view c.push.new.self.items ≡ placed_before (items_view was.items.items) (tree.item (blocks_view c.args.blocks.items) no_items) =
-    ap items_view c.in_ok-push.ensures.items ∙ items-push was.items.items _
+    ap items_view c.in_ok-push.ensures.items ∙ pushed_items was.items.items _
     ∙ ap (λ z. placed_before (items_view was.items.items) (tree.item z no_items)) (fold-roll-Item Block Blocks block_step item_step _) in
     ap (λ z. tree.list kind (not z) (items_view c.push.new.self.items)) loose ∙ ap (tree.list kind (not (was.loose || c.args.gap))) items
 

@@ -1,0 +1,95 @@
+//! The blocks that are over, with one more behind them.
+
+ghost use Rattle.std.specs.Prelude.{◌≡◌, ℕ, IfOk, IfSome, OnOk};
+ghost use Rattle.blockspec.specs.BlockTree.{block_quote, no_blocks};
+ghost use Rattle.blockspec.specs.BlockTree as tree;
+ghost use Rattle.mdblock.specs.BlockView.{block_view, blocks_view, items_view};
+ghost use Rattle.mdblock.specs.held.ClosedViews.{found_view, list_view, list_view_with};
+ghost use Rattle.mdblock.specs.held.TreesBehind.{blocks_before};
+ghost use Rattle.mdblock.specs.Positions.{BlockIn, BlocksIn, ItemsIn};
+
+use crate::blocks::Block;
+use crate::container::lists::OpenList;
+use std::alloc::AllocError;
+
+/// Puts a block behind those that are over.
+pub(crate) fn push_block(over: &mut Vec<Block>, block: Block) -> Result<(), AllocError>
+    ensures pushed { OnOk result (blocks_view over.new.items ≡ blocks_before (blocks_view over.old.items) (tree.block (block_view block) no_blocks)) }
+    ensures within { OnOk result ((n : ℕ) → BlocksIn n (blocks_view over.old.items) → BlockIn n (block_view block) → BlocksIn n (blocks_view over.new.items)) }
+{
+    make_room(over)?;
+    over.push(block)?;
+    Ok(())
+}
+
+/// Most containers and units hold one block alone, so at first there is room for no more.
+fn make_room(over: &mut Vec<Block>) -> Result<(), AllocError>
+    ensures { over.new.items ≡ over.old.items }
+{
+    if over.is_empty() {
+        over.reserve_exact(1)?;
+    }
+    Ok(())
+}
+
+/// The same of a block, where there is one.
+pub(crate) fn push_found(over: &mut Vec<Block>, found: Option<Block>) -> Result<(), AllocError>
+    ensures pushed { OnOk result (blocks_view over.new.items ≡ blocks_before (blocks_view over.old.items) (found_view found)) }
+    ensures within { OnOk result ((n : ℕ) → BlocksIn n (blocks_view over.old.items) → IfSome found (λ block. BlockIn n (block_view block))
+        → BlocksIn n (blocks_view over.new.items)) }
+{
+    match found {
+        Some(block) => push_block(over, block),
+        None => Ok(()),
+    }
+}
+
+/// The blocks with one more, where there is one.
+pub(crate) fn with_found(
+    mut over: Vec<Block>,
+    found: Option<Block>,
+) -> Result<Vec<Block>, AllocError>
+    ensures pushed { IfOk result (λ blocks. blocks_view blocks.items ≡ blocks_before (blocks_view over.items) (found_view found)) }
+    ensures within { IfOk result (λ blocks. (n : ℕ) → BlocksIn n (blocks_view over.items) → IfSome found (λ block. BlockIn n (block_view block))
+        → BlocksIn n (blocks_view blocks.items)) }
+{
+    push_found(&mut over, found)?;
+    Ok(over)
+}
+
+/// The blocks with a block quote of these behind them.
+pub(crate) fn with_quote(mut over: Vec<Block>, blocks: Vec<Block>) -> Result<Vec<Block>, AllocError>
+    ensures pushed { IfOk result (λ all. blocks_view all.items
+        ≡ blocks_before (blocks_view over.items) (tree.block (block_quote (blocks_view blocks.items)) no_blocks)) }
+    ensures within { IfOk result (λ all. (n : ℕ) → BlocksIn n (blocks_view over.items) → BlocksIn n (blocks_view blocks.items)
+        → BlocksIn n (blocks_view all.items)) }
+{
+    push_block(&mut over, Block::Quote(blocks))?;
+    Ok(over)
+}
+
+/// The blocks with a list behind them.
+pub(crate) fn with_list(mut over: Vec<Block>, list: OpenList) -> Result<Vec<Block>, AllocError>
+    ensures pushed { IfOk result (λ all. blocks_view all.items ≡ blocks_before (blocks_view over.items) (tree.block (list_view list) no_blocks)) }
+    ensures within { IfOk result (λ all. (n : ℕ) → BlocksIn n (blocks_view over.items) → ItemsIn n (items_view list.items.items)
+        → BlocksIn n (blocks_view all.items)) }
+{
+    push_block(&mut over, list.end())?;
+    Ok(over)
+}
+
+/// The blocks with a list behind them that ends with an item of these.
+pub(crate) fn with_item(
+    over: Vec<Block>,
+    mut list: OpenList,
+    blocks: Vec<Block>,
+    gap: bool,
+) -> Result<Vec<Block>, AllocError>
+    ensures pushed { IfOk result (λ all. blocks_view all.items
+        ≡ blocks_before (blocks_view over.items) (tree.block (list_view_with list blocks.items gap) no_blocks)) }
+    ensures within { IfOk result (λ all. (n : ℕ) → BlocksIn n (blocks_view over.items) → ItemsIn n (items_view list.items.items)
+        → BlocksIn n (blocks_view blocks.items) → BlocksIn n (blocks_view all.items)) }
+{
+    list.push(blocks, gap)?;
+    Ok(with_list(over, list)?)
+}

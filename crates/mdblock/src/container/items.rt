@@ -1,0 +1,86 @@
+//! From line to line inside a list: its open item goes on, ends, or the next one begins (CommonMark 5.2, 5.3).
+
+ghost use Rattle.std.specs.Prelude.{◌≡◌, ◌≤◌, IfOk, OnOk, length};
+ghost use Rattle.blockspec.specs.BlockLine.{rest};
+ghost use Rattle.mdblock.specs.BlockView.{items_view};
+ghost use Rattle.mdblock.specs.Positions.{ItemsIn};
+ghost use Rattle.mdblock.specs.held.OpenPositions.{LevelIn, IsContinuationOf};
+
+use crate::container::lists::{self, OpenList};
+use crate::gathering::Gathering;
+use crate::lines::Line;
+use crate::open_blocks::{Continuation, Level};
+use std::alloc::AllocError;
+use std::mem;
+
+/// What a line of an open list does inside its last item.
+pub(crate) enum Entry {
+    /// It is read there.
+    Goes,
+    /// It begins the item.
+    Begins,
+    /// Nothing.
+    Stays,
+}
+
+#[tactic(auto, using(crate::proofs::Within::growing))]
+/// Takes from a line what is the list's, and ends the item where the line does.
+pub(crate) fn enter_item(
+    inner: &mut Level,
+    list: &mut OpenList,
+    gap: bool,
+    line: &mut Line,
+    continuation: Continuation,
+    gathering: &mut Gathering,
+) -> Result<Entry, AllocError>
+    requires inner { LevelIn (length gathering.old.texts.items) inner.old }
+    requires list { ItemsIn (length gathering.old.texts.items) (items_view list.old.items.items) }
+    requires continuation { IsContinuationOf (rest line.old) continuation }
+    ensures inner { IfOk result (λ _. LevelIn (length gathering.new.texts.items) inner.new) }
+    ensures list { IfOk result (λ _. ItemsIn (length gathering.new.texts.items) (items_view list.new.items.items)) }
+    ensures grows { length gathering.old.texts.items ≤ length gathering.new.texts.items }
+    ensures entities { gathering.new.entities.now ≡ gathering.old.entities.now }
+{
+    match continuation {
+        Continuation::Matched => {
+            list.enter(line);
+            Ok(Entry::Goes)
+        }
+        Continuation::Lazy => {
+            line.make_lazy();
+            Ok(Entry::Goes)
+        }
+        Continuation::Between => {
+            end_item(inner, list, gathering)?;
+            Ok(Entry::Stays)
+        }
+        Continuation::Next(marker) => {
+            end_item(inner, list, gathering)?;
+            list.begin(lists::take_marker(line, marker), gap);
+            Ok(Entry::Begins)
+        }
+        Continuation::Outside => Ok(Entry::Stays),
+    }
+}
+
+#[tactic(auto, using(crate::proofs::Within::growing))]
+/// Ends the item that is open in a list.
+fn end_item(
+    inner: &mut Level,
+    list: &mut OpenList,
+    gathering: &mut Gathering,
+) -> Result<(), AllocError>
+    requires inner { LevelIn (length gathering.old.texts.items) inner.old }
+    requires list { ItemsIn (length gathering.old.texts.items) (items_view list.old.items.items) }
+    ensures inner { OnOk result (LevelIn (length gathering.new.texts.items) inner.new) }
+    ensures list { OnOk result (ItemsIn (length gathering.new.texts.items) (items_view list.new.items.items)) }
+    ensures grows { length gathering.old.texts.items ≤ length gathering.new.texts.items }
+    ensures entities { gathering.new.entities.now ≡ gathering.old.entities.now }
+{
+    if list.is_open() {
+        let item = mem::replace(inner, Level::new(gathering.alloc(), true));
+        let spaced = item.spaced;
+        list.push(item.close(gathering)?, spaced)?;
+    }
+    Ok(())
+}

@@ -1,0 +1,8 @@
+use Rattle.std.proofs.Common.{[], List, All, length, take}
+use Rattle.mdpair.specs.declared.runs.DelimiterRun.{DelimiterRun}
+use Rattle.mdpair.specs.Matches.{IsOrdered}
+use Rattle.mdinline.specs.held.PairedRuns.{ArePaired}
+use Rattle.mdinline.proofs.emphasis.take_all.Given as goal
+
+abbrev pub invariant-loop-matched : goal.invariant-loop-matched
+invariant-loop-matched l = (rs : List DelimiterRun) → All (IsOrdered (length rs)) l.matches → ArePaired [] rs l.fn.runs.items → ArePaired (take l.matched-index l.matches) rs l.runs.items
