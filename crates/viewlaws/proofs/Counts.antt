@@ -9,7 +9,7 @@ use Rattle.mdtext.specs.EntityTable.{EntityTable}
 use Rattle.blockspec.specs.BlockUnits.{begins, units}
 use Rattle.blockspec.specs.UnitBegin.{shift_found}
 use Rattle.blockspec.specs.UnitTree.{FoundUnit}
-use Rattle.blocklaws.proofs.DocumentLaws.{map-length}
+use Rattle.blocklaws.proofs.DocumentLaws.{map_length}
 use Rattle.viewspec.specs.Spliced.{in_parts, IsSpliced}
 use Rattle.viewspec.specs.Stretch.{Places, from_line, old_line, meeting_line, count_between}
 use Rattle.viewlaws.proofs.Cuts.{begins_within}
@@ -111,7 +111,7 @@ count_front : (e : EntityTable) (front text : List (List ℕ)) (from to : ℕ) �
 count_front e front text from to w =
     let order = w.order in
     let a = count_inside 0 from 0 from (begins_in (units e (take from front))) (front_between e front text from to w) (omega arith) (omega arith)
-    ∙ map-length (λ (f : FoundUnit). f.begin) (units e (take from front)) in
+    ∙ map_length (λ (f : FoundUnit). f.begin) (units e (take from front)) in
     let b = count_above 0 from from to (begins_in (map (shift_found from) (units e (drop from (take to text))))) (middle_between e front text from to w) (omega arith) in
     let c = count_above 0 from to (to + length (drop to text)) (begins_in (map (shift_found to) (units e (drop to text)))) (back_between e text to) order in
     count_parts e front text from to 0 from ∙ omega (arith, a, b, c)
@@ -122,7 +122,7 @@ count_middle e front text from to w =
     let middle = units e (drop from (take to text)) in
     let a = count_below from to 0 from (begins_in (units e (take from front))) (front_between e front text from to w) (omega arith) in
     let b = count_inside from to from to (begins_in (map (shift_found from) middle)) (middle_between e front text from to w) (omega arith) (omega arith)
-    ∙ map-length (λ (f : FoundUnit). f.begin) (map (shift_found from) middle) ∙ map-length (shift_found from) middle in
+    ∙ map_length (λ (f : FoundUnit). f.begin) (map (shift_found from) middle) ∙ map_length (shift_found from) middle in
     let c = count_above from to to (to + length (drop to text)) (begins_in (map (shift_found to) (units e (drop to text)))) (back_between e text to) (omega arith) in
     count_parts e front text from to from to ∙ omega (arith, a, b, c)
 

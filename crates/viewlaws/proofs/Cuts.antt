@@ -12,8 +12,8 @@ use Rattle.blockspec.specs.ListGroups.{grouped}
 use Rattle.blockspec.specs.Stretches.{all_of, cut_from}
 use Rattle.blockspec.specs.UnitBegin.{begins_unit, units_of, shift_found}
 use Rattle.blockspec.specs.UnitTree.{FoundUnit}
-use Rattle.blocklaws.proofs.BeginLaws.{begins-next, document-only, document-stays}
-use Rattle.blocklaws.proofs.DocumentLaws.{document-units, document-meets, map-length}
+use Rattle.blocklaws.proofs.BeginLaws.{begins_next, document_only, document_stays}
+use Rattle.blocklaws.proofs.DocumentLaws.{document_units, document_meets, map_length}
 
 abbrev begins_in : List FoundUnit → List ℕ
 begins_in us = map (λ f. f.begin) us
@@ -45,13 +45,13 @@ within_more e xs [] h = subst (λ z. Within z (begins_in (units_of e z))) (sym (
 within_more e xs (y ∷ ys) h =
     subst (λ z. Within z (begins_in (units_of e z))) (append_assoc xs (y ∷ []) ys)
     (within_more e (xs ++ y ∷ []) ys
-    (subst (λ z. Within (xs ++ y ∷ []) z) (sym (begins-next e xs y)) (within_next xs y (begins_unit xs y) (begins_in (units_of e xs)) h)))
+    (subst (λ z. Within (xs ++ y ∷ []) z) (sym (begins_next e xs y)) (within_next xs y (begins_unit xs y) (begins_in (units_of e xs)) h)))
 
 pub begins_within : (e : EntityTable) (lines : List (List ℕ)) → All (λ b. b < length lines) (begins e lines)
 begins_within e lines =
     let ls = map document_line lines in
-    subst (λ z. All (λ b. b < z) (begins e lines)) (map-length document_line lines)
-    (subst (λ z. All (λ b. b < length ls) (begins_in z)) (sym (document-units e lines)) (within_more e [] ls (subst (λ z. Within [] (begins_in z)) (sym (no_units e)) (All-nil (λ b. b < 0)))))
+    subst (λ z. All (λ b. b < z) (begins e lines)) (map_length document_line lines)
+    (subst (λ z. All (λ b. b < length ls) (begins_in z)) (sym (document_units e lines)) (within_more e [] ls (subst (λ z. Within [] (begins_in z)) (sym (no_units e)) (All-nil (λ b. b < 0)))))
 
 -- ---- a document in two parts
 
@@ -86,10 +86,10 @@ cut_inside e lines n w = go (drop n lines) refl
     go [] h = absurd (let none = rest_of n lines [] h small in omega (arith, small, none))
     go (line ∷ later) h =
         let whole : take n lines ++ line ∷ later ≡ lines = ap (λ z. take n lines ++ z) (sym h) ∙ take-append-drop n lines in
-        let is = document-only e (take n lines) line later
+        let is = document_only e (take n lines) line later
         (subst (λ z. Contains (begins e z) (length (take n lines))) (sym whole) (subst (λ z. Contains (begins e lines) z) (sym size) w)) in
         ap (units e) (sym whole)
-        ∙ document-meets e (take n lines) line later is
+        ∙ document_meets e (take n lines) line later is
         ∙ ap (λ z. units e (take n lines) ++ map (shift_found z) (units e (line ∷ later))) size
         ∙ ap (λ z. units e (take n lines) ++ map (shift_found n) (units e z)) (sym h)
 
@@ -123,5 +123,5 @@ beginning_kept e front one other n small w = go (drop n front) refl
         let split : (later : List (List ℕ)) → take n front ++ line ∷ (middle ++ later) ≡ front ++ later =
         λ later. sym (append_assoc (take n front) (line ∷ middle) later) ∙ ap (λ z. z ++ later) whole in
         let here = subst (λ z. Contains (begins e z) (length (take n front))) (sym (split one)) (subst (λ z. Contains (begins e (front ++ one)) z) (sym size) w) in
-        let there = (document-stays e (take n front) line (middle ++ one) (middle ++ other) here).0 in
+        let there = (document_stays e (take n front) line (middle ++ one) (middle ++ other) here).0 in
         subst (λ z. Contains (begins e (front ++ other)) z) size (subst (λ z. Contains (begins e z) (length (take n front))) (split other) there)

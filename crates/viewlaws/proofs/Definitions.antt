@@ -7,7 +7,7 @@ use Rattle.mdleaf.specs.LinkDefinition.{LinkDefinition}
 use Rattle.blockspec.specs.BlockUnits.{units, definitions_of}
 use Rattle.blockspec.specs.FirstDefinitions.{first_definition}
 use Rattle.blockspec.specs.UnitBegin.{shift_found}
-use Rattle.blocklaws.proofs.DocumentLaws.{definitions-append, definitions-moved, first-of-both}
+use Rattle.blocklaws.proofs.DocumentLaws.{definitions_append, definitions_moved, first_of_both}
 use Rattle.inlinespec.specs.LabelMap.{LinkTarget}
 use Rattle.viewspec.specs.LabelTable.{target_defined, table, defined_in, first_of_four}
 use Rattle.viewspec.specs.Spliced.{in_parts}
@@ -21,20 +21,20 @@ parts_define e front text from to label =
     let a = units e (take from front) in
     let b = units e (drop from (take to text)) in
     let c = units e (drop to text) in
-    ap (λ z. first_definition z label) (definitions-append (a ++ map (shift_found from) b) (map (shift_found to) c))
-    ∙ first-of-both (definitions_of (a ++ map (shift_found from) b)) (definitions_of (map (shift_found to) c)) label
+    ap (λ z. first_definition z label) (definitions_append (a ++ map (shift_found from) b) (map (shift_found to) c))
+    ∙ first_of_both (definitions_of (a ++ map (shift_found from) b)) (definitions_of (map (shift_found to) c)) label
     ∙ ap (λ z. option_or z (first_definition (definitions_of (map (shift_found to) c)) label))
-    (ap (λ z. first_definition z label) (definitions-append a (map (shift_found from) b))
-    ∙ first-of-both (definitions_of a) (definitions_of (map (shift_found from) b)) label
-    ∙ ap (λ z. option_or (first_definition (definitions_of a) label) (first_definition z label)) (definitions-moved from b))
-    ∙ ap (λ z. option_or (option_or (defined_in e (take from front) label) (defined_in e (drop from (take to text)) label)) (first_definition z label)) (definitions-moved to c)
+    (ap (λ z. first_definition z label) (definitions_append a (map (shift_found from) b))
+    ∙ first_of_both (definitions_of a) (definitions_of (map (shift_found from) b)) label
+    ∙ ap (λ z. option_or (first_definition (definitions_of a) label) (first_definition z label)) (definitions_moved from b))
+    ∙ ap (λ z. option_or (option_or (defined_in e (take from front) label) (defined_in e (drop from (take to text)) label)) (first_definition z label)) (definitions_moved to c)
 
 leads_by : (e : EntityTable) (lines prelude : List (List ℕ)) (front text : List (List ℕ)) (from to : ℕ) (label : List ℕ) → units e lines ≡ in_parts e front text from to →
     table e (record { lines = lines; prelude = prelude }) label
     ≡ option_map target_defined (first_of_four (defined_in e (take from front) label) (defined_in e (drop from (take to text)) label) (defined_in e (drop to text) label) (defined_in e prelude label))
 leads_by e lines prelude front text from to label h =
     ap (option_map target_defined)
-    (first-of-both (definitions_of (units e lines)) (definitions_of (units e prelude)) label
+    (first_of_both (definitions_of (units e lines)) (definitions_of (units e prelude)) label
     ∙ ap (λ z. option_or z (defined_in e prelude label)) (ap (λ z. first_definition (definitions_of z) label) h ∙ parts_define e front text from to label))
 
 pub leads_behind : (e : EntityTable) (old new prelude : List (List ℕ)) (p : Places) → IsEdit e old new p → (label : List ℕ) →

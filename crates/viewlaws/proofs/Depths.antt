@@ -9,10 +9,10 @@ use Rattle.blockspec.specs.BlockLine.{document_line}
 use Rattle.blockspec.specs.BlockUnits.{begins}
 use Rattle.blockspec.specs.Nesting.{first_deep, deep_within, first_too_deep}
 use Rattle.blockspec.specs.Stretches.{all_of, cut_from}
-use Rattle.blocklaws.proofs.BeginLaws.{document-only}
-use Rattle.blocklaws.proofs.DocumentLaws.{map-length}
+use Rattle.blocklaws.proofs.BeginLaws.{document_only}
+use Rattle.blocklaws.proofs.DocumentLaws.{map_length}
 use Rattle.blocklaws.proofs.NestingLaws.{moved_on}
-use Rattle.blocklaws.proofs.NestingMeets.{deep-meets}
+use Rattle.blocklaws.proofs.NestingMeets.{deep_meets}
 use Rattle.viewspec.specs.Stretch.{Places, from_line, old_line, meeting_line}
 use Rattle.viewlaws.proofs.Cuts.{IsCut, begins_before_end, rest_of}
 use Rattle.viewlaws.proofs.Splices.{IsEdit, meets, from_cut, from_above}
@@ -46,12 +46,12 @@ deep_inside e limit lines n w = go (drop n lines) refl
     go (line ∷ later) h =
         let front = take n lines in
         let whole : front ++ line ∷ later ≡ lines = ap (λ z. front ++ z) (sym h) ∙ take-append-drop n lines in
-        let is = document-only e front line later
+        let is = document_only e front line later
         (subst (λ z. Contains (begins e z) (length front)) (sym whole) (subst (λ z. Contains (begins e lines) z) (sym size) w)) in
         ap (first_too_deep limit) (sym whole)
         ∙ ap (deep_within limit) (map-append document_line front (line ∷ later))
-        ∙ deep-meets limit (map document_line front) (document_line line) (map document_line later) is
-        ∙ ap (λ z. option_or (first_too_deep limit front) (moved_on z (first_too_deep limit (line ∷ later)))) (map-length document_line front ∙ size)
+        ∙ deep_meets limit (map document_line front) (document_line line) (map document_line later) is
+        ∙ ap (λ z. option_or (first_too_deep limit front) (moved_on z (first_too_deep limit (line ∷ later)))) (map_length document_line front ∙ size)
         ∙ ap (λ z. option_or (first_too_deep limit front) (moved_on n (first_too_deep limit z))) (sym h)
 
 pub deep_cut : (e : EntityTable) (limit : ℕ) (lines : List (List ℕ)) (n : ℕ) → IsCut e lines n →

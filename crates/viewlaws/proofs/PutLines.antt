@@ -3,7 +3,7 @@ use Rattle.std.proofs.Common.{◌≡◌, ℕ, ◌+◌, ◌-◌, ◌≤◌, List,
 use Rattle.std.proofs.lemmas.List.{length-take-le, length-drop}
 use Rattle.std.proofs.Math.Seq.{take-append_seam, drop-append_seam}
 use Rattle.mdtext.specs.Lines.{without_nul}
-use Rattle.blocklaws.proofs.DocumentLaws.{map-length}
+use Rattle.blocklaws.proofs.DocumentLaws.{map_length}
 use Rattle.viewspec.specs.Setting.{Setting, Source}
 use Rattle.viewspec.specs.Calls.{edit, put}
 use Rattle.viewspec.specs.Changes.{places}
@@ -35,7 +35,7 @@ edit_is setting old at del add fits = record {
     front_size = length-take-le at old.lines (omega (arith, fits))
 
     come_size : length come ≡ length add
-    come_size = map-length without_nul add
+    come_size = map_length without_nul add
 
     back_size : length back ≡ length old.lines - (at + del)
     back_size = length-drop (at + del) old.lines

@@ -4,7 +4,7 @@ use Rattle.std.specs.List.{list_any, find}
 use Rattle.std.specs.Option.{option_or}
 use Rattle.mdtext.specs.Lines.{without_nul}
 use Rattle.viewspec.specs.Setting.{Setting, Source}
-use Rattle.viewspec.specs.Refusals.{Refusal, out_of_range, break_in_line, refusal, prelude_refusal}
+use Rattle.viewspec.specs.Refusals.{Refusal, out_of_range, break_in_line, size_refusal, nesting_refusal, prelude_refusal}
 
 pub data Call : Type 0 where
   -- del lines at a place are replaced by others
@@ -30,13 +30,22 @@ line_ending_from number (line ∷ later) = if has_line_ending line then Some num
 abbrev pub past_the_text : (lines at del : ℕ) → Option Refusal
 past_the_text lines at del = if nat_lt lines at || nat_lt (lines - at) del then Some (out_of_range lines) else None
 
--- Why a call is refused where there is memory enough: the first reason of those of its own lines, and those of the text that it would leave.
-abbrev pub due : Setting → Source → Call → Option Refusal
-due setting source (edit at del add) =
+-- Why a call is refused whatever the memory: the first reason of those that its own lines and the size of the text tell.
+abbrev pub due_at_once : Source → Call → Option Refusal
+due_at_once source (edit at del add) =
     option_or (past_the_text (length source.lines) at del)
-      (option_or (option_map break_in_line (line_ending_from 0 add)) (refusal setting (put source (edit at del add))))
-due setting source (set_prelude lines) =
-    option_or (option_map break_in_line (line_ending_from 0 lines)) (prelude_refusal setting (put source (set_prelude lines)))
+      (option_or (option_map break_in_line (line_ending_from 0 add)) (size_refusal (put source (edit at del add)).lines))
+due_at_once source (set_prelude lines) =
+    option_or (option_map break_in_line (line_ending_from 0 lines)) (size_refusal (put source (set_prelude lines)).prelude)
+
+-- why it is refused by what its text, or its prelude, reads as
+abbrev pub due_by_reading : Setting → Source → Call → Option Refusal
+due_by_reading setting source (edit at del add) = nesting_refusal setting (put source (edit at del add))
+due_by_reading setting source (set_prelude lines) = prelude_refusal setting (put source (set_prelude lines))
+
+-- why a call is refused where there is memory enough
+abbrev pub due : Setting → Source → Call → Option Refusal
+due setting source call = option_or (due_at_once source call) (due_by_reading setting source call)
 
 abbrev pub unless_refused : Option Refusal → (old new : Source) → Source
 unless_refused (Some reason) old new = old

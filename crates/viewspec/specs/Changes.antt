@@ -7,6 +7,7 @@ use Rattle.inlinespec.specs.LabelMap.{LinkTarget}
 use Rattle.inlinespec.specs.LinkTails.{Table}
 use Rattle.inlinespec.specs.TextTree.{as_set}
 use Rattle.mdinline.specs.ParsedText.{ParsedText}
+use Rattle.viewspec.specs.ChangedPieces.{ChangedPieces}
 use Rattle.viewspec.specs.Setting.{Setting, Source}
 use Rattle.viewspec.specs.LabelTable.{definitions_in, table}
 use Rattle.viewspec.specs.View.{ViewedUnit, view}
@@ -36,13 +37,6 @@ asks_changed old new reading = list_any (leads_elsewhere old new) reading.asked
 
 abbrev pub texts_asking : (old new : Table) → ViewedUnit → List ParsedText
 texts_asking old new one = filter (asks_changed old new) one.readings
-
--- what gives way to what
-pub record Patch : Type 0 where
-  pub first : ℕ
-  pub removed : ℕ
-  pub added : ℕ
-  pub again : List ℕ
 
 -- the unit with this number is a new one
 abbrev pub is_added : (first added number : ℕ) → Bool
@@ -78,7 +72,7 @@ places setting old (set_prelude lines) =
     record { old_begins = []; new_begins = []; new_lines = 0; at = 0; gone = 0; come = 0 }
 
 -- the patch of a call that is accepted
-abbrev pub patch_of : Setting → Source → Call → Patch
+abbrev pub patch_of : Setting → Source → Call → ChangedPieces
 patch_of setting old call =
     let p = places setting old call in
     let new = put old call in

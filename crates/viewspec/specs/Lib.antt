@@ -4,5 +4,8 @@ pub mod View
 pub mod Refusals
 pub mod Calls
 pub mod Stretch
+pub mod ChangedPieces
+pub mod Patch
 pub mod Changes
 pub mod Spliced
+pub mod Outcome

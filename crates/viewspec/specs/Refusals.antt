@@ -46,11 +46,13 @@ is_too_deep limit one = list_any (is_deep limit) one.readings
 abbrev pub inline_refusal : Setting → Source → Option Refusal
 inline_refusal setting source = option_map (λ one. inline_too_deep one.begin) (find (is_too_deep setting.max_spans) (view setting source))
 
--- why these lines are no document, the first reason of: lines, bytes, containers in one another, spans in one another
+-- why a text that is not too large is refused, the first reason of: containers in one another, spans in one another
+abbrev pub nesting_refusal : Setting → Source → Option Refusal
+nesting_refusal setting source = option_or (option_map nested_too_deep (first_too_deep setting.max_containers source.lines)) (inline_refusal setting source)
+
+-- why these lines are no document
 abbrev pub refusal : Setting → Source → Option Refusal
-refusal setting source =
-    option_or (size_refusal source.lines)
-      (option_or (option_map nested_too_deep (first_too_deep setting.max_containers source.lines)) (inline_refusal setting source))
+refusal setting source = option_or (size_refusal source.lines) (nesting_refusal setting source)
 
 -- a unit that is more than definitions
 abbrev pub is_more : Blocks → Bool
@@ -63,8 +65,6 @@ undefining_line setting prelude =
     option_or (first_too_deep setting.max_containers prelude)
       (option_map (λ (found : FoundUnit). found.begin) (find (λ (found : FoundUnit). is_more found.unit.blocks) (units setting.entities prelude)))
 
--- why the prelude of a source is none, the first reason of: lines, bytes, other blocks than definitions, spans in one another in the document
+-- why the prelude of a source that is not too large is none, the first reason of: other blocks than definitions, spans in one another in the document
 abbrev pub prelude_refusal : Setting → Source → Option Refusal
-prelude_refusal setting source =
-    option_or (size_refusal source.prelude)
-      (option_or (option_map not_definitions (undefining_line setting source.prelude)) (inline_refusal setting source))
+prelude_refusal setting source = option_or (option_map not_definitions (undefining_line setting source.prelude)) (inline_refusal setting source)
