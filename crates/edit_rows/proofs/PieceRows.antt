@@ -1,0 +1,33 @@
+-- Rows of the pieces of a text, by computation.
+use Rattle.std.proofs.Common.{◌≡◌, [], ◌∷◌, refl, codes}
+use Rattle.edit_rows.proofs.ReadEdits.{source_of, plain, pieces}
+
+-- a heading, a list, a quote, a table
+each_block : pieces plain (source_of (codes "# A *b*" ∷ [] ∷ codes "- [x] c" ∷ codes "- d" ∷ [] ∷ codes "> e  " ∷ codes "f" ∷ [] ∷ codes "| g | h |" ∷ codes "|:-|-:|" ∷ codes "| `i` | ~~j~~ |" ∷ []) []) ≡
+    codes "<h1>A <em>b</em></h1>\n" ∷ codes "<ul>\n<li><input checked=\"\" disabled=\"\" type=\"checkbox\"> c</li>\n<li>d</li>\n</ul>\n" ∷ codes "<blockquote>\n<p>e<br />\nf</p>\n</blockquote>\n" ∷ codes "<table>\n<thead>\n<tr>\n<th align=\"left\">g</th>\n<th align=\"right\">h</th>\n</tr>\n</thead>\n<tbody>\n<tr>\n<td align=\"left\"><code>i</code></td>\n<td align=\"right\"><del>j</del></td>\n</tr>\n</tbody>\n</table>\n" ∷ []
+unfolding pieces
+each_block = refl
+
+-- code and HTML
+verbatim : pieces plain (source_of (codes "```rust" ∷ codes "a < b" ∷ codes "```" ∷ [] ∷ codes "    code" ∷ [] ∷ codes "<b>" ∷ [] ∷ codes "***" ∷ []) []) ≡
+    codes "<pre><code class=\"language-rust\">a &lt; b\n</code></pre>\n" ∷ codes "<pre><code>code\n</code></pre>\n" ∷ codes "<!-- raw HTML omitted -->\n" ∷ codes "<hr />\n" ∷ []
+unfolding pieces
+verbatim = refl
+
+-- links, images, autolinks, references and escapes
+links : pieces plain (source_of (codes "[a](javascript:x) ![b *c*](/d \"e\")" ∷ [] ∷ codes "<http://f> &amp; \\*" ∷ []) []) ≡
+    codes "<p><a href=\"\">a</a> <img src=\"/d\" alt=\"b c\" title=\"e\" /></p>\n" ∷ codes "<p><a href=\"http://f\">http://f</a> &amp; *</p>\n" ∷ []
+unfolding pieces
+links = refl
+
+-- an ordered list that begins with 3
+ordered : pieces plain (source_of (codes "3. a" ∷ codes "4. b" ∷ [] ∷ codes "5. c" ∷ []) []) ≡
+    codes "<ol start=\"3\">\n<li>\n<p>a</p>\n</li>\n<li>\n<p>b</p>\n</li>\n<li>\n<p>c</p>\n</li>\n</ol>\n" ∷ []
+unfolding pieces
+ordered = refl
+
+-- definitions in front of a paragraph are part of its unit
+definitions : pieces plain (source_of (codes "[a]: /u" ∷ codes "[b]: /v" ∷ codes "===" ∷ codes "[a]" ∷ []) []) ≡
+    codes "<p>===\n<a href=\"/u\">a</a></p>\n" ∷ []
+unfolding pieces
+definitions = refl

@@ -1,0 +1,11 @@
+//! Laws of views and edits: what holds of the definitions of `viewspec`, whatever holds a text. Each law is the contract of a function with an empty body.
+#![tactic(auto)]
+
+mod edits;
+mod labels;
+
+pub use edits::{edits_splice, stretches_tell_the_first_too_deep};
+pub use labels::{
+    labels_are_those_of_three_parts, one_asking_is_the_other, too_deep_units_asked,
+    unasked_texts_stay, undefined_labels_stay,
+};

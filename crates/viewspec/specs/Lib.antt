@@ -1,0 +1,11 @@
+pub mod Setting
+pub mod LabelTable
+pub mod View
+pub mod Refusals
+pub mod Calls
+pub mod Stretch
+pub mod ChangedPieces
+pub mod Patch
+pub mod Changes
+pub mod Spliced
+pub mod Outcome
