@@ -76,8 +76,8 @@ class Document:
 
 
 def is_plain(lines):
-    """Lines that a row can hold as they stand: a definition speaks of them after U+0000 is replaced."""
-    return all('\0' not in line and '\ufeff' not in line and line.isprintable() or line == '' or '\t' in line and '\0' not in line for line in lines)
+    """Whether a row can hold these lines as they stand."""
+    return all(c == '\t' or c.isprintable() for line in lines for c in line)
 
 
 def random_rows(oracle, seed, count):
