@@ -1,6 +1,6 @@
 -- The units of a text, with every word of their definition open, so that rows of them compute.
 use lib.Utf8.{encode}
-use Rattle.std.specs.Prelude.{ℕ, List, ◌++◌, length, map, Option}
+use Rattle.std.specs.Prelude.{ℕ, List, length, map, Option}
 use Rattle.std.specs.Str.{chars}
 use Rattle.caseless.specs.Caseless.{default_case_fold}
 use Rattle.ucd_case.specs.CaseFolding.{full_folding}

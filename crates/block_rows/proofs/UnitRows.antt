@@ -1,6 +1,6 @@
 -- Rows of units and of nesting, by computation.
 use Rattle.std.specs.Prelude.{replicate}
-use Rattle.std.proofs.Common.{◌++◌, ℕ, zero, suc, List, ◌≡◌, [], ◌∷◌, Some, None, refl, codes, true, false}
+use Rattle.std.proofs.Common.{◌++◌, ℕ, zero, suc, ◌≡◌, [], ◌∷◌, Some, None, refl, codes, true, false}
 use Rattle.mdscan.specs.declared.delimiter_rows.Align.TheVariants.{Plain}
 use Rattle.blockspec.specs.BlockTree.{Block, bullet, paragraph, heading, code_block, block_quote, list, table, blocks_of, items_of}
 use Rattle.block_rows.proofs.ReadText.{units_read, deep_line, found, defines}

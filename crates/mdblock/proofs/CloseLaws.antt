@@ -7,17 +7,16 @@ use Rattle.blockspec.specs.BlockTree.{block_quote, no_blocks, no_items}
 use Rattle.blockspec.specs.BlockTree as tree
 use Rattle.mdblock.specs.BlockView.{blocks_view, items_view}
 use Rattle.mdblock.specs.held.ClosedViews.{list_view, list_view_with}
-use Rattle.mdblock.specs.held.HeldLevel.{is_list, behind_over, StandsFor, StandsForLast, StandsForOver, StandsForList, HasGathered, ClosesAll}
+use Rattle.mdblock.specs.held.HeldLevel.{is_list, behind_over, StandsFor, StandsForLast, StandsForList, HasGathered, ClosesAll}
 use Rattle.mdblock.specs.held.HeldNodes.{list_of, over_behind, over_nodes, handed_nodes, handed_groups, handed_last, closed_nodes, tasked}
-use Rattle.blockspec.specs.LineSummary.{Summary, summary, Last, nothing_yet, ended_block, open_leaf, open_container, closed, last_groups}
+use Rattle.blockspec.specs.LineSummary.{summary, Last, nothing_yet, ended_block, open_leaf, open_container, closed, last_groups}
 use Rattle.blockspec.specs.ListGroups.{Part, Leaves, Quoted, Listed, Group, kind_of, items_before, is_tight_inside, merged, nodes_of}
-use Rattle.blockspec.specs.NodeTree.{Nodes, no_nodes, quote_node, list_node, no_item_nodes, item_node, texts_in, texts_in_items, definitions_in, definitions_in_items, placed, placed_items}
+use Rattle.blockspec.specs.NodeTree.{Nodes, no_nodes, quote_node, no_item_nodes, item_node, texts_in, texts_in_items, definitions_in, definitions_in_items, placed, placed_items}
 use Rattle.mdblock.specs.held.TreesBehind.{nodes_before, blocks_before, placed_before}
 use Rattle.mdblock.specs.declared.blocks.Block.{Block}
 use Rattle.mdblock.specs.declared.container.lists.OpenList.{OpenList}
 use Rattle.mdblock.specs.declared.gathering.Gathering.{Gathering}
 use Rattle.mdblock.specs.declared.open_blocks.Level.{Level}
-use Rattle.mdblock.specs.declared.open_blocks.OpenBlock.{OpenBlock}
 use Rattle.mdblock.specs.declared.open_blocks.OpenBlock as open_block
 use Rattle.mdblock.proofs.ClosingLaws.{closed_nothing, closed_quote, handed_quote, tasked_quote, quote_texts, quote_definitions, quote_placed, closed_item, closed_list, handed_item, tasked_list, list_texts, list_definitions, list_placed, ended_placed}
 use Rattle.mdblock.proofs.HeldNodesLaws.{merged_leaves, merged_quote}

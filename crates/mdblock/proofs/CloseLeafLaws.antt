@@ -1,6 +1,5 @@
 -- Closing a level whose last block is an open leaf.
 use Rattle.std.proofs.Common.{◌≡◌, ℕ, ◌+◌, Bool, true, false, List, [], ◌∷◌, ◌++◌, length, length-append, append_assoc, append-nil, map, Option, Some, None, refl, sym, ◌∙◌, ap, subst, arith}
-use Rattle.std.specs.Option.{MatchOption}
 use Rattle.mdscan.specs.TaskMarker.{task_marker}
 use Rattle.mdleaf.specs.LinkDefinition.{LinkDefinition}
 use Rattle.blockspec.specs.BlockTree.{Blocks, no_blocks, block}
@@ -8,10 +7,10 @@ use Rattle.blockspec.specs.BlockTree as tree
 use Rattle.std.specs.List.{range_with_len}
 use Rattle.mdscan.specs.declared.delimiter_rows.Align.{Align}
 use Rattle.mdblock.specs.declared.leaf.tables.Table.{Table}
-use Rattle.mdblock.specs.BlockView.{blocks_view, block_view}
+use Rattle.mdblock.specs.BlockView.{blocks_view}
 use Rattle.mdblock.specs.held.ClosedViews.{found_view}
 use Rattle.mdblock.specs.held.HandedIn.{taken, left_behind, IsLeafIn, IsHandedIn, gathered_texts, gathered_definitions}
-use Rattle.mdblock.specs.held.HeldLevel.{is_front, behind_over, IsOpenKind, CellsStand, StandsForLeaf, StandsForLast, HasGathered, ClosesAll}
+use Rattle.mdblock.specs.held.HeldLevel.{is_front, behind_over, IsOpenKind, CellsStand, StandsForLast, HasGathered, ClosesAll}
 use Rattle.mdblock.specs.held.HeldNodes.{over_leaves, over_nodes, handed_leaves, handed_groups, handed_last, handed_nodes, closed_nodes, tasked}
 use Rattle.blockspec.specs.LeafContents.{code_text, without_end_blank_lines}
 use Rattle.mdblock.specs.held.LeafEnds.{IsEndOf, IsTableEnd, end_definitions}
@@ -32,7 +31,7 @@ use Rattle.mdblock.specs.declared.leaf.Leaf.TheVariants as leaf
 use Rattle.mdblock.proofs.ClosingLaws.{rest_leaves, closed_leaf}
 use Rattle.mdblock.proofs.HeldNodesLaws.{merged_leaves}
 use Rattle.blockspec.specs.ListGroups.{leaves_before, nodes_of}
-use Rattle.blockspec.specs.NodeTree.{Leaf, definition_leaf, paragraph_leaf, heading_leaf, break_leaf, code_leaf, html_leaf, table_leaf, Nodes, no_nodes, leaf_node, quote_node, list_node, texts_in, definitions_in, leaf_block, leaf_texts, leaf_definitions, row_positions, placed}
+use Rattle.blockspec.specs.NodeTree.{Leaf, definition_leaf, paragraph_leaf, heading_leaf, break_leaf, code_leaf, html_leaf, table_leaf, Nodes, no_nodes, leaf_node, quote_node, list_node, texts_in, definitions_in, leaf_texts, leaf_definitions, row_positions, placed}
 use Rattle.blockspec.specs.ParagraphEnd.{paragraph_if_any}
 use Rattle.blockspec.specs.TaskItem.{with_task, task_paragraph}
 use Rattle.mdblock.specs.held.TreesBehind.{nodes_before, blocks_before, has_block}

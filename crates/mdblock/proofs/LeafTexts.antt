@@ -1,9 +1,9 @@
 -- What one line more makes of the text that an open leaf holds.
-use Rattle.std.proofs.Common.{◌≡◌, ℕ, ◌+◌, ◌-◌, ◌<◌, Bool, true, false, not, List, [], ◌∷◌, ◌++◌, append_assoc, length, length-append, map, reverse, take, drop, refl, ap, sym, ◌∙◌, subst, arith, ◌⊎◌, inl, inr}
+use Rattle.std.proofs.Common.{◌≡◌, ℕ, ◌+◌, ◌-◌, ◌<◌, Bool, true, false, not, List, [], ◌∷◌, ◌++◌, append_assoc, length, map, reverse, take, drop, refl, ap, sym, ◌∙◌, subst, arith, ◌⊎◌, inl, inr}
 use Rattle.std.proofs.Math.Nat.{eq-or-lt_of_le}
 use Rattle.std.proofs.lemmas.Bool.Decides.{nat_tests}
 use Rattle.std.proofs.lemmas.Grind.{flat_map-append}
-use Rattle.std.proofs.lemmas.List.{append-nil, map-append, reverse-append, take_all, drop_all, take-append-le, drop-append-le, take-append-drop}
+use Rattle.std.proofs.lemmas.List.{append-nil, map-append, reverse-append, take_all, drop_all, take-append-drop}
 use Rattle.std.proofs.lemmas.List.Sums.{prefix_len-le-length, prefix_len_stops}
 use Rattle.std.proofs.lemmas.Str.{IsCharBoundary-end, IsCharBoundary-before_ascii}
 use Rattle.std.specs.List.{flat_map, prefix_len, slice_index, suffix_len}

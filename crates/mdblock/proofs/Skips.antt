@@ -1,11 +1,11 @@
 -- Columns that are skipped leave the text behind the indentation as it is.
-use Rattle.std.proofs.Common.{◌≡◌, ℕ, zero, suc, ◌+◌, ◌-◌, ◌*◌, ◌^◌, ◌<◌, ◌≤◌, ◌==◌, Bool, true, false, List, [], ◌∷◌, ◌++◌, length, drop, length-drop, min, replicate, refl, ap, sym, ◌∙◌, arith, add-one, subst, ◌⊎◌, inl, inr, nat_le}
+use Rattle.std.proofs.Common.{◌≡◌, ℕ, zero, suc, ◌+◌, ◌-◌, ◌*◌, ◌^◌, ◌<◌, ◌≤◌, ◌==◌, Bool, true, false, List, [], ◌∷◌, ◌++◌, length, drop, length-drop, replicate, refl, ap, sym, ◌∙◌, arith, add-one, subst, ◌⊎◌, inl, inr, nat_le}
 use Rattle.std.proofs.lemmas.Bool.Decides.{nat_tests}
 use Rattle.std.proofs.lemmas.Str.{IsCharBoundary-start, IsCharBoundary-after_ascii}
 use Rattle.std.proofs.lemmas.List.Sums.{prefix_len-le-length, prefix_len_passes}
 use Rattle.std.specs.List.{prefix_len, list_all}
 use Rattle.std.specs.Str.{IsUtf8, IsCharBoundary}
-use Rattle.mdtext.specs.Columns.{Line, Place, is_space_or_tab, width, indent_at, indent, strip_at, strip, line_at, skip_from, skip}
+use Rattle.mdtext.specs.Columns.{Place, is_space_or_tab, width, indent_at, indent, line_at, skip_from, skip}
 use Rattle.mdtext.proofs.Indents.{steps, lands, indent_nil, indent_spaces, width_bounds}
 use Rattle.mdscan.specs.Blanks.{is_blank}
 use Rattle.blockspec.specs.Indentation.{unindented}

@@ -3,7 +3,7 @@ use Rattle.std.proofs.Common.{Box, Global, ◌≡◌, ℕ, Bool, true, false, Li
 use Rattle.mdtext.specs.EntityTable.{EntityTable}
 use Rattle.blockspec.specs.BlockLine.{BlockLine}
 use Rattle.blockspec.specs.BlockStart.{Kind, Paragraph, FencedCode, IndentedCode, HtmlBlock, Quote, Item}
-use Rattle.mdblock.specs.held.HeldLevel.{EndsIn, StandsForLast, StandsForList, StandsForLeaf, CellsStand, behind_over}
+use Rattle.mdblock.specs.held.HeldLevel.{EndsIn, StandsForLast, StandsForList, CellsStand, behind_over}
 use Rattle.blockspec.specs.Laziness.{is_text}
 use Rattle.mdblock.specs.held.LeafEnds.{is_paragraph}
 use Rattle.blockspec.specs.LineSummary.{summary, summary_tip, last_tip, Last, nothing_yet, ended_block, open_leaf, open_container}

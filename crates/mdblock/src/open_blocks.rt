@@ -1,6 +1,7 @@
 //! The open blocks: each level holds the blocks that are over in it, and the one that is still open.
 
-ghost use Rattle.std.specs.Prelude.{◌≡◌, ◌+◌, ◌≤◌, ℕ, List, IfOk, IfSome, OnOk, length};
+ghost use Rattle.std.specs.Prelude.{◌≡◌, ◌+◌, ◌≤◌, ℕ, List, IfErr, IfOk, IfSome, OnOk, length};
+ghost use Rattle.mdblock.specs.declared.faults.BlockFault.TheVariants.{Failed, NestedTooDeep};
 ghost use Rattle.mdtext.specs.Columns.{AreMarks};
 ghost use Rattle.blockspec.specs.BlockLine.{rest};
 ghost use Rattle.mdblock.specs.BlockView.{block_view, blocks_view, items_view};
@@ -226,6 +227,7 @@ impl Level {
         ensures within { OnOk result (LevelIn (length gathering.new.texts.items) self.new) }
         ensures grows { length gathering.old.texts.items ≤ length gathering.new.texts.items }
         ensures entities { gathering.new.entities.now ≡ gathering.old.entities.now }
+        ensures fault { IfErr result (λ fault. fault ≡ Failed → ⊥) }
     {
         if continuation == Continuation::Outside {
             self.shut(gathering)?;
@@ -252,6 +254,7 @@ impl Level {
         ensures within { OnOk result (LevelIn (length gathering.new.texts.items) self.new) }
         ensures grows { length gathering.old.texts.items ≤ length gathering.new.texts.items }
         ensures entities { gathering.new.entities.now ≡ gathering.old.entities.now }
+        ensures fault { IfErr result (λ fault. fault ≡ Failed → ⊥) }
     {
         match &mut self.last {
             OpenBlock::Shut => Ok(()),
@@ -331,6 +334,7 @@ impl Level {
         ensures within { OnOk result (LevelIn (length gathering.new.texts.items) self.new) }
         ensures grows { length gathering.old.texts.items ≤ length gathering.new.texts.items }
         ensures entities { gathering.new.entities.now ≡ gathering.old.entities.now }
+        ensures fault { IfErr result (λ fault. fault ≡ Failed → ⊥) }
     {
         let gap = self.begun && self.blank;
         self.blank = line.is_blank();
@@ -391,7 +395,8 @@ fn matched_if(takes: bool) -> Continuation
 
 /// One container less may be opened inside.
 fn deeper(room: usize) -> Result<usize, BlockFault>
-    ensures { IfOk result (λ less. less + 1 ≡ room) }
+    ensures less { IfOk result (λ less. less + 1 ≡ room) }
+    ensures fault { IfErr result (λ fault. fault ≡ NestedTooDeep) }
 {
     if room == 0 {
         return Err(BlockFault::NestedTooDeep);

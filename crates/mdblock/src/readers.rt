@@ -1,6 +1,6 @@
 //! The reading of a text line by line, and the handing out of its units.
 
-ghost use Rattle.std.specs.Prelude.{List, [], ℕ, ◌≡◌, ◌+◌, ◌*◌, ◌^◌, ◌<◌, ◌≤◌, false, true, None, Some, IfOk, OnOk, OnErr, IsErrOf, is_some, length};
+ghost use Rattle.std.specs.Prelude.{List, [], ℕ, ◌≡◌, ◌+◌, ◌*◌, ◌^◌, ◌<◌, ◌≤◌, false, true, None, Some, IfErr, IfOk, OnOk, OnErr, IsErrOf, is_some, length};
 ghost use Rattle.mdtext.specs.Counted.{counted};
 ghost use Rattle.mdblock.specs.declared.faults.BlockFault.TheVariants.{Failed};
 ghost use Rattle.mdblock.specs.held.HeldLevel.{HoldsSummary, GivesUnit};
@@ -82,6 +82,7 @@ impl<'e> Reader<'e> {
         ensures goes_on { OnOk result (is_some self.new.held ≡ true) }
         ensures fault { OnErr result (self.new ≡ record self.old { held = None }) }
         ensures failed { self.old.held ≡ None → IsErrOf result Failed }
+        ensures failed_before { IsErrOf result Failed → self.old.held ≡ None }
         ensures lines { C.lines count.new ≡ counted (C.lines count.old) }
         ensures inlines { C.inlines count.new ≡ C.inlines count.old }
     {
@@ -98,6 +99,7 @@ impl<'e> Reader<'e> {
     /// The last unit. After a fault the answer is `Failed`.
     pub fn finish(self) -> Result<Option<Found>, BlockFault>
         ensures failed { self.entry.held ≡ None → IsErrOf result Failed }
+        ensures failed_before { IsErrOf result Failed → self.entry.held ≡ None }
     {
         let fed = self.fed;
         match self.held {
@@ -146,6 +148,7 @@ impl<'e> OpenUnit<'e> {
         requires kept { AreKept self.old }
         ensures kept { OnOk result (AreKept self.new) }
         ensures entities { OnOk result (self.new.gathering.entities.now ≡ self.old.gathering.entities.now) }
+        ensures fault { IfErr result (λ fault. fault ≡ Failed → ⊥) }
     {
         let line = Line::new(text);
         let continuation = self.level.continuation(&line);

@@ -1,9 +1,8 @@
 -- How the blocks that a reader holds stand for the summary of the lines that it read: they name inline texts by position,
 -- and the summary has the texts in place.
-use Rattle.std.specs.Prelude.{◌≡◌, ℕ, zero, suc, ◌+◌, ◌<◌, Bool, true, false, not, ◌&&◌, drop, List, [], ◌∷◌, ◌++◌, length, map, string_bytes, Option, option_map, ◌-◌}
+use Rattle.std.specs.Prelude.{◌≡◌, ℕ, zero, suc, ◌+◌, ◌<◌, Bool, true, false, not, ◌&&◌, List, [], ◌∷◌, ◌++◌, length, map, string_bytes, Option, option_map, ◌-◌}
 use Rattle.std.specs.List.{range_with_len}
 use Rattle.mdtext.specs.EntityTable.{EntityTable}
-use Rattle.mdleaf.specs.CodeLanguage.{code_language}
 use Rattle.mdleaf.specs.LinkDefinition.{LinkDefinition, definition_of}
 use Rattle.blockspec.specs.BlockLine.{BlockLine, is_blank_line}
 use Rattle.blockspec.specs.BlockStart.{Kind, FencedCode, Quote, Item}

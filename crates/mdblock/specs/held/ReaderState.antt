@@ -1,5 +1,5 @@
 -- What callers see of a reader.
-use Rattle.std.specs.Prelude.{ℕ, List, Option, None, Some, length, map, string_bytes, option_map}
+use Rattle.std.specs.Prelude.{ℕ, List, Option, None, Some, length, map, string_bytes}
 use Rattle.mdtext.specs.EntityTable.{EntityTable}
 use Rattle.mdleaf.specs.LinkDefinition.{LinkDefinition, definition_of}
 use Rattle.mdblock.specs.declared.open_blocks.Level.{Level}

@@ -1,7 +1,7 @@
 -- How what a reader holds stands for the lines that it has read.
 use Rattle.std.specs.Prelude.{◌≡◌, ℕ, false, List, [], ◌∷◌, length, map, Option, None, Some}
 use Rattle.mdtext.specs.EntityTable.{EntityTable}
-use Rattle.blockspec.specs.BlockLine.{BlockLine, document_line}
+use Rattle.blockspec.specs.BlockLine.{document_line}
 use Rattle.blockspec.specs.BlockUnits.{begins}
 use Rattle.mdblock.specs.held.HeldLevel.{StandsFor}
 use Rattle.mdblock.specs.held.HeldNodes.{handed_nodes}
