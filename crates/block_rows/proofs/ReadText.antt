@@ -18,7 +18,7 @@ use Rattle.mdscan.specs.DelimiterRow.{is_delimiter, delimiter_columns, delimiter
 use Rattle.mdscan.specs.Escapes.{run_before}
 use Rattle.mdscan.specs.Gaps.{gap_length}
 use Rattle.mdscan.specs.HtmlBlock.{begins_one_of, raw_names, block_names, begins_raw, is_block_name, begins_block, begins_raw_end, ends_kind, holds_end, is_raw_tag, begins_whole_tag, html_kind}
-use Rattle.mdscan.specs.HtmlTag.{tag_name_length, attribute_name_length, quoted_length, value_length, equals_length, value_part_length, attribute_length, open_end_length, open_tag, closing_tag}
+use Rattle.mdscan.specs.Tag.{tag_name_length, attribute_name_length, quoted_length, value_length, equals_length, value_part_length, attribute_length, open_end_length, open_tag, closing_tag}
 use Rattle.mdscan.specs.LinkDefinition.{line_end, titled_def, labelled_def, definition_of}
 use Rattle.mdscan.specs.LinkDestination.{angle_destination, bare_end, destination_at}
 use Rattle.mdscan.specs.LinkLabel.{label_at}
