@@ -17,7 +17,7 @@ BASH_COMPLETION_DIR ?= $(PREFIX)/share/bash-completion/completions
 ZSH_COMPLETION_DIR ?= $(PREFIX)/share/zsh/site-functions
 INSTALL ?= install
 
-.PHONY: help run test build check fmt compare counts rows rows_inlines install uninstall
+.PHONY: help run test build check fmt picture compare counts rows rows_inlines install uninstall
 
 help:
 	@echo "make run                 runs mdrender on a page and mdpreview on a writer's few edits, and shows what goes in and out (from the sources, unproved, where bin/ is empty)"
@@ -25,6 +25,7 @@ help:
 	@echo "make test                the gate: every proof from nothing, the tests and must-fail edits, the example files, endings and completions; the log in out/gate.log"
 	@echo "make check               a quick check of every crate, over what earlier checks kept"
 	@echo "make fmt                 lays out the sources"
+	@echo "make picture             draws docs/preview.svg, the README's picture, from a run of bin/mdpreview"
 	@echo "make install PREFIX=DIR  installs the programs, their man pages and completions for bash and zsh below DIR ($(PREFIX)); DESTDIR is honoured"
 	@echo "make uninstall           removes what make install put there"
 	@echo "make rows ORACLE=DIR CORPUS=DIR  proves rows of the definitions of PART=$(PART) from the standards' examples in CORPUS, with what ORACLE/oracle.py says of them"
@@ -46,6 +47,9 @@ check:
 
 fmt:
 	@for crate in crates/*/; do (cd $$crate && $(RT) fmt) || exit 1; done
+
+picture: bin/mdpreview
+	@tools/picture examples/pane.script > docs/preview.svg
 
 compare: $(if $(BUILT),,build)
 	@tools/compare $(ORACLE) $(TEXTS) $(SCRIPTS)
