@@ -1,6 +1,7 @@
 -- Rows of lines with a container too many, by computation: the limits 1, 2 and 3, as the whole text tells and as a reader does
 -- that keeps the summary of the lines so far.
-use Rattle.std.proofs.Common.{ℕ, List, ◌≡◌, [], ◌∷◌, Option, Some, None, refl, codes}
+use Rattle.std.specs.Prelude.{replicate}
+use Rattle.std.proofs.Common.{ℕ, List, ◌≡◌, [], ◌∷◌, ◌++◌, Option, Some, None, refl, codes}
 use Rattle.block_rows.proofs.ReadText.{deep_line, refused}
 
 abbrev deep_lines : List ℕ → List (Option ℕ)
@@ -131,3 +132,12 @@ blank_alone = (refl, refl)
 second_unit : TooDeep (codes "> > > a\n\n- - - - b\n") (Some 0 ∷ Some 0 ∷ Some 2 ∷ [])
 unfolding deep_line refused
 second_unit = (refl, refl)
+
+-- the greatest limit that a reader takes
+greatest_kept : refused 256 (replicate 256 62 ++ codes "x") ≡ None
+unfolding refused
+greatest_kept = refl
+
+past_greatest_kept : refused 256 (replicate 257 62 ++ codes "x") ≡ Some 0
+unfolding refused
+past_greatest_kept = refl

@@ -87,8 +87,8 @@ unfolding units_read summary_tip last_tip closed last_groups ended_last new_last
 refused limit text = refused_line builtin_table limit no_summary 0 (map document_line (text_lines text))
 
 -- the units of a text as this reader finds them
-unfoldable pub units_kept : List ℕ → List FoundUnit
+unfoldable pub units_kept : (limit : ℕ) → List ℕ → List FoundUnit
 unfolding refused lines_added
-units_kept text =
+units_kept limit text =
     let lines = map document_line (text_lines text) in
-    found_units (closed builtin_table (lines_added builtin_table 64 no_summary lines)) (length lines)
+    found_units (closed builtin_table (lines_added builtin_table limit no_summary lines)) (length lines)

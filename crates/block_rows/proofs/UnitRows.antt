@@ -94,6 +94,24 @@ too_deep : deep_line 64 (10 ∷ replicate 65 62 ++ codes "x") ≡ Some 1
 unfolding deep_line
 too_deep = refl
 
+-- two hundred and fifty-six, the greatest limit that a reader takes, and one more
+greatest_limit : deep_line 256 (replicate 256 62 ++ codes "x") ≡ None
+unfolding deep_line
+greatest_limit = refl
+
+past_greatest : deep_line 256 (replicate 257 62 ++ codes "x") ≡ Some 0
+unfolding deep_line
+past_greatest = refl
+
+-- the least limit
+least_limit : deep_line 1 (codes "> x\n- y\n") ≡ None
+unfolding deep_line
+least_limit = refl
+
+past_least : deep_line 1 (codes "> x\n- > y\n") ≡ Some 1
+unfolding deep_line
+past_least = refl
+
 -- the line of the container, where those around it began before it; a list counts nothing
 deep_later : deep_line 2 (codes "> a\n>\n> - b\n>   1. c\n") ≡ Some 3
 unfolding deep_line

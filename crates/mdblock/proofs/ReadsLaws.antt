@@ -16,14 +16,14 @@ unfolding groups_within found_units cut_from all_of grouped
 begin-none e = refl
 
 pub reads-none : (limit : ℕ) (e : EntityTable) (held : HeldUnit) → held.begin ≡ None → StandsForHeld e held no_summary →
-    Reads limit e (record { entities = e; fed = 0; held = Some held }) []
+    Reads limit e (record { entities = e; limit = limit; fed = 0; held = Some held }) []
 unfolding Reads lines_held
 reads-none limit e held b s =
-    (refl, refl, none-deep limit, (b ∙ begin-none e, subst (StandsForHeld e held) (sym (summary-none e)) s))
+    (refl, refl, refl, none-deep limit, (b ∙ begin-none e, subst (StandsForHeld e held) (sym (summary-none e)) s))
 
 pub reads-begin : (limit : ℕ) (e : EntityTable) (reading : Reading) (ls : List (List ℕ)) → Reads limit e reading ls → held_begin reading.held ≡ open_begin e ls
 unfolding Reads
-reads-begin limit e reading ls r = go reading.held r.3
+reads-begin limit e reading ls r = go reading.held r.4
   where
     go : (h : Option HeldUnit) → HoldsUnit e h ls → held_begin h ≡ open_begin e ls
     go None w = absurd w

@@ -19,9 +19,6 @@ use std::alloc::{AllocError, Global};
 use std::marker::Model;
 use std::mem;
 
-/// How many containers may be open inside one another; a list counts nothing.
-const LIMIT: usize = 64;
-
 /// What is read and not handed out yet.
 #[derive(Drop)]
 struct Held<'e> {
@@ -35,6 +32,7 @@ struct Held<'e> {
 pub struct Reader<'e> {
     alloc: Global,
     entities: &'e Entities,
+    limit: usize,
     fed: usize,
     held: Option<Held<'e>>,
 }
@@ -51,20 +49,24 @@ impl<'e> Model for Reader<'e> {
 
     ghost coded = { Prim.hlevel (codes, level.the_row.coded, definition_code) };
 
-    ghost view = { λ r. record { entities = r.entities.now; fed = r.fed; held = option_map held_view r.held } };
+    ghost view = { λ r. record { entities = r.entities.now; limit = r.limit; fed = r.fed; held = option_map held_view r.held } };
 
     ghost invariant = { λ r. IfSome r.held (λ held. AreKept held × (held.gathering.entities.now ≡ r.entities.now)) };
 }
 
 impl<'e> Reader<'e> {
-    /// A reader that has read nothing. References are read by these entities. Takes no memory.
-    pub fn new(alloc: Global, entities: &'e Entities) -> Reader<'e>
+    /// A reader that has read nothing. References are read by these entities. So many containers, 1 to 256, may be open inside
+    /// one another; a list counts nothing. Takes no memory.
+    pub fn new(alloc: Global, entities: &'e Entities, limit: usize) -> Reader<'e>
+        requires some { 1 ≤ limit }
+        requires few { limit ≤ 256 }
         ensures fed { result.fed ≡ 0 }
-        ensures reads { Reads LIMIT entities.now result [] }
+        ensures reads { Reads limit entities.now result [] }
     {
         Reader {
             alloc,
             entities,
+            limit,
             fed: 0,
             held: Some(Held::new(alloc, entities, None)),
         }
@@ -87,7 +89,7 @@ impl<'e> Reader<'e> {
         let Some(mut held) = self.held.take() else {
             return Err(BlockFault::Failed);
         };
-        let found = held.read(text, self.fed)?;
+        let found = held.read(text, self.fed, self.limit)?;
         self.fed += 1;
         self.held = Some(held);
         Ok(found)
@@ -115,7 +117,7 @@ impl<'e> Reader<'e> {
     /// Takes no memory.
     pub fn open_at(&self) -> Option<usize>
         ensures value { result ≡ held_begin self.now.held }
-        ensures open { (e : EntityTable) (ls : List (List ℕ)) → Reads LIMIT e self.now ls → result ≡ open_begin e ls }
+        ensures open { (limit : ℕ) (e : EntityTable) (ls : List (List ℕ)) → Reads limit e self.now ls → result ≡ open_begin e ls }
     {
         match &self.held {
             Some(held) => held.begin,
@@ -138,8 +140,8 @@ impl<'e> Held<'e> {
         }
     }
 
-    /// Reads a line before which `fed` lines were read.
-    fn read(&mut self, text: &str, fed: usize) -> Result<Option<Found>, BlockFault>
+    /// Reads a line before which `fed` lines were read, where so many containers may be open inside one another.
+    fn read(&mut self, text: &str, fed: usize, limit: usize) -> Result<Option<Found>, BlockFault>
         requires short { 4 * length text.now < 2 ^ 64 }
         requires kept { AreKept self.old }
         ensures kept { OnOk result (AreKept self.new) }
@@ -152,7 +154,7 @@ impl<'e> Held<'e> {
         } else {
             None
         };
-        self.level.add(line, place, LIMIT, &mut self.gathering)?;
+        self.level.add(line, place, limit, &mut self.gathering)?;
         Ok(found)
     }
 

@@ -1,5 +1,7 @@
 //! Texts with the units that they are, by the examples and rules of CommonMark 0.31.2 and GFM 0.29.
 
+ghost use Rattle.std.specs.Prelude.{◌≤◌};
+
 use crate::{Block, BlockFault, Found, Reader, Unit};
 use mdtext::{Entities, Tally};
 use std::alloc::{AllocError, Global};
@@ -123,10 +125,16 @@ fn name(fault: BlockFault) -> &'static str {
     }
 }
 
+/// How many containers may be open inside one another, where a test says nothing else.
+const LIMIT: usize = 64;
+
 /// The units of a text whose lines end at LF, or the name of its fault.
-fn units(alloc: Global, text: &str) -> Result<String, AllocError> {
+fn units(alloc: Global, text: &str, limit: usize) -> Result<String, AllocError>
+    requires some { 1 ≤ limit }
+    requires few { limit ≤ 256 }
+{
     let entities = Entities::builtin(alloc)?;
-    let mut reader = Reader::new(alloc, &entities);
+    let mut reader = Reader::new(alloc, &entities, limit);
     let mut count = Tally::new();
     let mut out = String::new(alloc);
     for line in text.lines() {
@@ -149,7 +157,7 @@ fn units(alloc: Global, text: &str) -> Result<String, AllocError> {
 }
 
 fn check(rt: &impl Abort, alloc: Global, text: &str, want: &str) -> Result<(), AllocError> {
-    let out = units(alloc, text)?;
+    let out = units(alloc, text, LIMIT)?;
     assert_eq!(rt; out.as_str(), want);
     Ok(())
 }
@@ -271,11 +279,25 @@ fn quoted(alloc: Global, quotes: usize) -> Result<String, AllocError> {
 fn containers_are_limited(rt: HostRuntime) -> Result<(), Fail> {
     let a = rt.alloc();
     let deepest = quoted(a, 64)?;
-    assert!(rt; units(a, deepest.as_str())?.contains("p(x)"));
+    assert!(rt; units(a, deepest.as_str(), LIMIT)?.contains("p(x)"));
     let line = quoted(a, 65)?;
     check(&rt, a, line.as_str(), "NestedTooDeep")?;
     let line = quoted(a, 1000)?;
     check(&rt, a, line.as_str(), "NestedTooDeep")?;
+    Ok(())
+}
+
+#[test]
+fn the_limit_is_handed_in(rt: HostRuntime) -> Result<(), Fail> {
+    let a = rt.alloc();
+    assert_eq!(rt; units(a, "> x", 1)?.as_str(), "quote{p(x);};\n");
+    assert_eq!(rt; units(a, "> > x", 1)?.as_str(), "NestedTooDeep");
+    assert_eq!(rt; units(a, "- > x", 1)?.as_str(), "NestedTooDeep");
+    assert!(rt; units(a, "> - x", 2)?.contains("p(x)"));
+    let deepest = quoted(a, 256)?;
+    assert!(rt; units(a, deepest.as_str(), 256)?.contains("p(x)"));
+    let line = quoted(a, 257)?;
+    assert_eq!(rt; units(a, line.as_str(), 256)?.as_str(), "NestedTooDeep");
     Ok(())
 }
 
@@ -285,7 +307,7 @@ fn a_fault_stays(rt: HostRuntime) -> Result<(), Fail> {
     let entities = Entities::builtin(a)?;
     let mut count = Tally::new();
     let line = quoted(a, 65)?;
-    let mut reader = Reader::new(a, &entities);
+    let mut reader = Reader::new(a, &entities, LIMIT);
     assert!(rt; reader.fed() == 0 && reader.open_at().is_none());
     assert!(rt; matches!(reader.line("", &mut count), Ok(None)));
     assert!(rt; matches!(reader.line("a", &mut count), Ok(None)));
@@ -309,7 +331,7 @@ fn units_say_where_they_begin(rt: HostRuntime) -> Result<(), Fail> {
     let a = rt.alloc();
     let entities = Entities::builtin(a)?;
     let mut count = Tally::new();
-    let mut reader = Reader::new(a, &entities);
+    let mut reader = Reader::new(a, &entities, LIMIT);
     assert!(rt; matches!(reader.line("", &mut count), Ok(None)));
     assert!(rt; matches!(reader.line("- a", &mut count), Ok(None)));
     assert!(rt; matches!(reader.line("", &mut count), Ok(None)));

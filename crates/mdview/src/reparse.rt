@@ -13,6 +13,9 @@ use mdblock::{BlockFault, Found, Reader};
 use mdtext::Count;
 use std::alloc::AllocError;
 
+/// How many containers may be open inside one another; a list counts nothing.
+const MAX_CONTAINERS: usize = 64;
+
 /// What an edit reads: from line `from` up to line `meet` there are the units `found`, in the place of those from number `first`
 /// up to `next`.
 #[derive(Drop)]
@@ -42,7 +45,7 @@ pub(crate) fn reparse<C: Count>(
     let first = start.unit;
     let mut cursor = UnitCursor::at(held.units, start);
     let mut found = Vec::new(held.alloc);
-    let mut reader = Reader::new(held.alloc, held.entities);
+    let mut reader = Reader::new(held.alloc, held.entities, MAX_CONTAINERS);
     for line in from..text.len() {
         match reader.line(text.line(line), count) {
             Ok(unit) => push_some(&mut found, unit)?,

@@ -13,9 +13,10 @@ pub record HeldUnit : Type 0 where
   pub texts : List (List ℕ)
   pub begin : Option ℕ
 
--- how many lines were read, by which entities, and what is held, until a fault comes
+-- how many lines were read, by which entities and with how many containers allowed inside one another, and what is held, until a fault comes
 pub record Reading : Type 0 where
   pub entities : EntityTable
+  pub limit : ℕ
   pub fed : ℕ
   pub held : Option HeldUnit
 

@@ -33,4 +33,5 @@ HoldsUnit entities (Some held) lines =
 -- A reader that has read these lines, with no fault.
 unfoldable pub Reads : (limit : ℕ) → EntityTable → Reading → (lines : List (List ℕ)) → Type 0
 Reads limit entities reading lines =
-    (reading.entities ≡ entities) × (reading.fed ≡ length lines) × (first_too_deep limit lines ≡ None) × HoldsUnit entities reading.held lines
+    (reading.entities ≡ entities) × (reading.limit ≡ limit) × (reading.fed ≡ length lines) × (first_too_deep limit lines ≡ None)
+    × HoldsUnit entities reading.held lines
