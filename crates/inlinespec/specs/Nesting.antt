@@ -1,5 +1,5 @@
 -- How deep spans lie in one another: emphasis, strong emphasis, strikethrough, links and images.
-use Rattle.std.specs.Prelude.{◌≡◌, ◌⊎◌, ℕ, suc, max}
+use Rattle.std.specs.Prelude.{◌≡◌, ◌⊎◌, ℕ, suc, max, Bool, nat_lt}
 use Rattle.inlinespec.specs.InlineTree.{Inline, Inlines, no_inlines, inline, emph, strong, strike, link, image}
 
 -- the greatest number of spans on one way from the root down
@@ -15,6 +15,10 @@ unfoldable mutual
   nest_of (link url title inside) = suc (nest inside)
   nest_of (image url title inside) = suc (nest inside)
   nest_of _ = 0
+
+-- More spans lie in one another than a limit allows. It is the one place where a limit is known, and it is ours, since the standard has none.
+abbrev pub is_too_deep : (limit : ℕ) → Inlines → Bool
+is_too_deep limit tree = nat_lt limit (nest tree)
 
 -- a part: the whole, what follows its first inline, what stands inside that inline, or a part of these
 unfoldable mutual

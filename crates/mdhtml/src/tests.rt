@@ -152,7 +152,7 @@ fn texts(alloc: Global, of: &[&str]) -> Result<Vec<Parsed>, Fail> {
     let mut tally = Tally::new();
     let mut texts = Vec::new(alloc);
     for s in of {
-        texts.push(read(alloc, s, &labels, &entities, &mut tally)?)?;
+        texts.push(read(alloc, s, &labels, &entities, 64, &mut tally)?)?;
     }
     Ok(texts)
 }

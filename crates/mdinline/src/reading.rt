@@ -22,7 +22,6 @@ use crate::parsed::Parsed;
 use crate::pieces::Piece;
 use crate::scanner::Scanner;
 use crate::settling::settle;
-use crate::trees::MOST_SPANS;
 use mdpair::delimiter_run;
 use mdtext::{Count, Entities, Label, Target};
 use std::alloc::{AllocError, Global};
@@ -34,42 +33,48 @@ struct Reading {
     pieces: Vec<Piece>,
     openings: Openings,
     asked: BTreeSet<Label, Global>,
+    /// How many spans may lie in one another.
+    limit: usize,
 }
 
 /// Reads an inline text, and counts it.
 ///
-/// Labels that are looked up are asked for, found or not. `TooDeep` where more than 64 spans (emphasis, strong emphasis, strikethrough, links, images) lie in
-/// one another. After a fault nothing is left but the count.
+/// Labels that are looked up are asked for, found or not. `TooDeep` where more than `limit` spans (emphasis, strong emphasis, strikethrough, links, images)
+/// lie in one another; the limit is 1 to 256. After a fault nothing is left but the count.
 pub fn read<L: Labels, C: Count>(
     alloc: Global,
     text: &str,
     labels: &L,
     entities: &Entities,
+    limit: usize,
     count: &mut C,
 ) -> Result<Parsed, InlineFault>
+    requires least { 1 ≤ limit }
+    requires most { limit ≤ 256 }
     ensures inlines { C.inlines count.new ≡ counted (C.inlines count.old) }
     ensures lines { C.lines count.new ≡ C.lines count.old }
 {
     count.inline();
     let mut scanner = Scanner::of(alloc, text)?;
-    let mut reading = Reading::new(alloc);
+    let mut reading = Reading::new(alloc, limit);
     let mut at = 0;
     while at < text.len() {
         at = reading.step(alloc, text, at, &mut scanner, labels, entities)?;
     }
     let Reading { pieces, asked, .. } = reading;
-    let tree = settle(alloc, pieces)?;
+    let tree = settle(alloc, pieces, limit)?;
     Ok(Parsed::new(tree.inlines, Asked::of(alloc, asked)?))
 }
 
 impl Reading {
-    fn new(alloc: Global) -> Reading
+    fn new(alloc: Global, limit: usize) -> Reading
         ensures { result.openings.unused.items ≡ [] }
     {
         Reading {
             pieces: Vec::new(alloc),
             openings: Openings::new(alloc),
             asked: BTreeSet::new(alloc),
+            limit,
         }
     }
 
@@ -237,8 +242,8 @@ impl Reading {
         ensures asked { OnOk result (self.new.asked ≡ self.old.asked) }
     {
         let inside = self.take_inside(alloc, opening.piece)?;
-        let tree = settle(alloc, inside)?;
-        if tree.depth >= MOST_SPANS {
+        let tree = settle(alloc, inside, self.limit)?;
+        if tree.depth >= self.limit {
             return Err(InlineFault::TooDeep);
         }
         let inline = if opening.is_image {

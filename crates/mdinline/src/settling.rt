@@ -25,10 +25,10 @@ struct PairedRun {
     begins: Vec<SpanKind>,
 }
 
-/// The tree of these pieces. It is refused while it is built if too many spans lie in one another.
-pub(crate) fn settle(alloc: Global, pieces: Vec<Piece>) -> Result<Tree, InlineFault> {
+/// The tree of these pieces. It is refused while it is built where more than `limit` spans lie in one another.
+pub(crate) fn settle(alloc: Global, pieces: Vec<Piece>, limit: usize) -> Result<Tree, InlineFault> {
     let mut runs = paired(alloc, &pieces)?.into_iter();
-    let mut builder = TreeBuilder::new(alloc, pieces.len())?;
+    let mut builder = TreeBuilder::new(alloc, pieces.len(), limit)?;
     for piece in pieces {
         match piece {
             Piece::Made { inline, depth } => builder.add(inline, depth)?,

@@ -8,7 +8,7 @@ mod others;
 mod references;
 mod rows;
 
-use self::rows::read_text;
+use self::rows::{read_text, read_within};
 use crate::{Inline, InlineFault, LabelTable, Labels, read};
 use mdtext::{Entities, Label, Tally, Target, fold_label};
 use std::alloc::{AllocError, Global};
@@ -88,13 +88,17 @@ fn nested(
 /// Whether a text that is nested so often is refused as too deep.
 fn is_too_deep(
     alloc: Global,
+    limit: usize,
     count: usize,
     opener: &str,
     inside: &str,
     closer: &str,
-) -> Result<bool, AllocError> {
+) -> Result<bool, AllocError>
+    requires least { 1 ≤ limit }
+    requires most { limit ≤ 256 }
+{
     let text = nested(alloc, count, opener, inside, closer)?;
-    let read = read_text(alloc, text.as_str(), &[("k", "/u", "")])?;
+    let read = read_within(alloc, text.as_str(), &[("k", "/u", "")], limit)?;
     Ok(matches!(read, Err(InlineFault::TooDeep)))
 }
 
@@ -119,8 +123,38 @@ fn spans_nest_up_to_64(rt: HostRuntime) -> Result<(), Fail> {
         (20000, "*", "a", "*", true),
     ];
     for (count, opener, inside, closer, want) in rows {
-        let refused = is_too_deep(alloc, count, opener, inside, closer)?;
+        let refused = is_too_deep(alloc, 64, count, opener, inside, closer)?;
         assert_eq!(rt; refused, want, "at {count} {opener} {inside}");
+    }
+    Ok(())
+}
+
+#[test]
+fn the_limit_is_handed_in(rt: HostRuntime) -> Result<(), Fail> {
+    let alloc = rt.alloc();
+    let rows = [
+        (1, "*a ", "b", " a*", false),
+        (2, "*a ", "b", " a*", true),
+        (1, "[", "a", "](/u)", false),
+        (1, "[", "*a*", "](/u)", true),
+        (1, "![", "a", "](/u)", false),
+        (2, "![", "a", "](/u)", true),
+        (1, "", "<ab:c>", "", false),
+        (1, "*", "<ab:c>", "*", true),
+    ];
+    for (count, opener, inside, closer, want) in rows {
+        let refused = is_too_deep(alloc, 1, count, opener, inside, closer)?;
+        assert_eq!(rt; refused, want, "at {count} {opener} {inside} of 1");
+    }
+    for (count, want) in [(2, false), (3, true)] {
+        let refused = is_too_deep(alloc, 2, count, "*a ", "b", " a*")?;
+        assert_eq!(rt; refused, want, "at {count} of 2");
+    }
+    for (count, want) in [(256, false), (257, true)] {
+        for (opener, closer) in [("*a ", " a*"), ("![", "](/u)"), ("~~a ", " a~~")] {
+            let refused = is_too_deep(alloc, 256, count, opener, "b", closer)?;
+            assert_eq!(rt; refused, want, "at {count} {opener} of 256");
+        }
     }
     Ok(())
 }
@@ -133,7 +167,7 @@ fn each_text_is_counted_once(rt: HostRuntime) -> Result<(), Fail> {
     let mut tally = Tally::new();
     let deep = nested(alloc, 129, "*", "a", "*")?;
     for text in ["", "*a* [b](/u)", deep.as_str()] {
-        let _ = read(alloc, text, &labels, &entities, &mut tally);
+        let _ = read(alloc, text, &labels, &entities, 64, &mut tally);
     }
     assert_eq!(rt; tally.inlines(), 3);
     assert_eq!(rt; tally.lines(), 0);

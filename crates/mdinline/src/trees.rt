@@ -10,9 +10,6 @@ use crate::inlines::Inline;
 use std::alloc::{AllocError, Global};
 use std::mem;
 
-/// How many spans (emphasis, strong emphasis, strikethrough, links, images) may lie in one another.
-pub(crate) const MOST_SPANS: usize = 64;
-
 /// A span that delimiter runs make.
 #[derive(Clone, Copy, Debug, Drop)]
 pub(crate) enum SpanKind {
@@ -34,6 +31,8 @@ pub(crate) struct TreeBuilder {
     frames: Vec<Frame>,
     last: Vec<Inline>,
     depth: usize,
+    /// How many spans may lie in one another.
+    limit: usize,
 }
 
 /// A tree, and how many spans lie in one another in it.
@@ -44,8 +43,8 @@ pub(crate) struct Tree {
 }
 
 impl TreeBuilder {
-    /// No inlines yet, with room for so many.
-    pub(crate) fn new(alloc: Global, room: usize) -> Result<TreeBuilder, AllocError>
+    /// No inlines yet, with room for so many, of which no more than `limit` may lie in one another.
+    pub(crate) fn new(alloc: Global, room: usize, limit: usize) -> Result<TreeBuilder, AllocError>
         ensures events { IfOk result (λ builder. built builder ≡ []) }
         ensures frames { IfOk result (λ builder. builder.frames.items ≡ []) }
     {
@@ -53,6 +52,7 @@ impl TreeBuilder {
             frames: Vec::new(alloc),
             last: Vec::with_capacity(alloc, room)?,
             depth: 0,
+            limit,
         })
     }
 
@@ -118,7 +118,7 @@ impl TreeBuilder {
         ensures last { self.new.last ≡ self.old.last }
     {
         let depth = self.frames.len().saturating_add(more);
-        if depth > MOST_SPANS {
+        if depth > self.limit {
             return Err(InlineFault::TooDeep);
         }
         self.depth = self.depth.max(depth);

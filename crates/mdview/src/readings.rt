@@ -9,6 +9,7 @@ ghost use Rattle.mdview.specs.Update.{Fits, IsWritten};
 use crate::fault::EditFault;
 use crate::held_labels::LabelsAfter;
 use crate::held_units::HeldUnit;
+use crate::limits::MAX_SPANS;
 use mdblock::{Found, Unit};
 use mdhtml::{Options, unit_html};
 use mdinline::{InlineFault, Parsed, read};
@@ -75,7 +76,14 @@ impl<'a> TextReader<'a> {
         let texts = unit.texts();
         let mut inlines = Vec::with_capacity(self.alloc, texts.len())?;
         for text in texts {
-            inlines.push(read(self.alloc, text, &self.labels, self.entities, count)?)?;
+            inlines.push(read(
+                self.alloc,
+                text,
+                &self.labels,
+                self.entities,
+                MAX_SPANS,
+                count,
+            )?)?;
         }
         Ok(inlines)
     }
@@ -197,7 +205,14 @@ impl<'a> TextReader<'a> {
         ensures inlines { C.inlines count.new ≤ C.inlines count.old + 1 }
     {
         if self.labels.changes.concern(held.asked()) {
-            read(self.alloc, text, &self.labels, self.entities, count)
+            read(
+                self.alloc,
+                text,
+                &self.labels,
+                self.entities,
+                MAX_SPANS,
+                count,
+            )
         } else {
             Ok(held.copy(self.alloc)?)
         }

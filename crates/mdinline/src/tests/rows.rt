@@ -29,16 +29,29 @@ pub(crate) fn table_of(
     Ok(table)
 }
 
-/// Reads a text with the built-in entities.
+/// Reads a text with the built-in entities, and with the limit of 64 spans.
 pub(crate) fn read_text(
     alloc: Global,
     text: &str,
     definitions: &[Definition],
 ) -> Result<Result<Parsed, InlineFault>, AllocError> {
+    read_within(alloc, text, definitions, 64)
+}
+
+/// Reads a text in which no more than `limit` spans may lie in one another.
+pub(crate) fn read_within(
+    alloc: Global,
+    text: &str,
+    definitions: &[Definition],
+    limit: usize,
+) -> Result<Result<Parsed, InlineFault>, AllocError>
+    requires least { 1 ≤ limit }
+    requires most { limit ≤ 256 }
+{
     let table = table_of(alloc, definitions)?;
     let entities = Entities::builtin(alloc)?;
     let mut tally = Tally::new();
-    Ok(read(alloc, text, &table, &entities, &mut tally))
+    Ok(read(alloc, text, &table, &entities, limit, &mut tally))
 }
 
 fn check_tree(
