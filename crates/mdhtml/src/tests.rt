@@ -12,11 +12,15 @@ use std::test::Fail;
 const SAFE: Options = Options {
     unsafe_html: false,
     breaks: Breaks::Soft,
+    max_containers: 64,
+    max_spans: 64,
 };
 
 const UNSAFE: Options = Options {
     unsafe_html: true,
     breaks: Breaks::Soft,
+    max_containers: 64,
+    max_spans: 64,
 };
 
 fn text(alloc: Global, s: &str) -> Result<Vec<Inline>, AllocError> {

@@ -6,9 +6,6 @@ ghost use Rattle.mdview.specs.Edit.{has_line_ending, first_with_ending};
 
 use mdtext::{Class, clean_len, first_special};
 
-/// How many spans may lie in one another in a text.
-pub(crate) const MAX_SPANS: usize = 64;
-
 /// Whether a line ending stands in the line.
 pub(crate) fn has_line_break(line: &str) -> bool
     ensures { result ≡ has_line_ending line.now }

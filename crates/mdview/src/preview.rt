@@ -1,5 +1,6 @@
 ghost use Rattle.std.specs.Prelude.{if◌then◌else◌, nat_lt, None, Some, ◌≡◌, ◌≤◌, ◌+◌, IfOk, IfErr, OnOk};
 ghost use Rattle.std.specs.Prelude.{List, [], map, length, slice_get, get_or, IsSome, option_map, string_bytes};
+ghost use Rattle.mdhtml.specs.Limits.{HasLimits};
 ghost use Rattle.mdview.specs.Document.{document, size_of};
 ghost use Rattle.mdview.specs.Edit.{Call, call_of, due, put};
 ghost use Rattle.mdview.specs.Outcome.{outcome};
@@ -15,6 +16,7 @@ use crate::fault::EditFault;
 use crate::held_labels::HeldLabels;
 use crate::held_units::HeldUnit;
 use crate::limits::{clean_size, first_line_break, size};
+use crate::lines::Lines;
 use crate::new_text::NewText;
 use crate::patch::Patch;
 use crate::pieces::Pieces;
@@ -48,6 +50,7 @@ pub struct Preview {
 
 impl Model for Preview {
     ghost use Rattle.std.specs.Prelude.{◌≡◌, ◌≤◌, map, length, string_bytes};
+    ghost use Rattle.mdhtml.specs.Limits.{HasLimits};
     ghost use Rattle.mdview.specs.Document.{Document, size_of};
     ghost use Rattle.mdview.specs.HeldUnit.{IsRendered, piece_of, read_of, read_unit_code};
     ghost use Rattle.std.specs.Coded.{codes};
@@ -67,12 +70,13 @@ impl Model for Preview {
     } };
 
     ghost invariant = { λ p. (p.size ≡ size_of (map string_bytes p.lines.items)) × (p.size ≤ 16777216) × (length p.lines.items ≤ 1000000)
-        × All (IsRendered p.options) p.units.items };
+        × All (IsRendered p.options) p.units.items × HasLimits p.options };
 }
 
 impl Preview {
-    /// The empty text. Takes no memory.
+    /// The empty text. The limits of the options are 1 to 256. Takes no memory.
     pub fn new(alloc: Global, entities: Entities, options: Options) -> Preview
+        requires { HasLimits options }
         ensures { result ≡ document entities options [] 0 [] }
     {
         Preview {
@@ -102,6 +106,13 @@ impl Preview {
             Some(line) => Some(line.as_str()),
             None => None,
         }
+    }
+
+    /// Each line of the text in order, without its ending, lent without copying.
+    pub fn lines(&self) -> Lines<'_>
+        ensures { result ≡ self.now.lines }
+    {
+        Lines::new(&self.lines)
     }
 
     /// How many units the text has.
@@ -150,7 +161,7 @@ impl Preview {
     }
 
     /// The HTML of the unit of this number; nothing where the text has fewer.
-    pub(crate) fn piece(&self, i: usize) -> Option<&str>
+    pub fn piece(&self, i: usize) -> Option<&str>
         ensures { option_map (λ piece. piece.now) result ≡ slice_get self.now.pieces i }
     {
         match self.units.get(i) {

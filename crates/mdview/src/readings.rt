@@ -2,6 +2,7 @@
 
 ghost use Rattle.std.specs.Prelude.{◌≡◌, ◌+◌, ◌≤◌, ◌<◌, IfOk, IfErr, OnOk, length, map, string_bytes};
 ghost use Rattle.std.specs.List.{All};
+ghost use Rattle.mdhtml.specs.Limits.{HasLimits};
 ghost use Rattle.mdview.specs.ReadingEnd.{OfReading};
 ghost use Rattle.mdview.specs.HeldUnit.{HeldUnit, IsRendered, html_of, texts_of, read_of, unit_in, texts_before, texts_in};
 ghost use Rattle.mdview.specs.Update.{Fits, IsWritten};
@@ -9,7 +10,6 @@ ghost use Rattle.mdview.specs.Update.{Fits, IsWritten};
 use crate::fault::EditFault;
 use crate::held_labels::LabelsAfter;
 use crate::held_units::HeldUnit;
-use crate::limits::MAX_SPANS;
 use mdblock::{Found, Unit};
 use mdhtml::{Options, unit_html};
 use mdinline::{InlineFault, Parsed, read};
@@ -41,6 +41,7 @@ impl<'a> TextReader<'a> {
         from: usize,
         count: &mut C,
     ) -> Result<Vec<HeldUnit>, EditFault>
+        requires limits { HasLimits self.now.options.now }
         ensures fault { IfErr result OfReading }
         ensures pieces { IfOk result (λ units. All (IsRendered self.now.options.now) units.items) }
         ensures lines { C.lines count.new ≡ C.lines count.old }
@@ -58,6 +59,7 @@ impl<'a> TextReader<'a> {
     }
 
     fn read_unit<C: Count>(&self, found: Found, count: &mut C) -> Result<HeldUnit, InlineFault>
+        requires limits { HasLimits self.now.options.now }
         ensures unit { IfOk result (λ unit. unit.read.unit ≡ found.unit) }
         ensures piece { IfOk result (IsRendered self.now.options.now) }
         ensures lines { C.lines count.new ≡ C.lines count.old }
@@ -69,6 +71,7 @@ impl<'a> TextReader<'a> {
     }
 
     fn read_texts<C: Count>(&self, unit: &Unit, count: &mut C) -> Result<Vec<Parsed>, InlineFault>
+        requires limits { HasLimits self.now.options.now }
         ensures all { IfOk result (λ inlines. length inlines.items ≡ length unit.now.texts) }
         ensures lines { C.lines count.new ≡ C.lines count.old }
         ensures inlines { C.inlines count.new ≤ C.inlines count.old + length unit.now.texts }
@@ -81,7 +84,7 @@ impl<'a> TextReader<'a> {
                 text,
                 &self.labels,
                 self.entities,
-                MAX_SPANS,
+                self.options.max_spans,
                 count,
             )?)?;
         }
@@ -99,6 +102,7 @@ impl<'a> TextReader<'a> {
         again: &mut Vec<Again>,
         count: &mut C,
     ) -> Result<(), EditFault>
+        requires limits { HasLimits self.now.options.now }
         requires order { first ≤ next }
         requires within { next ≤ length units.now }
         requires fits { All (Fits (map unit_in units.now)) again.old.items }
@@ -130,6 +134,7 @@ impl<'a> TextReader<'a> {
         again: &mut Vec<Again>,
         count: &mut C,
     ) -> Result<(), InlineFault>
+        requires limits { HasLimits self.now.options.now }
         requires within { number < length units.now }
         requires fits { All (Fits (map unit_in units.now)) again.old.items }
         requires written { All (IsWritten self.now.options.now (map unit_in units.now)) again.old.items }
@@ -161,6 +166,7 @@ impl<'a> TextReader<'a> {
         unit: &HeldUnit,
         count: &mut C,
     ) -> Result<Again, InlineFault>
+        requires limits { HasLimits self.now.options.now }
         ensures unit { IfOk result (λ again. again.unit ≡ number) }
         ensures all { IfOk result (λ again. length again.inlines.items ≡ length unit.now.read.unit.texts) }
         ensures piece { IfOk result (λ again. string_bytes again.piece ≡ html_of self.now.options.now unit.now.read.unit again.inlines.items) }
@@ -182,6 +188,7 @@ impl<'a> TextReader<'a> {
         unit: &HeldUnit,
         count: &mut C,
     ) -> Result<Vec<Parsed>, InlineFault>
+        requires limits { HasLimits self.now.options.now }
         ensures all { IfOk result (λ inlines. length inlines.items ≡ length unit.now.read.unit.texts) }
         ensures lines { C.lines count.new ≡ C.lines count.old }
         ensures inlines { C.inlines count.new ≤ C.inlines count.old + length unit.now.read.unit.texts }
@@ -201,6 +208,7 @@ impl<'a> TextReader<'a> {
         held: &Parsed,
         count: &mut C,
     ) -> Result<Parsed, InlineFault>
+        requires limits { HasLimits self.now.options.now }
         ensures lines { C.lines count.new ≡ C.lines count.old }
         ensures inlines { C.inlines count.new ≤ C.inlines count.old + 1 }
     {
@@ -210,7 +218,7 @@ impl<'a> TextReader<'a> {
                 text,
                 &self.labels,
                 self.entities,
-                MAX_SPANS,
+                self.options.max_spans,
                 count,
             )
         } else {

@@ -1,6 +1,7 @@
 //! Reads the lines again that an edit may have changed the blocks of.
 
 ghost use Rattle.std.specs.Prelude.{◌≡◌, ◌≤◌, ◌+◌, ◌<◌, ◌-◌, IfErr, IfOk, IfSome, length};
+ghost use Rattle.mdhtml.specs.Limits.{HasLimits};
 ghost use Rattle.mdview.specs.Document.{size_of};
 ghost use Rattle.mdview.specs.NewText.{lines_of};
 ghost use Rattle.mdview.specs.ReadingEnd.{OfReading};
@@ -12,9 +13,6 @@ use crate::update::HeldText;
 use mdblock::{BlockFault, Found, Reader};
 use mdtext::Count;
 use std::alloc::AllocError;
-
-/// How many containers may be open inside one another; a list counts nothing.
-const MAX_CONTAINERS: usize = 64;
 
 /// What an edit reads: from line `from` up to line `meet` there are the units `found`, in the place of those from number `first`
 /// up to `next`.
@@ -34,6 +32,7 @@ pub(crate) fn reparse<C: Count>(
     text: NewText<'_>,
     count: &mut C,
 ) -> Result<Reparsed, EditFault>
+    requires limits { HasLimits held.now.options.now }
     requires few { length (lines_of text) ≤ 1000000 }
     requires small { size_of (lines_of text) ≤ 16777216 }
     ensures fault { IfErr result OfReading }
@@ -45,7 +44,7 @@ pub(crate) fn reparse<C: Count>(
     let first = start.unit;
     let mut cursor = UnitCursor::at(held.units, start);
     let mut found = Vec::new(held.alloc);
-    let mut reader = Reader::new(held.alloc, held.entities, MAX_CONTAINERS);
+    let mut reader = Reader::new(held.alloc, held.entities, held.options.max_containers);
     for line in from..text.len() {
         match reader.line(text.line(line), count) {
             Ok(unit) => push_some(&mut found, unit)?,

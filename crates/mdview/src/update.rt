@@ -1,6 +1,7 @@
 //! What an edit changes, made before anything of the preview is.
 
 ghost use Rattle.std.specs.Prelude.{◌≡◌, ◌≤◌, ◌+◌, IfErr, IfOk, length, map};
+ghost use Rattle.mdhtml.specs.Limits.{HasLimits};
 ghost use Rattle.mdview.specs.Document.{size_of};
 ghost use Rattle.mdview.specs.NewText.{lines_of};
 ghost use Rattle.mdview.specs.ReadingEnd.{OfReading};
@@ -52,6 +53,7 @@ impl Update {
         text: NewText<'_>,
         count: &mut C,
     ) -> Result<Update, EditFault>
+        requires limits { HasLimits held.now.options.now }
         requires few { length (lines_of text) ≤ 1000000 }
         requires small { size_of (lines_of text) ≤ 16777216 }
         ensures fault { IfErr result OfReading }

@@ -1,6 +1,7 @@
 //! The whole-text engine, entity files and words, at worked rows; devices that fail at each call.
 
 ghost use Rattle.std.specs.Prelude.{◌<◌};
+ghost use Rattle.mdhtml.specs.Limits.{HasLimits};
 
 use crate::{Breaks, MemoryFeed, MemoryOut, Options, convert, entities_from, read_words, serve};
 use mdtext::Entities;
@@ -11,6 +12,8 @@ use std::test::Fail;
 const SOFT: Options = Options {
     unsafe_html: false,
     breaks: Breaks::Soft,
+    max_containers: 64,
+    max_spans: 64,
 };
 
 /// What `convert` writes, and how it ends.
@@ -20,7 +23,9 @@ fn converted(
     options: Options,
     feed_fails: Option<u64>,
     out_fails: Option<u64>,
-) -> Result<(String, String), AllocError> {
+) -> Result<(String, String), AllocError>
+    requires { HasLimits options }
+{
     let mut feed = MemoryFeed::new(text, 7, feed_fails);
     let mut out = MemoryOut::new(alloc, 7, out_fails);
     let entities = Entities::builtin(alloc)?;
@@ -37,7 +42,9 @@ fn check(
     options: Options,
     want: &str,
     want_end: &str,
-) -> Result<(), AllocError> {
+) -> Result<(), AllocError>
+    requires { HasLimits options }
+{
     let (written, end) = converted(alloc, text, options, None, None)?;
     assert_eq!(rt; written.as_str(), want);
     assert_eq!(rt; end.as_str(), want_end);
@@ -50,10 +57,14 @@ fn converts_worked_texts(rt: HostRuntime) -> Result<(), Fail> {
     let raw = Options {
         unsafe_html: true,
         breaks: Breaks::Soft,
+        max_containers: 64,
+        max_spans: 64,
     };
     let spaces = Options {
         unsafe_html: false,
         breaks: Breaks::Space,
+        max_containers: 64,
+        max_spans: 64,
     };
     check(&rt, alloc, b"", SOFT, "", "Ok(())")?;
     check(

@@ -167,6 +167,8 @@ fn answered(alloc: Global, text: &str, unsafe_html: bool) -> Result<String, Allo
     let options = Options {
         unsafe_html,
         breaks: Breaks::Soft,
+        max_containers: 64,
+        max_spans: 64,
     };
     if serve(alloc, &mut feed, &mut out, entities, options).is_err() {
         return Err(AllocError);
@@ -302,6 +304,8 @@ fn refused_depth_changes_nothing(rt: HostRuntime) -> Result<(), Fail> {
     let options = Options {
         unsafe_html: false,
         breaks: Breaks::Soft,
+        max_containers: 64,
+        max_spans: 64,
     };
     let end = serve(
         alloc,

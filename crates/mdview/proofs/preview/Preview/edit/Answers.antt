@@ -34,7 +34,7 @@ invariant_of-self-2 g c =
     let small = c.in_ok-size.ensures.small in
     let size = c.in_ok-size.ensures.ok.1 in
     let rendered = committed_rendered options units r fit c.self.invariant.3 in
-    rw lines (size, rw size small.1, omega (arith, small.0, ap length lines), subst (All (IsRendered options)) (sym held) rendered)
+    rw lines (size, rw size small.1, omega (arith, small.0, ap length lines), subst (All (IsRendered options)) (sym held) rendered, c.self.invariant.4)
 
 pub returns-clause-outcome : goal.returns-clause-outcome
 returns-clause-outcome g c =
