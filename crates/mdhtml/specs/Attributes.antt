@@ -11,7 +11,7 @@ begins_with [] bytes = true
 begins_with (t ∷ ts) [] = false
 begins_with (t ∷ ts) (b ∷ bs) = eq_ignore_ascii_case b t && begins_with ts bs
 
--- A destination that runs a script or shows local data; images as data are none.
+-- A destination that runs a script or shows local data. Images as data are none where they are PNG, GIF, JPEG or WebP.
 unfoldable pub is_harmful : List ℕ → Bool
 is_harmful url =
     (begins_with (codes "javascript:") url || begins_with (codes "vbscript:") url || begins_with (codes "file:") url || begins_with (codes "data:") url)

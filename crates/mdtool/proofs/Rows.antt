@@ -4,38 +4,35 @@ use Rattle.std.specs.Fmt.{digits}
 use Rattle.mdtext.specs.Escaped.{escaped_byte}
 use Rattle.inlinespec.specs.InlineTree.{Inlines, no_inlines, inline, text, hard}
 use Rattle.blockspec.specs.BlockTree.{Block, block, no_blocks, heading, paragraph}
-use Rattle.mdhtml.specs.declared.options.Options.{Options}
-use Rattle.mdhtml.specs.declared.options.Breaks.TheVariants.{Soft}
+use Rattle.mdhtml.specs.Limits.{plain}
 use Rattle.mdhtml.specs.BlockHtml.{fresh}
 use Rattle.mdview.specs.HeldUnit.{ReadUnit, unit_piece}
-use Rattle.mdview.specs.Reading.{read, nested, starved}
+use Rattle.mdview.specs.ReadingEnd.{read, nested, starved}
 use Rattle.mdview.specs.Document.{document}
 use Rattle.mdtool.specs.Commands.{Html, Edit, HtmlHead, EditHead, number, split_number, head_of}
 use Rattle.mdtool.specs.Replies.{ScriptTurn, replies}
 
-plain : Options
-plain = record { unsafe_html = false; breaks = Soft }
-
 -- a unit of one block with one text
-unit_of : ℕ → Block → List ℕ → Inlines → ReadUnit
-unit_of begin b bytes tree = record {
-  found = record { begin = begin; lines = 1; unit = record { blocks = block b no_blocks; definitions = []; texts = bytes ∷ [] } };
+unit_of : Block → List ℕ → Inlines → ReadUnit
+unit_of b bytes tree = record {
+  lines = 1;
+  unit = record { blocks = block b no_blocks; definitions = []; texts = bytes ∷ [] };
   readings = record { tree = tree; asked = [] } ∷ [];
 }
 
--- a heading, and a paragraph with a hard line break that begins in this line
+-- a heading, and a paragraph with a hard line break
 title : ReadUnit
-title = unit_of 0 (heading 1 0) (codes "a") (inline (text (codes "a")) no_inlines)
+title = unit_of (heading 1 0) (codes "a") (inline (text (codes "a")) no_inlines)
 
-broken : ℕ → ReadUnit
-broken begin = unit_of begin (paragraph 0 None) (codes "b  \nc") (inline (text (codes "b")) (inline hard (inline (text (codes "c")) no_inlines)))
+broken : ReadUnit
+broken = unit_of (paragraph 0 None) (codes "b  \nc") (inline (text (codes "b")) (inline hard (inline (text (codes "c")) no_inlines)))
 
 title_piece : unit_piece plain title ≡ codes "<h1>a</h1>\n"
-unfolding plain title unit_of fresh escaped_byte
+unfolding title unit_of fresh escaped_byte
 title_piece = refl
 
-broken_piece : unit_piece plain (broken 1) ≡ codes "<p>b<br />\nc</p>\n"
-unfolding plain broken unit_of fresh escaped_byte
+broken_piece : unit_piece plain broken ≡ codes "<p>b<br />\nc</p>\n"
+unfolding broken unit_of fresh escaped_byte
 broken_piece = refl
 
 -- what a command's first line says
@@ -61,12 +58,12 @@ head_html_space = refl
 
 -- a script's replies, where its texts read so
 edits : List ScriptTurn
-edits = record { command = Edit (record { at = 0; del = 0; add = codes "# a" ∷ codes "b  " ∷ codes "c" ∷ [] }); reading = read (record { first = 0; removed = 0; added = 2; again = [] }) 0 (title ∷ broken 1 ∷ []) }
-    ∷ record { command = Edit (record { at = 0; del = 1; add = [] }); reading = read (record { first = 0; removed = 1; added = 0; again = [] }) 0 (broken 0 ∷ []) }
+edits = record { command = Edit (record { at = 0; del = 0; add = codes "# a" ∷ codes "b  " ∷ codes "c" ∷ [] }); reading = read (record { first = 0; removed = 0; added = 2; again = [] }) 0 (title ∷ broken ∷ []) }
+    ∷ record { command = Edit (record { at = 0; del = 1; add = [] }); reading = read (record { first = 0; removed = 1; added = 0; again = [] }) 0 (broken ∷ []) }
     ∷ record { command = Edit (record { at = 0; del = 0; add = codes ">" ∷ [] }); reading = nested 0 }
     ∷ record { command = Edit (record { at = 9; del = 0; add = [] }); reading = starved }
     ∷ record { command = Html; reading = starved } ∷ []
 
 first_replies : replies (document [] plain [] 0 []) edits ≡ codes "ok 0 0 2 0\npiece 0 11\n<h1>a</h1>\npiece 1 17\n<p>b<br />\nc</p>\nok 0 1 0 0\nrefused NestedTooDeep 0\nrefused OutOfRange 2\nhtml 17\n<p>b<br />\nc</p>\n"
-unfolding edits plain title broken unit_of replies fresh escaped_byte digits
+unfolding edits title broken unit_of replies fresh escaped_byte digits
 first_replies = refl

@@ -8,6 +8,7 @@ ghost use Rattle.mdview.specs.Document.{document};
 ghost use Rattle.mdtool.specs.Drained.{TakesSome};
 ghost use Rattle.mdtool.specs.Serve.{out_failures_after};
 ghost use Rattle.mdtool.specs.Steps.{Steps, failures_after};
+ghost use Rattle.mdhtml.specs.Limits.{HasLimits};
 
 use crate::device::{DeviceFault, Feed, Out, put_all};
 use crate::draining::read_all;
@@ -30,6 +31,7 @@ pub fn convert<R: Feed, W: Out>(
     entities: Entities,
     options: Options,
 ) -> Result<(), ToolFault>
+    requires limits { HasLimits options }
     requires feed { R.failures feed.old < 2 ^ 64 - 1 }
     requires out { W.failures out.old < 2 ^ 64 - 1 }
     ensures converted { Conversion result (document entities options [] 0 []) (R.left feed.old) (R.left feed.new) (W.written out.old) (W.written out.new) }

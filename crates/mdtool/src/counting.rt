@@ -1,5 +1,6 @@
 //! Answers a script of edits with what was read for each, so that it can be compared with what an edit may read.
 ghost use Rattle.std.specs.Prelude.{◌-◌, ◌^◌, ◌<◌};
+ghost use Rattle.mdhtml.specs.Limits.{HasLimits};
 
 use crate::command::Command;
 use crate::device::{Feed, Out};
@@ -19,6 +20,7 @@ pub fn serve_counts<R: Feed, W: Out>(
     entities: Entities,
     options: Options,
 ) -> Result<(), ToolFault>
+    requires limits { HasLimits options }
     requires feed { R.failures feed.old < 2 ^ 64 - 1 }
     requires out { W.failures out.old < 2 ^ 64 - 1 }
 {

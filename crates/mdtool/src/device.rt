@@ -2,9 +2,20 @@ ghost use Rattle.std.specs.Prelude.{◌≡◌, ℕ, ◌+◌, ◌-◌, ◌^◌, �
 ghost use Rattle.std.specs.Result.{is_ok};
 ghost use Rattle.mdtool.specs.Bytes.{Takes, AtEnd, Gains, Puts};
 
+use std::error::Error;
+use std::fmt;
+
 /// A device failed.
 #[derive(Clone, Copy, Debug, PartialEq, Eq)]
 pub struct DeviceFault;
+
+impl fmt::Display for DeviceFault {
+    fn fmt<W: fmt::Write>(&self, f: &mut fmt::Formatter<W>) -> fmt::Result {
+        f.write_str("a device failed")
+    }
+}
+
+impl Error for DeviceFault {}
 
 /// Where bytes come from.
 pub trait Feed {

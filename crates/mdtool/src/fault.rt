@@ -16,7 +16,7 @@ pub enum ToolFault {
     #[error("write failed")]
     Write,
     /// The whole text was refused.
-    #[error("text refused")]
+    #[error("{0}")]
     Refused(EditFault),
     /// The line of the script, counted from 1, is no command.
     #[error("bad command in line {0}")]
@@ -49,13 +49,16 @@ impl<T: Drop> From<AllocFailed<T>> for ToolFault {
 }
 
 /// Why a program's words were not followed.
-#[derive(Debug, Drop)]
+#[derive(Debug, Drop, Error)]
 pub enum WordFault {
     /// The help was asked for; this is its text.
+    #[error("{0}")]
     Help(String),
     /// They are not understood, or not UTF-8.
+    #[error("words not understood")]
     NotUnderstood,
     /// A growth was refused.
+    #[error("no memory")]
     NoMemory,
 }
 
@@ -71,12 +74,15 @@ impl From<AllocError> for WordFault {
 }
 
 /// Why a program stopped before its end.
-#[derive(Debug, Drop)]
+#[derive(Debug, Drop, Error)]
 pub enum Stop {
     /// By its words.
+    #[error("{0}")]
     Words(WordFault),
     /// The file of this name could not be opened.
+    #[error("cannot open {0}")]
     NotOpened(String),
     /// By an engine.
+    #[error("{0}")]
     Tool(ToolFault),
 }

@@ -42,7 +42,7 @@ fn first_space(text: &[u8]) -> Option<usize>
 }
 
 /// The number that a word of 1 to 9 digits is.
-fn number(word: &[u8]) -> Option<usize>
+pub(crate) fn number(word: &[u8]) -> Option<usize>
     ensures { result ≡ number word.now }
 {
     if word.is_empty() || word.len() > MAX_DIGITS {

@@ -1,12 +1,13 @@
 //! What the programs do around their engines: words, files, endings.
 ghost use Rattle.std.specs.Prelude.{◌≡◌, IfErr, IfOk};
+ghost use Rattle.mdhtml.specs.Limits.{HasLimits};
 ghost use Rattle.mdtool.specs.Endings.{IsNotOpened};
 
 use crate::device::Feed;
 use crate::endings::ending;
 use crate::entity_tables::entities_from;
 use crate::fault::{Stop, ToolFault, WordFault};
-use crate::standard::{ReadFeed, WriteOut};
+use crate::io_devices::{ReadFeed, WriteOut};
 use crate::tool_words::{Words, read_words};
 use mdtext::Entities;
 use std::alloc::{AllocError, Global};
@@ -16,14 +17,19 @@ use std::io::ErrorKind;
 use std::process::ExitCode;
 
 /// The words that the process was started with, read as those of the program of this name.
-pub fn words_of(rt: &HostRuntime, program: &str) -> Result<Words, Stop> {
+pub fn words_of(rt: &HostRuntime, program: &str) -> Result<Words, Stop>
+    ensures { IfOk result (λ words. HasLimits words.options) }
+{
     let given = match env::args(rt) {
         Ok(words) => collected(rt.alloc(), words),
         Err(error) if error.kind() == ErrorKind::OutOfMemory => Err(AllocError),
         Err(_) => return Err(Stop::Words(WordFault::NotUnderstood)),
     };
     match given {
-        Ok(given) => named_words(rt.alloc(), program, &given).map_err(Stop::Words),
+        Ok(given) => match named_words(rt.alloc(), program, &given) {
+            Ok(words) => Ok(words),
+            Err(fault) => Err(Stop::Words(fault)),
+        },
         Err(_) => Err(Stop::Words(WordFault::NoMemory)),
     }
 }
@@ -37,7 +43,9 @@ fn collected(alloc: Global, given: Args) -> Result<Vec<String>, AllocError> {
 }
 
 /// The words read, with the program's name in place of what it was started as.
-fn named_words(alloc: Global, program: &str, given: &[String]) -> Result<Words, WordFault> {
+fn named_words(alloc: Global, program: &str, given: &[String]) -> Result<Words, WordFault>
+    ensures { IfOk result (λ words. HasLimits words.options) }
+{
     let words = renamed(alloc, program, given)?;
     read_words(alloc, &words)
 }

@@ -1,7 +1,7 @@
 //! What the script's commands are answered.
 ghost use Rattle.std.specs.Prelude.{◌≡◌, ◌==◌, ◌<◌, ◌++◌, [], false, get_or, if◌then◌else◌, length, string_bytes, IfOk, OnOk};
 ghost use Rattle.std.specs.List.{concat, list_any};
-ghost use Rattle.mdview.specs.Patch.{brings};
+ghost use Rattle.viewspec.specs.Patch.{brings};
 ghost use Rattle.mdtool.specs.Replies.{html_reply, edit_reply, refused_reply, piece_reply, patch_line, brought};
 
 use crate::marks::marks;

@@ -6,6 +6,7 @@ ghost use Rattle.mdview.specs.Document.{document};
 ghost use Rattle.mdtool.specs.Views.{command_view};
 ghost use Rattle.mdtool.specs.Steps.{failures_after};
 ghost use Rattle.mdtool.specs.Serve.{Served, Replied, out_failures_after};
+ghost use Rattle.mdhtml.specs.Limits.{HasLimits};
 
 use crate::command::Command;
 use crate::device::{DeviceFault, Feed, Out, put_all};
@@ -63,6 +64,7 @@ pub fn serve<R: Feed, W: Out>(
     entities: Entities,
     options: Options,
 ) -> Result<(), ToolFault>
+    requires limits { HasLimits options }
     requires feed { R.failures feed.old < 2 ^ 64 - 1 }
     requires out { W.failures out.old < 2 ^ 64 - 1 }
     ensures served { Served result (document entities options [] 0 []) (R.left feed.old) (R.left feed.new) (W.written out.old) (W.written out.new) }

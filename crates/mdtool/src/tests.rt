@@ -1,10 +1,12 @@
 //! What no clause says: that calls succeed with ample memory, the worked scripts, and that replies are flushed one by one.
 
 mod kept_units;
+mod limits;
 mod tools;
 mod worked_texts;
 
 ghost use Rattle.std.specs.Prelude.{◌<◌};
+ghost use Rattle.mdhtml.specs.Limits.{HasLimits};
 
 use crate::{
     Breaks, EditFault, MemoryFeed, MemoryOut, Options, Stop, TableFault, ToolFault, WordFault,
@@ -15,10 +17,14 @@ use std::alloc::{AllocError, Global};
 use std::process::Abort;
 use std::test::Fail;
 
-fn options(breaks: Breaks) -> Options {
+fn options(breaks: Breaks) -> Options
+    ensures { HasLimits result }
+{
     Options {
         unsafe_html: false,
         breaks,
+        max_containers: 64,
+        max_spans: 64,
     }
 }
 

@@ -1,9 +1,13 @@
 //! The words that a program is started with.
-ghost use Rattle.std.specs.Prelude.{◌≡◌, IfOk, map, option_map, string_bytes, true, false};
+ghost use Rattle.std.specs.Prelude.{◌≡◌, ◌≤◌, IfOk, IfSome, Some, drop, length, map, option_map, string_bytes, true, false};
+ghost use Rattle.std.specs.List.{prefix_len};
 ghost use Rattle.clap.specs.Words.{app_of, rule_of};
-ghost use Rattle.mdtool.specs.ToolWords.{IsBreaks, OptionsRead, WordsRead, flag_rule, tool_app};
+ghost use Rattle.mdhtml.specs.Limits.{HasLimits};
+ghost use Rattle.mdtool.specs.Commands.{number};
+ghost use Rattle.mdtool.specs.ToolWords.{IsBreaks, IsLimit, OptionsRead, WordsRead, flag_rule, is_zero, tool_app, valued_rule};
 
 use crate::fault::WordFault;
+use crate::header::number;
 use clap::error::ErrorKind;
 use clap::{Arg, ArgAction, ArgMatches, Command, Error};
 use mdhtml::{Breaks, Options};
@@ -38,10 +42,11 @@ Example:
 
 /// Reads the words of `mdrender` or `mdpreview`, the program's name first.
 ///
-/// `Help` has the text that `--help` asks for. `NotUnderstood` where a word is unknown, a value is missing, an option is given twice, or
-/// both `--hardbreaks` and `--nobreaks` are given.
+/// `Help` has the text that `--help` asks for. `NotUnderstood` where a word is unknown, a value is missing, an option is given
+/// twice, a limit is no whole number from 1 to 256, or both `--hardbreaks` and `--nobreaks` are given.
 pub fn read_words<'a>(alloc: Global, words: &'a [&'a str]) -> Result<Words, WordFault>
-    ensures { IfOk result (WordsRead (map (λ word. word.now) words.entry.now)) }
+    ensures read { IfOk result (WordsRead (map (λ word. word.now) words.entry.now)) }
+    ensures limits { IfOk result (λ words. HasLimits words.options) }
 {
     let command = command(alloc, program_of(words))?;
     let matches = match command.try_get_matches_from(words) {
@@ -85,12 +90,24 @@ fn command<'a>(alloc: Global, program: &'a str) -> Result<Command<'a>, AllocErro
             "nobreaks",
             "Write each line break of a paragraph as a space",
         ))?
-        .arg(
-            Arg::new(alloc, "entities")
-                .long("entities")
-                .value_name("FILE")
-                .help("Read the names of entities from a JSON file, as HTML's entities.json is"),
-        )?
+        .arg(valued(
+            alloc,
+            "entities",
+            "FILE",
+            "Read the names of entities from a JSON file, as HTML's entities.json is",
+        ))?
+        .arg(valued(
+            alloc,
+            "max-containers",
+            "N",
+            "Let so many block quotes and list items lie in one another, 1 to 256; 64 if not given",
+        ))?
+        .arg(valued(
+            alloc,
+            "max-spans",
+            "N",
+            "Let so many spans (emphasis, links, ..) lie in one another, 1 to 256; 64 if not given",
+        ))?
         .arg(
             Arg::new(alloc, "file")
                 .value_name("FILE")
@@ -109,6 +126,17 @@ fn flag<'a>(alloc: Global, name: &'static str, help: &'static str) -> Arg<'a>
         .help(help)
 }
 
+/// An option with a value.
+fn valued<'a>(alloc: Global, name: &'static str, value: &'static str, help: &'static str) -> Arg<'a>
+    ensures rule { rule_of result ≡ valued_rule name.entry.now }
+    ensures local { result.global ≡ false }
+{
+    Arg::new(alloc, name)
+        .long(name)
+        .value_name(value)
+        .help(help)
+}
+
 fn described<'a>(command: Command<'a>, program: &str) -> Command<'a>
     ensures { app_of result ≡ app_of command.entry }
 {
@@ -119,16 +147,61 @@ fn described<'a>(command: Command<'a>, program: &str) -> Command<'a>
     }
 }
 
-/// How HTML is written; the two options of line breaks exclude each other.
+/// How the text is read and written; the two options of line breaks exclude each other.
 fn options_of(matches: &ArgMatches<'_>) -> Result<Options, WordFault>
-    ensures { IfOk result (OptionsRead matches.now) }
+    ensures read { IfOk result (OptionsRead matches.now) }
+    ensures limits { IfOk result HasLimits }
 {
     let unsafe_html = matches.get_flag("unsafe");
     let breaks = breaks_of(matches.get_flag("hardbreaks"), matches.get_flag("nobreaks"))?;
+    let max_containers = limit_of(matches.get_str("max-containers"))?;
+    let max_spans = limit_of(matches.get_str("max-spans"))?;
     Ok(Options {
         unsafe_html,
         breaks,
+        max_containers,
+        max_spans,
     })
+}
+
+const DEFAULT_LIMIT: usize = 64;
+
+const MAX_LIMIT: usize = 256;
+
+/// The limit that an option's value is, a whole number from 1 to 256; the usual one where the option is not given.
+fn limit_of(word: Option<&str>) -> Result<usize, WordFault>
+    ensures some { IfOk result (λ limit. 1 ≤ limit) }
+    ensures few { IfOk result (λ limit. limit ≤ 256) }
+    ensures said { IfOk result (IsLimit (option_map (λ word. word.now) word.entry)) }
+{
+    match word {
+        None => Ok(DEFAULT_LIMIT),
+        Some(word) => match limit(word.as_bytes()) {
+            Some(limit) => Ok(limit),
+            None => Err(WordFault::NotUnderstood),
+        },
+    }
+}
+
+/// The number of a word of digits, where it is 1 to 256. Zeros may stand before it.
+fn limit(word: &[u8]) -> Option<usize>
+    ensures some { IfSome result (λ limit. 1 ≤ limit) }
+    ensures few { IfSome result (λ limit. limit ≤ 256) }
+    ensures said { IfSome result (λ limit. number (drop (prefix_len is_zero word.now) word.now) ≡ Some limit) }
+{
+    let value = number(&word[zeros(word)..])?;
+    if value == 0 || value > MAX_LIMIT {
+        return None;
+    }
+    Some(value)
+}
+
+/// How many zeros stand at the front of a word.
+fn zeros(word: &[u8]) -> usize
+    ensures zeros { result ≡ prefix_len is_zero word.now }
+    ensures within { result ≤ length word.now }
+{
+    word.iter().take_while(|byte| **byte == b'0').count()
 }
 
 fn breaks_of(hard: bool, none: bool) -> Result<Breaks, WordFault>

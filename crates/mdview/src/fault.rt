@@ -3,6 +3,8 @@ ghost use Rattle.mdview.specs.declared.fault.EditFault.TheVariants.{NoMemory};
 ghost use Rattle.mdview.specs.FaultNames.{name_of, number_of};
 
 use std::alloc::{AllocError, AllocFailed};
+use std::error::Error;
+use std::fmt;
 
 /// Why an edit was refused. Nothing has changed then.
 #[derive(Clone, Copy, Debug, PartialEq, Eq)]
@@ -15,10 +17,11 @@ pub enum EditFault {
     TooManyLines,
     /// The text would have more than 16,777,216 bytes, with one counted for each line's end.
     TooLarge,
-    /// The line of this number, counted from 0 in the text that the edit would leave, begins a container that lies in 64
-    /// others; it is the first such.
+    /// The line of this number, counted from 0 in the text that the edit would leave, begins a container that lies in as
+    /// many others as the options allow; it is the first such.
     NestedTooDeep { line: usize },
-    /// A text of the unit that begins in this line has a span that lies in 64 others; it is the first such unit.
+    /// A text of the unit that begins in this line has a span that lies in as many others as the
+    /// options allow; it is the first such unit.
     InlineTooDeep { line: usize },
     /// A growth was refused.
     NoMemory,
@@ -52,6 +55,40 @@ impl EditFault {
         }
     }
 }
+
+impl fmt::Display for EditFault {
+    fn fmt<W: fmt::Write>(&self, f: &mut fmt::Formatter<W>) -> fmt::Result {
+        match self {
+            EditFault::OutOfRange { lines } => {
+                write!(f, "the edit reaches past the text, which has {lines} lines")
+            }
+            EditFault::BreakInLine { index } => {
+                write!(f, "the added line {index} holds a line ending")
+            }
+            EditFault::TooManyLines => {
+                write!(f, "the text is refused: it has more than 1,000,000 lines")
+            }
+            EditFault::TooLarge => {
+                write!(f, "the text is refused: it has more than 16,777,216 bytes")
+            }
+            EditFault::NestedTooDeep { line } => {
+                write!(
+                    f,
+                    "the text is refused: a container in line {line} lies in too many others"
+                )
+            }
+            EditFault::InlineTooDeep { line } => {
+                write!(
+                    f,
+                    "the text is refused: a span of the block in line {line} lies in too many others"
+                )
+            }
+            EditFault::NoMemory => write!(f, "no memory"),
+        }
+    }
+}
+
+impl Error for EditFault {}
 
 impl From<AllocError> for EditFault {
     ghost from_gives = { λ _ e. e ≡ NoMemory };

@@ -2,28 +2,34 @@
 #![tactic(auto)]
 
 mod clean;
-mod exchange;
+mod commit;
 mod fault;
 mod held_labels;
 mod held_units;
 mod label_changes;
 mod laws;
 mod limits;
+mod lines;
 mod new_text;
 mod patch;
 mod pieces;
 mod preview;
 mod readings;
-mod renewals;
-mod replacing;
+mod reparse;
 mod resuming;
-mod stretches;
+mod splice;
 #[cfg(test)]
 mod tests;
+mod touched_labels;
+mod update;
 
 pub use fault::EditFault;
 pub use laws::edits_leave_the_present_text;
+pub use lines::Lines;
+pub use mdblock::{Align, Block, Definition, Item, ListKind, Unit};
 pub use mdhtml::{Breaks, Options};
+pub use mdinline::{Asked, Inline, Parsed};
+pub use mdtext::{Count, Entities, Label, Target};
 pub use patch::Patch;
 pub use pieces::Pieces;
 pub use preview::Preview;

@@ -1,5 +1,5 @@
 ghost use Rattle.std.specs.Prelude.{◌≡◌, [], None, option_map, slice_get, if◌then◌else◌, not, nat_lt, ◌+◌, ◌&&◌};
-ghost use Rattle.mdview.specs.Patch.{brings};
+ghost use Rattle.viewspec.specs.Patch.{brings};
 
 use crate::preview::Preview;
 use std::alloc::Global;
@@ -16,9 +16,9 @@ pub struct Patch {
 }
 
 impl Model for Patch {
-    ghost use Rattle.mdview.specs.Stretch.{Stretch};
+    ghost use Rattle.viewspec.specs.ChangedPieces.{ChangedPieces};
 
-    ghost Value = { Stretch };
+    ghost Value = { ChangedPieces };
 
     ghost view = { λ p. record { first = p.first; removed = p.removed; added = p.added; again = p.again.items } };
 }

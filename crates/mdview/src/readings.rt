@@ -2,14 +2,14 @@
 
 ghost use Rattle.std.specs.Prelude.{◌≡◌, ◌+◌, ◌≤◌, ◌<◌, IfOk, IfErr, OnOk, length, map, string_bytes};
 ghost use Rattle.std.specs.List.{All};
-ghost use Rattle.mdview.specs.Reading.{OfReading};
-ghost use Rattle.mdview.specs.HeldUnit.{HeldUnit, IsRendered, unit_piece, texts_of, read_of, found_in, texts_before, texts_in};
-ghost use Rattle.mdview.specs.Renewed.{Fits, IsWritten};
+ghost use Rattle.mdhtml.specs.Limits.{HasLimits};
+ghost use Rattle.mdview.specs.ReadingEnd.{OfReading};
+ghost use Rattle.mdview.specs.HeldUnit.{HeldUnit, IsRendered, html_of, texts_of, read_of, unit_in, texts_before, texts_in};
+ghost use Rattle.mdview.specs.Update.{Fits, IsWritten};
 
 use crate::fault::EditFault;
 use crate::held_labels::LabelsAfter;
 use crate::held_units::HeldUnit;
-use crate::limits::MAX_SPANS;
 use mdblock::{Found, Unit};
 use mdhtml::{Options, unit_html};
 use mdinline::{InlineFault, Parsed, read};
@@ -18,29 +18,30 @@ use std::alloc::{AllocError, Global};
 
 /// Reads inline texts under the labels of the text that an edit leaves, and writes HTML. Each text that is read is counted.
 #[derive(Clone, Copy)]
-pub struct TextReader<'a> {
-    pub alloc: Global,
-    pub entities: &'a Entities,
-    pub options: &'a Options,
-    pub labels: LabelsAfter<'a>,
+pub(crate) struct TextReader<'a> {
+    pub(crate) alloc: Global,
+    pub(crate) entities: &'a Entities,
+    pub(crate) options: &'a Options,
+    pub(crate) labels: LabelsAfter<'a>,
 }
 
 /// A unit that is held, by its number, with what its texts read as after an edit, and its piece then.
 #[derive(Drop)]
-pub struct Again {
-    pub unit: usize,
-    pub inlines: Vec<Parsed>,
-    pub piece: String,
+pub(crate) struct Again {
+    pub(crate) unit: usize,
+    pub(crate) inlines: Vec<Parsed>,
+    pub(crate) piece: String,
 }
 
 impl<'a> TextReader<'a> {
     /// Reads the texts of the units that were found in the lines from `from` on.
-    pub fn read_units<C: Count>(
+    pub(crate) fn read_units<C: Count>(
         &self,
         found: Vec<Found>,
         from: usize,
         count: &mut C,
     ) -> Result<Vec<HeldUnit>, EditFault>
+        requires limits { HasLimits self.now.options.now }
         ensures fault { IfErr result OfReading }
         ensures pieces { IfOk result (λ units. All (IsRendered self.now.options.now) units.items) }
         ensures lines { C.lines count.new ≡ C.lines count.old }
@@ -58,10 +59,11 @@ impl<'a> TextReader<'a> {
     }
 
     fn read_unit<C: Count>(&self, found: Found, count: &mut C) -> Result<HeldUnit, InlineFault>
-        ensures found { IfOk result (λ unit. unit.read.found ≡ found) }
+        requires limits { HasLimits self.now.options.now }
+        ensures unit { IfOk result (λ unit. unit.read.unit ≡ found.unit) }
         ensures piece { IfOk result (IsRendered self.now.options.now) }
         ensures lines { C.lines count.new ≡ C.lines count.old }
-        ensures inlines { IfOk result (λ unit. C.inlines count.new ≤ C.inlines count.old + texts_in unit.read.found) }
+        ensures inlines { IfOk result (λ unit. C.inlines count.new ≤ C.inlines count.old + texts_in unit.read.unit) }
     {
         let inlines = self.read_texts(found.unit(), count)?;
         let piece = unit_html(self.alloc, found.unit().blocks(), &inlines, self.options)?;
@@ -69,6 +71,7 @@ impl<'a> TextReader<'a> {
     }
 
     fn read_texts<C: Count>(&self, unit: &Unit, count: &mut C) -> Result<Vec<Parsed>, InlineFault>
+        requires limits { HasLimits self.now.options.now }
         ensures all { IfOk result (λ inlines. length inlines.items ≡ length unit.now.texts) }
         ensures lines { C.lines count.new ≡ C.lines count.old }
         ensures inlines { C.inlines count.new ≤ C.inlines count.old + length unit.now.texts }
@@ -81,16 +84,16 @@ impl<'a> TextReader<'a> {
                 text,
                 &self.labels,
                 self.entities,
-                MAX_SPANS,
+                self.options.max_spans,
                 count,
             )?)?;
         }
         Ok(inlines)
     }
 
-    /// Reads again those of the units from number `first` up to `next`, the first of which begins in line `begin` after the edit, that asked for a label
-    /// that leads elsewhere then. A text of theirs that did not ask for one is not read again.
-    pub fn read_again<C: Count>(
+    /// Reads again those of the units from number `first` up to `next`, the first of which begins in line `begin` after the edit,
+    /// that asked for a label that leads elsewhere then. A text of theirs that did not ask for one is not read again.
+    pub(crate) fn read_again<C: Count>(
         &self,
         units: &[HeldUnit],
         first: usize,
@@ -99,17 +102,18 @@ impl<'a> TextReader<'a> {
         again: &mut Vec<Again>,
         count: &mut C,
     ) -> Result<(), EditFault>
+        requires limits { HasLimits self.now.options.now }
         requires order { first ≤ next }
         requires within { next ≤ length units.now }
-        requires fits { All (Fits (map found_in units.now)) again.old.items }
-        requires written { All (IsWritten self.now.options.now (map found_in units.now)) again.old.items }
-        ensures fits { OnOk result (All (Fits (map found_in units.now)) again.new.items) }
-        ensures written { OnOk result (All (IsWritten self.now.options.now (map found_in units.now)) again.new.items) }
+        requires fits { All (Fits (map unit_in units.now)) again.old.items }
+        requires written { All (IsWritten self.now.options.now (map unit_in units.now)) again.old.items }
+        ensures fits { OnOk result (All (Fits (map unit_in units.now)) again.new.items) }
+        ensures written { OnOk result (All (IsWritten self.now.options.now (map unit_in units.now)) again.new.items) }
         ensures fault { IfErr result OfReading }
         ensures lines { C.lines count.new ≡ C.lines count.old }
         ensures inlines { OnOk result (C.inlines count.new + texts_before first units.now ≤ C.inlines count.old + texts_before next units.now) }
     {
-        if !self.labels.changes.some_are_new() {
+        if self.labels.changes.is_empty() {
             return Ok(());
         }
         let mut begin = begin;
@@ -117,7 +121,7 @@ impl<'a> TextReader<'a> {
             if let Err(fault) = self.read_if_concerned(units, i, again, count) {
                 return Err(fault_in_unit(fault, begin));
             }
-            begin = begin.saturating_add(units[i].found().lines());
+            begin = begin.saturating_add(units[i].lines());
         }
         Ok(())
     }
@@ -130,11 +134,12 @@ impl<'a> TextReader<'a> {
         again: &mut Vec<Again>,
         count: &mut C,
     ) -> Result<(), InlineFault>
+        requires limits { HasLimits self.now.options.now }
         requires within { number < length units.now }
-        requires fits { All (Fits (map found_in units.now)) again.old.items }
-        requires written { All (IsWritten self.now.options.now (map found_in units.now)) again.old.items }
-        ensures fits { OnOk result (All (Fits (map found_in units.now)) again.new.items) }
-        ensures written { OnOk result (All (IsWritten self.now.options.now (map found_in units.now)) again.new.items) }
+        requires fits { All (Fits (map unit_in units.now)) again.old.items }
+        requires written { All (IsWritten self.now.options.now (map unit_in units.now)) again.old.items }
+        ensures fits { OnOk result (All (Fits (map unit_in units.now)) again.new.items) }
+        ensures written { OnOk result (All (IsWritten self.now.options.now (map unit_in units.now)) again.new.items) }
         ensures lines { C.lines count.new ≡ C.lines count.old }
         ensures inlines { C.inlines count.new + texts_before number units.now ≤ C.inlines count.old + texts_before (number + 1) units.now }
     {
@@ -161,19 +166,15 @@ impl<'a> TextReader<'a> {
         unit: &HeldUnit,
         count: &mut C,
     ) -> Result<Again, InlineFault>
+        requires limits { HasLimits self.now.options.now }
         ensures unit { IfOk result (λ again. again.unit ≡ number) }
-        ensures all { IfOk result (λ again. length again.inlines.items ≡ length unit.now.read.found.unit.texts) }
-        ensures piece { IfOk result (λ again. string_bytes again.piece ≡ unit_piece self.now.options.now (record { found = unit.now.read.found; readings = again.inlines.items })) }
+        ensures all { IfOk result (λ again. length again.inlines.items ≡ length unit.now.read.unit.texts) }
+        ensures piece { IfOk result (λ again. string_bytes again.piece ≡ html_of self.now.options.now unit.now.read.unit again.inlines.items) }
         ensures lines { C.lines count.new ≡ C.lines count.old }
-        ensures inlines { C.inlines count.new ≤ C.inlines count.old + length unit.now.read.found.unit.texts }
+        ensures inlines { C.inlines count.new ≤ C.inlines count.old + length unit.now.read.unit.texts }
     {
         let inlines = self.read_some(unit, count)?;
-        let piece = unit_html(
-            self.alloc,
-            unit.found().unit().blocks(),
-            &inlines,
-            self.options,
-        )?;
+        let piece = unit_html(self.alloc, unit.unit().blocks(), &inlines, self.options)?;
         Ok(Again {
             unit: number,
             inlines,
@@ -187,11 +188,12 @@ impl<'a> TextReader<'a> {
         unit: &HeldUnit,
         count: &mut C,
     ) -> Result<Vec<Parsed>, InlineFault>
-        ensures all { IfOk result (λ inlines. length inlines.items ≡ length unit.now.read.found.unit.texts) }
+        requires limits { HasLimits self.now.options.now }
+        ensures all { IfOk result (λ inlines. length inlines.items ≡ length unit.now.read.unit.texts) }
         ensures lines { C.lines count.new ≡ C.lines count.old }
-        ensures inlines { C.inlines count.new ≤ C.inlines count.old + length unit.now.read.found.unit.texts }
+        ensures inlines { C.inlines count.new ≤ C.inlines count.old + length unit.now.read.unit.texts }
     {
-        let texts = unit.found().unit().texts();
+        let texts = unit.unit().texts();
         let held = unit.inlines();
         let mut inlines = Vec::with_capacity(self.alloc, texts.len())?;
         for i in 0..texts.len() {
@@ -206,6 +208,7 @@ impl<'a> TextReader<'a> {
         held: &Parsed,
         count: &mut C,
     ) -> Result<Parsed, InlineFault>
+        requires limits { HasLimits self.now.options.now }
         ensures lines { C.lines count.new ≡ C.lines count.old }
         ensures inlines { C.inlines count.new ≤ C.inlines count.old + 1 }
     {
@@ -215,7 +218,7 @@ impl<'a> TextReader<'a> {
                 text,
                 &self.labels,
                 self.entities,
-                MAX_SPANS,
+                self.options.max_spans,
                 count,
             )
         } else {

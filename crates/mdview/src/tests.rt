@@ -1,15 +1,21 @@
 //! What no clause says: that calls succeed with ample memory, and what they answer then.
 
+ghost use Rattle.mdhtml.specs.Limits.{HasLimits};
+
 use crate::{Breaks, EditFault, Options, Patch, Preview};
 use mdtext::{Entities, Tally};
 use std::alloc::{AllocError, Global};
 use std::process::Abort;
 use std::test::Fail;
 
-fn options(breaks: Breaks) -> Options {
+fn options(breaks: Breaks) -> Options
+    ensures { HasLimits result }
+{
     Options {
         unsafe_html: false,
         breaks,
+        max_containers: 64,
+        max_spans: 64,
     }
 }
 

@@ -44,11 +44,11 @@ is_too_deep limit one = list_any (is_deep limit) one.readings
 
 -- the first line of the first unit that has such a text
 abbrev pub inline_refusal : Setting → Source → Option Refusal
-inline_refusal setting source = option_map (λ one. inline_too_deep one.begin) (find (is_too_deep setting.max_spans) (view setting source))
+inline_refusal setting source = option_map (λ one. inline_too_deep one.begin) (find (is_too_deep setting.options.max_spans) (view setting source))
 
 -- why a text that is not too large is refused, the first reason of: containers in one another, spans in one another
 abbrev pub nesting_refusal : Setting → Source → Option Refusal
-nesting_refusal setting source = option_or (option_map nested_too_deep (first_too_deep setting.max_containers source.lines)) (inline_refusal setting source)
+nesting_refusal setting source = option_or (option_map nested_too_deep (first_too_deep setting.options.max_containers source.lines)) (inline_refusal setting source)
 
 -- why these lines are no document
 abbrev pub refusal : Setting → Source → Option Refusal
@@ -62,7 +62,7 @@ is_more (block first later) = true
 -- the line for which a text is no prelude: one with a container too many, or else the first line of the first unit that is more than definitions
 abbrev pub undefining_line : Setting → List (List ℕ) → Option ℕ
 undefining_line setting prelude =
-    option_or (first_too_deep setting.max_containers prelude)
+    option_or (first_too_deep setting.options.max_containers prelude)
       (option_map (λ (found : FoundUnit). found.begin) (find (λ (found : FoundUnit). is_more found.unit.blocks) (units setting.entities prelude)))
 
 -- why the prelude of a source that is not too large is none, the first reason of: other blocks than definitions, spans in one another in the document

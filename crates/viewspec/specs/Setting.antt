@@ -7,8 +7,6 @@ use Rattle.mdhtml.specs.declared.options.Options.{Options}
 pub record Setting : Type 0 where
   pub entities : EntityTable
   pub options : Options
-  pub max_containers : ℕ
-  pub max_spans : ℕ
 
 -- the lines of a document, and those of its prelude: definitions that are handed in beside it
 pub record Source : Type 0 where

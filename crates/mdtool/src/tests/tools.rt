@@ -1,6 +1,7 @@
 //! The whole-text engine, entity files and words, at worked rows; devices that fail at each call.
 
 ghost use Rattle.std.specs.Prelude.{◌<◌};
+ghost use Rattle.mdhtml.specs.Limits.{HasLimits};
 
 use crate::{Breaks, MemoryFeed, MemoryOut, Options, convert, entities_from, read_words, serve};
 use mdtext::Entities;
@@ -11,6 +12,8 @@ use std::test::Fail;
 const SOFT: Options = Options {
     unsafe_html: false,
     breaks: Breaks::Soft,
+    max_containers: 64,
+    max_spans: 64,
 };
 
 /// What `convert` writes, and how it ends.
@@ -20,7 +23,9 @@ fn converted(
     options: Options,
     feed_fails: Option<u64>,
     out_fails: Option<u64>,
-) -> Result<(String, String), AllocError> {
+) -> Result<(String, String), AllocError>
+    requires { HasLimits options }
+{
     let mut feed = MemoryFeed::new(text, 7, feed_fails);
     let mut out = MemoryOut::new(alloc, 7, out_fails);
     let entities = Entities::builtin(alloc)?;
@@ -37,7 +42,9 @@ fn check(
     options: Options,
     want: &str,
     want_end: &str,
-) -> Result<(), AllocError> {
+) -> Result<(), AllocError>
+    requires { HasLimits options }
+{
     let (written, end) = converted(alloc, text, options, None, None)?;
     assert_eq!(rt; written.as_str(), want);
     assert_eq!(rt; end.as_str(), want_end);
@@ -50,10 +57,14 @@ fn converts_worked_texts(rt: HostRuntime) -> Result<(), Fail> {
     let raw = Options {
         unsafe_html: true,
         breaks: Breaks::Soft,
+        max_containers: 64,
+        max_spans: 64,
     };
     let spaces = Options {
         unsafe_html: false,
         breaks: Breaks::Space,
+        max_containers: 64,
+        max_spans: 64,
     };
     check(&rt, alloc, b"", SOFT, "", "Ok(())")?;
     check(
@@ -123,8 +134,19 @@ fn ends_at_each_device_fault(rt: HostRuntime) -> Result<(), Fail> {
 /// Two edits, of which the second leads a link elsewhere.
 const EDITS: &[u8] = b"edit 0 0 5\n[foo]\n\nx\n\n[foo]: /a\nedit 4 1 1\n[foo]: /b\n";
 
-const REPLIES: &str =
-    "ok 0 0 3 0\npiece 0 28\n<p><a href=\"/a\">foo</a></p>\npiece 1 9\n<p>x</p>\npiece 2 0\nok 1 2 2 1\npiece 0 28\n<p><a href=\"/b\">foo</a></p>\npiece 1 9\n<p>x</p>\npiece 2 0\n";
+const REPLIES: &str = "ok 0 0 3 0
+piece 0 28
+<p><a href=\"/a\">foo</a></p>
+piece 1 9
+<p>x</p>
+piece 2 0
+ok 1 2 2 1
+piece 0 28
+<p><a href=\"/b\">foo</a></p>
+piece 1 9
+<p>x</p>
+piece 2 0
+";
 
 /// The bytes of the first of these replies; the second has as many.
 const REPLY: u64 = 79;

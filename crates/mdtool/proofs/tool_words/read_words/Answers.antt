@@ -1,0 +1,19 @@
+use Rattle.std.proofs.Common.{◌≡◌, ◌∙◌, true, refl, map, subst}
+use Rattle.clap.specs.Words.{HasMatchesOf, app_of}
+use Rattle.mdtool.specs.ToolWords.{tool_app}
+use Rattle.mdtool.proofs.tool_words.read_words.Goals as goal
+
+pub returns-clause-read : goal.returns-clause-read
+returns-clause-read c =
+    let program = c.program_of.result.now in
+    let words = map (λ word. word.now) c.args.words.now in
+    let app : app_of c.in_ok-command.command ≡ tool_app program = c.in_ok-command.ensures in
+    let matched : HasMatchesOf (tool_app program) words c.in-Ok.matches = subst (λ a. HasMatchesOf a words c.in-Ok.matches) app c.in-Ok.ensures.matches in
+    record {
+      program = program;
+      matches = c.in-Ok.matches;
+      rows = (matched refl).0;
+      options = c.in_ok-options.ensures.read;
+      entities = c.in_ok-entities.ensures ∙ c.get_str.ensures;
+      file = c.in_ok-file.ensures ∙ c.get_str-2.ensures;
+    }
