@@ -1,0 +1,57 @@
+//! The units of a whole text.
+ghost use Rattle.std.specs.Prelude.{◌≤◌, IfErr, length};
+ghost use Rattle.mdtext.specs.Lines.{split_lines};
+ghost use Rattle.mdview.specs.Document.{size_of};
+ghost use Rattle.mdview.specs.Reading.{OfReading};
+
+use mdblock::{BlockFault, Found, Reader};
+use mdtext::{Entities, Tally, split_line};
+use mdview::EditFault;
+use std::alloc::{AllocError, Global};
+
+/// Reads the lines of a text in which no U+0000 stands, each where it lies in the text, and keeps the units.
+pub(crate) fn units_of(
+    alloc: Global,
+    text: &str,
+    entities: &Entities,
+) -> Result<Vec<Found>, EditFault>
+    requires few { length (split_lines text.now) ≤ 1000000 }
+    requires small { size_of (split_lines text.now) ≤ 16777216 }
+    ensures { IfErr result OfReading }
+{
+    let mut units = Vec::new(alloc);
+    let mut reader = Reader::new(alloc, entities);
+    let mut count = Tally::new();
+    let mut rest = text;
+    while !rest.is_empty() {
+        let (line, after) = split_line(rest);
+        match reader.line(line, &mut count) {
+            Ok(unit) => push_some(&mut units, unit)?,
+            Err(fault) => return Err(fault_in_line(fault, reader.fed())),
+        }
+        rest = after;
+    }
+    // Behind the last line no container begins any more.
+    match reader.finish() {
+        Ok(unit) => push_some(&mut units, unit)?,
+        Err(_) => return Err(EditFault::NoMemory),
+    }
+    Ok(units)
+}
+
+fn push_some(units: &mut Vec<Found>, unit: Option<Found>) -> Result<(), AllocError> {
+    if let Some(unit) = unit {
+        units.push(unit)?;
+    }
+    Ok(())
+}
+
+/// No line is fed after a fault, so none is answered `Failed`.
+fn fault_in_line(fault: BlockFault, line: usize) -> EditFault
+    ensures { OfReading result }
+{
+    match fault {
+        BlockFault::NestedTooDeep => EditFault::NestedTooDeep { line },
+        BlockFault::NoMemory | BlockFault::Failed => EditFault::NoMemory,
+    }
+}
