@@ -26,7 +26,7 @@ one_more options found next old mid new before last =
     let piece : List ℕ = unit_piece options unit in
     let pieces : List (List ℕ) = map (unit_piece options) before.units in
     let joined : concat (map (unit_piece options) (before.units ++ unit ∷ [])) ≡ concat pieces ++ piece =
-        ap concat (map-append (unit_piece options) before.units (unit ∷ [])) ∙ concat-append pieces (piece ∷ []) ∙ ap (λ l. concat pieces ++ l) (append-nil piece) in
+    ap concat (map-append (unit_piece options) before.units (unit ∷ [])) ∙ concat-append pieces (piece ∷ []) ∙ ap (λ l. concat pieces ++ l) (append-nil piece) in
     record {
       units = before.units ++ unit ∷ [];
       are = map-append found_of before.units (unit ∷ []) ∙ ap (λ l. l ++ next ∷ []) before.are;

@@ -27,7 +27,10 @@ fn add_definitions(
     ensures { OnOk result (labels.new ≡ with_definitions labels.old (map definition_of definitions.now)) }
 {
     for definition in definitions {
-        labels.add(definition.label.copy(alloc)?, definition.target.copy(alloc)?)?;
+        labels.add(
+            definition.label.copy(alloc)?,
+            definition.target.copy(alloc)?,
+        )?;
     }
     Ok(())
 }

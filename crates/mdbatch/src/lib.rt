@@ -4,8 +4,8 @@
 mod batch;
 mod labels;
 mod limits;
-
-
+#[cfg(test)]
+mod tests;
 mod units;
 
 pub use batch::to_html;
