@@ -1,5 +1,5 @@
 # The targets for people and for the gate. `rt` is the command of the Rattle toolchain.
-RT ?= rt
+export RT ?= rt
 PROGRAMS := mdrender mdpreview
 # Set where bin/ has the programs of these sources, as behind the gate; then a comparison builds none.
 BUILT ?=
@@ -17,14 +17,15 @@ BASH_COMPLETION_DIR ?= $(PREFIX)/share/bash-completion/completions
 ZSH_COMPLETION_DIR ?= $(PREFIX)/share/zsh/site-functions
 INSTALL ?= install
 
-.PHONY: help run test build check fmt compare counts rows rows_inlines install uninstall
+.PHONY: help run test build check fmt picture compare counts rows rows_inlines install uninstall
 
 help:
-	@echo "make run                 proves, builds and runs mdrender on a page and mdpreview on a writer's few edits, and shows what goes in and out"
-	@echo "make test                the gate: every proof from nothing, the tests and must-fail edits, the example files, endings and completions"
-	@echo "make build               proves and builds the programs into bin/"
+	@echo "make run                 runs mdrender on a page and mdpreview on a writer's few edits, and shows what goes in and out (from the sources, unproved, where bin/ is empty)"
+	@echo "make build               proves every crate and builds the programs into bin/; a line a crate, the log in out/build.log"
+	@echo "make test                the gate: every proof from nothing, the tests and must-fail edits, the example files, endings and completions; the log in out/gate.log"
 	@echo "make check               a quick check of every crate, over what earlier checks kept"
 	@echo "make fmt                 lays out the sources"
+	@echo "make picture             draws docs/preview.svg, the README's picture, from a run of bin/mdpreview"
 	@echo "make install PREFIX=DIR  installs the programs, their man pages and completions for bash and zsh below DIR ($(PREFIX)); DESTDIR is honoured"
 	@echo "make uninstall           removes what make install put there"
 	@echo "make rows ORACLE=DIR CORPUS=DIR  proves rows of the definitions of PART=$(PART) from the standards' examples in CORPUS, with what ORACLE/oracle.py says of them"
@@ -32,15 +33,11 @@ help:
 	@echo "make counts ORACLE=DIR   compares what each edit of SCRIPTS=$(SCRIPTS) random edit scripts reads with what DIR/oracle.py allows"
 	@echo "make rows_inlines ORACLE=DIR CORPUS=DIR   computes the definition of inlines at the examples of CORPUS, as DIR/oracle.py reads them"
 
-run: build
+run:
 	@tools/show examples/page.md examples/writer.script
 
 build:
-	@for program in $(PROGRAMS); do \
-	  (cd crates/$$program && $(RT) run < /dev/null > /dev/null) || exit 1; \
-	  mkdir -p bin && cp crates/$$program/out/$$program bin/$$program || exit 1; \
-	  echo "built bin/$$program"; \
-	done
+	@tools/build $(PROGRAMS)
 
 test:
 	@tools/gate
@@ -50,6 +47,9 @@ check:
 
 fmt:
 	@for crate in crates/*/; do (cd $$crate && $(RT) fmt) || exit 1; done
+
+picture: bin/mdpreview
+	@tools/picture examples/pane.script > docs/preview.svg
 
 compare: $(if $(BUILT),,build)
 	@tools/compare $(ORACLE) $(TEXTS) $(SCRIPTS)

@@ -6,7 +6,7 @@ import rows_common as common
 COMMONMARK = ['Tabs', 'Precedence', 'Thematic breaks', 'ATX headings', 'Setext headings', 'Indented code blocks', 'Fenced code blocks',
               'HTML blocks', 'Link reference definitions', 'Paragraphs', 'Blank lines', 'Block quotes', 'List items', 'Lists']
 GFM = ['Tables (extension)', 'Task list items (extension)']
-CRATES = ['mdtext', 'mdscan', 'mdleaf', 'mdblock', 'block_rows']
+CRATES = ['mdtext', 'mdscan', 'mdleaf', 'blockspec', 'block_rows']
 # examples that are left out, by the standard and the number, with the reason: none
 OMITTED = {}
 IN_A_FILE = 25
@@ -14,8 +14,7 @@ IN_A_FILE = 25
 HEAD = '''-- Rows of examples, by computation.
 use Rattle.std.proofs.Common.{◌≡◌, ℕ, List, [], ◌∷◌, ◌++◌, Some, None, refl, codes, true, false}
 use Rattle.mdscan.specs.declared.delimiter_rows.Align.TheVariants.{Plain, Left, Center, Right}
-use Rattle.mdblock.specs.BlockTree.{bullet, ordered, paragraph, heading, thematic_break, code_block, html_block, block_quote, list, table}
-use Rattle.mdblock.specs.BlockView.{blocks_of, items_of}
+use Rattle.blockspec.specs.BlockTree.{bullet, ordered, paragraph, heading, thematic_break, code_block, html_block, block_quote, list, table, blocks_of, items_of}
 use Rattle.block_rows.proofs.ReadText.{units_read, found, defines}
 '''
 

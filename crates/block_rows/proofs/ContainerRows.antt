@@ -1,7 +1,6 @@
 -- Rows of block quotes, list items and lazy lines (CommonMark 5.1, 5.2; GFM Task list items), by computation.
 use Rattle.std.proofs.Common.{◌≡◌, [], ◌∷◌, Some, None, refl, codes, true, false}
-use Rattle.mdblock.specs.BlockTree.{bullet, ordered, paragraph, heading, thematic_break, code_block, block_quote, list}
-use Rattle.mdblock.specs.BlockView.{blocks_of, items_of}
+use Rattle.blockspec.specs.BlockTree.{bullet, ordered, paragraph, heading, thematic_break, code_block, block_quote, list, blocks_of, items_of}
 use Rattle.block_rows.proofs.ReadText.{units_read, found, defines}
 
 -- a column behind the marker goes, if there is one; a blank line ends the quote

@@ -1,7 +1,6 @@
 -- Rows of link reference definitions (CommonMark 4.7), by computation.
 use Rattle.std.proofs.Common.{◌≡◌, [], ◌∷◌, ◌++◌, None, refl, codes, true}
-use Rattle.mdblock.specs.BlockTree.{bullet, paragraph, block_quote, list}
-use Rattle.mdblock.specs.BlockView.{blocks_of, items_of}
+use Rattle.blockspec.specs.BlockTree.{bullet, paragraph, block_quote, list, blocks_of, items_of}
 use Rattle.block_rows.proofs.ReadText.{units_read, found, defines}
 
 -- one after the other, and a paragraph; a definition does not interrupt one

@@ -1,7 +1,6 @@
 -- Rows of leaf blocks (CommonMark 4), by computation.
 use Rattle.std.proofs.Common.{◌≡◌, [], ◌∷◌, ◌++◌, None, refl, codes}
-use Rattle.mdblock.specs.BlockTree.{paragraph, heading, thematic_break, code_block, html_block, block_quote, list}
-use Rattle.mdblock.specs.BlockView.{blocks_of}
+use Rattle.blockspec.specs.BlockTree.{paragraph, heading, thematic_break, code_block, html_block, block_quote, list, blocks_of}
 use Rattle.block_rows.proofs.ReadText.{units_read, found, defines}
 
 -- three of one mark, with spaces and tabs between; four columns of indentation are too many, and so are two marks for a break

@@ -1,7 +1,6 @@
 -- Rows of lists and their tightness (CommonMark 5.3), by computation.
 use Rattle.std.proofs.Common.{◌≡◌, [], ◌∷◌, None, refl, codes, true, false}
-use Rattle.mdblock.specs.BlockTree.{bullet, ordered, paragraph, code_block, html_block, block_quote, list}
-use Rattle.mdblock.specs.BlockView.{blocks_of, items_of}
+use Rattle.blockspec.specs.BlockTree.{bullet, ordered, paragraph, code_block, html_block, block_quote, list, blocks_of, items_of}
 use Rattle.block_rows.proofs.ReadText.{units_read, found, defines}
 
 -- no gap

@@ -18,7 +18,7 @@ use Rattle.mdscan.specs.DelimiterRow.{is_delimiter, delimiter_columns, delimiter
 use Rattle.mdscan.specs.Escapes.{run_before}
 use Rattle.mdscan.specs.Gaps.{gap_length}
 use Rattle.mdscan.specs.HtmlBlock.{begins_one_of, raw_names, block_names, begins_raw, is_block_name, begins_block, begins_raw_end, ends_kind, holds_end, is_raw_tag, begins_whole_tag, html_kind}
-use Rattle.mdscan.specs.HtmlTag.{tag_name_length, attribute_name_length, quoted_length, value_length, equals_length, value_part_length, attribute_length, open_end_length, open_tag, closing_tag}
+use Rattle.mdscan.specs.Tag.{tag_name_length, attribute_name_length, quoted_length, value_length, equals_length, value_part_length, attribute_length, open_end_length, open_tag, closing_tag}
 use Rattle.mdscan.specs.LinkDefinition.{line_end, titled_def, labelled_def, definition_of}
 use Rattle.mdscan.specs.LinkDestination.{angle_destination, bare_end, destination_at}
 use Rattle.mdscan.specs.LinkLabel.{label_at}
@@ -34,25 +34,24 @@ use Rattle.mdleaf.specs.LeadingDefinitions.{fronts, leading_of, leading_end}
 use Rattle.mdleaf.specs.LinkDefinition.{LinkDefinition}
 use Rattle.mdleaf.specs.ParagraphText.{joined_lines, without_end_blanks}
 use Rattle.mdleaf.specs.TableRows.{row_texts, row_aligns, begins_table}
-use Rattle.mdblock.specs.BlockLine.{document_line}
-use Rattle.mdblock.specs.BlockStart.{padding, start_near, start}
-use Rattle.mdblock.specs.BlockTree.{Block}
-use Rattle.mdblock.specs.BlockUnits.{container_part, groups_within, visible, visible_in, found_units, units}
-use Rattle.mdblock.specs.BlockView.{blocks_of}
-use Rattle.mdblock.specs.ContainerLines.{matches, opened, inside, is_bare}
-use Rattle.mdblock.specs.Indentation.{unindented}
-use Rattle.mdblock.specs.Laziness.{continues_lazily}
-use Rattle.mdblock.specs.LeafContents.{leaves_of}
-use Rattle.mdblock.specs.LineSummary.{no_summary, summary_tip, last_tip, closed, last_groups, ended_last, new_last, begin_after, leaf_after, container_after, last_after, line_added, is_apart_after}
-use Rattle.mdblock.specs.ListGroups.{grouped, nodes_of}
-use Rattle.mdblock.specs.Nesting.{first_deep, deep_within, first_too_deep}
-use Rattle.mdblock.specs.NodeTree.{texts_in, texts_in_items, definitions_in, definitions_in_items, placed, placed_items}
-use Rattle.mdblock.specs.OpenLeaf.{open_leaves, leaf_from, turn_at}
-use Rattle.mdblock.specs.ParagraphEnd.{paragraph_end, heading_end, table_end}
-use Rattle.mdblock.specs.Stretches.{step, is_single, all_of, tip_of, begin_where, after_step, add_at, cut_from, tip_within}
-use Rattle.mdblock.specs.SummaryDepth.{sinks_first, sinks_later, sinks_at, sinks_by, sinks, lines_added, refused_line}
-use Rattle.mdblock.specs.TaskItem.{with_task}
-use Rattle.mdblock.specs.UnitTree.{FoundUnit}
+use Rattle.blockspec.specs.BlockLine.{document_line}
+use Rattle.blockspec.specs.BlockStart.{padding, start_near, start}
+use Rattle.blockspec.specs.BlockTree.{Block, blocks_of}
+use Rattle.blockspec.specs.BlockUnits.{container_part, groups_within, visible, visible_in, found_units, units}
+use Rattle.blockspec.specs.ContainerLines.{matches, opened, inside, is_bare}
+use Rattle.blockspec.specs.Indentation.{unindented}
+use Rattle.blockspec.specs.Laziness.{continues_lazily}
+use Rattle.blockspec.specs.LeafContents.{leaves_of}
+use Rattle.blockspec.specs.LineSummary.{no_summary, summary_tip, last_tip, closed, last_groups, ended_last, new_last, begin_after, leaf_after, container_after, last_after, line_added, is_apart_after}
+use Rattle.blockspec.specs.ListGroups.{grouped, nodes_of}
+use Rattle.blockspec.specs.Nesting.{first_deep, deep_within, first_too_deep}
+use Rattle.blockspec.specs.NodeTree.{texts_in, texts_in_items, definitions_in, definitions_in_items, placed, placed_items}
+use Rattle.blockspec.specs.OpenLeaf.{open_leaves, leaf_from, turn_at}
+use Rattle.blockspec.specs.ParagraphEnd.{paragraph_end, heading_end, table_end}
+use Rattle.blockspec.specs.Stretches.{step, is_single, all_of, tip_of, begin_where, after_step, add_at, cut_from, tip_within}
+use Rattle.blockspec.specs.SummaryDepth.{sinks_first, sinks_later, sinks_at, sinks_by, sinks, lines_added, refused_line}
+use Rattle.blockspec.specs.TaskItem.{with_task}
+use Rattle.blockspec.specs.UnitTree.{FoundUnit}
 
 -- a unit: the number of lines before it and its own, its blocks, definitions and texts
 abbrev pub found : (begin lines : ℕ) → List Block → List LinkDefinition → List (List ℕ) → FoundUnit

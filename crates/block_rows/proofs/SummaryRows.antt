@@ -1,8 +1,7 @@
 -- Rows of units, by computation, as a reader finds them that goes over the lines and keeps nothing but their summary.
 use Rattle.std.proofs.Common.{◌≡◌, ℕ, List, [], ◌∷◌, Some, None, refl, codes, true, false}
 use Rattle.mdscan.specs.declared.delimiter_rows.Align.TheVariants.{Plain, Center}
-use Rattle.mdblock.specs.BlockTree.{bullet, ordered, paragraph, heading, thematic_break, code_block, html_block, block_quote, list, table}
-use Rattle.mdblock.specs.BlockView.{blocks_of, items_of}
+use Rattle.blockspec.specs.BlockTree.{bullet, ordered, paragraph, heading, thematic_break, code_block, html_block, block_quote, list, table, blocks_of, items_of}
 use Rattle.block_rows.proofs.ReadText.{units_kept, found, defines}
 
 -- lines of a paragraph, with indentation and a lazy one

@@ -1,8 +1,7 @@
 -- Rows of tables (GFM Tables), by computation.
 use Rattle.std.proofs.Common.{◌≡◌, [], ◌∷◌, None, refl, codes, true}
 use Rattle.mdscan.specs.declared.delimiter_rows.Align.TheVariants.{Plain, Left, Center, Right}
-use Rattle.mdblock.specs.BlockTree.{bullet, ordered, paragraph, code_block, block_quote, list, table}
-use Rattle.mdblock.specs.BlockView.{blocks_of, items_of}
+use Rattle.blockspec.specs.BlockTree.{bullet, ordered, paragraph, code_block, block_quote, list, table, blocks_of, items_of}
 use Rattle.block_rows.proofs.ReadText.{units_read, found, defines}
 
 -- alignments, a missing cell, excess ones

@@ -2,11 +2,10 @@
 use Rattle.std.specs.Prelude.{replicate}
 use Rattle.std.proofs.Common.{◌++◌, ℕ, zero, suc, List, ◌≡◌, [], ◌∷◌, Some, None, refl, codes, true, false}
 use Rattle.mdscan.specs.declared.delimiter_rows.Align.TheVariants.{Plain}
-use Rattle.mdblock.specs.BlockTree.{Block, bullet, paragraph, heading, code_block, block_quote, list, table}
-use Rattle.mdblock.specs.BlockView.{blocks_of, items_of}
+use Rattle.blockspec.specs.BlockTree.{Block, bullet, paragraph, heading, code_block, block_quote, list, table, blocks_of, items_of}
 use Rattle.block_rows.proofs.ReadText.{units_read, deep_line, found, defines}
-use Rattle.mdblock.specs.BlockUnits.{definitions_of}
-use Rattle.mdblock.specs.FirstDefinitions.{first_definition}
+use Rattle.blockspec.specs.BlockUnits.{definitions_of}
+use Rattle.blockspec.specs.FirstDefinitions.{first_definition}
 
 -- no line
 empty : units_read [] ≡ []

@@ -1,6 +1,6 @@
 -- Autolinks and raw HTML (CommonMark 6.5, 6.6).
 use Rattle.std.proofs.Common.{◌≡◌, [], ◌∷◌, refl, codes}
-use Rattle.mdinline.specs.InlineTree.{inlines_of, text, raw, link}
+use Rattle.inlinespec.specs.InlineTree.{inlines_of, text, raw, link}
 use Rattle.inline_rows.specs.Opened.{inline_words}
 use Rattle.inline_rows.specs.Reads.{reads}
 

@@ -1,6 +1,6 @@
 -- The labels that are looked up, found or not (CommonMark 6.3).
 use Rattle.std.proofs.Common.{◌≡◌, [], ◌∷◌, refl, codes}
-use Rattle.mdinline.specs.InlineTree.{inlines_of, text}
+use Rattle.inlinespec.specs.InlineTree.{inlines_of, text}
 use Rattle.inline_rows.specs.Opened.{inline_words}
 use Rattle.inline_rows.specs.Reads.{reads, asks, asks_under}
 

@@ -1,6 +1,6 @@
 -- Line breaks and text (CommonMark 6.7 to 6.9).
 use Rattle.std.proofs.Common.{◌≡◌, [], ◌∷◌, refl, codes}
-use Rattle.mdinline.specs.InlineTree.{inlines_of, text, code, soft, hard, emph}
+use Rattle.inlinespec.specs.InlineTree.{inlines_of, text, code, soft, hard, emph}
 use Rattle.inline_rows.specs.Opened.{inline_words}
 use Rattle.inline_rows.specs.Reads.{reads}
 

@@ -1,6 +1,6 @@
 -- Code spans (CommonMark 6.1).
 use Rattle.std.proofs.Common.{◌≡◌, [], ◌∷◌, refl, codes}
-use Rattle.mdinline.specs.InlineTree.{inlines_of, text, code}
+use Rattle.inlinespec.specs.InlineTree.{inlines_of, text, code}
 use Rattle.inline_rows.specs.Opened.{inline_words}
 use Rattle.inline_rows.specs.Reads.{reads}
 

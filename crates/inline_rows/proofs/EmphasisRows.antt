@@ -1,6 +1,6 @@
 -- Emphasis, strong emphasis and strikethrough (CommonMark 6.2; GFM, Strikethrough).
 use Rattle.std.proofs.Common.{◌≡◌, [], ◌∷◌, ◌++◌, refl, codes}
-use Rattle.mdinline.specs.InlineTree.{inlines_of, text, code, emph, strong, strike}
+use Rattle.inlinespec.specs.InlineTree.{inlines_of, text, code, emph, strong, strike}
 use Rattle.inline_rows.specs.Opened.{inline_words}
 use Rattle.inline_rows.specs.Reads.{reads, nests}
 

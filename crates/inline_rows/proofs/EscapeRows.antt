@@ -1,6 +1,6 @@
 -- Backslash escapes and references (CommonMark 2.4, 2.5).
 use Rattle.std.proofs.Common.{◌≡◌, [], ◌∷◌, ◌++◌, refl, codes}
-use Rattle.mdinline.specs.InlineTree.{inlines_of, text, emph}
+use Rattle.inlinespec.specs.InlineTree.{inlines_of, text, emph}
 use Rattle.inline_rows.specs.Opened.{inline_words}
 use Rattle.inline_rows.specs.Reads.{reads}
 

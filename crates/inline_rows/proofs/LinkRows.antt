@@ -1,6 +1,6 @@
 -- Links and images (CommonMark 6.3, 6.4).
 use Rattle.std.proofs.Common.{◌≡◌, [], ◌∷◌, ◌++◌, refl, codes}
-use Rattle.mdinline.specs.InlineTree.{inlines_of, text, soft, emph, link, image}
+use Rattle.inlinespec.specs.InlineTree.{inlines_of, text, soft, emph, link, image}
 use Rattle.inline_rows.specs.Opened.{inline_words}
 use Rattle.inline_rows.specs.Reads.{reads, reads_under, asks_under}
 

@@ -1,10 +1,10 @@
 -- What a row says: the tree of a text, the labels asked for, how deep it is nested.
 use Rattle.std.specs.Prelude.{ℕ, List, []}
 use Rattle.mdtext.specs.EntityTable.{builtin_table}
-use Rattle.mdinline.specs.InlineTree.{Inlines}
-use Rattle.mdinline.specs.LabelMap.{LabelMap, target_in}
-use Rattle.mdinline.specs.Nesting.{nest}
-use Rattle.mdinline.specs.TextTree.{inl, asked}
+use Rattle.inlinespec.specs.InlineTree.{Inlines}
+use Rattle.inlinespec.specs.LabelMap.{LabelMap, target_in}
+use Rattle.inlinespec.specs.Nesting.{nest}
+use Rattle.inlinespec.specs.TextTree.{inl, asked}
 
 abbrev pub reads_under : LabelMap → List ℕ → Inlines
 reads_under labels text = inl builtin_table (target_in labels) text

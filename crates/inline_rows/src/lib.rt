@@ -1,3 +1,3 @@
-//! Rows of the definition of inlines (`mdinline`'s `specs/`) that compute: small texts, their trees and the labels asked for. Nothing depends on this
-//! crate; a check of it checks the rows.
+//! Rows of the definition of inlines (`inlinespec`) that compute: small texts, their trees and the labels asked for. Nothing depends on this crate; a
+//! check of it checks the rows.
 #![tactic(auto)]

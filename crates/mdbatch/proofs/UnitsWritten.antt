@@ -4,7 +4,7 @@ use Rattle.std.proofs.lemmas.List.{map-append}
 use Rattle.std.proofs.lemmas.List.Elements.{All-push}
 use Rattle.std.proofs.lemmas.List.Folds.{concat-append}
 use Rattle.std.specs.List.{concat}
-use Rattle.mdblock.specs.UnitTree.{FoundUnit}
+use Rattle.blockspec.specs.UnitTree.{FoundUnit}
 use Rattle.mdhtml.specs.declared.options.Options.{Options}
 use Rattle.mdview.specs.HeldUnit.{ReadUnit, unit_piece}
 use Rattle.mdbatch.specs.BatchHtml.{AppendsUnit, AppendsUnits, UnitsHtml, IsRead, found_of}

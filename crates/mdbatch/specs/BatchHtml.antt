@@ -3,7 +3,7 @@ use Rattle.std.specs.Prelude.{◌≡◌, ℕ, false, List, [], ◌++◌, Some, N
 use Rattle.std.specs.Global.{Global}
 use Rattle.std.specs.List.{All, concat}
 use Rattle.mdtext.specs.Lines.{text_lines}
-use Rattle.mdblock.specs.UnitTree.{UnitTree, FoundUnit}
+use Rattle.blockspec.specs.UnitTree.{UnitTree, FoundUnit}
 use Rattle.mdinline.specs.ParsedText.{ParsedText}
 use Rattle.mdhtml.specs.declared.options.Options.{Options}
 use Rattle.mdhtml.specs.BlockHtml.{blocks_html, trees_of}

@@ -1,8 +1,8 @@
 -- Where the labels of a text lead (CommonMark 4.7).
 use Rattle.std.specs.Prelude.{List, [], ◌∷◌}
 use Rattle.mdleaf.specs.LinkDefinition.{LinkDefinition}
-use Rattle.mdblock.specs.UnitTree.{FoundUnit}
-use Rattle.mdinline.specs.LabelMap.{LabelMap, put_first}
+use Rattle.blockspec.specs.UnitTree.{FoundUnit}
+use Rattle.inlinespec.specs.LabelMap.{LabelMap, put_first}
 
 -- the map with these definitions after those that it has: a label keeps its first target
 abbrev pub with_definitions : LabelMap → List LinkDefinition → LabelMap

@@ -3,18 +3,18 @@ use Rattle.std.proofs.Common.{◌≡◌, ℕ, ◌+◌, Bool, true, false, List, 
 use Rattle.mdtext.specs.EntityTable.{EntityTable}
 use Rattle.mdleaf.specs.LinkDefinition.{LinkDefinition}
 use Rattle.mdscan.specs.declared.list_markers.Marker.{Marker}
-use Rattle.mdblock.specs.BlockStart.{Quote, Item}
-use Rattle.mdblock.specs.BlockTree.{ListKind, no_blocks, block, block_quote, list, item, no_items}
-use Rattle.mdblock.specs.BlockUnits.{container_part}
-use Rattle.mdblock.specs.HeldNodes.{list_of, over_leaves, over_nodes, handed_groups, handed_last, tasked, handed_nodes, closed_nodes}
-use Rattle.mdblock.specs.LineSummary.{Summary, summary, nothing_yet, ended_block, open_leaf, open_container, closed, last_groups}
-use Rattle.mdblock.specs.ListGroups.{Listed, Group, kind_of, items_before, is_tight_inside, leaves_before, nodes_of}
-use Rattle.mdblock.specs.NodeTree.{Leaf, definition_leaf, paragraph_leaf, heading_leaf, break_leaf, code_leaf, html_leaf, table_leaf, Nodes, no_nodes, leaf_node, quote_node, list_node, ItemNodes, no_item_nodes, item_node, texts_in, texts_in_items, definitions_in, definitions_in_items, placed, placed_items}
-use Rattle.mdblock.specs.OpenLeaf.{OpenLeaf, open_text, open_table, open_fence, open_code, open_html, done_heading, done_leaf, open_leaves}
-use Rattle.mdblock.specs.TaskItem.{with_task}
-use Rattle.mdblock.specs.TreesBehind.{nodes_before, blocks_before, placed_before}
+use Rattle.blockspec.specs.BlockStart.{Quote, Item}
+use Rattle.blockspec.specs.BlockTree.{ListKind, no_blocks, block, block_quote, list, item, no_items}
+use Rattle.blockspec.specs.BlockUnits.{container_part}
+use Rattle.mdblock.specs.held.HeldNodes.{list_of, over_leaves, over_nodes, handed_groups, handed_last, tasked, handed_nodes, closed_nodes}
+use Rattle.blockspec.specs.LineSummary.{Summary, summary, nothing_yet, ended_block, open_leaf, open_container, closed, last_groups}
+use Rattle.blockspec.specs.ListGroups.{Listed, Group, kind_of, items_before, is_tight_inside, leaves_before, nodes_of}
+use Rattle.blockspec.specs.NodeTree.{Leaf, definition_leaf, paragraph_leaf, heading_leaf, break_leaf, code_leaf, html_leaf, table_leaf, Nodes, no_nodes, leaf_node, quote_node, list_node, ItemNodes, no_item_nodes, item_node, texts_in, texts_in_items, definitions_in, definitions_in_items, placed, placed_items}
+use Rattle.blockspec.specs.OpenLeaf.{OpenLeaf, open_text, open_table, open_fence, open_code, open_html, done_heading, done_leaf, open_leaves}
+use Rattle.blockspec.specs.TaskItem.{with_task}
+use Rattle.mdblock.specs.held.TreesBehind.{nodes_before, blocks_before, placed_before}
 use Rattle.mdblock.proofs.HeldNodesLaws.{list_nodes, merged-list, merged-leaves, merged-quote}
-use Rattle.mdblock.proofs.ItemLaws.{merged-nil}
+use Rattle.blocklaws.proofs.ItemLaws.{merged-nil}
 use Rattle.mdblock.proofs.PlacedNodes.{texts-before, definitions-before, placed-before, item-texts-before, item-definitions-before, placed-items-before, leaves-append, leaves-behind, nodes-assoc}
 
 -- ---- what lines give

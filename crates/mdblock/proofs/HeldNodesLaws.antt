@@ -1,13 +1,13 @@
 -- What is over, and the list that goes on, are what the lines give.
 use Rattle.std.proofs.Common.{◌≡◌, ℕ, Bool, true, false, ◌&&◌, List, [], ◌∷◌, refl, sym, ◌∙◌, ap}
 use Rattle.mdtext.specs.EntityTable.{EntityTable}
-use Rattle.mdblock.specs.BlockTree.{ListKind, no_blocks}
-use Rattle.mdblock.specs.HeldNodes.{ListSoFar, list_behind, list_where, list_at, list_of, handed_groups, handed_nodes, tasked}
-use Rattle.mdblock.specs.LineSummary.{no_summary, closed}
-use Rattle.mdblock.specs.ListGroups.{Part, Leaves, Quoted, Listed, Group, is_same_list, items_before, joined_where, joined, merged, is_tight_inside, leaves_before, part_before, nodes_of}
-use Rattle.mdblock.specs.NodeTree.{Leaf, Nodes, no_nodes, quote_node, list_node, ItemNodes, texts_in, definitions_in, placed}
-use Rattle.mdblock.specs.TaskItem.{with_task}
-use Rattle.mdblock.specs.TreesBehind.{nodes_before}
+use Rattle.blockspec.specs.BlockTree.{ListKind, no_blocks}
+use Rattle.mdblock.specs.held.HeldNodes.{ListSoFar, list_behind, list_where, list_at, list_of, handed_groups, handed_nodes, tasked}
+use Rattle.blockspec.specs.LineSummary.{no_summary, closed}
+use Rattle.blockspec.specs.ListGroups.{Part, Leaves, Quoted, Listed, Group, is_same_list, items_before, joined_where, joined, merged, is_tight_inside, leaves_before, part_before, nodes_of}
+use Rattle.blockspec.specs.NodeTree.{Leaf, Nodes, no_nodes, quote_node, list_node, ItemNodes, texts_in, definitions_in, placed}
+use Rattle.blockspec.specs.TaskItem.{with_task}
+use Rattle.mdblock.specs.held.TreesBehind.{nodes_before}
 use Rattle.mdblock.proofs.PlacedNodes.{nodes-assoc, part-behind}
 
 abbrev item_group : ℕ → Bool → ListKind → Bool → ItemNodes → Group

@@ -6,14 +6,14 @@ use Rattle.mdleaf.specs.CodeLanguage.{code_language}
 use Rattle.mdleaf.specs.LeadingDefinitions.{leading_of}
 use Rattle.mdleaf.specs.LinkDefinition.{LinkDefinition}
 use Rattle.mdleaf.specs.ParagraphText.{without_end_blanks, behind_definitions}
-use Rattle.mdblock.specs.BlockLine.{BlockLine}
-use Rattle.mdblock.specs.BlockStart.{Kind, Paragraph, FencedCode, IndentedCode, HtmlBlock, Table}
-use Rattle.mdblock.specs.BlockTree.{no_blocks, block, code_block, html_block}
+use Rattle.blockspec.specs.BlockLine.{BlockLine}
+use Rattle.blockspec.specs.BlockStart.{Kind, Paragraph, FencedCode, IndentedCode, HtmlBlock, Table}
+use Rattle.blockspec.specs.BlockTree.{no_blocks, block, code_block, html_block}
 use Rattle.mdblock.specs.BlockView.{block_view}
-use Rattle.mdblock.specs.HandedIn.{left_behind, IsHandedIn}
-use Rattle.mdblock.specs.LeafEnds.{IsEndOf, end_definitions}
-use Rattle.mdblock.specs.OpenLeaves.{IsLeafOf}
-use Rattle.mdblock.specs.ParagraphLines.{HeldText}
+use Rattle.mdblock.specs.held.HandedIn.{left_behind, IsHandedIn}
+use Rattle.mdblock.specs.held.LeafEnds.{IsEndOf, end_definitions}
+use Rattle.mdblock.specs.held.OpenLeaves.{IsLeafOf}
+use Rattle.mdblock.specs.held.ParagraphLines.{HeldText}
 use Rattle.mdblock.specs.declared.blocks.Block.{Block}
 use Rattle.mdblock.specs.declared.leaf.fences.Fence.{Fence}
 use Rattle.mdblock.specs.declared.leaf.html_blocks.HtmlBlock as html

@@ -1,13 +1,13 @@
 -- What an open leaf tells of the lines that it takes.
 use Rattle.std.proofs.Common.{◌≡◌, ℕ, Bool, true, false, not, ◌||◌, List, ◌∷◌, refl, ap, ◌∙◌, nat_lt}
 use Rattle.mdtext.specs.EntityTable.{EntityTable}
-use Rattle.mdblock.specs.BlockLine.{BlockLine, is_blank_line}
-use Rattle.mdblock.specs.BlockStart.{Kind, Paragraph, FencedCode, IndentedCode, HtmlBlock, Table, Inside, start}
-use Rattle.mdblock.specs.Laziness.{Tip}
-use Rattle.mdblock.specs.OpenLeaves.{IsLeafOf}
-use Rattle.mdblock.specs.ParagraphLines.{HeldText, HoldsLines}
-use Rattle.mdblock.specs.Stretches.{takes_if, fence_step, closes, html_step, ends_html, is_code, is_row, paragraph_step, step}
-use Rattle.mdblock.specs.UnitBegin.{is_stop}
+use Rattle.blockspec.specs.BlockLine.{BlockLine, is_blank_line}
+use Rattle.blockspec.specs.BlockStart.{Kind, Paragraph, FencedCode, IndentedCode, HtmlBlock, Table, Inside, start}
+use Rattle.blockspec.specs.Laziness.{Tip}
+use Rattle.mdblock.specs.held.OpenLeaves.{IsLeafOf}
+use Rattle.mdblock.specs.held.ParagraphLines.{HeldText, HoldsLines}
+use Rattle.blockspec.specs.Stretches.{takes_if, fence_step, closes, html_step, ends_html, is_code, is_row, paragraph_step, step}
+use Rattle.blockspec.specs.UnitBegin.{is_stop}
 use Rattle.mdblock.specs.declared.leaf.fences.Fence.{Fence}
 use Rattle.mdblock.specs.declared.leaf.html_blocks.HtmlBlock as html
 use Rattle.mdblock.specs.declared.leaf.indented_code.IndentedCode as code

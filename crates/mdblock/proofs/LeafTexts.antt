@@ -12,9 +12,9 @@ use Rattle.mdtext.specs.EntityTable.{EntityTable}
 use Rattle.mdtext.specs.References.{unescaped}
 use Rattle.mdleaf.specs.CodeLanguage.{code_language, ends_language}
 use Rattle.mdleaf.specs.ParagraphText.{joined_lines}
-use Rattle.mdblock.specs.BlockLine.{BlockLine, is_blank_line, without_columns}
-use Rattle.mdblock.specs.LeafContents.{code_text, without_end_blank_lines}
-use Rattle.mdblock.specs.OpenLeaves.{end_blank_lines}
+use Rattle.blockspec.specs.BlockLine.{BlockLine, is_blank_line, without_columns}
+use Rattle.blockspec.specs.LeafContents.{code_text, without_end_blank_lines}
+use Rattle.mdblock.specs.held.OpenLeaves.{end_blank_lines}
 
 -- ---- lines with a line ending between them
 

@@ -3,14 +3,14 @@ use Rattle.std.proofs.Common.{◌≡◌, ℕ, ◌-◌, Bool, true, false, ◌&&�
 use Rattle.std.proofs.lemmas.List.{take_all, take-append-le}
 use Rattle.mdtext.specs.EntityTable.{EntityTable}
 use Rattle.mdleaf.specs.CodeLanguage.{code_language}
-use Rattle.mdblock.specs.BlockLine.{BlockLine, is_blank_line}
-use Rattle.mdblock.specs.BlockStart.{Kind, Paragraph, SetextHeading, FencedCode, IndentedCode, HtmlBlock, Table, Inside, start}
-use Rattle.mdblock.specs.BlockTree.{code_block}
-use Rattle.mdblock.specs.Laziness.{Tip}
-use Rattle.mdblock.specs.LeafContents.{code_text, without_last}
-use Rattle.mdblock.specs.OpenLeaves.{IsFenceOf, IsHtmlOf, IsCodeOf, IsLeafOf, IsGoing, IsOver, IsHtmlLeaf, IsHtmlStep, IsCodeLeaf, IsFenceStep, IsParagraphLeaf, IsLeft}
-use Rattle.mdblock.specs.ParagraphLines.{HeldText, HoldsLines}
-use Rattle.mdblock.specs.Stretches.{Takes, takes_if, fence_step, closes, html_step, ends_html, is_code, is_row, paragraph_step, step}
+use Rattle.blockspec.specs.BlockLine.{BlockLine, is_blank_line}
+use Rattle.blockspec.specs.BlockStart.{Kind, Paragraph, SetextHeading, FencedCode, IndentedCode, HtmlBlock, Table, Inside, start}
+use Rattle.blockspec.specs.BlockTree.{code_block}
+use Rattle.blockspec.specs.Laziness.{Tip}
+use Rattle.blockspec.specs.LeafContents.{code_text, without_last}
+use Rattle.mdblock.specs.held.OpenLeaves.{IsFenceOf, IsHtmlOf, IsCodeOf, IsLeafOf, IsGoing, IsOver, IsHtmlLeaf, IsHtmlStep, IsCodeLeaf, IsFenceStep, IsParagraphLeaf, IsLeft}
+use Rattle.mdblock.specs.held.ParagraphLines.{HeldText, HoldsLines}
+use Rattle.blockspec.specs.Stretches.{Takes, takes_if, fence_step, closes, html_step, ends_html, is_code, is_row, paragraph_step, step}
 use Rattle.mdblock.specs.declared.leaf.fences.Fence.{Fence}
 use Rattle.mdblock.specs.declared.leaf.html_blocks.HtmlBlock as html
 use Rattle.mdblock.specs.declared.leaf.indented_code.IndentedCode as code

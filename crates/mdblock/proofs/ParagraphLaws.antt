@@ -9,12 +9,12 @@ use Rattle.std.specs.Str.{IsUtf8, IsCharBoundary}
 use Rattle.mdscan.specs.Blanks.{is_blank}
 use Rattle.mdleaf.specs.ParagraphText.{joined_lines, without_end_blanks}
 use Rattle.mdleaf.specs.TableRows.{begins_table}
-use Rattle.mdblock.specs.BlockLine.{BlockLine, rest, indentation, is_blank_line}
-use Rattle.mdblock.specs.BlockStart.{Inside, Kind, Paragraph, SetextHeading, Table, begins_underline, begins_rows, last_text, start_near, start}
-use Rattle.mdblock.specs.OpeningKind.{kind_of_opening}
-use Rattle.mdblock.specs.ParagraphLines.{HeldText, HoldsLines}
-use Rattle.mdblock.specs.StartParts.{start_before_underline, start_after_underline}
-use Rattle.mdblock.specs.Stretches.{Takes, Ends, Stops, interrupted, paragraph_step}
+use Rattle.blockspec.specs.BlockLine.{BlockLine, rest, indentation, is_blank_line}
+use Rattle.blockspec.specs.BlockStart.{Inside, Kind, Paragraph, SetextHeading, Table, begins_underline, begins_rows, last_text, start_near, start}
+use Rattle.mdblock.specs.held.OpeningKind.{kind_of_opening}
+use Rattle.mdblock.specs.held.ParagraphLines.{HeldText, HoldsLines}
+use Rattle.mdblock.specs.held.StartParts.{start_before_underline, start_after_underline}
+use Rattle.blockspec.specs.Stretches.{Takes, Ends, Stops, interrupted, paragraph_step}
 use Rattle.mdblock.specs.declared.starts.Opening.{Opening}
 use Rattle.mdblock.specs.declared.starts.Opening.TheVariants as o
 use Rattle.mdblock.proofs.LeafTexts.{joined_more, joined_one, joined_next}

@@ -4,11 +4,11 @@ use Rattle.std.proofs.Common.{◌≡◌, ℕ, ◌+◌, true, false, List, [], �
 use Rattle.std.proofs.lemmas.List.{append_assoc, length-append}
 use Rattle.mdscan.specs.TaskMarker.{task_marker}
 use Rattle.mdscan.specs.declared.tasks.TaskMark.{TaskMark}
-use Rattle.mdblock.specs.BlockTree.{block_quote, list, Blocks, no_blocks, block, item}
-use Rattle.mdblock.specs.ListGroups.{Part, Leaves, Quoted, Listed, Group, items_before, leaves_before, part_before, nodes_of}
-use Rattle.mdblock.specs.NodeTree.{Leaf, definition_leaf, paragraph_leaf, heading_leaf, break_leaf, code_leaf, html_leaf, table_leaf, Nodes, no_nodes, leaf_node, quote_node, list_node, ItemNodes, no_item_nodes, item_node, leaf_texts, leaf_definitions, texts_in, texts_in_items, definitions_in, definitions_in_items, leaf_block, placed, placed_items}
-use Rattle.mdblock.specs.TaskItem.{task_paragraph, with_task}
-use Rattle.mdblock.specs.TreesBehind.{nodes_before, blocks_before, placed_before, has_block}
+use Rattle.blockspec.specs.BlockTree.{block_quote, list, Blocks, no_blocks, block, item}
+use Rattle.blockspec.specs.ListGroups.{Part, Leaves, Quoted, Listed, Group, items_before, leaves_before, part_before, nodes_of}
+use Rattle.blockspec.specs.NodeTree.{Leaf, definition_leaf, paragraph_leaf, heading_leaf, break_leaf, code_leaf, html_leaf, table_leaf, Nodes, no_nodes, leaf_node, quote_node, list_node, ItemNodes, no_item_nodes, item_node, leaf_texts, leaf_definitions, texts_in, texts_in_items, definitions_in, definitions_in_items, leaf_block, placed, placed_items}
+use Rattle.blockspec.specs.TaskItem.{task_paragraph, with_task}
+use Rattle.mdblock.specs.held.TreesBehind.{nodes_before, blocks_before, placed_before, has_block}
 
 -- ---- trees alone
 

@@ -7,8 +7,8 @@ use Rattle.mdscan.specs.DelimiterRow.{is_delimiter, delimiter_columns}
 use Rattle.mdscan.specs.Spans.{part}
 use Rattle.mdscan.specs.TableRow.{inside, cell, cells_split, bars, row_cells}
 use Rattle.mdleaf.specs.TableRows.{begins_table}
-use Rattle.mdblock.specs.Indentation.{unindented}
-use Rattle.mdblock.specs.ParagraphTurns.{begins_row}
+use Rattle.blockspec.specs.Indentation.{unindented}
+use Rattle.mdblock.specs.held.ParagraphTurns.{begins_row}
 use Rattle.mdblock.proofs.Skips.{unindented_nil, unindented_blank, unindented_other, is_bool}
 
 abbrev pub begins_blank : List ℕ → Bool

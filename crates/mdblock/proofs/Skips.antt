@@ -8,7 +8,7 @@ use Rattle.std.specs.Str.{IsUtf8, IsCharBoundary}
 use Rattle.mdtext.specs.Columns.{Line, Place, is_space_or_tab, width, indent_at, indent, strip_at, strip, line_at, skip_from, skip}
 use Rattle.mdtext.proofs.Indents.{steps, lands, indent_nil, indent_spaces, width_bounds}
 use Rattle.mdscan.specs.Blanks.{is_blank}
-use Rattle.mdblock.specs.Indentation.{unindented}
+use Rattle.blockspec.specs.Indentation.{unindented}
 
 at_most_or_more : (m n : ℕ) → (m ≤ n) ⊎ (n < m)
 at_most_or_more m n = by_test (nat_le m n) refl where

@@ -1,8 +1,8 @@
 -- Blocks and items that are pushed stand behind those that were there.
 use Rattle.std.proofs.Common.{◌≡◌, List, [], ◌∷◌, ◌++◌, refl, ap}
-use Rattle.mdblock.specs.BlockTree.{block, no_blocks, item, no_items}
+use Rattle.blockspec.specs.BlockTree.{block, no_blocks, item, no_items}
 use Rattle.mdblock.specs.BlockView.{block_view, blocks_view, item_view, items_view}
-use Rattle.mdblock.specs.TreesBehind.{blocks_before, placed_before}
+use Rattle.mdblock.specs.held.TreesBehind.{blocks_before, placed_before}
 use Rattle.mdblock.specs.declared.blocks.Block as b
 use Rattle.mdblock.specs.declared.blocks.Item as i
 

@@ -1,7 +1,7 @@
 -- Positions below a number lie below each greater one, and lists of blocks grow at their ends.
 use Rattle.std.proofs.Common.{ℕ, Vec, Global, Option, Some, None, IfSome, ◌<◌, ◌≤◌, List, [], ◌∷◌, ◌++◌, map, arith}
 use Rattle.std.specs.List.{AllByRecursion}
-use Rattle.mdblock.specs.BlockTree.{Block, paragraph, heading, thematic_break, code_block, html_block, block_quote, list, table, Blocks, no_blocks, block, Items, no_items, item}
+use Rattle.blockspec.specs.BlockTree.{Block, paragraph, heading, thematic_break, code_block, html_block, block_quote, list, table, Blocks, no_blocks, block, Items, no_items, item}
 use Rattle.mdblock.specs.BlockView.{block_view, blocks_view, item_view, items_view}
 use Rattle.mdblock.specs.declared.blocks.Block as b
 use Rattle.mdblock.specs.declared.blocks.Item as i
@@ -12,7 +12,7 @@ use Rattle.mdblock.specs.declared.leaf.Leaf.TheVariants as leaf
 use Rattle.mdblock.specs.declared.leaf.tables.Table.{Table}
 use Rattle.mdblock.specs.declared.levels.Level.{Level}
 use Rattle.mdblock.specs.Positions.{CellsIn, BlockIn, BlocksIn, ItemsIn}
-use Rattle.mdblock.specs.OpenPositions.{TableIn, LeafIn, SpineIn, LevelIn}
+use Rattle.mdblock.specs.held.OpenPositions.{TableIn, LeafIn, SpineIn, LevelIn}
 
 pub cells_grow : (n m : ℕ) (cells : List ℕ) → n ≤ m → CellsIn n cells → CellsIn m cells
 cells_grow n m [] le h = h

@@ -1,6 +1,6 @@
 -- The trees that the crate's values stand for.
-use Rattle.std.specs.Prelude.{List, [], ◌∷◌, map, string_bytes}
-use Rattle.mdblock.specs.BlockTree.{ListKind, bullet, ordered, Block, paragraph, heading, thematic_break, code_block, html_block, block_quote, list, table, Blocks, no_blocks, block, Items, no_items, item}
+use Rattle.std.specs.Prelude.{List, map, string_bytes}
+use Rattle.blockspec.specs.BlockTree.{ListKind, bullet, ordered, Block, paragraph, heading, thematic_break, code_block, html_block, block_quote, list, table, Blocks, blocks_of, Items, items_of}
 use Rattle.mdblock.specs.declared.blocks.ListKind as k
 use Rattle.mdblock.specs.declared.blocks.ListKind.TheVariants as kv
 use Rattle.mdblock.specs.declared.blocks.Block as b
@@ -11,14 +11,6 @@ use Rattle.mdblock.specs.declared.blocks.Block.TheFolds.{fold-Block, fold-Item}
 abbrev pub kind_view : k.ListKind → ListKind
 kind_view (kv.Bullet m) = bullet m
 kind_view (kv.Ordered d s) = ordered d s
-
-abbrev pub blocks_of : List Block → Blocks
-blocks_of [] = no_blocks
-blocks_of (x ∷ xs) = block x (blocks_of xs)
-
-abbrev pub items_of : List Blocks → Items
-items_of [] = no_items
-items_of (x ∷ xs) = item x (items_of xs)
 
 -- one level of a block, and of an item, with what is inside already seen as its tree
 abbrev pub block_step : Block-F Block Blocks → Block

@@ -1,7 +1,7 @@
 -- Each text and cell of a tree of blocks is a position below n.
 use Rattle.std.specs.Prelude.{ℕ, ◌<◌, List}
 use Rattle.std.specs.List.{AllByRecursion}
-use Rattle.mdblock.specs.BlockTree.{Block, paragraph, heading, thematic_break, code_block, html_block, block_quote, list, table, Blocks, no_blocks, block, Items, no_items, item}
+use Rattle.blockspec.specs.BlockTree.{Block, paragraph, heading, thematic_break, code_block, html_block, block_quote, list, table, Blocks, no_blocks, block, Items, no_items, item}
 
 abbrev pub CellsIn : ℕ → List ℕ → Type 0
 CellsIn n = AllByRecursion (λ at. at < n)

@@ -2,19 +2,19 @@
 
 ghost use Rattle.std.specs.Prelude.{◌≡◌, ◌≤◌, ℕ, List, [], ◌∷◌, ◌++◌, IfOk, IfSome, OnOk, None, Some, length, map, not, string_bytes};
 ghost use Rattle.mdtext.specs.EntityTable.{EntityTable};
-ghost use Rattle.mdblock.specs.BlockLine.{BlockLine, rest};
-ghost use Rattle.mdblock.specs.BlockStart.{Kind};
+ghost use Rattle.blockspec.specs.BlockLine.{BlockLine, rest};
+ghost use Rattle.blockspec.specs.BlockStart.{Kind};
 ghost use Rattle.mdblock.specs.BlockView.{block_view};
-ghost use Rattle.mdblock.specs.HandedIn.{gathered_texts, gathered_definitions};
-ghost use Rattle.mdblock.specs.Laziness.{Tip};
-ghost use Rattle.mdblock.specs.LeafEnds.{IsEndOf, end_definitions};
-ghost use Rattle.mdblock.specs.OpenLeaves.{IsBegun, begun_texts, IsLeafOf, IsLeft, IsOver};
-ghost use Rattle.mdblock.specs.OpeningKind.{opened_kind};
+ghost use Rattle.mdblock.specs.held.HandedIn.{gathered_texts, gathered_definitions};
+ghost use Rattle.blockspec.specs.Laziness.{Tip};
+ghost use Rattle.mdblock.specs.held.LeafEnds.{IsEndOf, IsTableEnd, is_paragraph, end_definitions};
+ghost use Rattle.mdblock.specs.held.OpenLeaves.{IsBegun, begun_texts, IsLeafOf, IsLeft, IsOver};
+ghost use Rattle.mdblock.specs.held.OpeningKind.{opened_kind};
 ghost use Rattle.mdblock.specs.Positions.{BlockIn};
-ghost use Rattle.mdblock.specs.Stretches.{step};
-ghost use Rattle.mdblock.specs.UnitBegin.{is_stop};
-ghost use Rattle.mdblock.specs.OpenPositions.{LeafIn, StepIn};
-ghost use Rattle.mdblock.specs.Openings.{IsOpeningOf};
+ghost use Rattle.blockspec.specs.Stretches.{step};
+ghost use Rattle.blockspec.specs.UnitBegin.{is_stop};
+ghost use Rattle.mdblock.specs.held.OpenPositions.{LeafIn, StepIn};
+ghost use Rattle.mdblock.specs.held.Openings.{IsOpeningOf};
 
 pub(crate) mod fences;
 pub(crate) mod headings;
@@ -61,6 +61,7 @@ impl Leaf {
         requires { IfSome opening (λ o. IsOpeningOf (rest line) o) }
         ensures within { IfOk result (λ step. StepIn (length gathering.new.texts.items) step) }
         ensures grows { length gathering.old.texts.items ≤ length gathering.new.texts.items }
+        ensures entities { gathering.new.entities.now ≡ gathering.old.entities.now }
         ensures step { IfOk result (λ step. IsBegun gathering.old.entities.now (length gathering.old.texts.items) (opened_kind line.entry opening) line.entry step) }
         ensures texts { OnOk result (map string_bytes gathering.new.texts.items ≡ map string_bytes gathering.old.texts.items ++ begun_texts (opened_kind line.entry opening)) }
     {
@@ -75,6 +76,16 @@ impl Leaf {
             Some(Opening::Quote) | Some(Opening::Item(_)) | None => {
                 paragraphs::begin(&line, gathering.alloc())
             }
+        }
+    }
+
+    /// Whether it is a paragraph.
+    pub(crate) fn is_text(&self) -> bool
+        ensures { result ≡ is_paragraph self.now }
+    {
+        match self {
+            Leaf::Paragraph(_) => true,
+            Leaf::Fence(_) | Leaf::Html(_) | Leaf::Code(_) | Leaf::Table(_) => false,
         }
     }
 
@@ -101,6 +112,7 @@ impl Leaf {
         requires { LeafIn (length gathering.old.texts.items) self }
         ensures within { IfOk result (λ step. StepIn (length gathering.new.texts.items) step) }
         ensures grows { length gathering.old.texts.items ≤ length gathering.new.texts.items }
+        ensures entities { gathering.new.entities.now ≡ gathering.old.entities.now }
         ensures step { (entities : EntityTable) (kind : Kind) (begin : BlockLine) (later : List BlockLine) → IsLeafOf entities self kind begin later → (tip : List BlockLine → Tip) → IfOk result (IsLeft entities (step tip kind begin later line.entry) begin (later ++ line.entry ∷ [])) }
     {
         match self {
@@ -121,7 +133,9 @@ impl Leaf {
         requires { LeafIn (length gathering.old.texts.items) self }
         ensures within { IfOk result (λ found. IfSome found (λ block. BlockIn (length gathering.new.texts.items) (block_view block))) }
         ensures grows { length gathering.old.texts.items ≤ length gathering.new.texts.items }
+        ensures entities { gathering.new.entities.now ≡ gathering.old.entities.now }
         ensures left { (kind : Kind) (begin : BlockLine) (later : List BlockLine) → IsLeafOf gathering.old.entities.now self kind begin later → IfOk result (IsEndOf gathering.old.entities.now first kind begin later (gathered_texts gathering.old) (gathered_texts gathering.new)) }
+        ensures rows { IfOk result (IsTableEnd self (gathered_texts gathering.old) (gathered_texts gathering.new) (gathered_definitions gathering.old) (gathered_definitions gathering.new)) }
         ensures found { (kind : Kind) (begin : BlockLine) (later : List BlockLine) → IsLeafOf gathering.old.entities.now self kind begin later → OnOk result (gathered_definitions gathering.new ≡ gathered_definitions gathering.old ++ end_definitions gathering.old.entities.now kind begin later) }
     {
         match self {

@@ -2,13 +2,13 @@
 
 ghost use Rattle.std.specs.Prelude.{◌≡◌, ◌+◌, ◌≤◌, ℕ, List, IfOk, IfSome, OnOk, length};
 ghost use Rattle.mdtext.specs.Columns.{AreMarks};
-ghost use Rattle.mdblock.specs.BlockLine.{rest};
+ghost use Rattle.blockspec.specs.BlockLine.{rest};
 ghost use Rattle.mdblock.specs.BlockView.{block_view, blocks_view, items_view};
-ghost use Rattle.mdblock.specs.HeldLevel.{StandsFor};
-ghost use Rattle.mdblock.specs.LineSummary.{no_summary};
+ghost use Rattle.mdblock.specs.held.HeldLevel.{StandsFor, ClosesAll, EndsIn, is_front};
+ghost use Rattle.blockspec.specs.LineSummary.{no_summary};
 ghost use Rattle.mdtext.specs.EntityTable.{EntityTable};
-ghost use Rattle.mdblock.specs.OpenPositions.{LevelIn, StepIn, IsPlaceOf};
-ghost use Rattle.mdblock.specs.Openings.{IsOpeningOf};
+ghost use Rattle.mdblock.specs.held.OpenPositions.{LevelIn, StepIn, IsPlaceOf};
+ghost use Rattle.mdblock.specs.held.Openings.{IsOpeningOf};
 ghost use Rattle.mdblock.specs.Positions.{BlockIn, BlocksIn, ItemsIn};
 
 use crate::blocks::Block;
@@ -82,11 +82,12 @@ impl Level {
     }
 
     /// Whether the last block is an open paragraph, or holds one at its end.
-    fn ends_in_text(&self) -> bool {
+    fn ends_in_text(&self) -> bool
+        ensures { EndsIn self.now result }
+    {
         match &self.last {
             Spine::Shut => false,
-            Spine::Leaf(Leaf::Paragraph(_)) => true,
-            Spine::Leaf(_) => false,
+            Spine::Leaf(leaf) => leaf.is_text(),
             Spine::Quote(inner) => inner.ends_in_text(),
             Spine::List(inner, list) => list.is_open() && inner.ends_in_text(),
         }
@@ -140,7 +141,9 @@ impl Level {
     }
 
     /// Whether the next block is the first one of a list item.
-    fn is_at_front(&self) -> bool {
+    fn is_at_front(&self) -> bool
+        ensures { result ≡ is_front self.now.in_item self.now.over.items }
+    {
         self.in_item && self.over.is_empty()
     }
 
@@ -150,6 +153,8 @@ impl Level {
         requires { LevelIn (length gathering.old.texts.items) self }
         ensures within { IfOk result (λ blocks. BlocksIn (length gathering.new.texts.items) (blocks_view blocks.items)) }
         ensures grows { length gathering.old.texts.items ≤ length gathering.new.texts.items }
+        ensures entities { gathering.new.entities.now ≡ gathering.old.entities.now }
+        ensures closes { IfOk result (λ blocks. ClosesAll self gathering.old blocks.items gathering.new) }
     {
         let first = self.is_at_front();
         let Level { over, last, .. } = self;
@@ -189,6 +194,7 @@ impl Level {
         requires { LevelIn (length gathering.old.texts.items) self.old }
         ensures within { OnOk result (LevelIn (length gathering.new.texts.items) self.new) }
         ensures grows { length gathering.old.texts.items ≤ length gathering.new.texts.items }
+        ensures entities { gathering.new.entities.now ≡ gathering.old.entities.now }
     {
         let alloc = gathering.alloc();
         let (in_item, begun) = (self.in_item, self.begun);
@@ -218,6 +224,7 @@ impl Level {
         requires place { IsPlaceOf (rest line) place }
         ensures within { OnOk result (LevelIn (length gathering.new.texts.items) self.new) }
         ensures grows { length gathering.old.texts.items ≤ length gathering.new.texts.items }
+        ensures entities { gathering.new.entities.now ≡ gathering.old.entities.now }
     {
         if place == Place::Outside {
             self.shut(gathering)?;
@@ -243,6 +250,7 @@ impl Level {
         requires place { IsPlaceOf (rest line) place }
         ensures within { OnOk result (LevelIn (length gathering.new.texts.items) self.new) }
         ensures grows { length gathering.old.texts.items ≤ length gathering.new.texts.items }
+        ensures entities { gathering.new.entities.now ≡ gathering.old.entities.now }
     {
         match &mut self.last {
             Spine::Shut => Ok(()),
@@ -283,6 +291,7 @@ impl Level {
         requires { LevelIn (length gathering.old.texts.items) self.old }
         ensures within { OnOk result (LevelIn (length gathering.new.texts.items) self.new) }
         ensures grows { length gathering.old.texts.items ≤ length gathering.new.texts.items }
+        ensures entities { gathering.new.entities.now ≡ gathering.old.entities.now }
     {
         let first = self.is_at_front();
         match mem::replace(&mut self.last, Spine::Shut) {
@@ -320,6 +329,7 @@ impl Level {
         requires { LevelIn (length gathering.old.texts.items) self.old }
         ensures within { OnOk result (LevelIn (length gathering.new.texts.items) self.new) }
         ensures grows { length gathering.old.texts.items ≤ length gathering.new.texts.items }
+        ensures entities { gathering.new.entities.now ≡ gathering.old.entities.now }
     {
         let gap = self.begun && self.blank;
         self.blank = line.is_blank();
@@ -403,6 +413,7 @@ fn enter_item(
     ensures inner { IfOk result (λ _. LevelIn (length gathering.new.texts.items) inner.new) }
     ensures list { IfOk result (λ _. ItemsIn (length gathering.new.texts.items) (items_view list.new.items.items)) }
     ensures grows { length gathering.old.texts.items ≤ length gathering.new.texts.items }
+    ensures entities { gathering.new.entities.now ≡ gathering.old.entities.now }
 {
     match place {
         Place::Matched => {
@@ -438,6 +449,7 @@ fn end_item(
     ensures inner { OnOk result (LevelIn (length gathering.new.texts.items) inner.new) }
     ensures list { OnOk result (ItemsIn (length gathering.new.texts.items) (items_view list.new.items.items)) }
     ensures grows { length gathering.old.texts.items ≤ length gathering.new.texts.items }
+    ensures entities { gathering.new.entities.now ≡ gathering.old.entities.now }
 {
     if list.is_open() {
         let item = mem::replace(inner, Level::new(gathering.alloc(), true));

@@ -5,8 +5,8 @@ ghost use Rattle.std.specs.Str.{IsCharBoundary};
 ghost use Rattle.std.specs.List.{prefix_len, suffix_len};
 ghost use Rattle.mdscan.specs.Blanks.{is_blank};
 ghost use Rattle.mdtext.specs.Columns.{AreMarks, is_space_or_tab};
-ghost use Rattle.mdblock.specs.BlockLine.{document_line, indentation, rest, is_blank_line, without_columns, as_lazy, behind_marker};
-ghost use Rattle.mdblock.specs.Indentation.{unindented};
+ghost use Rattle.blockspec.specs.BlockLine.{document_line, indentation, rest, is_blank_line, without_columns, as_lazy, behind_marker};
+ghost use Rattle.blockspec.specs.Indentation.{unindented};
 
 use mdtext::Cursor;
 use std::alloc::AllocError;
@@ -23,8 +23,8 @@ pub(crate) struct Line<'a> {
 impl<'a> Model for Line<'a> {
     ghost use Rattle.std.specs.Prelude.{◌≡◌, ◌+◌, ◌*◌, ◌<◌, ◌^◌, length};
     ghost use Rattle.mdtext.specs.Columns.{line_at};
-    ghost use Rattle.mdblock.specs.BlockLine.{BlockLine};
-    ghost use Rattle.mdblock.specs.Indentation.{unindented};
+    ghost use Rattle.blockspec.specs.BlockLine.{BlockLine};
+    ghost use Rattle.blockspec.specs.Indentation.{unindented};
 
     ghost Value = { BlockLine };
 

@@ -1,11 +1,11 @@
 //! The blocks that are over, with one more behind them.
 
 ghost use Rattle.std.specs.Prelude.{◌≡◌, ℕ, IfOk, IfSome, OnOk};
-ghost use Rattle.mdblock.specs.BlockTree.{block_quote, no_blocks};
-ghost use Rattle.mdblock.specs.BlockTree as tree;
+ghost use Rattle.blockspec.specs.BlockTree.{block_quote, no_blocks};
+ghost use Rattle.blockspec.specs.BlockTree as tree;
 ghost use Rattle.mdblock.specs.BlockView.{block_view, blocks_view, items_view};
-ghost use Rattle.mdblock.specs.ClosedViews.{found_view, list_view, list_view_with};
-ghost use Rattle.mdblock.specs.TreesBehind.{blocks_before};
+ghost use Rattle.mdblock.specs.held.ClosedViews.{found_view, list_view, list_view_with};
+ghost use Rattle.mdblock.specs.held.TreesBehind.{blocks_before};
 ghost use Rattle.mdblock.specs.Positions.{BlockIn, BlocksIn, ItemsIn};
 
 use crate::blocks::Block;

@@ -1,11 +1,13 @@
 //! The reading of a text line by line, and the handing out of its units.
 
-ghost use Rattle.std.specs.Prelude.{◌≡◌, ◌+◌, ◌*◌, ◌^◌, ◌<◌, ◌≤◌, false, true, None, Some, IfOk, OnOk, OnErr, IsErrOf, length};
+ghost use Rattle.std.specs.Prelude.{List, [], ℕ, ◌≡◌, ◌+◌, ◌*◌, ◌^◌, ◌<◌, ◌≤◌, false, true, None, Some, IfOk, OnOk, OnErr, IsErrOf, is_some, length};
 ghost use Rattle.mdtext.specs.Counted.{counted};
 ghost use Rattle.mdblock.specs.declared.faults.BlockFault.TheVariants.{Failed};
-ghost use Rattle.mdblock.specs.HeldLevel.{HoldsLines};
-ghost use Rattle.mdblock.specs.LineSummary.{no_summary};
-ghost use Rattle.mdblock.specs.Reading.{AreKept};
+ghost use Rattle.mdblock.specs.held.HeldLevel.{HoldsLines, GivesUnit};
+ghost use Rattle.blockspec.specs.LineSummary.{no_summary};
+ghost use Rattle.mdblock.specs.held.Reading.{AreKept, held_begin};
+ghost use Rattle.mdblock.specs.held.Reads.{Reads, open_begin};
+ghost use Rattle.mdtext.specs.EntityTable.{EntityTable};
 
 use crate::faults::BlockFault;
 use crate::gathering::Gathering;
@@ -38,20 +40,27 @@ pub struct Reader<'e> {
 }
 
 impl<'e> Model for Reader<'e> {
-    ghost use Rattle.std.specs.Prelude.{IfSome};
-    ghost use Rattle.mdblock.specs.Reading.{Reading, begin_of, is_failed, AreKept};
+    ghost use Rattle.std.specs.Prelude.{◌≡◌, IfSome, option_map};
+    ghost use Rattle.mdblock.specs.held.Reading.{Reading, held_view, AreKept};
 
     ghost Value = { Reading };
 
-    ghost view = { λ r. record { fed = r.fed; failed = is_failed r.held; open_at = begin_of r.held } };
+    ghost use Rattle.mdblock.specs.contracts.levels.Level as level;
+    ghost use Rattle.std.specs.Coded.{codes};
+    ghost use Rattle.mdleaf.specs.LinkDefinition.{definition_code};
 
-    ghost invariant = { λ r. IfSome r.held AreKept };
+    ghost coded = { Prim.hlevel (codes, level.the_row.coded, definition_code) };
+
+    ghost view = { λ r. record { entities = r.entities.now; fed = r.fed; held = option_map held_view r.held } };
+
+    ghost invariant = { λ r. IfSome r.held (λ held. AreKept held × (held.gathering.entities.now ≡ r.entities.now)) };
 }
 
 impl<'e> Reader<'e> {
     /// A reader that has read nothing. References are read by these entities. Takes no memory.
     pub fn new(alloc: Global, entities: &'e Entities) -> Reader<'e>
-        ensures { result ≡ record { fed = 0; failed = false; open_at = None } }
+        ensures fed { result.fed ≡ 0 }
+        ensures reads { Reads LIMIT entities.now result [] }
     {
         Reader {
             alloc,
@@ -68,9 +77,9 @@ impl<'e> Reader<'e> {
         requires short { 4 * length text.now < 2 ^ 64 }
         requires few { self.old.fed < usize.MAX }
         ensures read { OnOk result (self.new.fed ≡ self.old.fed + 1) }
-        ensures goes_on { OnOk result (self.new.failed ≡ false) }
-        ensures fault { OnErr result (self.new ≡ record { fed = self.old.fed; failed = true; open_at = None }) }
-        ensures failed { self.old.failed ≡ true → IsErrOf result Failed }
+        ensures goes_on { OnOk result (is_some self.new.held ≡ true) }
+        ensures fault { OnErr result (self.new ≡ record self.old { held = None }) }
+        ensures failed { self.old.held ≡ None → IsErrOf result Failed }
         ensures lines { C.lines count.new ≡ counted (C.lines count.old) }
         ensures inlines { C.inlines count.new ≡ C.inlines count.old }
     {
@@ -86,7 +95,7 @@ impl<'e> Reader<'e> {
 
     /// The last unit. After a fault the answer is `Failed`.
     pub fn finish(self) -> Result<Option<Found>, BlockFault>
-        ensures { self.entry.failed ≡ true → IsErrOf result Failed }
+        ensures failed { self.entry.held ≡ None → IsErrOf result Failed }
     {
         let fed = self.fed;
         match self.held {
@@ -105,7 +114,8 @@ impl<'e> Reader<'e> {
     /// How many lines were read before the first line of the unit that is not handed out yet; none where there is no such unit, and after a fault.
     /// Takes no memory.
     pub fn open_at(&self) -> Option<usize>
-        ensures { result ≡ self.now.open_at }
+        ensures value { result ≡ held_begin self.now.held }
+        ensures open { (e : EntityTable) (ls : List (List ℕ)) → Reads LIMIT e self.now ls → result ≡ open_begin e ls }
     {
         match &self.held {
             Some(held) => held.begin,
@@ -119,6 +129,7 @@ impl<'e> Held<'e> {
         ensures empty { HoldsLines result no_summary }
         ensures kept { AreKept result }
         ensures begin { result.begin ≡ begin }
+        ensures entities { result.gathering.entities.now ≡ entities.now }
     {
         Held {
             level: Level::new(alloc, false),
@@ -131,7 +142,8 @@ impl<'e> Held<'e> {
     fn read(&mut self, text: &str, fed: usize) -> Result<Option<Found>, BlockFault>
         requires short { 4 * length text.now < 2 ^ 64 }
         requires kept { AreKept self.old }
-        ensures { OnOk result (AreKept self.new) }
+        ensures kept { OnOk result (AreKept self.new) }
+        ensures entities { OnOk result (self.new.gathering.entities.now ≡ self.old.gathering.entities.now) }
     {
         let line = Line::new(text);
         let place = self.level.place(&line);
@@ -147,7 +159,8 @@ impl<'e> Held<'e> {
     /// Takes the unit that is held; the next one begins after `fed` lines.
     fn begin_unit(&mut self, fed: usize) -> Result<Option<Found>, AllocError>
         requires { AreKept self.old }
-        ensures { OnOk result (AreKept self.new) }
+        ensures kept { OnOk result (AreKept self.new) }
+        ensures entities { OnOk result (self.new.gathering.entities.now ≡ self.old.gathering.entities.now) }
     {
         let next = Held::new(self.gathering.alloc(), self.gathering.entities(), Some(fed));
         mem::replace(self, next).into_unit(fed)
@@ -156,6 +169,7 @@ impl<'e> Held<'e> {
     /// The unit that is held, which ends after `fed` lines.
     fn into_unit(self, fed: usize) -> Result<Option<Found>, AllocError>
         requires { AreKept self }
+        ensures { IfOk result (λ found. GivesUnit self.entry fed found) }
     {
         let mut gathering = self.gathering;
         let blocks = self.level.close(&mut gathering)?;

@@ -3,11 +3,11 @@
 ghost use Rattle.std.specs.Prelude.{◌≡◌, IfSome, drop, false, [], List};
 ghost use Rattle.std.specs.Option.{option_map};
 ghost use Rattle.mdscan.specs.Blanks.{is_blank_text};
-ghost use Rattle.mdblock.specs.BlockLine.{BlockLine, rest, behind_marker};
-ghost use Rattle.mdblock.specs.BlockStart.{is_free, is_inside, begins_html, begins_item, may_begin_item, start};
-ghost use Rattle.mdblock.specs.OpeningKind.{mode_view, kind_of_opening};
-ghost use Rattle.mdblock.specs.Openings.{IsOpeningOf};
-ghost use Rattle.mdblock.specs.StartParts.{start_before_underline, start_after_underline, start_alone_near, start_alone};
+ghost use Rattle.blockspec.specs.BlockLine.{BlockLine, rest, behind_marker};
+ghost use Rattle.blockspec.specs.BlockStart.{is_free, is_inside, begins_html, begins_item, may_begin_item, start};
+ghost use Rattle.mdblock.specs.held.OpeningKind.{mode_view, kind_of_opening};
+ghost use Rattle.mdblock.specs.held.Openings.{IsOpeningOf};
+ghost use Rattle.mdblock.specs.held.StartParts.{start_before_underline, start_after_underline, start_alone_near, start_alone};
 
 use crate::lines::{Line, is_space_or_tab};
 use mdscan::{
@@ -53,7 +53,7 @@ pub(crate) enum Opening {
 }
 
 /// The block that a line begins, but for setext underlines and tables, which need the paragraph before.
-#[tactic(auto, using(crate::proofs::StartLaws::starts_alone), unfolding(crate::specs::StartParts::start_alone))]
+#[tactic(auto, using(crate::proofs::StartLaws::starts_alone), unfolding(crate::specs::held::StartParts::start_alone))]
 pub(crate) fn start(line: &Line, mode: Mode) -> Option<Opening>
     ensures parts { IfSome result (λ opening. IsOpeningOf (rest line.now) opening) }
     ensures kind { option_map (kind_of_opening line.now) result ≡ start_alone (mode_view mode) line.now }
@@ -71,7 +71,7 @@ pub(crate) fn start(line: &Line, mode: Mode) -> Option<Opening>
     None
 }
 
-#[tactic(auto, unfolding(crate::specs::StartParts::start_alone_near))]
+#[tactic(auto, unfolding(crate::specs::held::StartParts::start_alone_near))]
 fn at_margin(line: &Line, mode: Mode) -> Option<Opening>
     ensures parts { IfSome result (λ opening. IsOpeningOf (rest line.now) opening) }
     ensures kind { option_map (kind_of_opening line.now) result ≡ start_alone_near (mode_view mode) line.now }
@@ -83,7 +83,7 @@ fn at_margin(line: &Line, mode: Mode) -> Option<Opening>
 }
 
 /// The constructs that are tried before the setext underline.
-#[tactic(auto, using(crate::proofs::Markers::quote_mark), unfolding(crate::specs::StartParts::start_before_underline))]
+#[tactic(auto, using(crate::proofs::Markers::quote_mark), unfolding(crate::specs::held::StartParts::start_before_underline))]
 pub(crate) fn before_underline(line: &Line, mode: Mode) -> Option<Opening>
     ensures parts { IfSome result (λ opening. IsOpeningOf (rest line.now) opening) }
     ensures kind { option_map (kind_of_opening line.now) result ≡ start_before_underline (mode_view mode) line.now }
@@ -118,7 +118,7 @@ fn html(line: &Line, mode: Mode) -> Option<Opening>
 }
 
 /// The constructs that are tried after the setext underline.
-#[tactic(auto, unfolding(crate::specs::StartParts::start_after_underline))]
+#[tactic(auto, unfolding(crate::specs::held::StartParts::start_after_underline))]
 pub(crate) fn after_underline(line: &Line, mode: Mode) -> Option<Opening>
     ensures parts { IfSome result (λ opening. IsOpeningOf (rest line.now) opening) }
     ensures kind { option_map (kind_of_opening line.now) result ≡ start_after_underline (mode_view mode) line.now }

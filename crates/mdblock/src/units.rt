@@ -19,7 +19,7 @@ pub struct Unit {
 }
 
 impl Model for Unit {
-    ghost use Rattle.mdblock.specs.UnitTree.{UnitTree, unit_code};
+    ghost use Rattle.blockspec.specs.UnitTree.{UnitTree, unit_code};
 
     ghost Value = { UnitTree };
 
@@ -68,7 +68,7 @@ pub struct Found {
 }
 
 impl Model for Found {
-    ghost use Rattle.mdblock.specs.UnitTree.{FoundUnit, found_code};
+    ghost use Rattle.blockspec.specs.UnitTree.{FoundUnit, found_code};
 
     ghost Value = { FoundUnit };
 
@@ -87,6 +87,7 @@ impl Found {
         texts: Vec<String>,
     ) -> Found
         requires { BlocksIn (length texts.items) (blocks_view blocks.items) }
+        ensures { result ≡ record { begin = begin; lines = lines; unit = record { blocks = blocks_view blocks.items; definitions = map definition_of definitions.items; texts = map string_bytes texts.items } } }
     {
         Found {
             begin,

@@ -1,8 +1,8 @@
 -- HTML behind a text that is empty or ends with LF: it is appended to it.
 use Rattle.std.proofs.Common.{◌≡◌, ℕ, Bool, true, false, List, [], ◌∷◌, ◌++◌, length, codes, refl, ap, sym, ◌∙◌, arith, cond, append_assoc, append-nil, length-append}
 use Rattle.std.proofs.lemmas.Grind.{common_steps}
-use Rattle.mdinline.specs.InlineTree.{Inlines}
-use Rattle.mdblock.specs.BlockTree.{Block, paragraph, heading, thematic_break, code_block, html_block, block_quote, list, table, Blocks, no_blocks, block, Items, no_items, item}
+use Rattle.inlinespec.specs.InlineTree.{Inlines}
+use Rattle.blockspec.specs.BlockTree.{Block, paragraph, heading, thematic_break, code_block, html_block, block_quote, list, table, Blocks, no_blocks, block, Items, no_items, item}
 use Rattle.mdhtml.specs.declared.options.Options.{Options}
 use Rattle.mdhtml.specs.TableHtml.{table_html}
 use Rattle.mdhtml.specs.BlockHtml.{fresh, ends_line, task_box, text_html, heading_html, code_html, raw_block_html, list_open, list_close, paragraph_html, block_html, blocks_html, items_html}

@@ -1,8 +1,8 @@
 -- A piece is empty or ends with LF.
 use Rattle.std.proofs.Common.{◌≡◌, ℕ, ◌<◌, true, false, List, ◌++◌, length, codes, refl, sym, subst, arith, length-append}
 use Rattle.std.proofs.lemmas.Grind.{common_steps}
-use Rattle.mdinline.specs.InlineTree.{Inlines}
-use Rattle.mdblock.specs.BlockTree.{Block, paragraph, heading, thematic_break, code_block, html_block, block_quote, list, table, bullet, ordered, Blocks, no_blocks, block}
+use Rattle.inlinespec.specs.InlineTree.{Inlines}
+use Rattle.blockspec.specs.BlockTree.{Block, paragraph, heading, thematic_break, code_block, html_block, block_quote, list, table, bullet, ordered, Blocks, no_blocks, block}
 use Rattle.mdhtml.specs.declared.options.Options.{Options}
 use Rattle.mdhtml.specs.TableHtml.{head_html, body_html}
 use Rattle.mdhtml.specs.BlockHtml.{fresh, heading_tag, text_html, ends_line, block_html, blocks_html}

@@ -2,9 +2,9 @@
 use Rattle.std.specs.Prelude.{ℕ, ◌-◌, List, [], ◌++◌, codes, if◌then◌else◌, ◌==◌, ◌||◌, Bool, true, false, Option, Some, None, length, map, slice_index}
 use Rattle.std.specs.Fmt.{decimal}
 use Rattle.mdtext.specs.Escaped.{escaped}
-use Rattle.mdinline.specs.InlineTree.{Inlines}
+use Rattle.inlinespec.specs.InlineTree.{Inlines}
 use Rattle.mdinline.specs.ParsedText.{ParsedText}
-use Rattle.mdblock.specs.BlockTree.{ListKind, bullet, ordered, Block, paragraph, heading, thematic_break, code_block, html_block, block_quote, list, table, Blocks, no_blocks, block, Items, no_items, item}
+use Rattle.blockspec.specs.BlockTree.{ListKind, bullet, ordered, Block, paragraph, heading, thematic_break, code_block, html_block, block_quote, list, table, Blocks, no_blocks, block, Items, no_items, item}
 use Rattle.mdhtml.specs.declared.options.Options.{Options}
 use Rattle.mdhtml.specs.InlineHtml.{raw_html}
 use Rattle.mdhtml.specs.TableHtml.{table_html}

@@ -1,7 +1,7 @@
 -- HTML of inlines (CommonMark 6; GFM, Strikethrough).
 use Rattle.std.specs.Prelude.{ℕ, List, [], ◌++◌, codes, if◌then◌else◌}
 use Rattle.mdtext.specs.Escaped.{escaped}
-use Rattle.mdinline.specs.InlineTree.{Inline, Inlines, no_inlines, inline, text, code, raw, soft, hard, emph, strong, strike, link, image}
+use Rattle.inlinespec.specs.InlineTree.{Inline, Inlines, no_inlines, inline, text, code, raw, soft, hard, emph, strong, strike, link, image}
 use Rattle.mdhtml.specs.declared.options.Options.{Options}
 use Rattle.mdhtml.specs.declared.options.Breaks.{Breaks}
 use Rattle.mdhtml.specs.declared.options.Breaks.TheVariants.{Soft, Hard, Space}

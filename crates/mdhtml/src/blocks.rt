@@ -2,7 +2,7 @@
 
 ghost use Rattle.std.specs.Prelude.{◌≡◌, ◌++◌, ◌<◌, OnOk, false, codes, length, string_bytes};
 ghost use Rattle.mdblock.specs.BlockView.{kind_view, block_view, blocks_view, items_view};
-ghost use Rattle.mdblock.specs.BlockTree.{block_quote, list};
+ghost use Rattle.blockspec.specs.BlockTree.{block_quote, list};
 ghost use Rattle.mdblock.specs.Positions.{BlockIn, BlocksIn, ItemsIn};
 ghost use Rattle.mdhtml.specs.BlockHtml.{fresh, trees_of, block_html, blocks_html, items_html};
 

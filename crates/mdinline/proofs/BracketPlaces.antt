@@ -2,7 +2,7 @@
 use Rattle.std.proofs.Common.{◌≡◌, ℕ, ◌+◌, ◌≤◌, List, [], ◌∷◌, ◌++◌, length, length-append, get_or, ap, ◌∙◌, subst, arith}
 use Rattle.std.proofs.lemmas.List.{get_or_append_left}
 use Rattle.mdscan.specs.Spans.{IsEndAfter}
-use Rattle.mdinline.specs.Brackets.{IsBehindBracket, AreBracketsOf, IsLinkEnd}
+use Rattle.mdinline.specs.held.Brackets.{IsBehindBracket, AreBracketsOf, IsLinkEnd}
 use Rattle.mdinline.specs.declared.openings.Opening.{Opening}
 
 pub brackets_later : (text : List ℕ) (at end : ℕ) (openings : List Opening) → at ≤ end → AreBracketsOf text at openings → AreBracketsOf text end openings

@@ -1,9 +1,9 @@
 -- Inlines one after the other, and the spans that are open, as events.
 use Rattle.std.proofs.Common.{◌≡◌, ℕ, List, [], ◌∷◌, ◌++◌, String, Global, string_bytes, Result, Ok, Err, OnOk, refl, sym, ap, ◌∙◌, append_assoc, append-nil}
 use Rattle.std.proofs.lemmas.List.{map-append}
-use Rattle.mdinline.specs.InlineEvents.{Event, Byte, Enter, Leave, within, written}
-use Rattle.mdinline.specs.Recognised.{made_events}
-use Rattle.mdinline.specs.TreeBuilding.{row_events, span_of, spread}
+use Rattle.inlinespec.specs.InlineEvents.{Event, Byte, Enter, Leave, within, written}
+use Rattle.mdinline.specs.held.Recognised.{made_events}
+use Rattle.mdinline.specs.held.TreeBuilding.{row_events, span_of, spread}
 use Rattle.mdinline.specs.declared.inlines.Inline.{Inline}
 use Rattle.mdinline.specs.declared.inlines.Inline.TheBlock as made
 use Rattle.mdinline.specs.declared.trees.Frame.{Frame}

@@ -1,15 +1,15 @@
 -- What was found at a place, by its parts.
 use Rattle.std.proofs.Common.{◌≡◌, ℕ, ◌+◌, ◌-◌, List, [], ◌∷◌, String, Global, string_bytes, ap, ◌∙◌, arith}
-use Rattle.mdinline.specs.InlineEvents.{Event, CodeSpan, RawHtml, HardBreak, SoftBreak, inline_events, written}
-use Rattle.mdinline.specs.InlineTree.{Inline}
+use Rattle.inlinespec.specs.InlineEvents.{Event, CodeSpan, RawHtml, HardBreak, SoftBreak, inline_events, written}
+use Rattle.inlinespec.specs.InlineTree.{Inline}
 use Rattle.mdinline.specs.TreeView.{inline_step}
 use Rattle.mdinline.specs.declared.inlines.Inline.TheOpen.{Inline-F}
 use Rattle.mdinline.specs.declared.inlines.Inline.TheFolds.{fold-roll-Inline}
 use Rattle.mdinline.specs.declared.inlines.Inline.TheBlock as made
 use Rattle.mdinline.specs.declared.inlines.Inline.TheViews.{roll-Inline}
 use denote.Hole.Carrier.{roll}
-use Rattle.mdinline.specs.Lexing.{Lexeme, leaf}
-use Rattle.mdinline.specs.Recognised.{made_events, lexeme_of, bracket_of, kind_of}
+use Rattle.inlinespec.specs.Lexing.{Lexeme, leaf}
+use Rattle.mdinline.specs.held.Recognised.{made_events, lexeme_of, bracket_of, kind_of}
 use Rattle.mdinline.specs.declared.openings.Bracket.{Bracket}
 use Rattle.mdinline.specs.declared.openings.BracketKind.{BracketKind}
 use Rattle.mdinline.specs.declared.scanner.Found.{Found}

@@ -5,9 +5,10 @@ use Rattle.std.specs.Ordering.{nat_cmp}
 use Rattle.std.proofs.lemmas.List.{get_or-drop, drop-drop}
 use Rattle.std.proofs.lemmas.Bool.Decides.{nat_tests}
 use Rattle.mdscan.specs.Blanks.{begins_with}
-use Rattle.mdinline.specs.BacktickStrings.{BeginsString, IsNextString, HoldsLast}
-use Rattle.mdinline.specs.CodeSpans.{backticks}
-use Rattle.mdinline.proofs.BacktickPlaces.{string_from, in_string}
+use Rattle.inlinespec.specs.BacktickStrings.{BeginsString, IsNextString}
+use Rattle.mdinline.specs.held.BacktickTable.{HoldsLast}
+use Rattle.inlinespec.specs.CodeSpans.{backticks}
+use Rattle.inlinespec.proofs.BacktickPlaces.{string_from, in_string}
 
 -- a string that was found: it begins there, has the length, and no backtick stands before it
 pub record Starts (inside : Bool) (n at : ℕ) (xs : List ℕ) (j : ℕ) : Type 0 where

@@ -3,13 +3,13 @@ use Rattle.std.proofs.Common.{◌≡◌, ℕ, ◌+◌, ◌≤◌, true, false, i
 use Rattle.std.specs.Char.{is_ascii_alphabetic}
 use Rattle.mdscan.proofs.Places.{none_from}
 use Rattle.mdscan.proofs.Stops.{from_here}
-use Rattle.mdscan.specs.HtmlTag.{first_is}
+use Rattle.mdscan.specs.Tag.{first_is}
 use Rattle.mdscan.specs.RawHtml.{place_of, raw_html}
-use Rattle.mdinline.specs.LongTags.{BeginsTag, FollowsMark, KnowsEnds, close_text}
+use Rattle.mdinline.specs.held.LongTags.{BeginsTag, FollowsMark, KnowsEnds, close_text}
 use Rattle.mdinline.specs.declared.angles.Angles.{Angles}
 use Rattle.mdinline.specs.declared.angles.LongTag.{LongTag}
 use Rattle.mdinline.specs.declared.angles.LongTag.TheVariants.{Comment, Instruction, Declaration, Section}
-use Rattle.mdinline.proofs.EndlessHtml.{front_of, no_long_comment, no_long_instruction, no_long_section, no_long_declaration}
+use Rattle.inlinespec.proofs.EndlessHtml.{front_of, no_long_comment, no_long_instruction, no_long_section, no_long_declaration}
 
 two_bytes : (text : List ℕ) (at b : ℕ) → get_or text at 0 ≡ 60 → at + 2 ≤ length text → get_or text (at + 1) 0 ≡ b → drop at text ≡ 60 ∷ b ∷ drop (at + 2) text
 two_bytes text at b first inside second =

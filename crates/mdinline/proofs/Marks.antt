@@ -8,8 +8,8 @@ use Rattle.std.proofs.lemmas.Bool.Decides.{nat_tests}
 use Rattle.mdscan.specs.Blanks.{begins_with}
 use Rattle.mdscan.specs.Spans.{IsEndAfter, EndsAfterMark, IsEnclosed}
 use Rattle.mdscan.specs.declared.spans.Span.{Span}
-use Rattle.mdinline.specs.Brackets.{IsLinkEnd}
-use Rattle.mdinline.specs.Ticks.{AreTicksFrom}
+use Rattle.mdinline.specs.held.Brackets.{IsLinkEnd}
+use Rattle.mdinline.specs.held.Ticks.{AreTicksFrom}
 use Rattle.mdinline.specs.declared.backticks.Ticks.{Ticks}
 
 -- a place at an ASCII byte, or at the text's end

@@ -1,10 +1,10 @@
 -- The nearest unused opener, and whether a link stands behind it.
 use Rattle.std.proofs.Common.{◌≡◌, ℕ, ◌+◌, ◌<◌, ◌≤◌, Bool, true, false, not, nat_le, min, ◌||◌, List, [], ◌∷◌, ◌++◌, length, length-append, Option, Some, None, refl, ap, sym, ◌∙◌, subst, arith}
 use Rattle.std.proofs.lemmas.Bool.Decides.{nat_tests}
-use Rattle.mdinline.specs.InlineEvents.{Event}
-use Rattle.mdinline.specs.Settled.{Piece, Made, Run, Opening}
-use Rattle.mdinline.specs.TextReading.{Opened, opened_with, nearest_opener, holds_link, is_live, spent}
-use Rattle.mdinline.specs.UnusedOpeners.{openers, before_link}
+use Rattle.inlinespec.specs.InlineEvents.{Event}
+use Rattle.inlinespec.specs.Settled.{Piece, Made, Run, Opening}
+use Rattle.inlinespec.specs.TextReading.{Opened, opened_with, nearest_opener, holds_link, is_live, spent}
+use Rattle.mdinline.specs.held.UnusedOpeners.{openers, before_link}
 
 -- openers before a link are no more than all
 within : (ps : List Piece) → before_link ps ≤ length (openers ps)

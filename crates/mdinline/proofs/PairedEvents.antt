@@ -4,10 +4,10 @@ use Rattle.mdpair.specs.Neighbours.{byte_of}
 use Rattle.mdpair.specs.declared.emphasis.Taking.{Taking}
 use Rattle.mdpair.specs.declared.runs.DelimiterChar.{DelimiterChar}
 use Rattle.mdpair.specs.declared.runs.DelimiterRun.{DelimiterRun}
-use Rattle.mdinline.specs.InlineEvents.{Span, Event, Enter, Leave, written}
-use Rattle.mdinline.specs.PairedRuns.{IsPaired, entered, opened_spans, paired_events}
-use Rattle.mdinline.specs.Settled.{begins, ends, run_events, span_by, taken}
-use Rattle.mdinline.specs.TreeBuilding.{span_of}
+use Rattle.inlinespec.specs.InlineEvents.{Span, Event, Enter, Leave, written}
+use Rattle.mdinline.specs.held.PairedRuns.{IsPaired, entered, opened_spans, paired_events}
+use Rattle.inlinespec.specs.Settled.{begins, ends, run_events, span_by, taken}
+use Rattle.mdinline.specs.held.TreeBuilding.{span_of}
 use Rattle.mdinline.specs.declared.settling.PairedRun.{PairedRun}
 use Rattle.mdinline.specs.declared.trees.SpanKind.{SpanKind}
 

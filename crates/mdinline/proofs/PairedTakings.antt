@@ -7,10 +7,10 @@ use Rattle.std.proofs.lemmas.Bool.Decides.{nat_tests}
 use Rattle.mdpair.specs.declared.emphasis.Taking.{Taking}
 use Rattle.mdpair.specs.declared.runs.DelimiterChar.{DelimiterChar}
 use Rattle.mdpair.specs.declared.runs.DelimiterRun.{DelimiterRun}
-use Rattle.mdinline.specs.InlineEvents.{Leave}
-use Rattle.mdinline.specs.PairedRuns.{IsPaired, ArePaired, opened_spans}
-use Rattle.mdinline.specs.Settled.{ends, span_by, taken}
-use Rattle.mdinline.specs.TreeBuilding.{span_of}
+use Rattle.inlinespec.specs.InlineEvents.{Leave}
+use Rattle.mdinline.specs.held.PairedRuns.{IsPaired, ArePaired, opened_spans}
+use Rattle.inlinespec.specs.Settled.{ends, span_by, taken}
+use Rattle.mdinline.specs.held.TreeBuilding.{span_of}
 use Rattle.mdinline.specs.declared.trees.SpanKind.{SpanKind}
 use Rattle.mdinline.specs.declared.settling.PairedRun.{PairedRun}
 

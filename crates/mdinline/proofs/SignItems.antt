@@ -11,11 +11,11 @@ use Rattle.mdscan.specs.Escapes.{begins_escape}
 use Rattle.mdscan.specs.RawHtml.{raw_html}
 use Rattle.mdpair.specs.declared.runs.DelimiterRun.{DelimiterRun}
 use Rattle.mdpair.specs.Neighbours.{run_at}
-use Rattle.mdinline.specs.CodeSpans.{code_inside}
-use Rattle.mdinline.specs.InlineEvents.{written}
-use Rattle.mdinline.specs.Lexing.{CloseBracket, Sign, Backslash, Ampersand, Backtick, LessThan, Blank, DelimiterMark, Bracket, Exclamation, ClosingBracket, Other, sign_of, lex, lexeme_by, leaf, as_written, bracket_lexeme, escape_lexeme, reference_lexeme, code_lexeme, angle_lexeme, run_lexeme, break_or_written}
-use Rattle.mdinline.specs.LineBreaks.{LineBreak, spaced_break, backslash_break}
-use Rattle.mdinline.specs.PlainText.{is_bracket}
+use Rattle.inlinespec.specs.CodeSpans.{code_inside}
+use Rattle.inlinespec.specs.InlineEvents.{written}
+use Rattle.inlinespec.specs.Lexing.{CloseBracket, Sign, Backslash, Ampersand, Backtick, LessThan, Blank, DelimiterMark, Bracket, Exclamation, ClosingBracket, Other, sign_of, lex, lexeme_by, leaf, as_written, bracket_lexeme, escape_lexeme, reference_lexeme, code_lexeme, angle_lexeme, run_lexeme, break_or_written}
+use Rattle.inlinespec.specs.LineBreaks.{LineBreak, spaced_break, backslash_break}
+use Rattle.mdinline.specs.held.PlainText.{is_bracket}
 
 module _ (entities : EntityTable) (text : List ℕ) (at : ℕ) where
   pub at_backslash : get_or text at 0 ≡ 92 → lex entities text at ≡ escape_lexeme (drop at text)

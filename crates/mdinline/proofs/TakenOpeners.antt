@@ -2,11 +2,11 @@
 use Rattle.std.proofs.Common.{false, not, subst, ◌≡◌, ℕ, Bool, true, nat_le, min, ◌||◌, List, [], ◌∷◌, ◌++◌, length, length-append, get_or, map, Some, None, refl, ap, sym, ◌∙◌, arith}
 use Rattle.std.proofs.lemmas.List.{map-append, length-map, append_cancel_right}
 use Rattle.std.proofs.Math.Seq.{get_or-append_seam}
-use Rattle.mdinline.specs.InlineEvents.{Event, within}
-use Rattle.mdinline.specs.LabelMap.{LinkTarget}
-use Rattle.mdinline.specs.Settled.{Piece, Made, Opening, settled}
-use Rattle.mdinline.specs.TextReading.{Opened, nearest_opener, spent, holds_link, linked, span_to}
-use Rattle.mdinline.specs.UnusedOpeners.{openers, before_link, shown, AreOpenersOf, IsTaken}
+use Rattle.inlinespec.specs.InlineEvents.{Event, within}
+use Rattle.inlinespec.specs.LabelMap.{LinkTarget}
+use Rattle.inlinespec.specs.Settled.{Piece, Made, Opening, settled}
+use Rattle.inlinespec.specs.TextReading.{Opened, nearest_opener, spent, holds_link, linked, span_to}
+use Rattle.mdinline.specs.held.UnusedOpeners.{openers, before_link, shown, AreOpenersOf, IsTaken}
 use Rattle.mdinline.specs.declared.openings.Opening as held
 use Rattle.mdinline.specs.declared.openings.Openings.{Openings}
 use Rattle.mdinline.proofs.NearestOpeners.{IsNearest, has_nearest, nothing_spent, alive, no_nearest, nearest, over_image}

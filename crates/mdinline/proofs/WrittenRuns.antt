@@ -7,9 +7,9 @@ use Rattle.std.proofs.lemmas.Bool.Decides.{nat_tests}
 use Rattle.mdtext.specs.EntityTable.{EntityTable}
 use Rattle.mdscan.specs.Blanks.{begins_with}
 use Rattle.mdinline.proofs.Marks.{mark_there}
-use Rattle.mdinline.specs.Lexing.{Other, sign_of, lex, as_written}
-use Rattle.mdinline.specs.LineBreaks.{spaces, spaced_break}
-use Rattle.mdinline.specs.PlainText.{IsWritten, is_stop}
+use Rattle.inlinespec.specs.Lexing.{Other, sign_of, lex, as_written}
+use Rattle.inlinespec.specs.LineBreaks.{spaces, spaced_break}
+use Rattle.mdinline.specs.held.PlainText.{IsWritten, is_stop}
 
 -- a byte at which nothing begins
 plain_sign : (b : ℕ) → is_stop b ≡ false → (b ≡ 32 → ⊥) → sign_of b ≡ Other

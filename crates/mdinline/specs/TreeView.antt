@@ -1,6 +1,6 @@
 -- The trees that the crate's values stand for.
 use Rattle.std.specs.Prelude.{List, map, string_bytes}
-use Rattle.mdinline.specs.InlineTree.{Inline, Inlines, inlines_of, text, code, raw, soft, hard, emph, strong, strike, link, image}
+use Rattle.inlinespec.specs.InlineTree.{Inline, Inlines, inlines_of, text, code, raw, soft, hard, emph, strong, strike, link, image}
 use Rattle.mdinline.specs.declared.inlines.Inline as c
 use Rattle.mdinline.specs.declared.inlines.Inline.TheOpen.{Inline-F}
 use Rattle.mdinline.specs.declared.inlines.Inline.TheFolds.{fold-Inline}

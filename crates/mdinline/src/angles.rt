@@ -4,14 +4,14 @@ ghost use Rattle.std.specs.Prelude.{◌≡◌, ◌+◌, ◌-◌, ◌<◌, ◌++�
 ghost use Rattle.std.specs.Char.{is_ascii_alphabetic};
 ghost use Rattle.std.specs.Str.{IsCharBoundary};
 ghost use Rattle.mdscan.specs.AutoLink.{autolink_at};
-ghost use Rattle.mdscan.specs.HtmlTag.{first_is};
+ghost use Rattle.mdscan.specs.Tag.{first_is};
 ghost use Rattle.mdscan.specs.RawHtml.{place_of, raw_html};
 ghost use Rattle.mdscan.specs.Spans.{IsEndAfter, EndsAfterMark};
-ghost use Rattle.mdinline.specs.AutolinkText.{scheme_before, without_references};
-ghost use Rattle.mdinline.specs.InlineEvents.{LinkTo, within, written};
-ghost use Rattle.mdinline.specs.Lexing.{angle_lexeme};
-ghost use Rattle.mdinline.specs.LongTags.{BeginsTag, FollowsMark, KnowsEnds, close_text, is_endless};
-ghost use Rattle.mdinline.specs.Recognised.{IsFound, made_events};
+ghost use Rattle.inlinespec.specs.AutolinkText.{scheme_before, without_references};
+ghost use Rattle.inlinespec.specs.InlineEvents.{LinkTo, within, written};
+ghost use Rattle.inlinespec.specs.Lexing.{angle_lexeme};
+ghost use Rattle.mdinline.specs.held.LongTags.{BeginsTag, FollowsMark, KnowsEnds, close_text, is_endless};
+ghost use Rattle.mdinline.specs.held.Recognised.{IsFound, made_events};
 
 use crate::inlines::Inline;
 use crate::references::without_references;

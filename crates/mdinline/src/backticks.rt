@@ -6,11 +6,12 @@ ghost use Rattle.std.specs.List.{list_any};
 ghost use Rattle.std.specs.Ordering.{nat_cmp};
 ghost use Rattle.mdscan.specs.Blanks.{begins_with};
 ghost use Rattle.mdscan.specs.Spans.{IsEndAfter};
-ghost use Rattle.mdinline.specs.BacktickStrings.{HoldsLast, IsNextString};
-ghost use Rattle.mdinline.specs.CodeSpans.{as_one_line, before_backticks, code_content, code_inside, is_padded, is_space_or_feed, unpadded};
-ghost use Rattle.mdinline.specs.Lexing.{code_lexeme};
-ghost use Rattle.mdinline.specs.Recognised.{IsFound};
-ghost use Rattle.mdinline.specs.Ticks.{AreTicksFrom};
+ghost use Rattle.inlinespec.specs.BacktickStrings.{IsNextString};
+ghost use Rattle.mdinline.specs.held.BacktickTable.{HoldsLast};
+ghost use Rattle.inlinespec.specs.CodeSpans.{as_one_line, before_backticks, code_content, code_inside, is_padded, is_space_or_feed, unpadded};
+ghost use Rattle.inlinespec.specs.Lexing.{code_lexeme};
+ghost use Rattle.mdinline.specs.held.Recognised.{IsFound};
+ghost use Rattle.mdinline.specs.held.Ticks.{AreTicksFrom};
 
 use crate::inlines::Inline;
 use crate::plain::{past_marks, text_of};
@@ -142,7 +143,7 @@ fn without_padding(inside: &str) -> &str
 }
 
 /// Whether a space stands at both ends, and something else between.
-#[tactic(auto, using(crate::proofs::CodeContents::padded))]
+#[tactic(auto, using(inlinespec::proofs::CodeContents::padded))]
 fn is_padded(inside: &[u8]) -> bool
     ensures two { result ≡ true → 1 < length inside.now }
     ensures first { result ≡ true → slice_index inside.now 0 < 128 }

@@ -5,11 +5,11 @@ ghost use Rattle.std.specs.Str.{IsCharBoundary};
 ghost use Rattle.mdtext.specs.Labels.{label_of};
 ghost use Rattle.mdscan.specs.InlineTail.{AreTailSpans};
 ghost use Rattle.mdscan.specs.Spans.{IsSpanOf};
-ghost use Rattle.mdinline.specs.Brackets.{IsBehindBracket, IsLinkEnd};
-ghost use Rattle.mdinline.specs.FoundReferences.{IsReferenceOf, with_asked};
-ghost use Rattle.mdinline.specs.LabelMap.{target_of};
-ghost use Rattle.mdinline.specs.LinkTails.{ByLabel, empty_brackets_at, part_text, reference_at, tail_target};
-ghost use Rattle.mdinline.specs.TextReading.{by_reference};
+ghost use Rattle.mdinline.specs.held.Brackets.{IsBehindBracket, IsLinkEnd};
+ghost use Rattle.mdinline.specs.held.FoundReferences.{IsReferenceOf, with_asked};
+ghost use Rattle.inlinespec.specs.LabelMap.{target_of};
+ghost use Rattle.inlinespec.specs.LinkTails.{ByLabel, empty_brackets_at, part_text, reference_at, tail_target};
+ghost use Rattle.inlinespec.specs.TextReading.{by_reference};
 
 use crate::labels::Labels;
 use mdscan::{Span, Tail, inline_tail, link_label};
@@ -26,7 +26,7 @@ pub(crate) struct Reference {
 
 /// What makes a link or an image of the text from `begin` up to the `]` at a place: an inline tail behind it; a label in brackets behind it; or the text
 /// itself as a label. A label that is looked up is asked for.
-#[tactic(auto, unfolding(crate::specs::LinkTails::reference_at))]
+#[tactic(auto, unfolding(inlinespec::specs::LinkTails::reference_at))]
 pub(crate) fn reference_of<L: Labels>(
     alloc: Global,
     text: &str,

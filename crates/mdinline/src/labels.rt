@@ -1,7 +1,7 @@
 //! Where labels lead.
 
 ghost use Rattle.std.specs.Prelude.{◌≡◌, ℕ, List, [], Option, MatchOption, OnOk, OnErr};
-ghost use Rattle.mdinline.specs.LabelMap.{LinkTarget, target_of, target_in, put_first};
+ghost use Rattle.inlinespec.specs.LabelMap.{LinkTarget, target_of, target_in, put_first};
 
 use mdtext::{Label, NoMemory, Target};
 use std::alloc::Global;
@@ -25,7 +25,7 @@ pub struct LabelTable {
 
 impl Model for LabelTable {
     ghost use Rattle.std.specs.Prelude.{map};
-    ghost use Rattle.mdinline.specs.LabelMap.{LabelMap, map_code, target_of};
+    ghost use Rattle.inlinespec.specs.LabelMap.{LabelMap, map_code, target_of};
 
     ghost Value = { LabelMap };
 

@@ -9,7 +9,6 @@ mod copies;
 mod faults;
 mod inlines;
 mod labels;
-mod laws;
 mod openings;
 mod parsed;
 mod pieces;
@@ -24,10 +23,6 @@ pub use asked::Asked;
 pub use faults::InlineFault;
 pub use inlines::Inline;
 pub use labels::{LabelTable, Labels};
-pub use laws::{
-    events_make_the_tree, only_asked_labels_matter, open_spans_nest, parts_nest_no_deeper,
-    spans_end, texts_are_joined, there_is_one_reading,
-};
 pub use parsed::Parsed;
 pub use reading::read;
 

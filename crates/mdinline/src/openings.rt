@@ -3,15 +3,15 @@
 ghost use Rattle.std.specs.Prelude.{◌≡◌, ◌<◌, ◌||◌, nat_le, true, false, List, None, [], ◌∷◌, ◌++◌, IfSome, OnOk, MatchOption, length, slice_index};
 ghost use Rattle.mdtext.specs.EntityTable.{EntityTable};
 ghost use Rattle.mdscan.specs.Spans.{EndsAfterMark};
-ghost use Rattle.mdinline.specs.InlineEvents.{Event};
-ghost use Rattle.mdinline.specs.LabelMap.{LinkTarget};
-ghost use Rattle.mdinline.specs.Lexing.{lex};
-ghost use Rattle.mdinline.specs.PlainText.{is_bracket};
-ghost use Rattle.mdinline.specs.Recognised.{bracket_of};
-ghost use Rattle.mdinline.specs.Settled.{Piece};
-ghost use Rattle.mdinline.specs.Settled as piece;
-ghost use Rattle.mdinline.specs.TextReading.{Opened, linked, nearest_opener, spent};
-ghost use Rattle.mdinline.specs.UnusedOpeners.{AreOpenersOf, IsTaken};
+ghost use Rattle.inlinespec.specs.InlineEvents.{Event};
+ghost use Rattle.inlinespec.specs.LabelMap.{LinkTarget};
+ghost use Rattle.inlinespec.specs.Lexing.{lex};
+ghost use Rattle.mdinline.specs.held.PlainText.{is_bracket};
+ghost use Rattle.mdinline.specs.held.Recognised.{bracket_of};
+ghost use Rattle.inlinespec.specs.Settled.{Piece};
+ghost use Rattle.inlinespec.specs.Settled as piece;
+ghost use Rattle.inlinespec.specs.TextReading.{Opened, linked, nearest_opener, spent};
+ghost use Rattle.mdinline.specs.held.UnusedOpeners.{AreOpenersOf, IsTaken};
 
 use std::alloc::{AllocError, Global};
 

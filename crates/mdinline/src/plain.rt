@@ -4,11 +4,11 @@ ghost use Rattle.std.specs.Prelude.{◌≡◌, ◌+◌, ◌-◌, ◌<◌, ◌≤
 ghost use Rattle.std.specs.List.{position_or_len, prefix_len};
 ghost use Rattle.std.specs.Str.{IsCharBoundary};
 ghost use Rattle.mdscan.specs.Spans.{IsEndAfter, EndsAfterMark};
-ghost use Rattle.mdinline.specs.InlineEvents.{written};
-ghost use Rattle.mdinline.specs.Lexing.{as_written, break_or_written, escape_lexeme};
-ghost use Rattle.mdinline.specs.LineBreaks.{spaces, spaced_break};
-ghost use Rattle.mdinline.specs.PlainText.{IsWritten, is_stop};
-ghost use Rattle.mdinline.specs.Recognised.{made_events, lexeme_of, IsFound};
+ghost use Rattle.inlinespec.specs.InlineEvents.{written};
+ghost use Rattle.inlinespec.specs.Lexing.{as_written, break_or_written, escape_lexeme};
+ghost use Rattle.inlinespec.specs.LineBreaks.{spaces, spaced_break};
+ghost use Rattle.mdinline.specs.held.PlainText.{IsWritten, is_stop};
+ghost use Rattle.mdinline.specs.held.Recognised.{made_events, lexeme_of, IsFound};
 
 use crate::inlines::Inline;
 use crate::scanner::{Found, simple};

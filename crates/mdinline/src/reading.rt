@@ -4,13 +4,13 @@ ghost use Rattle.std.specs.Prelude.{◌≡◌, ◌+◌, ◌∷◌, ◌-◌, ◌<
 ghost use Rattle.std.specs.Str.{IsCharBoundary};
 ghost use Rattle.mdscan.specs.Spans.{IsEndAfter};
 ghost use Rattle.mdtext.specs.Counted.{counted};
-ghost use Rattle.mdinline.specs.Brackets.{AreBracketsOf, IsLinkEnd};
-ghost use Rattle.mdinline.specs.FoundReferences.{IsReferenceOf, with_asked};
-ghost use Rattle.mdinline.specs.LabelMap.{LinkTarget};
-ghost use Rattle.mdinline.specs.Recognised.{kind_of};
-ghost use Rattle.mdinline.specs.Settled as settled;
-ghost use Rattle.mdinline.specs.TextReading.{Opened, after_deed, closing, item_by, linked, nearest_opener, spent};
-ghost use Rattle.mdinline.specs.UnusedOpeners.{AreOpenersOf, IsTaken};
+ghost use Rattle.mdinline.specs.held.Brackets.{AreBracketsOf, IsLinkEnd};
+ghost use Rattle.mdinline.specs.held.FoundReferences.{IsReferenceOf, with_asked};
+ghost use Rattle.inlinespec.specs.LabelMap.{LinkTarget};
+ghost use Rattle.mdinline.specs.held.Recognised.{kind_of};
+ghost use Rattle.inlinespec.specs.Settled as settled;
+ghost use Rattle.inlinespec.specs.TextReading.{Opened, after_deed, closing, item_by, linked, nearest_opener, spent};
+ghost use Rattle.mdinline.specs.held.UnusedOpeners.{AreOpenersOf, IsTaken};
 
 use crate::asked::Asked;
 use crate::brackets::{Reference, reference_of};

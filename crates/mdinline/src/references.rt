@@ -5,9 +5,9 @@ ghost use Rattle.std.specs.Str.{IsCharBoundary};
 ghost use Rattle.mdtext.specs.References.{added, reference, reference_or};
 ghost use Rattle.mdtext.specs.Referents.{meaning_of, referent_text};
 ghost use Rattle.mdscan.specs.Spans.{IsEndAfter};
-ghost use Rattle.mdinline.specs.AutolinkText.{without_references};
-ghost use Rattle.mdinline.specs.Lexing.{reference_lexeme};
-ghost use Rattle.mdinline.specs.Recognised.{IsFound};
+ghost use Rattle.inlinespec.specs.AutolinkText.{without_references};
+ghost use Rattle.inlinespec.specs.Lexing.{reference_lexeme};
+ghost use Rattle.mdinline.specs.held.Recognised.{IsFound};
 
 use crate::inlines::Inline;
 use crate::scanner::{Found, simple};

@@ -4,10 +4,10 @@ ghost use Rattle.std.specs.Prelude.{◌≡◌, ◌<◌, false, None, IfOk, IfSom
 ghost use Rattle.std.specs.Str.{IsCharBoundary};
 ghost use Rattle.mdscan.specs.Spans.{IsEndAfter};
 ghost use Rattle.mdpair.specs.Neighbours.{run_at};
-ghost use Rattle.mdinline.specs.KnownText.{KnowsText, IsLeafAt};
-ghost use Rattle.mdinline.specs.Lexing.{lex};
-ghost use Rattle.mdinline.specs.PlainText.{is_bracket};
-ghost use Rattle.mdinline.specs.Recognised.{IsFound, made_events};
+ghost use Rattle.mdinline.specs.held.KnownText.{KnowsText, IsLeafAt};
+ghost use Rattle.inlinespec.specs.Lexing.{lex};
+ghost use Rattle.mdinline.specs.held.PlainText.{is_bracket};
+ghost use Rattle.mdinline.specs.held.Recognised.{IsFound, made_events};
 
 use crate::angles::Angles;
 use crate::backticks::Backticks;

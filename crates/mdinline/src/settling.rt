@@ -2,11 +2,11 @@
 
 ghost use Rattle.std.specs.Prelude.{◌≡◌, ◌+◌, ◌-◌, ◌^◌, ◌<◌, ◌≤◌, [], ◌∷◌, ◌++◌, ℕ, List, All, IfOk, OnOk, length, map, replicate, string_bytes};
 ghost use Rattle.mdpair.specs.Neighbours.{byte_of};
-ghost use Rattle.mdinline.specs.InlineEvents.{Leave, written};
+ghost use Rattle.inlinespec.specs.InlineEvents.{Leave, written};
 ghost use Rattle.mdpair.specs.Takings.{IsOrdered, takings};
-ghost use Rattle.mdinline.specs.PairedRuns.{ArePaired, IsPaired, entered, paired_events, piece_of, pieces_of};
-ghost use Rattle.mdinline.specs.Settled.{bracket_text, run_events, runs_of, span_by};
-ghost use Rattle.mdinline.specs.TreeBuilding.{built, span_of};
+ghost use Rattle.mdinline.specs.held.PairedRuns.{ArePaired, IsPaired, entered, paired_events, piece_of, pieces_of};
+ghost use Rattle.inlinespec.specs.Settled.{bracket_text, run_events, runs_of, span_by};
+ghost use Rattle.mdinline.specs.held.TreeBuilding.{built, span_of};
 
 use crate::faults::InlineFault;
 use crate::pieces::Piece;

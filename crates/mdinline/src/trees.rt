@@ -1,9 +1,9 @@
 //! A tree of inlines that is built from left to right.
 
 ghost use Rattle.std.specs.Prelude.{◌≡◌, ◌+◌, ◌<◌, [], ◌∷◌, ◌++◌, IfOk, OnOk, length, string_bytes};
-ghost use Rattle.mdinline.specs.InlineEvents.{Enter, Leave, within, written};
-ghost use Rattle.mdinline.specs.Recognised.{made_events};
-ghost use Rattle.mdinline.specs.TreeBuilding.{built, row_events, span_of};
+ghost use Rattle.inlinespec.specs.InlineEvents.{Enter, Leave, within, written};
+ghost use Rattle.mdinline.specs.held.Recognised.{made_events};
+ghost use Rattle.mdinline.specs.held.TreeBuilding.{built, row_events, span_of};
 
 use crate::faults::InlineFault;
 use crate::inlines::Inline;

@@ -1,7 +1,6 @@
 -- Why a search for an opener may stop at a bottom.
-use Rattle.std.proofs.Common.{zero, suc, All, subst, length, take, get_or, ◌≡◌, ℕ, ◌+◌, ◌-◌, ◌%◌, ◌<◌, ◌≤◌, Bool, true, false, cond, eqb, nat_lt, not, ◌&&◌, ◌||◌, List, [], ◌∷◌, ◌++◌, Some, None, refl, sym, ap, ◌∙◌, arith}
+use Rattle.std.proofs.Common.{zero, suc, All, subst, length, take, get_or, ◌≡◌, ℕ, ◌+◌, ◌-◌, ◌%◌, ◌<◌, ◌≤◌, Bool, true, false, cond, eqb, not, ◌&&◌, ◌||◌, List, [], ◌∷◌, ◌++◌, Some, None, refl, sym, ap, ◌∙◌, arith}
 use Rattle.std.proofs.Math.Nat.{add-mod}
-use Rattle.std.proofs.lemmas.Bool.Decides.{nat_tests}
 use Rattle.std.proofs.lemmas.List.Elements.{All-weaker}
 use Rattle.std.specs.List.{AllByRecursion}
 use Rattle.mdpair.specs.declared.runs.DelimiterChar.{DelimiterChar}
@@ -12,7 +11,7 @@ use Rattle.mdpair.specs.DelimiterRun.{same_delimiter, can_both, lengths_fit, len
 use Rattle.mdpair.specs.Takings.{nearest, without, left_of, stack, IsBelow}
 use Rattle.mdpair.specs.declared.searches.Bottom.{Bottom}
 use Rattle.mdpair.proofs.Sweep.{nearest-keeps, stack_at}
-use Rattle.mdpair.specs.OpenersBottom.{IsSameKind, IsBottom, IsBottomUpTo, Descends, nearest_above}
+use Rattle.mdpair.specs.OpenersBottom.{IsSameKind, IsBottom, IsBottomUpTo, Descends}
 
 lengths_same : (o c d : DelimiterRun) → c.length % 3 ≡ d.length % 3 → can_both c ≡ can_both d → lengths_fit o c ≡ lengths_fit o d
 lengths_same o c d rest opens =
@@ -37,18 +36,6 @@ none_below bottom k c [] le low sound = refl
 none_below bottom k c (l ∷ ls) le low sound =
     ap (λ b. cond b (Some (l, ls)) (nearest c ls)) (sound.0 (omega arith)) ∙ none_below bottom k c ls le low.1 sound.1
 
-pub stops : (bottom : ℕ) (c : DelimiterRun) (ls : List Remaining) → Descends ls → IsBottom bottom c ls → nearest_above bottom c ls ≡ nearest c ls
-stops bottom c [] falls sound = refl
-stops bottom c (l ∷ ls) falls sound =
-    at (nat_lt l.place bottom) refl (stops bottom c ls falls.1 sound.1)
-  where
-    at : (b : Bool) → nat_lt l.place bottom ≡ b → nearest_above bottom c ls ≡ nearest c ls →
-        cond b None (cond (is_admissible l.run c) (Some (l, ls)) (nearest_above bottom c ls)) ≡ cond (is_admissible l.run c) (Some (l, ls)) (nearest c ls)
-    at false e later = ap (λ o. cond (is_admissible l.run c) (Some (l, ls)) o) later
-    at true e later =
-        let lt : l.place < bottom = grind (arith, nat_tests) in
-        sym (ap (λ b. cond b (Some (l, ls)) (nearest c ls)) (sound.0 lt) ∙ none_below bottom l.place c ls (omega arith) falls.0 sound.1)
-
 -- a search that found nothing makes the place a bottom for each closer of the kind
 pub missed : (p : ℕ) (c d : DelimiterRun) (ls : List Remaining) → nearest c ls ≡ None → IsSameKind c d → IsBottom p d ls
 missed p c d [] none k = tt
@@ -66,7 +53,7 @@ kept bottom n c o below sound = at (eqb (o.left - n) 0)
     at true = sound.1
     at false = sound
 
-pub put_on : (bottom : ℕ) (c : DelimiterRun) (l : Remaining) (ls : List Remaining) → bottom ≤ l.place → IsBottom bottom c ls → IsBottom bottom c (l ∷ ls)
+put_on : (bottom : ℕ) (c : DelimiterRun) (l : Remaining) (ls : List Remaining) → bottom ≤ l.place → IsBottom bottom c ls → IsBottom bottom c (l ∷ ls)
 put_on bottom c l ls le sound = (λ lt. absurd (omega arith), sound)
 
 -- below a run that stands below the bottom no run opens

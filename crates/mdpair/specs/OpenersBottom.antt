@@ -1,5 +1,5 @@
 -- The bottom of a search for an opener: a place below which no run opens what such a closer closes (CommonMark, appendix, process emphasis: openers_bottom).
-use Rattle.std.specs.Prelude.{◌≡◌, ℕ, ◌%◌, ◌<◌, ◌≤◌, false, cond, nat_lt, List, [], ◌∷◌, Option, Some, None}
+use Rattle.std.specs.Prelude.{◌≡◌, ℕ, ◌%◌, ◌<◌, ◌≤◌, false, List, [], ◌∷◌}
 use Rattle.std.specs.List.{AllByRecursion}
 use Rattle.mdpair.specs.declared.runs.DelimiterChar.TheVariants.{Tilde}
 use Rattle.mdpair.specs.declared.runs.DelimiterRun.{DelimiterRun}
@@ -23,12 +23,6 @@ IsBottom bottom c ls = AllByRecursion (λ l. l.place < bottom → is_admissible 
 abbrev pub Descends : List Remaining → Type 0
 Descends [] = Unit {0}
 Descends (l ∷ ls) = AllByRecursion (IsBelow l.place) ls × Descends ls
-
--- the search for the nearest admissible opener that stops at the bottom
-abbrev pub nearest_above : ℕ → DelimiterRun → List Remaining → Option (Remaining × List Remaining)
-nearest_above bottom c [] = None
-nearest_above bottom c (o ∷ below) =
-    cond (nat_lt o.place bottom) None (cond (is_admissible o.run c) (Some (o, below)) (nearest_above bottom c below))
 
 -- a bottom for its closer's kind, and no higher than a place
 abbrev pub IsBottomUpTo : ℕ → List Remaining → Bottom → Type 0

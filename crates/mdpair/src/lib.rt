@@ -5,15 +5,11 @@
 //! closer that has an admissible opener takes the nearest one. Nothing is known here of the text between the runs.
 #![tactic(auto)]
 
-mod bottoms;
 mod emphasis;
 mod flanking;
 mod runs;
 mod searches;
 
-pub use bottoms::{
-    failed_search_makes_bottom, push_keeps_bottom, search_stops_at_bottom, taking_keeps_bottom,
-};
 pub use emphasis::{Taking, pair};
 pub use flanking::delimiter_run;
 pub use runs::{DelimiterChar, DelimiterRun};

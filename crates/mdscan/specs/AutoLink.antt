@@ -1,11 +1,11 @@
--- Autolinks (CommonMark 6.5). Each length is that of the longest such piece that a text begins with, and 0
--- where there is none.
+-- Autolinks (CommonMark 6.5). Each length is that of the whole run of fitting characters that a text begins with, where
+-- this run is such a piece, and else 0.
 use Rattle.std.specs.Prelude.{ℕ, ◌+◌, ◌-◌, Bool, true, false, not, ◌||◌, ◌&&◌, ◌==◌, nat_lt, nat_le, List, drop, slice_index, codes, Option, Some, None, if◌then◌else◌}
 use Rattle.std.specs.Char.{is_ascii_alphabetic, is_ascii_alphanumeric, is_ascii_control}
 use Rattle.std.specs.List.{prefix_len, list_any}
 use Rattle.mdscan.specs.declared.autolinks.Auto.{Auto}
 use Rattle.mdscan.specs.Blanks.{begins_with}
-use Rattle.mdscan.specs.HtmlTag.{first_is}
+use Rattle.mdscan.specs.Tag.{first_is}
 use Rattle.mdscan.specs.Repeats.{repeats}
 
 -- A scheme is 2 to 32 characters: a letter, and then letters, digits, `+`, `.` and `-`.

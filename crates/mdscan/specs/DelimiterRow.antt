@@ -1,4 +1,4 @@
--- Delimiter rows of tables (GFM 4.10).
+-- Delimiter rows of tables (GFM Tables (extension)).
 use Rattle.std.specs.Prelude.{ℕ, ◌-◌, Bool, true, false, ◌&&◌, ◌==◌, nat_lt, List, [], ◌∷◌, length, drop, slice_index, slice_get, Option, Some, None, if◌then◌else◌}
 use Rattle.std.specs.List.{prefix_len, list_all, list_any}
 use Rattle.mdscan.specs.declared.spans.Span.{Span}

@@ -1,10 +1,10 @@
 -- HTML blocks (CommonMark 4.6): which of the kinds 1 to 7 a line begins, and which lines end a kind.
-use Rattle.std.specs.Prelude.{ℕ, Bool, false, not, ◌||◌, ◌&&◌, ◌==◌, List, [], ◌∷◌, take, drop, nat_eq, codes, Option, Some, None, if◌then◌else◌}
+use Rattle.std.specs.Prelude.{ℕ, ◌+◌, Bool, false, not, ◌||◌, ◌&&◌, ◌==◌, List, [], ◌∷◌, take, drop, nat_eq, codes, Option, Some, None, if◌then◌else◌}
 use Rattle.std.specs.Char.{is_ascii_alphabetic, is_ascii_alphanumeric}
 use Rattle.std.specs.List.{prefix_len, list_any, starts_with}
 use Rattle.std.specs.Str.{str_eq_ignore_ascii_case}
 use Rattle.mdscan.specs.Blanks.{is_blank_text, begins_with, ends_or_blank}
-use Rattle.mdscan.specs.HtmlTag.{first_is, tag_name_length, open_tag, closing_tag}
+use Rattle.mdscan.specs.Tag.{first_is, tag_name_length, open_tag, closing_tag}
 
 -- how long the run of letters and digits is that a text begins with
 abbrev pub name_length : List ℕ → ℕ
@@ -91,13 +91,20 @@ fills_line line (Some end) = is_blank_text (drop end line)
 unfoldable pub begins_whole_tag : List ℕ → Bool
 begins_whole_tag line = (fills_line line (open_tag line) && not (is_raw_tag line)) || fills_line line (closing_tag line)
 
--- The first kind that fits.
+-- The number of the first of some tests that is met, where the first test has this number.
+abbrev pub first_met : ℕ → List Bool → Option ℕ
+first_met number [] = None
+first_met number (met ∷ later) = if met then Some number else first_met (number + 1) later
+
+-- The first kind that fits, of: raw text, comment, processing instruction, declaration, CDATA section, a block's name, one whole tag.
 unfoldable pub html_kind : List ℕ → Option ℕ
 html_kind line =
-    if begins_raw line then Some 1
-    else (if starts_with nat_eq line (codes "<!--") then Some 2
-    else (if starts_with nat_eq line (codes "<?") then Some 3
-    else (if begins_declaration line then Some 4
-    else (if starts_with nat_eq line (codes "<![CDATA[") then Some 5
-    else (if begins_block line then Some 6
-    else (if begins_whole_tag line then Some 7 else None))))))
+    first_met 1
+    (begins_raw line
+    ∷ starts_with nat_eq line (codes "<!--")
+    ∷ starts_with nat_eq line (codes "<?")
+    ∷ begins_declaration line
+    ∷ starts_with nat_eq line (codes "<![CDATA[")
+    ∷ begins_block line
+    ∷ begins_whole_tag line
+    ∷ [])

@@ -12,7 +12,7 @@ pub mod TableRow
 pub mod DelimiterRow
 pub mod Gaps
 pub mod Repeats
-pub mod HtmlTag
+pub mod Tag
 pub mod RawHtml
 pub mod AutoLink
 pub mod Escapes

@@ -20,8 +20,9 @@ if_closed at depth = if depth == 0 then Some at else None
 abbrev pub ends_bare : ℕ → Bool
 ends_bare b = is_ascii_control b || (b == 32)
 
--- Where a bare destination ends that has come to a place with so many parentheses open: before a space, an
--- ASCII control character, a parenthesis that closes none, or at the end. At most 32 are open at once.
+-- Where a bare destination ends, from a place with so many parentheses open on: before the first space or ASCII control
+-- character, or at the text's end, where none is open then; before the first `)` that closes none, if that comes earlier. An
+-- escaped parenthesis does not count. There is none if a parenthesis stays open, or if more than 32 are open at once.
 abbrev pub bare_from : (escaped : Bool) → ℕ → ℕ → List ℕ → Option ℕ
 bare_from escaped at depth [] = if_closed at depth
 bare_from true at depth (b ∷ rest) = bare_from false (at + 1) depth rest

@@ -3,7 +3,7 @@ use Rattle.std.specs.Prelude.{ℕ, ◌+◌, List, [], ◌∷◌, length, drop, n
 use Rattle.std.specs.Char.{is_ascii_alphabetic}
 use Rattle.std.specs.List.{starts_with}
 use Rattle.std.specs.Option.{option_or, option_map}
-use Rattle.mdscan.specs.HtmlTag.{first_is, open_tag, closing_tag}
+use Rattle.mdscan.specs.Tag.{first_is, open_tag, closing_tag}
 
 -- the first place at which the needle stands, where the text's first byte has this place
 abbrev pub place_from : ℕ → List ℕ → List ℕ → Option ℕ

@@ -1,4 +1,4 @@
--- Rows of tables (GFM 4.10).
+-- Rows of tables (GFM Tables (extension)).
 use Rattle.std.specs.Prelude.{ℕ, ◌+◌, ◌-◌, Bool, not, ◌&&◌, ◌==◌, nat_lt, List, [], ◌∷◌, take, filter, slice_index, if◌then◌else◌}
 use Rattle.std.specs.List.{range_with_len}
 use Rattle.mdscan.specs.declared.spans.Span.{Span}

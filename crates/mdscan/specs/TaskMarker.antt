@@ -1,4 +1,4 @@
--- Task list item marker (GFM 5.3): `[`, a space, a tab, `x` or `X`, `]`. Then a space or tab at least, and
+-- Task list item marker (GFM Task list items (extension)): `[`, a space, a tab, `x` or `X`, `]`. Then a space or tab at least, and
 -- on the same line something else.
 use Rattle.std.specs.Prelude.{ℕ, ◌+◌, Bool, false, not, ◌||◌, ◌&&◌, ◌==◌, nat_lt, List, [], ◌∷◌, drop, slice_index, Option, Some, None, if◌then◌else◌}
 use Rattle.std.specs.List.{prefix_len}

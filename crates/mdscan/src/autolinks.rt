@@ -5,7 +5,8 @@ ghost use Rattle.std.specs.List.{list_any, prefix_len};
 ghost use Rattle.std.specs.Str.{IsCharBoundary};
 ghost use Rattle.mdscan.specs.Spans.{IsEndAfter, EndsAfterMark};
 ghost use Rattle.mdscan.specs.Repeats.{repeats};
-ghost use Rattle.mdscan.specs.AutoLink.{autolink_at, uri_end, mail_end, in_scheme, in_uri, in_mail_name, mail_marks, in_domain_label, scheme_length, domain_label_length, dotted_label_length};
+ghost use Rattle.mdscan.specs.AutoLink.{autolink_at, uri_end, mail_end, in_scheme, in_uri, in_mail_name, mail_marks, in_domain_label, scheme_length};
+ghost use Rattle.mdscan.specs.AutoLink.{domain_label_length, dotted_label_length};
 
 use crate::runs::{begins, holds};
 

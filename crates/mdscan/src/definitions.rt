@@ -72,7 +72,8 @@ fn without_title(text: &[u8], label: Span, dest: Dest) -> Option<Def>
     ensures label { IfSome result (λ def. def.label ≡ label) }
     ensures later { IfSome result (λ def. dest.end ≤ def.end) }
     ensures within { IfSome result (λ def. def.end ≤ length text.now) }
-    ensures spans { IsUtf8 text.now → IsSpanOf text.now label → IsSpanOf text.now dest.span → IsCharBoundary text.now dest.end → IfSome result (λ def. AreDefSpans text.now def) }
+    ensures spans { IsUtf8 text.now → IsSpanOf text.now label → IsSpanOf text.now dest.span → IsCharBoundary text.now dest.end
+        → IfSome result (λ def. AreDefSpans text.now def) }
 {
     up_to(label, dest, None, rest_of_line(text, dest.end))
 }

@@ -17,7 +17,7 @@ pub enum Align {
     Right,
 }
 
-/// How many columns the delimiter row has that the rest of a line is (GFM 4.10). A bar stands in it, even
+/// How many columns the delimiter row has that the rest of a line is (GFM Tables (extension)). A bar stands in it, even
 /// where it has one column.
 pub fn delimiter_row(rest: &str) -> Option<usize>
     ensures { result ≡ delimiter_columns rest.now }
@@ -25,7 +25,7 @@ pub fn delimiter_row(rest: &str) -> Option<usize>
     columns(rest.as_bytes())
 }
 
-/// The alignment of a column of a delimiter row, by the colons at the ends of its cell (GFM 4.10).
+/// The alignment of a column of a delimiter row, by the colons at the ends of its cell (GFM Tables (extension)).
 pub fn align_at(rest: &str, column: usize) -> Align
     requires { column < unwrap_or (delimiter_columns rest.now) 0 }
     ensures { result ≡ column_align rest.now column }
@@ -33,7 +33,7 @@ pub fn align_at(rest: &str, column: usize) -> Align
     align_of(rest.as_bytes(), column)
 }
 
-/// The alignment that one cell of a delimiter row stands for, by the colons at its ends (GFM 4.10).
+/// The alignment that one cell of a delimiter row stands for, by the colons at its ends (GFM Tables (extension)).
 pub fn align_by_colons(cell: &str) -> Align
     ensures { result ≡ delimiter_align cell.now }
 {

@@ -3,11 +3,13 @@
 ghost use Rattle.std.specs.Prelude.{◌≡◌, ◌<◌, ◌&&◌, not, length};
 ghost use Rattle.std.specs.List.{list_any};
 ghost use Rattle.std.specs.Str.{str_eq_ignore_ascii_case};
-ghost use Rattle.mdscan.specs.HtmlTag.{open_tag, closing_tag};
-ghost use Rattle.mdscan.specs.HtmlBlock.{begins_raw, begins_raw_end, begins_block, is_block_name, begins_declaration, begins_one_of, raw_names, block_names, ends_raw_name, ends_block_name, ends_kind, holds_end, is_raw_tag, fills_line, begins_whole_tag, html_kind};
+ghost use Rattle.mdscan.specs.Tag.{open_tag, closing_tag};
+ghost use Rattle.mdscan.specs.HtmlBlock.{begins_raw, begins_raw_end, begins_block, is_block_name, begins_declaration, begins_one_of, raw_names};
+ghost use Rattle.mdscan.specs.HtmlBlock.{block_names, ends_raw_name, ends_block_name, ends_kind, holds_end, is_raw_tag, fills_line, begins_whole_tag};
+ghost use Rattle.mdscan.specs.HtmlBlock.{html_kind};
 
-use crate::html_tags::{closing, opening, tag_name};
 use crate::runs::{all_blank, begins, blank_follows, leading_name};
+use crate::tags::{closing, opening, tag_name};
 
 /// The names of the first kind, whose content is no Markdown.
 const RAW_NAMES: [&str; 4] = ["pre", "script", "style", "textarea"];

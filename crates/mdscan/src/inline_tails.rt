@@ -112,7 +112,8 @@ fn close(text: &[u8], at: usize, destination: Option<Span>, title: Option<Span>)
     requires { at ≤ length text.now }
     ensures value { result ≡ tail_to text.now at destination title }
     ensures end { IfSome result (λ tail. EndsAfterMark text.now at tail.end) }
-    ensures spans { IfSome destination (λ span. IsSpanOf text.now span) → IfSome title (λ span. IsSpanOf text.now span) → IfSome result (λ tail. AreTailSpans text.now tail) }
+    ensures spans { IfSome destination (λ span. IsSpanOf text.now span) → IfSome title (λ span. IsSpanOf text.now span)
+        → IfSome result (λ tail. AreTailSpans text.now tail) }
 {
     if begins(&text[at..], b')') {
         Some(Tail {

@@ -13,7 +13,6 @@ mod escapes;
 mod fences;
 mod gaps;
 mod html_blocks;
-mod html_tags;
 mod inline_tails;
 mod link_labels;
 mod links;
@@ -23,6 +22,7 @@ mod runs;
 mod setext_headings;
 mod spans;
 mod tables;
+mod tags;
 mod tasks;
 mod thematic_breaks;
 

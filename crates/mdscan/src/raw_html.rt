@@ -7,7 +7,7 @@ ghost use Rattle.std.specs.Str.{IsCharBoundary};
 ghost use Rattle.mdscan.specs.Spans.{IsEndAfter, EndsAfterMark};
 ghost use Rattle.mdscan.specs.RawHtml.{comment, declaration, delimited, place_of, raw_html};
 
-use crate::html_tags::{closing, opening};
+use crate::tags::{closing, opening};
 
 /// Where the raw HTML ends that stands at a place of a text (CommonMark 6.6).
 ///

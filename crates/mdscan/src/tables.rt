@@ -7,7 +7,7 @@ ghost use Rattle.mdscan.specs.TableRow.{inside, splits, cell, row_cells};
 use crate::spans::{Span, trimmed_bytes};
 use std::alloc::{AllocError, Global};
 
-/// The cells of a table's row, without the spaces and tabs at their ends (GFM 4.10). A backslash before a bar
+/// The cells of a table's row, without the spaces and tabs at their ends (GFM Tables (extension)). A backslash before a bar
 /// is still there.
 pub fn cells(alloc: Global, row: &str) -> Result<Vec<Span>, AllocError>
     ensures items { IfOk result (λ cells. cells.items ≡ row_cells row.now) }
@@ -16,7 +16,7 @@ pub fn cells(alloc: Global, row: &str) -> Result<Vec<Span>, AllocError>
     cells_of(alloc, row.as_bytes())
 }
 
-/// How many cells a table's row has (GFM 4.10). Takes no memory.
+/// How many cells a table's row has (GFM Tables (extension)). Takes no memory.
 pub fn cell_count(row: &str) -> usize
     ensures { result ≡ length (row_cells row.now) }
 {

@@ -13,7 +13,7 @@ pub struct TaskMark {
     pub after: usize,
 }
 
-/// The task marker that a paragraph's text begins with (GFM 5.3).
+/// The task marker that a paragraph's text begins with (GFM Task list items (extension)).
 #[tactic(auto, unfolding(crate::specs::TaskMarker::task_marker))]
 pub fn task(text: &str) -> Option<TaskMark>
     ensures mark { result ≡ task_marker text.now }

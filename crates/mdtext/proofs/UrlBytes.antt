@@ -4,9 +4,10 @@ use Rattle.std.proofs.Common.{List, ◌++◌, nat_lt}
 use Rattle.std.proofs.lemmas.Bool.Decides.{nat_tests}
 use Rattle.std.proofs.Common.{◌⊎◌, inl, inr, ◌==◌, codes}
 use Rattle.std.proofs.lemmas.Bool.{eqb-true}
+use Rattle.std.specs.Char.{is_ascii_alphanumeric}
 use Rattle.std.specs.List.{flat_map, list_any, list_all}
 use Rattle.mdtext.specs.ByteClass.{in_class}
-use Rattle.mdtext.specs.EscapedUrl.{is_alphanumeric, is_url_plain, url_byte, url_specials, escaped_url}
+use Rattle.mdtext.specs.EscapedUrl.{is_url_plain, url_byte, url_specials, escaped_url}
 use Rattle.mdtext.proofs.PlainRuns.{either_false}
 use Rattle.percent_encoding.specs.Percent.{percent_encode_byte, percent_encode, encode_byte}
 use Rattle.mdtext.specs.declared.urls.TheConstants.{ESCAPED}
@@ -51,7 +52,7 @@ coded_ascii : (b : ℕ) → should_percent_encode ESCAPED b ≡ false → b < 12
 unfolding should_percent_encode
 coded_ascii b h = grind (arith, h)
 
-alphanumeric_ascii : (b : ℕ) → is_alphanumeric b ≡ true → b < 128
+alphanumeric_ascii : (b : ℕ) → is_ascii_alphanumeric b ≡ true → b < 128
 alphanumeric_ascii b h = grind (arith, h)
 
 either_true : (a b : Bool) → (a || b) ≡ true → (a ≡ true) ⊎ (b ≡ true)

@@ -1,5 +1,6 @@
 -- The entity file: a JSON object whose members are named as references, each with its characters.
 use Rattle.std.specs.Prelude.{ℕ, ◌-◌, Bool, List, [], codes, Option, Some, None, Result, Ok, Err, length, slice_index, slice_range, nat_lt, option_map, option_and_then, ◌==◌, ◌&&◌, if◌then◌else◌}
+use Rattle.std.specs.Char.{is_ascii_alphanumeric}
 use Rattle.std.specs.BTreeMap.{insert_entry}
 use Rattle.std.specs.Cmp.Lexicographic.{slice_cmp}
 use Rattle.std.specs.List.{prefix_len}
@@ -9,7 +10,6 @@ use Rattle.serde_json.specs.Data.{Data, Members, no_members, member}
 use Rattle.serde_json.specs.Find.{get, as_str, as_object}
 use Rattle.serde_json.specs.Read.{read}
 use Rattle.mdtext.specs.EntityTable.{EntityTable}
-use Rattle.mdtext.specs.References.{is_letter_or_digit}
 use Rattle.mdtext.specs.declared.entity_file.TableFault.{TableFault}
 use Rattle.mdtext.specs.declared.entity_file.TableFault.TheVariants.{NotJson, BadEntry}
 
@@ -19,7 +19,7 @@ counts key = slice_index key (length key - 1) == 59
 
 -- letters or digits alone, one at least
 abbrev pub is_name : List ℕ → Bool
-is_name name = nat_lt 0 (length name) && prefix_len is_letter_or_digit name == length name
+is_name name = nat_lt 0 (length name) && prefix_len is_ascii_alphanumeric name == length name
 
 -- the name in `&name;`
 abbrev pub name_of : List ℕ → Option (List ℕ)

@@ -1,17 +1,12 @@
 -- Destinations as HTML writes them: percent-encoded where a byte may not stand in one (CommonMark 6.3 leaves this open).
 use Rattle.std.specs.Prelude.{ℕ, Bool, List, ◌∷◌, [], codes, if◌then◌else◌, ◌==◌, ◌||◌, ◌&&◌, nat_lt, suc}
+use Rattle.std.specs.Char.{is_ascii_alphanumeric}
 use Rattle.std.specs.List.{flat_map, list_any}
 use Rattle.percent_encoding.specs.Percent.{percent_encode_byte}
 
-abbrev pub is_between : ℕ → ℕ → ℕ → Bool
-is_between low high b = nat_lt b (suc high) && nat_lt low (suc b)
-
-abbrev pub is_alphanumeric : ℕ → Bool
-is_alphanumeric b = is_between 48 57 b || is_between 65 90 b || is_between 97 122 b
-
 -- the byte stands in a destination as it is
 unfoldable pub is_url_plain : ℕ → Bool
-is_url_plain b = is_alphanumeric b || list_any (λ k. b == k) (codes "-_.+!*'(),%#@?=;:/&$~")
+is_url_plain b = is_ascii_alphanumeric b || list_any (λ k. b == k) (codes "-_.+!*'(),%#@?=;:/&$~")
 
 unfoldable pub url_byte : ℕ → List ℕ
 url_byte b =

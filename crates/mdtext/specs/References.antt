@@ -1,19 +1,12 @@
 -- Entity and numeric character references (CommonMark 2.5), and backslash escapes (CommonMark 2.4).
 use Rattle.std.specs.Prelude.{ℕ, zero, suc, ◌+◌, ◌-◌, Bool, List, [], ◌∷◌, ◌++◌, Option, Some, None, codes, take, drop, slice_index, nat_lt, nat_le, encode_utf8, option_map, ◌==◌, ◌&&◌, ◌||◌, if◌then◌else◌}
-use Rattle.std.specs.Char.{is_digit}
+use Rattle.std.specs.Char.{is_digit, is_ascii_alphanumeric, is_ascii_punctuation}
 use Rattle.std.specs.List.{prefix_len}
 use Rattle.std.specs.Str.Parse.{digits_value}
 use Rattle.mdtext.specs.EntityTable.{EntityTable, entity_text}
 
 abbrev pub is_between : ℕ → ℕ → ℕ → Bool
 is_between low high b = nat_le low b && nat_le b high
-
-abbrev pub is_letter_or_digit : ℕ → Bool
-is_letter_or_digit b = is_between 48 57 b || is_between 65 90 b || is_between 97 122 b
-
--- the 32 printing ASCII characters that are neither letter, digit nor space
-abbrev pub is_ascii_punct : ℕ → Bool
-is_ascii_punct b = is_between 33 47 b || is_between 58 64 b || is_between 91 96 b || is_between 123 126 b
 
 -- the character with a code point: U+FFFD for zero, surrogates and numbers past the last one
 abbrev pub character_at : ℕ → ℕ
@@ -36,7 +29,7 @@ numeric front base most text =
 -- after `&`, a name of the table, and `;`
 abbrev pub named : EntityTable → List ℕ → Option Meaning
 named table text =
-    let name = prefix_len is_letter_or_digit text in
+    let name = prefix_len is_ascii_alphanumeric text in
     if slice_index text name == 59 then option_map (λ t. (name + 2, t)) (entity_text table (take name text)) else None
 
 -- the reference that stands at a `&`, by the text after it: decimal with at most 7 digits, hexadecimal with at most 6, or a name
@@ -52,7 +45,7 @@ reference_or b (Some m) = (m.0 - 1, m.1)
 
 -- after a backslash: ASCII punctuation is literal, and before another character the backslash is one
 abbrev pub escape : List ℕ → ℕ × List ℕ
-escape rest = if is_ascii_punct (slice_index rest 0) then (1, take 1 rest) else (0, 92 ∷ [])
+escape rest = if is_ascii_punctuation (slice_index rest 0) then (1, take 1 rest) else (0, 92 ∷ [])
 
 -- at a character, by the text after it: how much of that text goes with the character, and what they stand for
 unfoldable pub meaning : EntityTable → ℕ → List ℕ → ℕ × List ℕ

@@ -74,7 +74,8 @@ pub fn add_member(
     texts: &mut BTreeMap<String, String, Global>,
 ) -> Result<(), TableFault>
     ensures ok { OnOk result (with_member key.now (view value.now) (shown texts.old.entries) ≡ Some (shown texts.new.entries)) }
-    ensures err { IfErr result (λ fault. fault ≢ TableFault.NoMemory → (fault ≡ TableFault.BadEntry) × (with_member key.now (view value.now) (shown texts.old.entries) ≡ None)) }
+    ensures err { IfErr result (λ fault. fault ≢ TableFault.NoMemory
+        → (fault ≡ TableFault.BadEntry) × (with_member key.now (view value.now) (shown texts.old.entries) ≡ None)) }
 {
     if !counts(key) {
         return Ok(());

@@ -78,7 +78,8 @@ impl Entities {
 
     fn of_members(alloc: Global, members: &Map<String, Value>) -> Result<Entities, TableFault>
         ensures ok { IfOk result (λ entities. with_members (members_view members.now.entries) [] ≡ Some entities) }
-        ensures err { IfErr result (λ fault. fault ≢ TableFault.NoMemory → (fault ≡ TableFault.BadEntry) × (with_members (members_view members.now.entries) [] ≡ None)) }
+        ensures err { IfErr result (λ fault. fault ≢ TableFault.NoMemory
+            → (fault ≡ TableFault.BadEntry) × (with_members (members_view members.now.entries) [] ≡ None)) }
     {
         let mut texts = BTreeMap::new(alloc);
         for (key, value) in members {

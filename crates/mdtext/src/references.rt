@@ -1,9 +1,9 @@
 //! Entity and numeric character references.
 ghost use Rattle.std.specs.Prelude.{◌≡◌, ◌+◌, ◌-◌, ◌<◌, ◌≤◌, ◌==◌, ◌||◌, IfSome, length, option_map, slice_index};
-ghost use Rattle.std.specs.Char.{is_digit};
+ghost use Rattle.std.specs.Char.{is_ascii_alphanumeric, is_digit};
 ghost use Rattle.std.specs.List.{prefix_len};
 ghost use Rattle.std.specs.Str.Parse.{IsNumeral, digits_value};
-ghost use Rattle.mdtext.specs.References.{character_at, is_closed, is_letter_or_digit, named, numeric, reference};
+ghost use Rattle.mdtext.specs.References.{character_at, is_closed, named, numeric, reference};
 ghost use Rattle.mdtext.specs.Referents.{meaning_of};
 
 use crate::entity_table::Entities;
@@ -126,7 +126,7 @@ fn digit_count(text: &str, base: u32) -> usize
 
 // How many letters and digits stand at the front.
 pub fn name_len(text: &str) -> usize
-    ensures { result ≡ prefix_len is_letter_or_digit text.now }
+    ensures { result ≡ prefix_len is_ascii_alphanumeric text.now }
 {
     for (i, byte) in text.as_bytes().iter().enumerate() {
         if !byte.is_ascii_alphanumeric() {

@@ -2,8 +2,8 @@
 use Rattle.std.proofs.Common.{◌≡◌, ℕ, List, [], ◌∷◌, Some, None, refl, codes, false}
 use Rattle.std.specs.Fmt.{digits}
 use Rattle.mdtext.specs.Escaped.{escaped_byte}
-use Rattle.mdinline.specs.InlineTree.{Inlines, no_inlines, inline, text, hard}
-use Rattle.mdblock.specs.BlockTree.{Block, block, no_blocks, heading, paragraph}
+use Rattle.inlinespec.specs.InlineTree.{Inlines, no_inlines, inline, text, hard}
+use Rattle.blockspec.specs.BlockTree.{Block, block, no_blocks, heading, paragraph}
 use Rattle.mdhtml.specs.declared.options.Options.{Options}
 use Rattle.mdhtml.specs.declared.options.Breaks.TheVariants.{Soft}
 use Rattle.mdhtml.specs.BlockHtml.{fresh}

@@ -9,7 +9,7 @@ use Rattle.std.specs.List.{take-map}
 use Rattle.std.proofs.lemmas.List.{take-take, take_all}
 use Rattle.std.proofs.lemmas.List.Sums.{sum_by-append, sum_by-cons, sum_by-take-drop}
 use Rattle.std.proofs.lemmas.Option.{slice_get-map}
-use Rattle.mdblock.specs.UnitTree.{FoundUnit}
+use Rattle.blockspec.specs.UnitTree.{FoundUnit}
 use Rattle.mdhtml.specs.declared.options.Options.{Options}
 use Rattle.mdview.specs.declared.readings.Again.{Again}
 use Rattle.mdview.specs.declared.renewals.Renewal.{Renewal}

@@ -1,7 +1,7 @@
 -- The target of a label after an edit.
 use Rattle.std.proofs.Common.{◌≡◌, Option, Some, None, option_map, Bor, MatchOption, ap, ◌∙◌, sym}
 use Rattle.std.specs.Option.{option_copied}
-use Rattle.mdinline.specs.LabelMap.{LinkTarget, target_of}
+use Rattle.inlinespec.specs.LabelMap.{LinkTarget, target_of}
 use Rattle.mdtext.specs.declared.labels.Target.{Target}
 use Rattle.mdview.specs.declared.label_changes.LabelChange.{LabelChange}
 use Rattle.mdview.specs.LabelTargets.{changed}

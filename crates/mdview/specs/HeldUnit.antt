@@ -1,7 +1,7 @@
 -- Units whose inline texts were read, and their HTML.
 use Rattle.std.specs.Prelude.{◌≡◌, ℕ, ◌+◌, ◌-◌, ◌^◌, min, List, [], false, length, sum_by, take, refl}
 use Rattle.std.specs.Coded.{Coded, code_by, coded×, coded_ℕ, coded_list}
-use Rattle.mdblock.specs.UnitTree.{FoundUnit, found_code}
+use Rattle.blockspec.specs.UnitTree.{FoundUnit, found_code}
 use Rattle.mdinline.specs.ParsedText.{ParsedText, parsed_code}
 use Rattle.mdhtml.specs.declared.options.Options.{Options}
 use Rattle.mdhtml.specs.BlockHtml.{blocks_html, trees_of}

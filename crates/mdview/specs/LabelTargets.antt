@@ -4,7 +4,7 @@ use Rattle.std.specs.BTreeMap.{is_at}
 use Rattle.std.specs.Cmp.Lexicographic.{slice_cmp}
 use Rattle.std.specs.Map.{lookup}
 use Rattle.std.specs.Ordering.{nat_cmp}
-use Rattle.mdinline.specs.LabelMap.{LinkTarget, target_of}
+use Rattle.inlinespec.specs.LabelMap.{LinkTarget, target_of}
 use Rattle.mdview.specs.declared.held_labels.HeldLabels.{HeldLabels}
 use Rattle.mdview.specs.declared.held_labels.LabelsAfter.{LabelsAfter}
 use Rattle.mdview.specs.declared.label_changes.LabelChange.{LabelChange}

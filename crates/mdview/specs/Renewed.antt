@@ -1,7 +1,7 @@
 -- Units whose texts are read again, and what an edit changes.
 use Rattle.std.specs.Prelude.{◌≡◌, ℕ, ◌+◌, ◌-◌, ◌^◌, ◌≤◌, zero, suc, if◌then◌else◌, nat_lt, min, List, [], ◌∷◌, IfSome, length, map, slice_get, string_bytes}
 use Rattle.std.specs.List.{All}
-use Rattle.mdblock.specs.UnitTree.{FoundUnit}
+use Rattle.blockspec.specs.UnitTree.{FoundUnit}
 use Rattle.mdhtml.specs.declared.options.Options.{Options}
 use Rattle.mdview.specs.declared.readings.Again.{Again}
 use Rattle.mdview.specs.declared.renewals.Renewal.{Renewal}

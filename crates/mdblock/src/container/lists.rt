@@ -2,14 +2,14 @@
 
 ghost use Rattle.std.specs.Prelude.{◌≡◌, ℕ, ◌+◌, ◌^◌, ◌<◌, ◌&&◌, ◌||◌, nat_le, is_some, true, false, Some, IfSome, OnOk};
 ghost use Rattle.mdtext.specs.Columns.{AreMarks};
-ghost use Rattle.mdblock.specs.BlockLine.{rest, indentation, without_columns};
-ghost use Rattle.mdblock.specs.BlockStart.{Item as ItemWith, Holds, padding, item_of, begun};
+ghost use Rattle.blockspec.specs.BlockLine.{rest, indentation, without_columns};
+ghost use Rattle.blockspec.specs.BlockStart.{Item as ItemWith, Holds, padding, item_of, begun};
 ghost use Rattle.mdblock.specs.BlockView.{kind_view, block_view, blocks_view, items_view};
-ghost use Rattle.mdblock.specs.ContainerLines.{opened};
-ghost use Rattle.mdblock.specs.ListGroups.{kind_of, is_same_list};
-ghost use Rattle.mdblock.specs.ClosedViews.{list_view, list_view_with};
+ghost use Rattle.blockspec.specs.ContainerLines.{opened};
+ghost use Rattle.blockspec.specs.ListGroups.{kind_of, is_same_list};
+ghost use Rattle.mdblock.specs.held.ClosedViews.{list_view, list_view_with};
 ghost use Rattle.mdblock.specs.Positions.{BlockIn, BlocksIn, ItemsIn};
-ghost use Rattle.mdblock.specs.UnitBegin.{list_mark, same_mark};
+ghost use Rattle.blockspec.specs.UnitBegin.{list_mark, same_mark};
 
 use crate::blocks::{Block, Item, ListKind};
 use crate::lines::Line;
@@ -117,7 +117,7 @@ impl OpenList {
 }
 
 /// Takes an item's marker and the columns after it off its first line, and answers the columns that its other lines need.
-#[tactic(auto, unfolding(crate::specs::ContainerLines::opened))]
+#[tactic(auto, unfolding(blockspec::specs::ContainerLines::opened))]
 pub(crate) fn take_marker(line: &mut Line, marker: Marker) -> usize
     requires { AreMarks marker.width (rest line.old) }
     ensures needed { item_of line.old marker ≡ ItemWith marker result }
@@ -131,7 +131,7 @@ pub(crate) fn take_marker(line: &mut Line, marker: Marker) -> usize
 }
 
 /// How many columns after a marker belong to it: with five or more, or with nothing behind them, one counts.
-#[tactic(auto, unfolding(crate::specs::BlockStart::padding))]
+#[tactic(auto, unfolding(blockspec::specs::BlockStart::padding))]
 fn columns_after_marker(line: &Line) -> usize
     ensures value { result ≡ padding line.now }
     ensures short { line.now.line.column + result < 2 ^ 64 }

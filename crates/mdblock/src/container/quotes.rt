@@ -2,15 +2,15 @@
 
 ghost use Rattle.std.specs.Prelude.{◌≡◌, IsTrue};
 ghost use Rattle.mdtext.specs.Columns.{AreMarks};
-ghost use Rattle.mdblock.specs.BlockLine.{rest};
-ghost use Rattle.mdblock.specs.BlockStart.{Quote};
-ghost use Rattle.mdblock.specs.ContainerLines.{matches, opened, inside};
+ghost use Rattle.blockspec.specs.BlockLine.{rest};
+ghost use Rattle.blockspec.specs.BlockStart.{Quote};
+ghost use Rattle.blockspec.specs.ContainerLines.{matches, opened, inside};
 
 use crate::lines::Line;
 use mdscan::quote_marker;
 
 /// Whether a line has the marker of a block quote, which no lazy line has.
-#[tactic(auto, using(crate::proofs::Markers::quote_mark), unfolding(crate::specs::ContainerLines::matches))]
+#[tactic(auto, using(crate::proofs::Markers::quote_mark), unfolding(blockspec::specs::ContainerLines::matches))]
 pub(crate) fn matches(line: &Line) -> bool
     ensures value { result ≡ matches Quote line.now }
     ensures mark { IsTrue result → AreMarks 1 (rest line.now) }
@@ -19,7 +19,7 @@ pub(crate) fn matches(line: &Line) -> bool
 }
 
 /// Takes the marker off, and one column of space or tab after it.
-#[tactic(auto, unfolding(crate::specs::ContainerLines::opened))]
+#[tactic(auto, unfolding(blockspec::specs::ContainerLines::opened))]
 pub(crate) fn take_marker(line: &mut Line)
     requires { AreMarks 1 (rest line.old) }
     ensures { line.new ≡ opened Quote line.old }
@@ -29,7 +29,7 @@ pub(crate) fn take_marker(line: &mut Line)
 }
 
 /// Takes the marker off a later line of the quote; one without it is lazy.
-#[tactic(auto, unfolding(crate::specs::ContainerLines::inside, crate::specs::ContainerLines::opened))]
+#[tactic(auto, unfolding(blockspec::specs::ContainerLines::inside, blockspec::specs::ContainerLines::opened))]
 pub(crate) fn enter(line: &mut Line)
     ensures { line.new ≡ inside Quote line.old }
 {

@@ -6,13 +6,13 @@ ghost use Rattle.mdtext.specs.EntityTable.{EntityTable};
 ghost use Rattle.mdleaf.specs.CodeLanguage.{code_language, ends_language};
 ghost use Rattle.mdscan.specs.Spans.{part};
 ghost use Rattle.mdscan.specs.Spans.{IsSpanOf};
-ghost use Rattle.mdblock.specs.BlockLine.{BlockLine, rest, indentation};
-ghost use Rattle.mdblock.specs.BlockTree.{code_block};
+ghost use Rattle.blockspec.specs.BlockLine.{BlockLine, rest, indentation};
+ghost use Rattle.blockspec.specs.BlockTree.{code_block};
 ghost use Rattle.mdblock.specs.BlockView.{block_view};
-ghost use Rattle.mdblock.specs.OpenLeaves.{IsFenceOf, IsFenceLeaf, IsFenceStep, IsGoing};
-ghost use Rattle.mdblock.specs.OpenPositions.{StepIn};
+ghost use Rattle.mdblock.specs.held.OpenLeaves.{IsFenceOf, IsFenceLeaf, IsFenceStep, IsGoing};
+ghost use Rattle.mdblock.specs.held.OpenPositions.{StepIn};
 ghost use Rattle.mdblock.specs.Positions.{BlockIn};
-ghost use Rattle.mdblock.specs.Stretches.{closes};
+ghost use Rattle.blockspec.specs.Stretches.{closes};
 
 use crate::blocks::Block;
 use crate::gathering::Gathering;

@@ -2,10 +2,10 @@
 
 ghost use Rattle.std.specs.Prelude.{◌≡◌, ◌≤◌, [], ◌∷◌, ◌++◌, IfOk, OnOk, length, string_bytes};
 ghost use Rattle.mdscan.specs.Spans.{IsSpanOf, part};
-ghost use Rattle.mdblock.specs.BlockTree.{heading as heading_block};
-ghost use Rattle.mdblock.specs.HandedIn.{gathered_texts};
-ghost use Rattle.mdblock.specs.OpenLeaves.{IsOver};
-ghost use Rattle.mdblock.specs.OpenPositions.{StepIn};
+ghost use Rattle.blockspec.specs.BlockTree.{heading as heading_block};
+ghost use Rattle.mdblock.specs.held.HandedIn.{gathered_texts};
+ghost use Rattle.mdblock.specs.held.OpenLeaves.{IsOver};
+ghost use Rattle.mdblock.specs.held.OpenPositions.{StepIn};
 
 use crate::blocks::Block;
 use crate::gathering::Gathering;
@@ -22,6 +22,7 @@ pub(crate) fn atx_heading(
     requires { IsSpanOf line.now heading.content }
     ensures within { IfOk result (λ step. StepIn (length gathering.new.texts.items) step) }
     ensures grows { length gathering.old.texts.items ≤ length gathering.new.texts.items }
+    ensures entities { gathering.new.entities.now ≡ gathering.old.entities.now }
     ensures step { IfOk result (λ step. IsOver (heading_block heading.level (length gathering.old.texts.items)) step) }
     ensures texts { OnOk result (gathered_texts gathering.new ≡ gathered_texts gathering.old ++ part line.now heading.content ∷ []) }
 {
@@ -41,6 +42,7 @@ pub(crate) fn setext_heading(
 ) -> Result<Step, AllocError>
     ensures within { IfOk result (λ step. StepIn (length gathering.new.texts.items) step) }
     ensures grows { length gathering.old.texts.items ≤ length gathering.new.texts.items }
+    ensures entities { gathering.new.entities.now ≡ gathering.old.entities.now }
     ensures step { IfOk result (λ step. IsOver (heading_block level (length gathering.old.texts.items)) step) }
     ensures texts { OnOk result (gathered_texts gathering.new ≡ gathered_texts gathering.old ++ string_bytes text ∷ []) }
     ensures definitions { gathering.new.definitions ≡ gathering.old.definitions }

@@ -1,13 +1,13 @@
 //! HTML blocks (CommonMark 4.6).
 
 ghost use Rattle.std.specs.Prelude.{◌≡◌, ℕ, ◌||◌, nat_lt, not, List, [], ◌∷◌, ◌++◌, IfOk, string_bytes};
-ghost use Rattle.mdblock.specs.BlockLine.{BlockLine, is_blank_line};
-ghost use Rattle.mdblock.specs.BlockTree.{html_block};
+ghost use Rattle.blockspec.specs.BlockLine.{BlockLine, is_blank_line};
+ghost use Rattle.blockspec.specs.BlockTree.{html_block};
 ghost use Rattle.mdblock.specs.BlockView.{block_view};
-ghost use Rattle.mdblock.specs.OpenLeaves.{IsHtmlOf, IsHtmlStep};
-ghost use Rattle.mdblock.specs.OpenPositions.{StepIn};
+ghost use Rattle.mdblock.specs.held.OpenLeaves.{IsHtmlOf, IsHtmlStep};
+ghost use Rattle.mdblock.specs.held.OpenPositions.{StepIn};
 ghost use Rattle.mdblock.specs.Positions.{BlockIn};
-ghost use Rattle.mdblock.specs.Stretches.{ends_html};
+ghost use Rattle.blockspec.specs.Stretches.{ends_html};
 
 use crate::blocks::Block;
 use crate::leaf::{Leaf, Step, going, over};

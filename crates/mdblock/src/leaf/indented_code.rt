@@ -1,13 +1,13 @@
 //! Indented code (CommonMark 4.4).
 
 ghost use Rattle.std.specs.Prelude.{◌≡◌, ℕ, List, [], ◌∷◌, ◌++◌, IfOk, string_bytes};
-ghost use Rattle.mdblock.specs.BlockLine.{BlockLine};
-ghost use Rattle.mdblock.specs.BlockTree.{code_block};
+ghost use Rattle.blockspec.specs.BlockLine.{BlockLine};
+ghost use Rattle.blockspec.specs.BlockTree.{code_block};
 ghost use Rattle.mdblock.specs.BlockView.{block_view};
-ghost use Rattle.mdblock.specs.OpenLeaves.{IsCodeOf, IsCodeLeaf, IsGoing};
-ghost use Rattle.mdblock.specs.OpenPositions.{StepIn};
+ghost use Rattle.mdblock.specs.held.OpenLeaves.{IsCodeOf, IsCodeLeaf, IsGoing};
+ghost use Rattle.mdblock.specs.held.OpenPositions.{StepIn};
 ghost use Rattle.mdblock.specs.Positions.{BlockIn};
-ghost use Rattle.mdblock.specs.Stretches.{is_code};
+ghost use Rattle.blockspec.specs.Stretches.{is_code};
 
 use crate::blocks::Block;
 use crate::leaf::{Leaf, Step, going};

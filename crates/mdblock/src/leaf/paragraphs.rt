@@ -6,19 +6,19 @@ ghost use Rattle.std.specs.Str.{IsCharBoundary};
 ghost use Rattle.mdleaf.specs.ParagraphText.{is_definitions_alone, behind_definitions, without_end_blanks};
 ghost use Rattle.mdleaf.specs.LeadingDefinitions.{leading_of};
 ghost use Rattle.mdleaf.specs.TableRows.{begins_table};
-ghost use Rattle.mdblock.specs.BlockLine.{BlockLine, rest, is_blank_line};
-ghost use Rattle.mdblock.specs.BlockStart.{Paragraph as ParagraphKind, Inside, SetextHeading, begins_underline, last_text, start, start_near};
-ghost use Rattle.mdblock.specs.BlockTree.{heading as heading_block};
+ghost use Rattle.blockspec.specs.BlockLine.{BlockLine, rest, is_blank_line};
+ghost use Rattle.blockspec.specs.BlockStart.{Paragraph as ParagraphKind, Inside, SetextHeading, begins_underline, last_text, start, start_near};
+ghost use Rattle.blockspec.specs.BlockTree.{heading as heading_block};
 ghost use Rattle.mdblock.specs.BlockView.{block_view};
-ghost use Rattle.mdblock.specs.HandedIn.{gathered_definitions, gathered_texts, taken, left_behind, IsHandedIn};
-ghost use Rattle.mdblock.specs.NodeTree.{paragraph_leaf};
+ghost use Rattle.mdblock.specs.held.HandedIn.{gathered_definitions, gathered_texts, taken, left_behind, IsHandedIn};
+ghost use Rattle.blockspec.specs.NodeTree.{paragraph_leaf};
 ghost use Rattle.mdblock.specs.Positions.{BlockIn};
-ghost use Rattle.mdblock.specs.OpenLeaves.{IsGoing, IsOver, IsParagraphLeaf};
-ghost use Rattle.mdblock.specs.OpenPositions.{StepIn};
-ghost use Rattle.mdblock.specs.ParagraphLines.{HoldsLines};
-ghost use Rattle.mdblock.specs.ParagraphTurns.{turn_step, begins_row};
-ghost use Rattle.mdblock.specs.Stretches.{Takes, Ends, paragraph_step, interrupted};
-ghost use Rattle.mdblock.specs.UnitBegin.{is_stop};
+ghost use Rattle.mdblock.specs.held.OpenLeaves.{IsGoing, IsOver, IsParagraphLeaf};
+ghost use Rattle.mdblock.specs.held.OpenPositions.{StepIn};
+ghost use Rattle.mdblock.specs.held.ParagraphLines.{HoldsLines};
+ghost use Rattle.mdblock.specs.held.ParagraphTurns.{turn_step, begins_row};
+ghost use Rattle.blockspec.specs.Stretches.{Takes, Ends, paragraph_step, interrupted};
+ghost use Rattle.blockspec.specs.UnitBegin.{is_stop};
 
 use crate::blocks::Block;
 use crate::gathering::Gathering;
@@ -42,7 +42,7 @@ pub(crate) struct Paragraph {
 impl Model for Paragraph {
     ghost use Rattle.std.specs.Prelude.{◌≡◌, ◌-◌, ◌<◌, slice_index, string_bytes};
     ghost use Rattle.std.specs.Str.{IsCharBoundary};
-    ghost use Rattle.mdblock.specs.ParagraphLines.{HeldText};
+    ghost use Rattle.mdblock.specs.held.ParagraphLines.{HeldText};
 
     ghost Value = { HeldText };
 
@@ -156,6 +156,7 @@ impl Paragraph {
     fn turn_into_heading(self, level: u8, gathering: &mut Gathering) -> Result<Step, AllocError>
         ensures within { IfOk result (λ step. StepIn (length gathering.new.texts.items) step) }
         ensures grows { length gathering.old.texts.items ≤ length gathering.new.texts.items }
+        ensures entities { gathering.new.entities.now ≡ gathering.old.entities.now }
         ensures step { IfOk result (λ step. IsOver (heading_block level (length gathering.old.texts.items)) step) }
         ensures texts { OnOk result (gathered_texts gathering.new ≡ gathered_texts gathering.old ++ behind_definitions (without_end_blanks self.text) ∷ []) }
         ensures found { OnOk result (gathered_definitions gathering.new ≡ gathered_definitions gathering.old ++ leading_of gathering.old.entities.now (without_end_blanks self.text)) }
@@ -173,6 +174,7 @@ impl Paragraph {
     ) -> Result<Step, AllocError>
         ensures within { IfOk result (λ step. StepIn (length gathering.new.texts.items) step) }
         ensures grows { length gathering.old.texts.items ≤ length gathering.new.texts.items }
+        ensures entities { gathering.new.entities.now ≡ gathering.old.entities.now }
         ensures goes { (begin : BlockLine) (later : List BlockLine) → HoldsLines (begin ∷ later) self → paragraph_step line.now.lazy (is_blank_line line.now) (start Inside (begin ∷ later) line.now) ≡ Takes ParagraphKind → IfOk result (λ step. IsGoing (IsParagraphLeaf (begin ∷ later ++ line.now ∷ [])) step) }
         ensures goes_texts { (lines : List BlockLine) → HoldsLines lines self → paragraph_step line.now.lazy (is_blank_line line.now) (start Inside lines line.now) ≡ Takes ParagraphKind → OnOk result ((gathered_texts gathering.new ≡ gathered_texts gathering.old) × (gathered_definitions gathering.new ≡ gathered_definitions gathering.old)) }
         ensures underlined { (lines : List BlockLine) (level : ℕ) → HoldsLines lines self → paragraph_step line.now.lazy (is_blank_line line.now) (start Inside lines line.now) ≡ Ends (SetextHeading level) → IfOk result (λ step. IsOver (heading_block level (length gathering.old.texts.items)) step) }
@@ -205,6 +207,7 @@ impl Paragraph {
     ) -> Result<Step, AllocError>
         ensures within { IfOk result (λ step. StepIn (length gathering.new.texts.items) step) }
         ensures grows { length gathering.old.texts.items ≤ length gathering.new.texts.items }
+        ensures entities { gathering.new.entities.now ≡ gathering.old.entities.now }
     {
         let Some(header) = table_header(gathering.alloc(), self.last_line(), delimiters)? else {
             return Ok(going(Leaf::Paragraph(self)));
@@ -229,6 +232,7 @@ impl Paragraph {
     ) -> Result<Option<Block>, AllocError>
         ensures within { IfOk result (λ found. IfSome found (λ block. BlockIn (length gathering.new.texts.items) (block_view block))) }
         ensures grows { length gathering.old.texts.items ≤ length gathering.new.texts.items }
+        ensures entities { gathering.new.entities.now ≡ gathering.old.entities.now }
         ensures left { IfOk result (λ found. IsHandedIn (left_behind first (behind_definitions (without_end_blanks self.text))) (gathered_texts gathering.old) (gathered_texts gathering.new) found) }
         ensures found { OnOk result (gathered_definitions gathering.new ≡ gathered_definitions gathering.old ++ leading_of gathering.old.entities.now (without_end_blanks self.text)) }
     {
@@ -252,6 +256,7 @@ fn may_delimit(text: &str) -> bool
 /// What is left of a paragraph's text after its definitions (CommonMark 4.7), without spaces and tabs at its end.
 fn content(mut text: String, gathering: &mut Gathering) -> Result<String, AllocError>
     ensures texts { gathering.new.texts ≡ gathering.old.texts }
+    ensures entities { gathering.new.entities.now ≡ gathering.old.entities.now }
     ensures left { IfOk result (λ rest. string_bytes rest ≡ behind_definitions (without_end_blanks (string_bytes text))) }
     ensures found { OnOk result (gathered_definitions gathering.new ≡ gathered_definitions gathering.old ++ leading_of gathering.old.entities.now (without_end_blanks (string_bytes text))) }
 {

@@ -1,11 +1,11 @@
 //! Tables (GFM 4.10).
 
 ghost use Rattle.std.specs.Prelude.{◌≡◌, ◌≤◌, ℕ, IfOk, IfSome, OnOk, length, map};
-ghost use Rattle.mdblock.specs.BlockTree.{table};
+ghost use Rattle.blockspec.specs.BlockTree.{table};
 ghost use Rattle.mdblock.specs.BlockView.{block_view};
-ghost use Rattle.mdblock.specs.OpenPositions.{StepIn, TableIn};
+ghost use Rattle.mdblock.specs.held.OpenPositions.{StepIn, TableIn};
 ghost use Rattle.mdblock.specs.Positions.{BlockIn, CellsIn};
-ghost use Rattle.mdblock.specs.Stretches.{is_row};
+ghost use Rattle.blockspec.specs.Stretches.{is_row};
 
 use crate::blocks::Block;
 use crate::gathering::Gathering;
@@ -37,6 +37,7 @@ impl Table {
     pub(crate) fn new(header: Header, gathering: &mut Gathering) -> Result<Table, AllocError>
         ensures within { IfOk result (λ table. TableIn (length gathering.new.texts.items) table) }
         ensures grows { length gathering.old.texts.items ≤ length gathering.new.texts.items }
+        ensures entities { gathering.new.entities.now ≡ gathering.old.entities.now }
     {
         Ok(Table {
             aligns: header.aligns,
@@ -50,6 +51,7 @@ impl Table {
         requires { TableIn (length gathering.old.texts.items) self }
         ensures within { IfOk result (λ step. StepIn (length gathering.new.texts.items) step) }
         ensures grows { length gathering.old.texts.items ≤ length gathering.new.texts.items }
+        ensures entities { gathering.new.entities.now ≡ gathering.old.entities.now }
     {
         let cells = data_row(gathering.alloc(), line.text(), self.aligns.len())?;
         let row = gathering.row(cells)?;

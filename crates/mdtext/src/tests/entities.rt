@@ -11,7 +11,8 @@ fn refusal(rt: &HostRuntime, bytes: &[u8]) -> Option<TableFault> {
 #[test]
 fn entities_of_a_file(rt: HostRuntime) -> Result<(), Fail> {
     let bytes =
-        "{\"&a;\":{\"characters\":\"\\u00e4\",\"codepoints\":[228]},\"&b1;\":{\"characters\":\"\"},\"&amp\":{\"characters\":\"&\"},\"x\":0,\"&a;\":{\"characters\":\"A\u{1F600}\"}}";
+        "{\"&a;\":{\"characters\":\"\\u00e4\",\"codepoints\":[228]},\"&b1;\":{\"characters\":\"\"},\
+        \"&amp\":{\"characters\":\"&\"},\"x\":0,\"&a;\":{\"characters\":\"A\u{1F600}\"}}";
     let entities = Entities::from_json(rt.alloc(), bytes.as_bytes())?;
     for (name, want) in [
         ("a", Some("A\u{1F600}")),

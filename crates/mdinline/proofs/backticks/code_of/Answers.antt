@@ -1,7 +1,7 @@
 use Rattle.std.proofs.Common.{◌++◌, ◌∷◌, [], ap, sym, ◌∙◌, arith, string_bytes, rules}
 use Rattle.std.proofs.lemmas.Str.Pattern.{split_parts}
-use Rattle.mdinline.specs.CodeSpans.{as_one_line, unpadded}
-use Rattle.mdinline.proofs.CodeContents.{content_is, write_last, write_line}
+use Rattle.inlinespec.specs.CodeSpans.{as_one_line, unpadded}
+use Rattle.inlinespec.proofs.CodeContents.{content_is, write_last, write_line}
 use Rattle.mdinline.proofs.backticks.code_of.Goals as goal
 
 pub loop-line-preserved : goal.loop-line-preserved

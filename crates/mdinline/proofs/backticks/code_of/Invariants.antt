@@ -1,7 +1,7 @@
 use Rattle.std.proofs.Common.{◌≡◌, ◌++◌, length, string_bytes}
 use denote.Shadow.{shadow}
 use denote.Text.{Utf8}
-use Rattle.mdinline.specs.CodeSpans.{as_one_line, unpadded}
+use Rattle.inlinespec.specs.CodeSpans.{as_one_line, unpadded}
 use Rattle.mdinline.proofs.backticks.code_of.Given as goal
 
 abbrev pub invariant-loop-line : goal.invariant-loop-line

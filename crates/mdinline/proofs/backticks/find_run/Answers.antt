@@ -1,5 +1,5 @@
 use Rattle.std.proofs.Common.{false, drop, sym, ◌∙◌, arith}
-use Rattle.mdinline.proofs.BacktickPlaces.{placed, missed, reached, absent}
+use Rattle.inlinespec.proofs.BacktickPlaces.{placed, missed, reached, absent}
 use Rattle.mdinline.proofs.backticks.find_run.Goals as goal
 
 pub returns-then-run-size-clause-value : goal.returns-then-run-size-clause-value

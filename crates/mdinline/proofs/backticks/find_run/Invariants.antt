@@ -1,5 +1,5 @@
 use Rattle.std.proofs.Common.{◌≡◌, ◌-◌, ◌<◌, ◌≤◌, false, length, drop}
-use Rattle.mdinline.proofs.BacktickPlaces.{string_from}
+use Rattle.inlinespec.proofs.BacktickPlaces.{string_from}
 use Rattle.mdinline.proofs.backticks.find_run.Given as goal
 
 abbrev pub invariant-loop-run : goal.invariant-loop-run

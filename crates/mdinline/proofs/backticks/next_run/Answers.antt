@@ -1,7 +1,7 @@
 use Rattle.std.proofs.Common.{refl, arith}
 use Rattle.mdtext.specs.ByteClass.{in_class}
 use Rattle.mdtext.proofs.PlainRuns.{stops}
-use Rattle.mdinline.proofs.BacktickPlaces.{next_string, no_string, tick_there}
+use Rattle.inlinespec.proofs.BacktickPlaces.{next_string, no_string, tick_there}
 use Rattle.mdinline.proofs.backticks.next_run.Goals.{After-first_special, else-start-text-via-then-start-text+else-text-start-eq96, else-start-text-via-else-start-text}
 use Rattle.mdinline.proofs.backticks.next_run.Goals as goal
 

@@ -1,9 +1,9 @@
 use Rattle.std.proofs.Common.{◌≡◌, ◌+◌, ◌-◌, [], ◌∷◌, ap, sym, ◌∙◌, arith}
 use Rattle.std.specs.List.{slice_range}
 use Rattle.mdtext.proofs.Meanings.{punct_bounds}
-use Rattle.mdinline.specs.InlineEvents.{HardBreak, written}
-use Rattle.mdinline.specs.Lexing.{leaf}
-use Rattle.mdinline.proofs.EscapesBreaks.{escaped_there, hard_there, bare_there, last_there}
+use Rattle.inlinespec.specs.InlineEvents.{HardBreak, written}
+use Rattle.inlinespec.specs.Lexing.{leaf}
+use Rattle.inlinespec.proofs.EscapesBreaks.{escaped_there, hard_there, bare_there, last_there}
 use Rattle.mdinline.proofs.FoundLeaves.{found_is, hard_seen}
 use Rattle.mdinline.proofs.Marks.{behind, after_next}
 use Rattle.mdinline.proofs.plain.escape.Goals as goal

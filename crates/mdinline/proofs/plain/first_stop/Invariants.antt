@@ -1,6 +1,6 @@
 use Rattle.std.proofs.Common.{◌≡◌, ◌+◌, drop}
 use Rattle.std.specs.List.{position_or_len}
-use Rattle.mdinline.specs.PlainText.{is_stop}
+use Rattle.mdinline.specs.held.PlainText.{is_stop}
 use Rattle.mdinline.proofs.plain.first_stop.Given as goal
 
 abbrev pub invariant-loop-i : goal.invariant-loop-i

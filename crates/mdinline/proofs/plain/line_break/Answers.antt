@@ -1,6 +1,6 @@
 use Rattle.std.proofs.Common.{[], ◌∷◌, sym, ◌∙◌, arith}
-use Rattle.mdinline.specs.InlineEvents.{HardBreak, SoftBreak}
-use Rattle.mdinline.proofs.EscapesBreaks.{hard_break_there, soft_break_there, no_break_there}
+use Rattle.inlinespec.specs.InlineEvents.{HardBreak, SoftBreak}
+use Rattle.inlinespec.proofs.EscapesBreaks.{hard_break_there, soft_break_there, no_break_there}
 use Rattle.mdinline.proofs.FoundLeaves.{found_is, hard_seen, soft_seen}
 use Rattle.mdinline.proofs.plain.line_break.Goals.{then-feed-bytes-via-then-feed-bytes, then-feed-bytes-via-else-feed-bytes+then-bytes-feed-ne10}
 use Rattle.mdinline.proofs.plain.line_break.Goals as goal

@@ -1,5 +1,5 @@
 use Rattle.std.proofs.Common.{◌≡◌, ◌+◌, ◌-◌, ◌≤◌, length, drop}
-use Rattle.mdinline.specs.LineBreaks.{spaces}
+use Rattle.inlinespec.specs.LineBreaks.{spaces}
 use Rattle.mdinline.proofs.plain.past_spaces.Given as goal
 
 abbrev pub invariant-loop-end : goal.invariant-loop-end

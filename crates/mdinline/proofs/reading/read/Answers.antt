@@ -1,7 +1,7 @@
 use Rattle.std.proofs.Common.{sym, subst}
 use Rattle.std.proofs.lemmas.Str.{IsCharBoundary-start}
 use Rattle.std.proofs.lemmas.List.Elements.{All-nil}
-use Rattle.mdinline.specs.Brackets.{AreBracketsOf, IsBehindBracket}
+use Rattle.mdinline.specs.held.Brackets.{AreBracketsOf, IsBehindBracket}
 use Rattle.mdinline.proofs.reading.read.Goals as goal
 
 pub loop-at-init : goal.loop-at-init

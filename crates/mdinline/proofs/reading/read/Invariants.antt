@@ -1,6 +1,6 @@
 use Rattle.std.proofs.Common.{◌-◌, length}
 use Rattle.std.specs.Str.{IsCharBoundary}
-use Rattle.mdinline.specs.Brackets.{AreBracketsOf}
+use Rattle.mdinline.specs.held.Brackets.{AreBracketsOf}
 use Rattle.mdinline.proofs.reading.read.Given as goal
 
 abbrev pub invariant-loop-at : goal.invariant-loop-at

@@ -1,8 +1,8 @@
 use Rattle.std.proofs.Common.{◌++◌, ap, ◌∙◌, arith, string_bytes}
 use Rattle.std.proofs.lemmas.Str.Pattern.{split_parts}
 use Rattle.mdtext.specs.References.{added, reference, reference_or}
-use Rattle.mdinline.specs.AutolinkText.{without_references}
-use Rattle.mdinline.proofs.ReplacedReferences.{write_last, write_part}
+use Rattle.inlinespec.specs.AutolinkText.{without_references}
+use Rattle.inlinespec.proofs.ReplacedReferences.{write_last, write_part}
 use Rattle.mdinline.proofs.references.without_references.Goals as goal
 
 pub returns : goal.returns

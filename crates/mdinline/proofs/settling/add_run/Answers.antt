@@ -1,8 +1,8 @@
 use Rattle.std.proofs.Common.{◌++◌, replicate, ap, ◌∙◌}
 use Rattle.mdpair.specs.Neighbours.{byte_of}
-use Rattle.mdinline.specs.InlineEvents.{Leave, written}
-use Rattle.mdinline.specs.PairedRuns.{entered}
-use Rattle.mdinline.specs.TreeBuilding.{built}
+use Rattle.inlinespec.specs.InlineEvents.{Leave, written}
+use Rattle.mdinline.specs.held.PairedRuns.{entered}
+use Rattle.mdinline.specs.held.TreeBuilding.{built}
 use Rattle.mdinline.proofs.BuiltRows.{on_ok}
 use Rattle.mdinline.proofs.PairedEvents.{appended, paired_is}
 use Rattle.mdinline.proofs.settling.add_run.Goals as goal

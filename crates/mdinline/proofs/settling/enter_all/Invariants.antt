@@ -1,6 +1,6 @@
 use Rattle.std.proofs.Common.{◌≡◌, ◌+◌, ◌++◌, length, drop}
-use Rattle.mdinline.specs.PairedRuns.{entered}
-use Rattle.mdinline.specs.TreeBuilding.{built}
+use Rattle.mdinline.specs.held.PairedRuns.{entered}
+use Rattle.mdinline.specs.held.TreeBuilding.{built}
 use Rattle.mdinline.proofs.settling.enter_all.Given as goal
 
 abbrev pub invariant-loop-i : goal.invariant-loop-i

@@ -1,6 +1,6 @@
 use Rattle.std.proofs.Common.{◌≡◌, ◌+◌, ◌≤◌, ◌++◌, length, replicate}
-use Rattle.mdinline.specs.InlineEvents.{Leave}
-use Rattle.mdinline.specs.TreeBuilding.{built}
+use Rattle.inlinespec.specs.InlineEvents.{Leave}
+use Rattle.mdinline.specs.held.TreeBuilding.{built}
 use Rattle.mdinline.proofs.settling.leave_all.Given as goal
 
 abbrev pub invariant-loop : goal.invariant-loop

@@ -1,6 +1,6 @@
 use Rattle.std.proofs.Common.{◌≡◌, ◌++◌, drop}
-use Rattle.mdinline.specs.PairedRuns.{pieces_of}
-use Rattle.mdinline.specs.Settled.{runs_of}
+use Rattle.mdinline.specs.held.PairedRuns.{pieces_of}
+use Rattle.inlinespec.specs.Settled.{runs_of}
 use Rattle.mdinline.proofs.settling.runs_of.Given as goal
 
 abbrev pub invariant-loop-piece : goal.invariant-loop-piece

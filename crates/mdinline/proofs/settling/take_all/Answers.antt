@@ -1,6 +1,6 @@
 use Rattle.std.proofs.Common.{◌+◌, ◌<◌, ◌^◌, length-take, take, sym, subst, arith, rules}
 use Rattle.std.proofs.lemmas.List.{take_more}
-use Rattle.mdinline.specs.PairedRuns.{ArePaired}
+use Rattle.mdinline.specs.held.PairedRuns.{ArePaired}
 use Rattle.mdinline.proofs.settling.take_all.Goals as goal
 
 pub loop-taking-preserved : goal.loop-taking-preserved

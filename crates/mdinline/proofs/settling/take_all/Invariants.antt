@@ -1,7 +1,7 @@
 use Rattle.std.proofs.Common.{[], List, All, length, take}
 use Rattle.mdpair.specs.declared.runs.DelimiterRun.{DelimiterRun}
 use Rattle.mdpair.specs.Takings.{IsOrdered}
-use Rattle.mdinline.specs.PairedRuns.{ArePaired}
+use Rattle.mdinline.specs.held.PairedRuns.{ArePaired}
 use Rattle.mdinline.proofs.settling.take_all.Given as goal
 
 abbrev pub invariant-loop-taking : goal.invariant-loop-taking

@@ -1,5 +1,5 @@
 use Rattle.std.proofs.Common.{[], take}
-use Rattle.mdinline.specs.PairedRuns.{ArePaired}
+use Rattle.mdinline.specs.held.PairedRuns.{ArePaired}
 use Rattle.mdinline.proofs.settling.unpaired.Given as goal
 
 abbrev pub invariant-loop-run : goal.invariant-loop-run

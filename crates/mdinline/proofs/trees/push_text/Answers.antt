@@ -1,6 +1,6 @@
 use Rattle.std.proofs.Common.{◌++◌, ◌∷◌, [], String, Global, string_bytes, sym, ap, ◌∙◌}
-use Rattle.mdinline.specs.InlineEvents.{written}
-use Rattle.mdinline.specs.TreeBuilding.{row_events}
+use Rattle.inlinespec.specs.InlineEvents.{written}
+use Rattle.mdinline.specs.held.TreeBuilding.{row_events}
 use Rattle.mdinline.proofs.BuiltRows.{on_ok, text_joined, text_pushed}
 use Rattle.mdinline.proofs.trees.push_text.Goals as goal
 

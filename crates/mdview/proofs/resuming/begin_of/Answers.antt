@@ -2,7 +2,7 @@ use Rattle.std.proofs.Common.{◌≡◌, ℕ, map, arith, ap, sym, ◌∙◌, ge
 use Rattle.std.proofs.Math.ListN.{get_or-map}
 use Rattle.std.proofs.lemmas.List.{length-map}
 use Rattle.std.proofs.lemmas.List.Sums.{sum_by_more}
-use Rattle.mdblock.specs.UnitTree.{FoundUnit}
+use Rattle.blockspec.specs.UnitTree.{FoundUnit}
 use Rattle.mdview.specs.HeldUnit.{HeldUnit, ReadUnit, read_of}
 use Rattle.mdview.proofs.resuming.begin_of.Goals as goal
 

@@ -1,5 +1,5 @@
 use Rattle.std.proofs.Common.{subst}
-use Rattle.mdblock.specs.OpenLeaves.{IsLeafOf}
+use Rattle.mdblock.specs.held.OpenLeaves.{IsLeafOf}
 use Rattle.mdblock.proofs.LeafTurns.{paragraph_added, fence_added, html_added, code_added, table_added}
 use Rattle.mdblock.proofs.leaf.Leaf.add.Goals as goal
 

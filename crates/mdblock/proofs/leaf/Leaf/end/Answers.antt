@@ -1,6 +1,6 @@
 use Rattle.std.proofs.Common.{subst}
-use Rattle.mdblock.specs.HandedIn.{gathered_texts, gathered_definitions}
-use Rattle.mdblock.specs.OpenLeaves.{IsLeafOf}
+use Rattle.mdblock.specs.held.HandedIn.{gathered_texts, gathered_definitions}
+use Rattle.mdblock.specs.held.OpenLeaves.{IsLeafOf}
 use Rattle.mdblock.proofs.LeafEndings.{paragraph_ended, paragraph_defined, fence_ended, fence_defined, html_ended, html_defined, code_ended, code_defined, table_ended, table_defined}
 use Rattle.mdblock.proofs.leaf.Leaf.end.Goals as goal
 

@@ -1,5 +1,5 @@
 use Rattle.std.proofs.Common.{subst}
-use Rattle.mdblock.specs.OpenLeaves.{IsLeafOf}
+use Rattle.mdblock.specs.held.OpenLeaves.{IsLeafOf}
 use Rattle.mdblock.proofs.LeafLaws.{paragraph_takes, fence_takes, html_takes, code_takes, table_takes}
 use Rattle.mdblock.proofs.leaf.Leaf.takes.Goals as goal
 

@@ -1,7 +1,7 @@
 use Rattle.std.proofs.Common.{◌++◌, ap, ◌∙◌}
 use Rattle.mdleaf.specs.LeadingDefinitions.{leading_of}
 use Rattle.mdleaf.specs.ParagraphText.{behind_definitions}
-use Rattle.mdblock.specs.HandedIn.{gathered_definitions}
+use Rattle.mdblock.specs.held.HandedIn.{gathered_definitions}
 use Rattle.mdblock.proofs.ParagraphLaws.{cut_is}
 use Rattle.mdblock.proofs.leaf.paragraphs.content.Goals as goal
 

@@ -5,4 +5,4 @@ use Rattle.mdblock.proofs.levels.Level.new.Goals as goal
 
 pub returns-clause-empty : goal.returns-clause-empty
 returns-clause-empty c = λ entities at.
-    ((ap blocks_view c.new.ensures.items ∙ sym (none-over at c.args.in_item), refl, refl, refl, ap not (sym (none-spaced entities))), tt)
+    ((ap blocks_view c.new.ensures.items ∙ sym (none-over at c.args.in_item), refl, refl, refl, ap not (sym (none-spaced entities))), refl)

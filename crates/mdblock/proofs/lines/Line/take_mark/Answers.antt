@@ -1,7 +1,7 @@
 use Rattle.std.proofs.Common.{false, ap, ◌∙◌, sym, subst}
 use Rattle.mdtext.specs.Columns.{AreMarks}
-use Rattle.mdblock.specs.BlockLine.{rest, behind_marker}
-use Rattle.mdblock.specs.Indentation.{unindented}
+use Rattle.blockspec.specs.BlockLine.{rest, behind_marker}
+use Rattle.blockspec.specs.Indentation.{unindented}
 use Rattle.mdblock.proofs.Skips.{text_is_there, mark_kept, mark_taken}
 use Rattle.mdblock.proofs.lines.Line.take_mark.Goals as goal
 

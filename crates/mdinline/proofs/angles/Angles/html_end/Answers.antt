@@ -1,5 +1,5 @@
 use Rattle.std.proofs.Common.{arith, ◌≤◌, ◌+◌, length, option_map, ap, sym, subst}
-use Rattle.mdinline.specs.LongTags.{BeginsTag, close_text}
+use Rattle.mdinline.specs.held.LongTags.{BeginsTag, close_text}
 use Rattle.mdinline.proofs.LongTagEnds.{endless, not_found}
 use Rattle.mdinline.proofs.Marks.{behind_next}
 use Rattle.mdinline.proofs.angles.Angles.html_end.Goals as goal

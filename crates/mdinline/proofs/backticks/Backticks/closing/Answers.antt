@@ -1,7 +1,7 @@
 use Rattle.std.proofs.Common.{false, drop, sym, ◌∙◌}
 use Rattle.std.specs.BTreeMap.{get}
 use Rattle.std.specs.Ordering.{nat_cmp}
-use Rattle.mdinline.proofs.BacktickPlaces.{placed}
+use Rattle.inlinespec.proofs.BacktickPlaces.{placed}
 use Rattle.mdinline.proofs.LastStrings.{left_out, same_place}
 use Rattle.mdinline.proofs.backticks.Backticks.closing.Goals as goal
 

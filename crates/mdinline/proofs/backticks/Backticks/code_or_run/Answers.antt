@@ -3,11 +3,11 @@ use Rattle.std.specs.BTreeMap.{get}
 use Rattle.std.specs.List.{slice_range}
 use Rattle.std.specs.Ordering.{nat_cmp}
 use Rattle.mdscan.specs.Spans.{IsEndAfter}
-use Rattle.mdinline.specs.BacktickStrings.{HoldsLast}
-use Rattle.mdinline.specs.CodeSpans.{code_content}
-use Rattle.mdinline.specs.InlineEvents.{CodeSpan, written}
-use Rattle.mdinline.specs.Lexing.{leaf}
-use Rattle.mdinline.proofs.CodeLexemes.{some_ticks, closed_behind, found_code, missed_code}
+use Rattle.mdinline.specs.held.BacktickTable.{HoldsLast}
+use Rattle.inlinespec.specs.CodeSpans.{code_content}
+use Rattle.inlinespec.specs.InlineEvents.{CodeSpan, written}
+use Rattle.inlinespec.specs.Lexing.{leaf}
+use Rattle.inlinespec.proofs.CodeLexemes.{some_ticks, closed_behind, found_code, missed_code}
 use Rattle.mdinline.proofs.FoundLeaves.{found_is, code_seen}
 use Rattle.mdinline.proofs.Marks.{behind_next, past_code, same_place}
 use Rattle.mdinline.proofs.backticks.Backticks.code_or_run.Goals.{In-Some, In-None}

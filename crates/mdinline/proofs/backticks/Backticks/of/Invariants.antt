@@ -1,7 +1,7 @@
 use Rattle.std.proofs.Common.{◌-◌, ◌≤◌, length}
 use Rattle.std.specs.BTreeMap.{get}
 use Rattle.std.specs.Ordering.{nat_cmp}
-use Rattle.mdinline.specs.BacktickStrings.{HoldsLast}
+use Rattle.mdinline.specs.held.BacktickTable.{HoldsLast}
 use Rattle.mdinline.proofs.backticks.Backticks.of.Given as goal
 
 abbrev pub invariant-loop-run : goal.invariant-loop-run

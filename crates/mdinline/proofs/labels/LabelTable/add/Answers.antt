@@ -1,6 +1,6 @@
 use Rattle.std.proofs.Common.{◌≡◌, subst, sym, ◌∙◌}
-use Rattle.mdinline.specs.LabelMap.{target_of, put_first}
-use Rattle.mdinline.proofs.FirstTargets.{kept, put, shown}
+use Rattle.inlinespec.specs.LabelMap.{target_of, put_first}
+use Rattle.inlinespec.proofs.FirstTargets.{kept, put, shown}
 use Rattle.mdinline.proofs.labels.LabelTable.add.Goals as goal
 
 pub returns-then-contains_key-clause-ok : goal.returns-then-contains_key-clause-ok

@@ -1,6 +1,6 @@
 use Rattle.std.proofs.Common.{◌≡◌, Some, None, MatchOption, subst}
-use Rattle.mdinline.specs.LabelMap.{target_of, target_in}
-use Rattle.mdinline.proofs.FirstTargets.{found_is}
+use Rattle.inlinespec.specs.LabelMap.{target_of, target_in}
+use Rattle.inlinespec.proofs.FirstTargets.{found_is}
 use Rattle.mdinline.proofs.labels.LabelTableLabels.find.Goals as goal
 
 pub returns : goal.returns

@@ -1,5 +1,5 @@
 use Rattle.std.proofs.Common.{[]}
-use Rattle.mdinline.specs.TextReading.{spent}
+use Rattle.inlinespec.specs.TextReading.{spent}
 use Rattle.mdinline.proofs.TakenOpeners.{image_made, link_made_of}
 use Rattle.mdinline.proofs.openings.Openings.made.Goals as goal
 

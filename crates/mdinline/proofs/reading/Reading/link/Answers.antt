@@ -1,6 +1,6 @@
 use Rattle.std.proofs.Common.{sym, subst}
-use Rattle.mdinline.specs.TextReading.{spent}
-use Rattle.mdinline.specs.UnusedOpeners.{AreOpenersOf}
+use Rattle.inlinespec.specs.TextReading.{spent}
+use Rattle.mdinline.specs.held.UnusedOpeners.{AreOpenersOf}
 use Rattle.mdinline.proofs.reading.Reading.link.Goals as goal
 
 pub returns-clause-openers : goal.returns-clause-openers

@@ -1,5 +1,5 @@
 use Rattle.std.proofs.Common.{◌≡◌, get_or, IfOk, sym, subst, rules}
-use Rattle.mdinline.specs.Recognised.{IsFound}
+use Rattle.mdinline.specs.held.Recognised.{IsFound}
 use Rattle.mdinline.proofs.SignItems.{at_backslash, at_ampersand, at_backtick, at_less_than, at_space, at_feed, at_quiet}
 use Rattle.mdinline.proofs.scanner.Scanner.marked.Goals as goal
 

@@ -1,7 +1,7 @@
 use Rattle.std.proofs.Common.{ℕ, subst}
 use Rattle.std.specs.BTreeMap.{get}
 use Rattle.std.specs.Ordering.{nat_cmp}
-use Rattle.mdinline.specs.BacktickStrings.{HoldsLast}
+use Rattle.mdinline.specs.held.BacktickTable.{HoldsLast}
 use Rattle.mdinline.proofs.scanner.Scanner.of.Goals as goal
 
 pub returns : goal.returns

@@ -1,6 +1,6 @@
 use Rattle.std.proofs.Common.{◌++◌, Vec, Global, ap, ◌∙◌}
-use Rattle.mdinline.specs.Recognised.{made_events}
-use Rattle.mdinline.specs.TreeBuilding.{row_events, spread}
+use Rattle.mdinline.specs.held.Recognised.{made_events}
+use Rattle.mdinline.specs.held.TreeBuilding.{row_events, spread}
 use Rattle.mdinline.specs.declared.inlines.Inline.{Inline}
 use Rattle.mdinline.specs.declared.trees.Frame.{Frame}
 use Rattle.mdinline.proofs.BuiltRows.{added}

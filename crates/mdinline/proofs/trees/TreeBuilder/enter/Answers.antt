@@ -1,6 +1,6 @@
 use Rattle.std.proofs.Common.{◌++◌, ◌∷◌, [], Vec, Global, ap, ◌∙◌}
-use Rattle.mdinline.specs.InlineEvents.{Enter}
-use Rattle.mdinline.specs.TreeBuilding.{row_events, span_of, spread}
+use Rattle.inlinespec.specs.InlineEvents.{Enter}
+use Rattle.mdinline.specs.held.TreeBuilding.{row_events, span_of, spread}
 use Rattle.mdinline.specs.declared.inlines.Inline.{Inline}
 use Rattle.mdinline.specs.declared.trees.Frame.{Frame}
 use Rattle.mdinline.proofs.BuiltRows.{entered}

@@ -1,9 +1,9 @@
 use Rattle.std.proofs.Common.{◌≡◌, ◌||◌, not, sym, subst, ap, ◌∙◌}
-use Rattle.mdblock.specs.BlockTree as tree
-use Rattle.mdblock.specs.BlockTree.{Block, Blocks, no_items}
+use Rattle.blockspec.specs.BlockTree as tree
+use Rattle.blockspec.specs.BlockTree.{Block, Blocks, no_items}
 use Rattle.mdblock.specs.BlockView.{block_step, item_step, kind_view, blocks_view, items_view}
 use Rattle.mdblock.specs.Positions.{BlocksIn}
-use Rattle.mdblock.specs.TreesBehind.{placed_before}
+use Rattle.mdblock.specs.held.TreesBehind.{placed_before}
 use Rattle.mdblock.specs.declared.blocks.Block.TheFolds.{fold-roll-Item}
 use Rattle.mdblock.proofs.Views.{items-push}
 use Rattle.mdblock.proofs.Within.{items_push}

@@ -1,5 +1,5 @@
 use Rattle.std.proofs.Common.{◌++◌, refl, ap, sym, ◌∙◌, string_bytes}
-use Rattle.mdblock.specs.LeafContents.{code_text}
+use Rattle.blockspec.specs.LeafContents.{code_text}
 use Rattle.mdblock.proofs.LeafTexts.{body_next, end_is_none}
 use Rattle.mdblock.proofs.leaf.indented_code.IndentedCode.add.Goals as goal
 

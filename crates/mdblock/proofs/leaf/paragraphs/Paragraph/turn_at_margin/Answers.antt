@@ -1,7 +1,7 @@
 use Rattle.std.proofs.Common.{ap, sym, ◌∙◌, true, false}
 use Rattle.std.specs.Option.{option_map}
-use Rattle.mdblock.specs.BlockStart.{SetextHeading}
-use Rattle.mdblock.specs.OpeningKind.{kind_of_opening}
+use Rattle.blockspec.specs.BlockStart.{SetextHeading}
+use Rattle.mdblock.specs.held.OpeningKind.{kind_of_opening}
 use Rattle.mdblock.proofs.ParagraphLaws.{opening_stops, ends_before, underlined, ends_after, behind_all}
 use Rattle.mdblock.proofs.leaf.paragraphs.Paragraph.turn_at_margin.Goals as goal
 

@@ -1,0 +1,258 @@
+-- Groups before a line that begins a block, and from it on: only the last of the one and the first of the other may be
+-- items of one list.
+use Rattle.std.proofs.Common.{◌≡◌, ℕ, suc, ◌+◌, ◌<◌, Bool, true, false, not, ◌&&◌, List, [], ◌∷◌, ◌++◌, length, map, refl, sym, ◌∙◌, ap, arith, ◌==◌}
+use Rattle.std.proofs.lemmas.Bool.{eqb-true}
+use Rattle.std.proofs.lemmas.List.{map-append}
+use Rattle.mdtext.specs.EntityTable.{EntityTable}
+use Rattle.blockspec.specs.BlockLine.{BlockLine, is_blank_line}
+use Rattle.blockspec.specs.BlockStart.{begun}
+use Rattle.blockspec.specs.BlockTree.{ListKind, bullet, ordered}
+use Rattle.blockspec.specs.BlockUnits.{group_of, groups_within, groups, visible_in, depth_of}
+use Rattle.blockspec.specs.ListGroups.{Part, Leaves, Quoted, Listed, Group, is_same_list, items_before, joined_where, joined_list, joined, grouped, merged}
+use Rattle.blockspec.specs.NodeTree.{ItemNodes, no_item_nodes, item_node}
+use Rattle.blockspec.specs.Stretches.{Cut, no_lines, stretches, gap_behind, cut_by, cut_within, tip_within}
+use Rattle.blockspec.specs.Meetings.{shift_groups, joins_behind, joins_list, gap_after}
+use Rattle.blockspec.specs.UnitBegin.{is_apart, list_mark, same_mark, tail_mark}
+use Rattle.blocklaws.proofs.CutLaws.{cut_from-append, all_of-prepend, shift_all, moved, stretches-moved, meets}
+use Rattle.blocklaws.proofs.VisibleLaws.{visible-append}
+use Rattle.blocklaws.proofs.DepthLaws.{groups-deep, apart-deep, gap-deep}
+use Rattle.blocklaws.proofs.GroupLaws.{joins, HasFirst, list-first, joined-nil, joined-apart, grouped-shift}
+use Rattle.blocklaws.proofs.UnitLaws.{cut-lines, group-shift}
+
+abbrev of_part : ℕ → Bool → Part → Group
+of_part b gap p = record { begin = b; gap = gap; part = p }
+
+and-assoc : (a b c : Bool) → (a && (b && c)) ≡ ((a && b) && c)
+and-assoc true b c = refl
+and-assoc false b c = refl
+
+items-assoc : (a b c : ItemNodes) → items_before a (items_before b c) ≡ items_before (items_before a b) c
+items-assoc no_item_nodes b c = refl
+items-assoc (item_node nodes a) b c = ap (item_node nodes) (items-assoc a b c)
+
+-- whether a list goes on is the same of each of its items
+same-list : (a b c : ListKind) → is_same_list a b ≡ true → is_same_list b c ≡ is_same_list a c
+same-list (bullet m) (bullet n) (bullet k) e = ap (λ z. z == k) (sym (eqb-true m n e))
+same-list (bullet m) (bullet n) (ordered d s) e = refl
+same-list (ordered d s) (ordered d' s') (ordered d'' s'') e = ap (λ z. z == d'') (sym (eqb-true d d' e))
+same-list (ordered d s) (ordered d' s') (bullet m) e = refl
+same-list (bullet m) (ordered d s) c e = absurd (let x : ⊥ = cc in x)
+same-list (ordered d s) (bullet m) c e = absurd (let x : ⊥ = cc in x)
+
+-- three items of one list
+three-where : (same : Bool) (b : ℕ) (gap : Bool) (kind : ListKind) (t : Bool) (items : ItemNodes) (b' : ℕ) (gap' : Bool) (kind' : ListKind) (t' : Bool) (items' : ItemNodes)
+    (h : Group) (t'' : Bool) (items'' : ItemNodes) (hs : List Group) → is_same_list kind kind' ≡ true →
+    joined (of_part b gap (Listed kind t items)) (Listed kind t items) (joined_where same (of_part b' gap' (Listed kind' t' items')) kind' t' items' h t'' items'' hs)
+    ≡ joined_where same (of_part b gap (Listed kind (t && not gap' && t') (items_before items items'))) kind (t && not gap' && t') (items_before items items') h t'' items'' hs
+three-where true b gap kind t items b' gap' kind' t' items' h t'' items'' hs e =
+    ap (λ z. joined_where z (of_part b gap (Listed kind t items)) kind t items (of_part b' gap' (Listed kind' (t' && not h.gap && t'') (items_before items' items''))) (t' && not h.gap && t'') (items_before items' items'') hs) e
+    ∙ ap (λ z. of_part b gap (Listed kind z (items_before items (items_before items' items''))) ∷ hs)
+    (and-assoc (t && not gap') (t' && not h.gap) t'' ∙ ap (λ z. z && t'') (and-assoc (t && not gap') t' (not h.gap)))
+    ∙ ap (λ z. of_part b gap (Listed kind ((t && not gap' && t') && not h.gap && t'') z) ∷ hs) (items-assoc items items' items'')
+three-where false b gap kind t items b' gap' kind' t' items' h t'' items'' hs e =
+    ap (λ z. joined_where z (of_part b gap (Listed kind t items)) kind t items (of_part b' gap' (Listed kind' t' items')) t' items' (h ∷ hs)) e
+
+three-list : (b : ℕ) (gap : Bool) (kind : ListKind) (t : Bool) (items : ItemNodes) (b' : ℕ) (gap' : Bool) (kind' : ListKind) (t' : Bool) (items' : ItemNodes)
+    (h : Group) (q : Part) (hs : List Group) → is_same_list kind kind' ≡ true →
+    joined (of_part b gap (Listed kind t items)) (Listed kind t items) (joined_list (of_part b' gap' (Listed kind' t' items')) kind' t' items' h q hs)
+    ≡ joined_list (of_part b gap (Listed kind (t && not gap' && t') (items_before items items'))) kind (t && not gap' && t') (items_before items items') h q hs
+three-list b gap kind t items b' gap' kind' t' items' h (Leaves leaves) hs e =
+    ap (λ z. joined_where z (of_part b gap (Listed kind t items)) kind t items (of_part b' gap' (Listed kind' t' items')) t' items' (h ∷ hs)) e
+three-list b gap kind t items b' gap' kind' t' items' h (Quoted nodes) hs e =
+    ap (λ z. joined_where z (of_part b gap (Listed kind t items)) kind t items (of_part b' gap' (Listed kind' t' items')) t' items' (h ∷ hs)) e
+three-list b gap kind t items b' gap' kind' t' items' h (Listed kind'' t'' items'') hs e =
+    three-where (is_same_list kind' kind'') b gap kind t items b' gap' kind' t' items' h t'' items'' hs e
+    ∙ ap (λ z. joined_where z (of_part b gap (Listed kind (t && not gap' && t') (items_before items items'))) kind (t && not gap' && t') (items_before items items') h t'' items'' hs)
+    (same-list kind kind' kind'' e)
+
+two-apart : (g : Group) (p : Part) (b : ℕ) (q : Part) (gs : List Group) → HasFirst b q gs → joins p q ≡ false → joined g p gs ≡ g ∷ gs
+two-apart g p b q gs f e = ap (λ z. joined g p z) f.is ∙ joined-apart g p f.first f.rest (f.same p ∙ e) ∙ ap (λ z. g ∷ z) (sym f.is)
+
+-- an item before another of its list, or of another list
+two-where : (same : Bool) (b : ℕ) (gap : Bool) (kind : ListKind) (t : Bool) (items : ItemNodes) (b' : ℕ) (gap' : Bool) (kind' : ListKind) (t' : Bool) (items' : ItemNodes) (h : Group) (hs : List Group) →
+    is_same_list kind kind' ≡ same →
+    joined (of_part b gap (Listed kind t items)) (Listed kind t items) (joined_list (of_part b' gap' (Listed kind' t' items')) kind' t' items' h h.part hs)
+    ≡ merged (joined_where same (of_part b gap (Listed kind t items)) kind t items (of_part b' gap' (Listed kind' t' items')) t' items' []) (h ∷ hs)
+two-where true b gap kind t items b' gap' kind' t' items' h hs e = three-list b gap kind t items b' gap' kind' t' items' h h.part hs e
+two-where false b gap kind t items b' gap' kind' t' items' h hs e = two-apart (of_part b gap (Listed kind t items)) (Listed kind t items) b' (Listed kind' t' items') (joined_list (of_part b' gap' (Listed kind' t' items')) kind' t' items' h h.part hs) (list-first b' gap' kind' t' items' h h.part hs) e
+
+pub merged-nil : (gs : List Group) → merged gs [] ≡ gs
+merged-nil [] = refl
+merged-nil (g ∷ []) = refl
+merged-nil (g ∷ n ∷ gs) = ap (λ z. g ∷ z) (merged-nil (n ∷ gs))
+
+two-parts : (b : ℕ) (gap : Bool) (kind : ListKind) (t : Bool) (items : ItemNodes) (b' : ℕ) (gap' : Bool) (q : Part) (h : Group) (hs : List Group) →
+    joined (of_part b gap (Listed kind t items)) (Listed kind t items) (joined (of_part b' gap' q) q (h ∷ hs))
+    ≡ merged (joined_list (of_part b gap (Listed kind t items)) kind t items (of_part b' gap' q) q []) (h ∷ hs)
+two-parts b gap kind t items b' gap' (Leaves leaves) h hs = refl
+two-parts b gap kind t items b' gap' (Quoted nodes) h hs = refl
+two-parts b gap kind t items b' gap' (Listed kind' t' items') h hs = two-where (is_same_list kind kind') b gap kind t items b' gap' kind' t' items' h hs refl
+
+one-merged : (b : ℕ) (gap : Bool) (p : Part) (n h : Group) (hs : List Group) →
+    joined (of_part b gap p) p (joined n n.part (h ∷ hs)) ≡ merged (joined (of_part b gap p) p (n ∷ [])) (h ∷ hs)
+one-merged b gap (Leaves leaves) n h hs = refl
+one-merged b gap (Quoted nodes) n h hs = refl
+one-merged b gap (Listed kind t items) n h hs = two-parts b gap kind t items n.begin n.gap n.part h hs
+
+where-merged : (same : Bool) (g : Group) (kind : ListKind) (t : Bool) (items : ItemNodes) (n : Group) (t' : Bool) (items' : ItemNodes) (m : Group) (ns hs : List Group) →
+    joined_where same g kind t items n t' items' (merged (m ∷ ns) hs) ≡ merged (joined_where same g kind t items n t' items' (m ∷ ns)) hs
+where-merged true g kind t items n t' items' m ns hs = refl
+where-merged false g kind t items n t' items' m ns hs = refl
+
+list-merged : (g : Group) (kind : ListKind) (t : Bool) (items : ItemNodes) (n : Group) (q : Part) (m : Group) (ns hs : List Group) →
+    joined_list g kind t items n q (merged (m ∷ ns) hs) ≡ merged (joined_list g kind t items n q (m ∷ ns)) hs
+list-merged g kind t items n (Leaves leaves) m ns hs = refl
+list-merged g kind t items n (Quoted nodes) m ns hs = refl
+list-merged g kind t items n (Listed kind' t' items') m ns hs = where-merged (is_same_list kind kind') g kind t items n t' items' m ns hs
+
+more-merged : (b : ℕ) (gap : Bool) (p : Part) (n m : Group) (ns hs : List Group) →
+    joined (of_part b gap p) p (n ∷ merged (m ∷ ns) hs) ≡ merged (joined (of_part b gap p) p (n ∷ m ∷ ns)) hs
+more-merged b gap (Leaves leaves) n m ns hs = refl
+more-merged b gap (Quoted nodes) n m ns hs = refl
+more-merged b gap (Listed kind t items) n m ns hs = list-merged (of_part b gap (Listed kind t items)) kind t items n n.part m ns hs
+
+none-merged : (b : ℕ) (gap : Bool) (p : Part) (hs : List Group) → joined (of_part b gap p) p hs ≡ merged (joined (of_part b gap p) p []) hs
+none-merged b gap (Leaves leaves) [] = refl
+none-merged b gap (Quoted nodes) [] = refl
+none-merged b gap (Listed kind t items) [] = refl
+none-merged b gap (Leaves leaves) (h ∷ hs) = refl
+none-merged b gap (Quoted nodes) (h ∷ hs) = refl
+none-merged b gap (Listed kind t items) (h ∷ hs) = refl
+
+joined-merged : (g : Group) (ns hs : List Group) → joined g g.part (merged ns hs) ≡ merged (joined g g.part ns) hs
+joined-merged g [] hs = none-merged g.begin g.gap g.part hs
+joined-merged g (n ∷ []) [] = sym (merged-nil (joined g g.part (n ∷ [])))
+joined-merged g (n ∷ []) (h ∷ hs) = one-merged g.begin g.gap g.part n h hs
+joined-merged g (n ∷ m ∷ ns) hs = more-merged g.begin g.gap g.part n m ns hs
+
+-- Groups one after the other are joined on either side, and then where they meet.
+pub grouped-merged : (gs hs : List Group) → grouped (gs ++ hs) ≡ merged (grouped gs) (grouped hs)
+unfolding grouped
+grouped-merged [] hs = refl
+grouped-merged (g ∷ gs) hs = ap (λ z. joined g g.part z) (grouped-merged gs hs) ∙ joined-merged g (grouped gs) (grouped hs)
+
+-- ---- lists that are joined as their items come
+
+-- no two neighbours are items of one list
+abbrev Parts : Part → List Group → Type 0
+Parts p [] = Unit {0}
+Parts p (h ∷ hs) = joins p h.part ≡ false
+
+abbrev pub IsJoined : List Group → Type 0
+IsJoined [] = Unit {0}
+IsJoined (g ∷ gs) = Parts g.part gs × IsJoined gs
+
+leaf-parts : (leaves : _) (gs : List Group) → Parts (Leaves leaves) gs
+leaf-parts leaves [] = tt
+leaf-parts leaves (g ∷ gs) = refl
+
+quote-parts : (nodes : _) (gs : List Group) → Parts (Quoted nodes) gs
+quote-parts nodes [] = tt
+quote-parts nodes (g ∷ gs) = refl
+
+-- a list that another goes on with joins what that one does
+list-joins : (kind kind' : ListKind) (t t' : Bool) (items items' : ItemNodes) (p : Part) → is_same_list kind kind' ≡ true →
+    joins (Listed kind' t' items') p ≡ joins (Listed kind t items) p
+list-joins kind kind' t t' items items' (Leaves leaves) e = refl
+list-joins kind kind' t t' items items' (Quoted nodes) e = refl
+list-joins kind kind' t t' items items' (Listed kind'' t'' items'') e = same-list kind kind' kind'' e
+
+list-parts : (kind kind' : ListKind) (t t' : Bool) (items items' : ItemNodes) (gs : List Group) → is_same_list kind kind' ≡ true →
+    Parts (Listed kind' t' items') gs → Parts (Listed kind t items) gs
+list-parts kind kind' t t' items items' [] e w = tt
+list-parts kind kind' t t' items items' (g ∷ gs) e w = sym (list-joins kind kind' t t' items items' g.part e) ∙ w
+
+where-joined : (same : Bool) (b : ℕ) (gap : Bool) (kind : ListKind) (t : Bool) (items : ItemNodes) (b' : ℕ) (gap' : Bool) (kind' : ListKind) (t' : Bool) (items' : ItemNodes) (gs : List Group) →
+    is_same_list kind kind' ≡ same → Parts (Listed kind' t' items') gs → IsJoined gs →
+    IsJoined (joined_where same (of_part b gap (Listed kind t items)) kind t items (of_part b' gap' (Listed kind' t' items')) t' items' gs)
+where-joined true b gap kind t items b' gap' kind' t' items' gs e w v =
+    (list-parts kind kind' (t && not gap' && t') t' (items_before items items') items' gs e w, v)
+where-joined false b gap kind t items b' gap' kind' t' items' gs e w v = (e, (w, v))
+
+part-joined : (b : ℕ) (gap : Bool) (kind : ListKind) (t : Bool) (items : ItemNodes) (b' : ℕ) (gap' : Bool) (q : Part) (gs : List Group) → Parts q gs → IsJoined gs →
+    IsJoined (joined_list (of_part b gap (Listed kind t items)) kind t items (of_part b' gap' q) q gs)
+part-joined b gap kind t items b' gap' (Leaves leaves) gs w v = (refl, (w, v))
+part-joined b gap kind t items b' gap' (Quoted nodes) gs w v = (refl, (w, v))
+part-joined b gap kind t items b' gap' (Listed kind' t' items') gs w v = where-joined (is_same_list kind kind') b gap kind t items b' gap' kind' t' items' gs refl w v
+
+joined-is : (b : ℕ) (gap : Bool) (p : Part) (gs : List Group) → IsJoined gs → IsJoined (joined (of_part b gap p) p gs)
+joined-is b gap (Leaves leaves) gs w = (leaf-parts leaves gs, w)
+joined-is b gap (Quoted nodes) gs w = (quote-parts nodes gs, w)
+joined-is b gap (Listed kind t items) [] w = (tt, tt)
+joined-is b gap (Listed kind t items) (h ∷ hs) w = part-joined b gap kind t items h.begin h.gap h.part hs w.0 w.1
+
+pub grouped-joined : (gs : List Group) → IsJoined (grouped gs)
+unfolding grouped
+grouped-joined [] = tt
+grouped-joined (g ∷ gs) = joined-is g.begin g.gap g.part (grouped gs) (grouped-joined gs)
+
+parted : (g : Group) (gs : List Group) → Parts g.part gs → joined g g.part gs ≡ g ∷ gs
+parted g [] w = joined-nil g g.part
+parted g (h ∷ hs) w = joined-apart g g.part h hs w
+
+joined-stays : (gs : List Group) → IsJoined gs → grouped gs ≡ gs
+unfolding grouped
+joined-stays [] w = refl
+joined-stays (g ∷ gs) w = ap (λ z. joined g g.part z) (joined-stays gs w.1) ∙ parted g gs w.0
+
+-- Groups may be joined as they come.
+pub grouped-again : (gs : List Group) → grouped (grouped gs) ≡ grouped gs
+grouped-again gs = joined-stays (grouped gs) (grouped-joined gs)
+
+pub grouped-so-far : (gs hs : List Group) → grouped (grouped gs ++ hs) ≡ grouped (gs ++ hs)
+grouped-so-far gs hs = grouped-merged (grouped gs) hs ∙ ap (λ z. merged z (grouped hs)) (grouped-again gs) ∙ sym (grouped-merged gs hs)
+
+groups-split : (e : EntityTable) (d : ℕ) (xs : List BlockLine) (l : BlockLine) (ys : List BlockLine) →
+    is_apart (tip_within d) (cut_by (tip_within d) xs).tail l ≡ true → is_blank_line l ≡ false →
+    groups_within e (suc d) (xs ++ l ∷ ys)
+    ≡ merged (groups_within e (suc d) xs) (shift_groups (gap_behind (tip_within d) (cut_by (tip_within d) xs)) (length xs) (groups_within e (suc d) (l ∷ ys)))
+unfolding groups_within
+groups-split e d xs l ys a b =
+    let T = tip_within d in
+    let G = group_of e (groups_within e d) in
+    let c : Cut = cut_by T xs in
+    let c' : Cut = cut_by T (l ∷ ys) in
+    let gap = gap_behind T c in
+    let n : c.lines ≡ length xs = cut-lines T no_lines xs ∙ (let z : 0 + length xs ≡ length xs = omega arith in z) in
+    let cut_is : stretches (cut_by T (xs ++ l ∷ ys)) ≡ stretches c ++ shift_all gap c.lines (stretches c') =
+    ap (λ (z : Cut). stretches z) (cut_from-append T no_lines xs (l ∷ ys) ∙ meets T c l ys a b)
+    ∙ all_of-prepend (stretches c) (moved gap c.lines c').before (moved gap c.lines c').tail
+    ∙ ap (λ z. stretches c ++ z) (stretches-moved gap c.lines c'.before c'.tail c'.blank c'.lines) in
+    ap (λ z. grouped (map G z)) cut_is
+    ∙ ap (λ z. grouped (map G (stretches c ++ shift_all gap z (stretches c')))) n
+    ∙ ap grouped (map-append G (stretches c) (shift_all gap (length xs) (stretches c')))
+    ∙ grouped-merged (map G (stretches c)) (map G (shift_all gap (length xs) (stretches c')))
+    ∙ ap (λ z. merged (grouped (map G (stretches c))) z)
+    (ap grouped (group-shift e (groups_within e d) gap (length xs) (stretches c')) ∙ grouped-shift gap (length xs) (map G (stretches c')))
+
+-- From a line on that begins a block, a list's later item too, the groups are those of these lines alone, so many lines
+-- further on; those before it are those of the lines before it alone; and where they meet one list may go on.
+pub groups-meet : (e : EntityTable) (d : ℕ) (xs : List BlockLine) (l : BlockLine) (ys : List BlockLine) → visible_in (xs ++ l ∷ ys) < d →
+    is_apart (tip_within d) (cut_by (tip_within d) xs).tail l ≡ true → is_blank_line l ≡ false →
+    groups e (xs ++ l ∷ ys) ≡ merged (groups e xs) (shift_groups (gap_behind (tip_within d) (cut_by (tip_within d) xs)) (length xs) (groups e (l ∷ ys)))
+groups-meet e d xs l ys h a b =
+    let v = visible-append xs (l ∷ ys) in
+    let gap = gap_behind (tip_within d) (cut_by (tip_within d) xs) in
+    sym (groups-deep e (suc d) (xs ++ l ∷ ys) (omega (arith, h)))
+    ∙ groups-split e d xs l ys a b
+    ∙ ap (λ z. merged z (shift_groups gap (length xs) (groups_within e (suc d) (l ∷ ys)))) (groups-deep e (suc d) xs (omega (arith, h, v)))
+    ∙ ap (λ z. merged (groups e xs) (shift_groups gap (length xs) z)) (groups-deep e (suc d) (l ∷ ys) (omega (arith, h, v)))
+
+front-two : (a b c : Bool) → (a && not b && c) ≡ true → (a ≡ true) × (b ≡ false)
+front-two true false c e = (refl, refl)
+front-two true true c e = absurd (let x : ⊥ = cc in x)
+front-two false b c e = absurd (let x : ⊥ = cc in x)
+
+-- The same where a line begins an item of the list that stands last.
+pub items-meet : (e : EntityTable) (xs : List BlockLine) (l : BlockLine) (ys : List BlockLine) → joins_list xs l ≡ true →
+    groups e (xs ++ l ∷ ys) ≡ merged (groups e xs) (shift_groups (gap_after xs) (length xs) (groups e (l ∷ ys)))
+unfolding joins_list joins_behind gap_after
+items-meet e xs l ys j =
+    let all = xs ++ l ∷ ys in
+    let d = suc (visible_in all) in
+    let v = visible-append xs (l ∷ ys) in
+    let front : visible_in xs < d = omega (arith, v) in
+    let t = (cut_within (depth_of xs) xs).tail in
+    let both = front-two (is_apart (tip_within (depth_of xs)) t l) (is_blank_line l) (same_mark (tail_mark t) (list_mark (begun l))) j in
+    groups-meet e d xs l ys (omega arith) (apart-deep d xs l front ∙ both.0) both.1
+    ∙ ap (λ z. merged (groups e xs) (shift_groups z (length xs) (groups e (l ∷ ys)))) (gap-deep d xs front)

@@ -1,0 +1,17 @@
+pub mod BeginLaws
+pub mod CutLaws
+pub mod DepthLaws
+pub mod DocumentLaws
+pub mod GroupLaws
+pub mod ItemLaws
+pub mod LeafSteps
+pub mod LimitLaws
+pub mod NestingLaws
+pub mod NestingMeets
+pub mod OpenLeafLaws
+pub mod ReaderLaws
+pub mod StartKinds
+pub mod SummaryLaws
+pub mod UnitLaws
+pub mod UnitReaderLaws
+pub mod VisibleLaws

@@ -1,0 +1,11 @@
+//! Laws of block structure: what holds of the definitions of `blockspec`, whatever reads a text. Each law is the contract of a
+//! function with an empty body.
+#![tactic(auto)]
+
+mod laws;
+
+pub use laws::{
+    beginnings_stay, equal_ends_give_equal_units, first_units_define, items_meet,
+    lines_before_tell_beginnings, summaries_give_the_units, summaries_tell_the_first_too_deep,
+    summary_goes_on,
+};

@@ -1,0 +1,11 @@
+pub mod AskedLabels
+pub mod BalancedEvents
+pub mod FrontEnds
+pub mod ItemEnds
+pub mod JoinedTrees
+pub mod NestedParts
+pub mod OneReading
+pub mod OpenSpans
+pub mod ReadingBalanced
+pub mod TailEnds
+pub mod TreeEvents

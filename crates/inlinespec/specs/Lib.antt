@@ -1,0 +1,14 @@
+pub mod AutolinkText
+pub mod BacktickStrings
+pub mod CodeSpans
+pub mod InlineEvents
+pub mod InlineTree
+pub mod JoinedTexts
+pub mod LabelMap
+pub mod Lexing
+pub mod LineBreaks
+pub mod LinkTails
+pub mod Nesting
+pub mod Settled
+pub mod TextReading
+pub mod TextTree

@@ -1,5 +1,0 @@
-use Rattle.mdblock.proofs.DocumentLaws.{tables-append}
-use Rattle.mdblock.proofs.laws.first_units_define.Goals as goal
-
-pub returns : goal.returns
-returns c = λ one other label. tables-append one other label

@@ -1,0 +1,16 @@
+-- What the reader holds, hands in and answers line by line, and how it stands for what is defined of the lines.
+pub mod ClosedViews
+pub mod HandedIn
+pub mod HeldLevel
+pub mod HeldNodes
+pub mod LeafEnds
+pub mod OpenLeaves
+pub mod OpenPositions
+pub mod OpeningKind
+pub mod Openings
+pub mod ParagraphLines
+pub mod ParagraphTurns
+pub mod Reading
+pub mod Reads
+pub mod StartParts
+pub mod TreesBehind

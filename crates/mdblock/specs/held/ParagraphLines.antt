@@ -1,0 +1,15 @@
+-- The text that an open paragraph's lines make (CommonMark 4.8), and what it tells of them.
+use Rattle.std.specs.Prelude.{◌≡◌, ℕ, ◌+◌, List, length, map}
+use Rattle.mdleaf.specs.ParagraphText.{joined_lines}
+use Rattle.blockspec.specs.BlockLine.{BlockLine, rest}
+use Rattle.blockspec.specs.BlockStart.{last_text}
+
+-- a text, and where its last line begins
+pub record HeldText : Type 0 where
+  pub text : List ℕ
+  pub last : ℕ
+
+-- the text is that of the lines
+pub record HoldsLines (lines : List BlockLine) (held : HeldText) : Type 0 where
+  pub whole : held.text ≡ joined_lines (map rest lines)
+  pub last_one : held.last + length (last_text lines) ≡ length held.text

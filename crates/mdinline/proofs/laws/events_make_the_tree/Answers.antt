@@ -1,5 +1,0 @@
-use Rattle.mdinline.proofs.TreeEvents.{tree_is}
-use Rattle.mdinline.proofs.laws.events_make_the_tree.Goals as goal
-
-pub returns : goal.returns
-returns c = λ tree joined. tree_is tree joined

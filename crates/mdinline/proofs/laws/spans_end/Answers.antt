@@ -1,5 +1,0 @@
-use Rattle.mdinline.proofs.ReadingBalanced.{reading_balanced}
-use Rattle.mdinline.proofs.laws.spans_end.Goals as goal
-
-pub returns : goal.returns
-returns c = λ entities table text. reading_balanced entities table text

@@ -1,0 +1,12 @@
+pub mod BacktickTable
+pub mod Brackets
+pub mod FoundReferences
+pub mod KnownText
+pub mod LongTags
+pub mod PairedRuns
+pub mod PlainText
+pub mod Recognised
+pub mod StoredTree
+pub mod Ticks
+pub mod TreeBuilding
+pub mod UnusedOpeners
