@@ -181,7 +181,15 @@ fn leaves_are_written(rt: HostRuntime) -> Result<(), Fail> {
     let html = unit_html(a, &blocks, &texts, &SAFE)?;
     assert_eq!(rt;
         html.as_str(),
-        "<h2>a&lt;</h2>\n<hr />\n<p>b<br />\nc</p>\n<pre><code class=\"language-x&lt;\">&lt;p&gt;\n</code></pre>\n<pre><code></code></pre>\n<!-- raw HTML omitted -->\n"
+        "<h2>a&lt;</h2>
+<hr />
+<p>b<br />
+c</p>
+<pre><code class=\"language-x&lt;\">&lt;p&gt;
+</code></pre>
+<pre><code></code></pre>
+<!-- raw HTML omitted -->
+"
     );
     let html = unit_html(a, &blocks[5..], &texts, &UNSAFE)?;
     assert_eq!(rt; html.as_str(), "<i>\n");
@@ -205,7 +213,21 @@ fn tables_are_written(rt: HostRuntime) -> Result<(), Fail> {
     let html = unit_html(a, &blocks, &texts, &SAFE)?;
     assert_eq!(rt;
         html.as_str(),
-        "<table>\n<thead>\n<tr>\n<th align=\"left\">a</th>\n<th align=\"right\">b</th>\n</tr>\n</thead>\n<tbody>\n<tr>\n<td align=\"left\">1</td>\n<td align=\"right\"></td>\n</tr>\n</tbody>\n</table>\n"
+        "<table>
+<thead>
+<tr>
+<th align=\"left\">a</th>
+<th align=\"right\">b</th>
+</tr>
+</thead>
+<tbody>
+<tr>
+<td align=\"left\">1</td>
+<td align=\"right\"></td>
+</tr>
+</tbody>
+</table>
+"
     );
     let mut blocks = Vec::new(a);
     blocks.push(Block::Table {

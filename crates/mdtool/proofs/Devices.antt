@@ -54,10 +54,6 @@ front_of_first a b front more first = (
   first.3,
 )
 
--- all that was written is a beginning of it
-pub gains_front : (a b : Option (List ℕ)) (bytes : List ℕ) → Gains a bytes b → GainsFront a bytes b
-gains_front a b bytes all = (bytes, [], sym (append-nil bytes), all)
-
 -- a first text was put, and then a second or a beginning of it
 pub puts_more : (a b c : Option (List ℕ)) (f g h : ℕ) (front more : List ℕ) (whole : Bool) → Puts a f front true b g → Puts b g more whole c h → Puts a f (front ++ more) whole c h
 puts_more a b c f g h front more true first second = (gains_more a b c front more first.0 second.0, second.1 ∙ first.1)

@@ -8,7 +8,7 @@ use Rattle.mdhtml.specs.declared.options.Options.{Options}
 use Rattle.mdhtml.specs.declared.options.Breaks.TheVariants.{Soft}
 use Rattle.mdhtml.specs.BlockHtml.{fresh}
 use Rattle.mdview.specs.HeldUnit.{ReadUnit, unit_piece}
-use Rattle.mdview.specs.Reading.{read, nested, starved}
+use Rattle.mdview.specs.ReadingEnd.{read, nested, starved}
 use Rattle.mdview.specs.Document.{document}
 use Rattle.mdtool.specs.Commands.{Html, Edit, HtmlHead, EditHead, number, split_number, head_of}
 use Rattle.mdtool.specs.Replies.{ScriptTurn, replies}
@@ -17,24 +17,25 @@ plain : Options
 plain = record { unsafe_html = false; breaks = Soft }
 
 -- a unit of one block with one text
-unit_of : ℕ → Block → List ℕ → Inlines → ReadUnit
-unit_of begin b bytes tree = record {
-  found = record { begin = begin; lines = 1; unit = record { blocks = block b no_blocks; definitions = []; texts = bytes ∷ [] } };
+unit_of : Block → List ℕ → Inlines → ReadUnit
+unit_of b bytes tree = record {
+  lines = 1;
+  unit = record { blocks = block b no_blocks; definitions = []; texts = bytes ∷ [] };
   readings = record { tree = tree; asked = [] } ∷ [];
 }
 
--- a heading, and a paragraph with a hard line break that begins in this line
+-- a heading, and a paragraph with a hard line break
 title : ReadUnit
-title = unit_of 0 (heading 1 0) (codes "a") (inline (text (codes "a")) no_inlines)
+title = unit_of (heading 1 0) (codes "a") (inline (text (codes "a")) no_inlines)
 
-broken : ℕ → ReadUnit
-broken begin = unit_of begin (paragraph 0 None) (codes "b  \nc") (inline (text (codes "b")) (inline hard (inline (text (codes "c")) no_inlines)))
+broken : ReadUnit
+broken = unit_of (paragraph 0 None) (codes "b  \nc") (inline (text (codes "b")) (inline hard (inline (text (codes "c")) no_inlines)))
 
 title_piece : unit_piece plain title ≡ codes "<h1>a</h1>\n"
 unfolding plain title unit_of fresh escaped_byte
 title_piece = refl
 
-broken_piece : unit_piece plain (broken 1) ≡ codes "<p>b<br />\nc</p>\n"
+broken_piece : unit_piece plain broken ≡ codes "<p>b<br />\nc</p>\n"
 unfolding plain broken unit_of fresh escaped_byte
 broken_piece = refl
 
@@ -61,8 +62,8 @@ head_html_space = refl
 
 -- a script's replies, where its texts read so
 edits : List ScriptTurn
-edits = record { command = Edit (record { at = 0; del = 0; add = codes "# a" ∷ codes "b  " ∷ codes "c" ∷ [] }); reading = read (record { first = 0; removed = 0; added = 2; again = [] }) 0 (title ∷ broken 1 ∷ []) }
-    ∷ record { command = Edit (record { at = 0; del = 1; add = [] }); reading = read (record { first = 0; removed = 1; added = 0; again = [] }) 0 (broken 0 ∷ []) }
+edits = record { command = Edit (record { at = 0; del = 0; add = codes "# a" ∷ codes "b  " ∷ codes "c" ∷ [] }); reading = read (record { first = 0; removed = 0; added = 2; again = [] }) 0 (title ∷ broken ∷ []) }
+    ∷ record { command = Edit (record { at = 0; del = 1; add = [] }); reading = read (record { first = 0; removed = 1; added = 0; again = [] }) 0 (broken ∷ []) }
     ∷ record { command = Edit (record { at = 0; del = 0; add = codes ">" ∷ [] }); reading = nested 0 }
     ∷ record { command = Edit (record { at = 9; del = 0; add = [] }); reading = starved }
     ∷ record { command = Html; reading = starved } ∷ []

@@ -5,7 +5,7 @@ use Rattle.std.proofs.Math.Seq.{drop-append_seam}
 use Rattle.mdtool.specs.Bytes.{Takes, AtEnd, Gains, GainsFront}
 use Rattle.mdview.specs.Document.{Document}
 use Rattle.mdtool.specs.Commands.{Command, Stop, Leads, first_command, script_lines, capped}
-use Rattle.mdview.specs.Reading.{Reading}
+use Rattle.mdview.specs.ReadingEnd.{ReadingEnd}
 use Rattle.mdtool.specs.Replies.{ScriptTurn, replies, reply, held_behind}
 use Rattle.mdtool.specs.Pending.{Pending, MayFollow, Reads, Draws, fresh}
 use Rattle.mdtool.specs.Steps.{StopsAt, ReadsCommand}
@@ -89,7 +89,7 @@ progress_more old a b c script script' turns turn progress read = record {
 }
 
 -- the reply to one more command
-next_reply : (old held : Document) (turns : List ScriptTurn) (command : Command) (reading : Reading) (bytes : List ℕ) → held ≡ held_after old turns → bytes ≡ reply held command reading
+next_reply : (old held : Document) (turns : List ScriptTurn) (command : Command) (reading : ReadingEnd) (bytes : List ℕ) → held ≡ held_after old turns → bytes ≡ reply held command reading
     → replies old (turns ++ (record { command = command; reading = reading }) ∷ []) ≡ replies old turns ++ bytes
 next_reply old held turns command reading bytes holds is =
     replies_more old turns (record { command = command; reading = reading })

@@ -14,8 +14,8 @@ use Rattle.mdview.specs.Document.{Document}
 use Rattle.mdtool.specs.Drained.{TakesAll, TakesSome}
 use Rattle.mdview.specs.Edit.{Call}
 use Rattle.mdview.specs.Outcome.{outcome}
-use Rattle.mdview.specs.Reading.{Reading}
-use Rattle.mdview.specs.Stretch.{Stretch}
+use Rattle.mdview.specs.ReadingEnd.{ReadingEnd}
+use Rattle.mdview.specs.ChangedPieces.{ChangedPieces}
 
 -- the text of all bytes that were left; bytes that are no UTF-8 are read as U+FFFD
 abbrev pub TextRead : Option (List ℕ) → List ℕ → Option (List ℕ) → Type 0
@@ -41,14 +41,14 @@ refusal_of (InlineTooDeep line) = Refused (InlineTooDeep line)
 
 -- the edit is accepted, and these pieces are held behind it, by some reading of the lines
 pub record Accepts (empty : Document) (lines : List (List ℕ)) (pieces : List (List ℕ)) : Type 0 where
-  pub reading : Reading
-  pub patch : Stretch
+  pub reading : ReadingEnd
+  pub patch : ChangedPieces
   pub answer : (outcome empty (whole_text lines) reading).0 ≡ Ok patch
   pub held : (outcome empty (whole_text lines) reading).1.pieces ≡ pieces
 
 -- the edit is refused so, by some reading of the lines
 pub record Refuses (empty : Document) (lines : List (List ℕ)) (fault : EditFault) : Type 0 where
-  pub reading : Reading
+  pub reading : ReadingEnd
   pub answer : (outcome empty (whole_text lines) reading).0 ≡ Err fault
   pub refusal : refusal_of fault ≡ Refused fault
 

@@ -3,11 +3,11 @@ use Rattle.std.specs.Prelude.{ℕ, ◌+◌, List, [], ◌∷◌, ◌++◌, lengt
 use Rattle.std.specs.List.{concat}
 use Rattle.mdview.specs.declared.fault.EditFault.{EditFault}
 use Rattle.mdtool.specs.RefusalText.{refused_text}
-use Rattle.mdview.specs.Stretch.{Stretch}
+use Rattle.mdview.specs.ChangedPieces.{ChangedPieces}
 use Rattle.mdview.specs.Patch.{brings}
 use Rattle.mdview.specs.Document.{Document}
 use Rattle.mdview.specs.Outcome.{outcome}
-use Rattle.mdview.specs.Reading.{Reading}
+use Rattle.mdview.specs.ReadingEnd.{ReadingEnd}
 use Rattle.mdtool.specs.Commands.{Command, Html, Edit}
 
 -- a piece with its number and its length
@@ -15,18 +15,18 @@ abbrev pub piece_reply : ℕ → List ℕ → List ℕ
 piece_reply number piece = codes "piece " ++ decimal number ++ 32 ∷ decimal (length piece) ++ 10 ∷ piece
 
 -- those of the pieces, numbered from i, that the patch brings
-abbrev pub brought : Stretch → ℕ → List (List ℕ) → List ℕ
+abbrev pub brought : ChangedPieces → ℕ → List (List ℕ) → List ℕ
 brought patch i [] = []
 brought patch i (piece ∷ pieces) = (if brings patch i then piece_reply i piece else []) ++ brought patch (i + 1) pieces
 
-abbrev pub patch_line : Stretch → List ℕ
+abbrev pub patch_line : ChangedPieces → List ℕ
 patch_line patch = codes "ok " ++ decimal patch.first ++ 32 ∷ decimal patch.removed ++ 32 ∷ decimal patch.added ++ 32 ∷ decimal (length patch.again) ++ 10 ∷ []
 
 abbrev pub refused_reply : EditFault → List ℕ
 refused_reply fault = refused_text fault ++ 10 ∷ []
 
 -- the reply to an edit that left these pieces
-abbrev pub edit_reply : Result Stretch EditFault → List (List ℕ) → List ℕ
+abbrev pub edit_reply : Result ChangedPieces EditFault → List (List ℕ) → List ℕ
 edit_reply (Ok patch) pieces = patch_line patch ++ brought patch 0 pieces
 edit_reply (Err fault) pieces = refused_reply fault
 
@@ -37,14 +37,14 @@ html_reply pieces = codes "html " ++ decimal (length (concat pieces)) ++ 10 ∷ 
 -- a command, and how the reading of the text ends that the edit would leave which it is
 pub record ScriptTurn : Type 0 where
   pub command : Command
-  pub reading : Reading
+  pub reading : ReadingEnd
 
 -- what is held behind a command
-abbrev pub held_behind : Document → Command → Reading → Document
+abbrev pub held_behind : Document → Command → ReadingEnd → Document
 held_behind old Html reading = old
 held_behind old (Edit call) reading = (outcome old call reading).1
 
-abbrev pub reply : Document → Command → Reading → List ℕ
+abbrev pub reply : Document → Command → ReadingEnd → List ℕ
 reply old Html reading = html_reply old.pieces
 reply old (Edit call) reading = edit_reply ((outcome old call reading).0) ((outcome old call reading).1.pieces)
 

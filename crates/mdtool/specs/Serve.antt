@@ -5,7 +5,7 @@ use Rattle.mdtool.specs.declared.fault.ToolFault.TheVariants.{Read, Write, Refus
 use Rattle.mdtool.specs.Bytes.{Takes, AtEnd, Gains, GainsFront}
 use Rattle.mdview.specs.Document.{Document}
 use Rattle.mdtool.specs.Commands.{Command, Stop, Done, Open, Bad, Short, Script, Leads, script_lines}
-use Rattle.mdview.specs.Reading.{Reading}
+use Rattle.mdview.specs.ReadingEnd.{ReadingEnd}
 use Rattle.mdtool.specs.Replies.{ScriptTurn, replies, reply, held_behind}
 
 abbrev pub commands_of : List ScriptTurn → List Command
@@ -57,6 +57,6 @@ out_failures_after (Err NoMemory) failures = failures
 
 -- a command was answered so, however the reading of its text ended
 pub record Replied (old : Document) (command : Command) (bytes : List ℕ) (new : Document) : Type 0 where
-  pub reading : Reading
+  pub reading : ReadingEnd
   pub bytes_are : bytes ≡ reply old command reading
   pub holds : new ≡ held_behind old command reading

@@ -6,7 +6,7 @@ use crate::device::Feed;
 use crate::endings::ending;
 use crate::entity_tables::entities_from;
 use crate::fault::{Stop, ToolFault, WordFault};
-use crate::standard::{ReadFeed, WriteOut};
+use crate::io_devices::{ReadFeed, WriteOut};
 use crate::tool_words::{Words, read_words};
 use mdtext::Entities;
 use std::alloc::{AllocError, Global};

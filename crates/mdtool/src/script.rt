@@ -1,7 +1,8 @@
 //! The lines and the commands of a script, as they come from a feed.
 //!
 //! Bytes are taken in chunks, and each is searched once for the end of its line.
-ghost use Rattle.std.specs.Prelude.{◌≡◌, ◌+◌, ◌*◌, ◌-◌, ◌^◌, ◌<◌, ◌≤◌, true, false, [], MatchOption, length, take, drop, get_or, OnOk, IfOk, IfSome, IfNone, OnSome, if◌then◌else◌};
+ghost use Rattle.std.specs.Prelude.{◌≡◌, ◌+◌, ◌*◌, ◌-◌, ◌^◌, ◌<◌, ◌≤◌, true, false, [], MatchOption};
+ghost use Rattle.std.specs.Prelude.{length, take, drop, get_or, OnOk, IfOk, IfSome, IfNone, OnSome, if◌then◌else◌};
 ghost use Rattle.mdtool.specs.Commands.{has_break};
 ghost use Rattle.mdtool.specs.Pending.{Reads, Draws, HasLine, IsOver, used, fresh};
 ghost use Rattle.mdtool.specs.Steps.{Steps, failures_after, FewLines, ReadsTexts, NextCommand};
@@ -37,7 +38,8 @@ impl Model for Script {
 
     ghost view = { λ s. record { bytes = drop s.start s.taken.items; is_ended = s.is_ended; lines = s.lines } };
 
-    ghost invariant = { λ s. (s.start ≤ s.searched) × (s.searched ≤ length s.taken.items) × (has_break (take (s.searched - s.start) (drop s.start s.taken.items)) ≡ false) };
+    ghost invariant = { λ s. (s.start ≤ s.searched) × (s.searched ≤ length s.taken.items)
+        × (has_break (take (s.searched - s.start) (drop s.start s.taken.items)) ≡ false) };
 }
 
 impl Script {
@@ -63,7 +65,8 @@ impl Script {
         requires { R.failures feed.old < 2 ^ 64 - 1 }
         ensures next { NextCommand result (R.left feed.old) self.old (R.left feed.new) self.new }
         ensures failures { R.failures feed.new ≡ failures_after result (R.failures feed.old) }
-        ensures falls { IfOk result (λ found. OnSome found (R.calls_left feed.new * 16384 + length self.new.bytes < R.calls_left feed.old * 16384 + length self.old.bytes)) }
+        ensures falls { IfOk result (λ found. OnSome found
+            (R.calls_left feed.new * 16384 + length self.new.bytes < R.calls_left feed.old * 16384 + length self.old.bytes)) }
     {
         let Some(len) = self.find_line(feed)? else {
             return Ok(None);
@@ -95,7 +98,9 @@ impl Script {
     ) -> Result<Option<Vec<String>>, ToolFault>
         requires { R.failures feed.old < 2 ^ 64 - 1 }
         ensures steps { Steps result
-            (λ found. MatchOption found (FewLines (R.left feed.old) self.old (R.left feed.new) self.new true count) (ReadsTexts (R.left feed.old) self.old (R.left feed.new) self.new count))
+            (λ found. MatchOption found
+            (FewLines (R.left feed.old) self.old (R.left feed.new) self.new true count)
+            (ReadsTexts (R.left feed.old) self.old (R.left feed.new) self.new count))
             (FewLines (R.left feed.old) self.old (R.left feed.new) self.new false count)
             (Draws (R.left feed.old) self.old.is_ended (R.left feed.new)) }
         ensures failures { R.failures feed.new ≡ failures_after result (R.failures feed.old) }

@@ -8,5 +8,5 @@ pub mod RenewedUnits
 pub mod Targets
 pub mod Texts
 pub mod Splices
-pub mod Exchanged
+pub mod Committed
 pub mod LineEndings

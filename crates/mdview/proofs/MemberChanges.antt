@@ -3,7 +3,7 @@ use Rattle.std.proofs.Common.{◌≡◌, ℕ, ◌≤◌, ◌<◌, zero, suc, Lis
 use Rattle.std.proofs.Math.ListN.{set}
 use Rattle.std.specs.List.{All}
 use Rattle.std.proofs.lemmas.List.Elements.{All-append}
-use Rattle.mdview.specs.Renewed.{map_at}
+use Rattle.mdview.specs.Update.{map_at}
 
 pub changed_past : {A : Type 0} (f : A → A) (i : ℕ) (xs : List A) → length xs ≤ i → map_at f i xs ≡ xs
 unfolding map_at
@@ -18,11 +18,11 @@ changed_by_set f zero (y ∷ xs) d x below is = ap (λ z. z ∷ xs) is
 changed_by_set f (suc i) (y ∷ xs) d x below is = ap (λ ys. y ∷ ys) (changed_by_set f i xs d x (omega arith) is)
 
 -- what the change leaves stays for all members
-pub map-changed : {A B : Type 0} (g : A → B) (f : A → A) → ((x : A) → g (f x) ≡ g x) → (i : ℕ) (xs : List A) → map g (map_at f i xs) ≡ map g xs
+pub map_changed : {A B : Type 0} (g : A → B) (f : A → A) → ((x : A) → g (f x) ≡ g x) → (i : ℕ) (xs : List A) → map g (map_at f i xs) ≡ map g xs
 unfolding map_at
-map-changed g f same i [] = refl
-map-changed g f same zero (x ∷ xs) = ap (λ y. y ∷ map g xs) (same x)
-map-changed g f same (suc i) (x ∷ xs) = ap (λ ys. g x ∷ ys) (map-changed g f same i xs)
+map_changed g f same i [] = refl
+map_changed g f same zero (x ∷ xs) = ap (λ y. y ∷ map g xs) (same x)
+map_changed g f same (suc i) (x ∷ xs) = ap (λ ys. g x ∷ ys) (map_changed g f same i xs)
 
 -- the other members stay
 pub others_stay : {A : Type 0} (f : A → A) (i j : ℕ) (xs : List A) → (i ≡ j → ⊥) → slice_get (map_at f i xs) j ≡ slice_get xs j

@@ -3,12 +3,12 @@ use Rattle.std.proofs.Common.{◌≡◌, ℕ, zero, suc, Bool, true, false, List
 use Rattle.std.specs.Prelude.{◌==◌, ◌||◌, IfSome}
 use Rattle.std.specs.List.{All, list_any}
 use Rattle.std.proofs.lemmas.Bool.{true≢false, eq-eqb}
-use Rattle.blockspec.specs.UnitTree.{FoundUnit}
+use Rattle.blockspec.specs.UnitTree.{UnitTree}
 use Rattle.mdhtml.specs.declared.options.Options.{Options}
 use Rattle.mdview.specs.declared.readings.Again.{Again}
-use Rattle.mdview.specs.HeldUnit.{HeldUnit, IsRendered, found_in}
-use Rattle.mdview.specs.Renewed.{map_at, renewed, all_renewed, IsWritten}
-use Rattle.mdview.proofs.MemberChanges.{map-changed, others_stay, all_first, all_rest}
+use Rattle.mdview.specs.HeldUnit.{HeldUnit, IsRendered, unit_in}
+use Rattle.mdview.specs.Update.{map_at, renewed, all_renewed, IsWritten}
+use Rattle.mdview.proofs.MemberChanges.{map_changed, others_stay, all_first, all_rest}
 
 pub renewed_first : (units : List HeldUnit) (one : Again) (again : List Again) → all_renewed units (one ∷ again) ≡ all_renewed (map_at (renewed one) one.unit units) again
 unfolding all_renewed
@@ -18,14 +18,14 @@ pub renewed_none : (units : List HeldUnit) (again : List Again) → again ≡ []
 unfolding all_renewed
 renewed_none units again none = rw none refl
 
-pub founds_stay : (units : List HeldUnit) (again : List Again) → map found_in (all_renewed units again) ≡ map found_in units
+pub unit_trees_stay : (units : List HeldUnit) (again : List Again) → map unit_in (all_renewed units again) ≡ map unit_in units
 unfolding all_renewed
-founds_stay units [] = refl
-founds_stay units (one ∷ again) =
-    founds_stay (map_at (renewed one) one.unit units) again ∙ map-changed found_in (renewed one) (λ u. refl) one.unit units
+unit_trees_stay units [] = refl
+unit_trees_stay units (one ∷ again) =
+    unit_trees_stay (map_at (renewed one) one.unit units) again ∙ map_changed unit_in (renewed one) (λ u. refl) one.unit units
 
 -- one that is read again is rendered where its piece is its HTML
-one_rendered : (options : Options) (one : Again) (i : ℕ) (units : List HeldUnit) → All (IsRendered options) units → IfSome (slice_get (map found_in units) i) (λ u. IsWritten options (u ∷ []) (record { unit = 0; inlines = one.inlines; piece = one.piece }))
+one_rendered : (options : Options) (one : Again) (i : ℕ) (units : List HeldUnit) → All (IsRendered options) units → IfSome (slice_get (map unit_in units) i) (λ u. IsWritten options (u ∷ []) (record { unit = 0; inlines = one.inlines; piece = one.piece }))
     → All (IsRendered options) (map_at (renewed one) i units)
 unfolding map_at
 one_rendered options one i [] all written k d below = absurd (omega arith)
@@ -35,15 +35,15 @@ one_rendered options one (suc i) (u ∷ units) all written zero d below = all ze
 one_rendered options one (suc i) (u ∷ units) all written (suc k) d below =
     one_rendered options one i units (all_rest (IsRendered options) u units all) written k d (omega arith)
 
-pub all_rendered : (options : Options) (founds : List FoundUnit) (units : List HeldUnit) (again : List Again) → map found_in units ≡ founds → All (IsRendered options) units → All (IsWritten options founds) again
+pub all_rendered : (options : Options) (trees : List UnitTree) (units : List HeldUnit) (again : List Again) → map unit_in units ≡ trees → All (IsRendered options) units → All (IsWritten options trees) again
     → All (IsRendered options) (all_renewed units again)
 unfolding all_renewed
-all_rendered options founds units [] same all written = all
-all_rendered options founds units (one ∷ again) same all written =
-    all_rendered options founds (map_at (renewed one) one.unit units) again
-    (map-changed found_in (renewed one) (λ u. refl) one.unit units ∙ same)
-    (one_rendered options one one.unit units all (subst (λ fs. IsWritten options fs one) (sym same) (all_first (IsWritten options founds) one again written)))
-    (all_rest (IsWritten options founds) one again written)
+all_rendered options trees units [] same all written = all
+all_rendered options trees units (one ∷ again) same all written =
+    all_rendered options trees (map_at (renewed one) one.unit units) again
+    (map_changed unit_in (renewed one) (λ u. refl) one.unit units ∙ same)
+    (one_rendered options one one.unit units all (subst (λ fs. IsWritten options fs one) (sym same) (all_first (IsWritten options trees) one again written)))
+    (all_rest (IsWritten options trees) one again written)
 
 or_false : (a b : Bool) → (a || b) ≡ false → (a ≡ false) × (b ≡ false)
 or_false false false e = (refl, refl)

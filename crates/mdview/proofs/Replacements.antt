@@ -25,10 +25,10 @@ rest_replaced xs add at del b within few enough =
     rw (first, last, joined) refl
 
 -- one member more that is exchanged
-pub front_exchanged : {A : Type 0} (old add xs rest : List A) (at i : ℕ) (x d : A) → at + i < length xs → i < length rest → length rest ≡ length add →
+pub front_swapped : {A : Type 0} (old add xs rest : List A) (at i : ℕ) (x d : A) → at + i < length xs → i < length rest → length rest ≡ length add →
     take (at + i) xs ≡ take at old ++ take i add → drop i rest ≡ drop i add → x ≡ get_or rest i d →
     take (at + (i + 1)) (set xs (at + i) x) ≡ take at old ++ take (i + 1) add
-front_exchanged old add xs rest at i x d room more same front behind is =
+front_swapped old add xs rest at i x d room more same front behind is =
     let one : at + (i + 1) ≡ at + i + 1 = omega arith in
     let next : i + 1 ≡ suc i = omega arith in
     let zero_more : i + 0 ≡ i = omega arith in
@@ -39,6 +39,6 @@ front_exchanged old add xs rest at i x d room more same front behind is =
     ap (λ k. take k (set xs (at + i) x)) one ∙ take_more_set xs (at + i) x room ∙ ap (λ ys. ys ++ x ∷ []) front
     ∙ append_assoc (take at old) (take i add) (x ∷ []) ∙ ap (λ ys. take at old ++ ys) (sym more_add)
 
-pub back_exchanged : {A : Type 0} (xs old : List A) (n i : ℕ) (x : A) → n ≡ i + 1 → drop i xs ≡ drop i old → drop n (set xs i x) ≡ drop n old
-back_exchanged xs old n i x e same =
+pub back_swapped : {A : Type 0} (xs old : List A) (n i : ℕ) (x : A) → n ≡ i + 1 → drop i xs ≡ drop i old → drop n (set xs i x) ≡ drop n old
+back_swapped xs old n i x e same =
     drop-set-lt n xs i x (omega (arith, e)) ∙ ap (λ k. drop k xs) e ∙ sym (drop-drop 1 i xs) ∙ ap (drop 1) same ∙ drop-drop 1 i old ∙ ap (λ k. drop k old) (sym e)

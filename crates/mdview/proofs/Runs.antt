@@ -5,10 +5,10 @@ use Rattle.mdview.specs.declared.fault.EditFault.{EditFault}
 use Rattle.mdview.specs.Document.{document}
 use Rattle.mdview.specs.Edit.{Call, put, due}
 use Rattle.mdview.specs.Outcome.{outcome_due}
-use Rattle.mdview.specs.Reading.{Reading, read, nested, too_deep, starved}
+use Rattle.mdview.specs.ReadingEnd.{ReadingEnd, read, nested, too_deep, starved}
 use Rattle.mdview.specs.Run.{Turn, held_after, after, read_last, lines_after, units_after, Units}
 
-step : (entities : List (List ℕ × List ℕ)) (options : Options) (lines : List (List ℕ)) (units : Units) (call : Call) (due' : Option EditFault) (reading : Reading)
+step : (entities : List (List ℕ × List ℕ)) (options : Options) (lines : List (List ℕ)) (units : Units) (call : Call) (due' : Option EditFault) (reading : ReadingEnd)
     → (outcome_due due' (document entities options lines units.0 units.1) call reading).1
     ≡ document entities options (lines_after due' reading lines (put lines call)) (units_after due' reading units).0 (units_after due' reading units).1
 step entities options lines units call (Some fault) reading = refl

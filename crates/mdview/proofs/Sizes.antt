@@ -6,9 +6,6 @@ use Rattle.std.proofs.lemmas.List.Sums.{sum_by-cons, sum_by-append, sum_by-take-
 use Rattle.mdview.specs.Lists.{replaced}
 use Rattle.mdview.specs.Document.{size_of}
 
-per_line : List ℕ → ℕ
-per_line line = length line + 1
-
 pub size_part : (ls : List (List ℕ)) (at del : ℕ) → size_of (take at ls) + size_of (take del (drop at ls)) + size_of (drop (at + del) ls) ≡ size_of ls
 size_part ls at del =
     let f : List ℕ → ℕ = λ line. length line + 1 in
@@ -32,16 +29,3 @@ length_replaced ls add at del within =
 
 pub map_replaced : {A B : Type 0} (f : A → B) (xs add : List A) (at del : ℕ) → map f (replaced xs at del add) ≡ replaced (map f xs) at del (map f add)
 map_replaced f xs add at del = rw (map-append f (take at xs ++ add) (drop (at + del) xs), map-append f (take at xs) add, take-map f at xs, drop-map f (at + del) xs) refl
-
--- a line is no longer than its text
-pub line_is_small : (lines : List (Bor (List ℕ))) (i : ℕ) (d : Bor (List ℕ)) → i < length lines → length (get_or lines i d).now ≤ size_of (map (λ line. line.now) lines)
-line_is_small [] i d below = absurd (omega arith)
-line_is_small (line ∷ lines) zero d below =
-    let all : size_of (map (λ line. line.now) (line ∷ lines)) ≡ length line.now + 1 + size_of (map (λ line. line.now) lines) = sum_by-cons (λ (line : List ℕ). length line + 1) line.now (map (λ line. line.now) lines) in
-    let here : length (get_or (line ∷ lines) 0 d).now ≡ length line.now = refl in
-    omega (arith, all, here)
-line_is_small (line ∷ lines) (suc i) d below =
-    let all : size_of (map (λ line. line.now) (line ∷ lines)) ≡ length line.now + 1 + size_of (map (λ line. line.now) lines) = sum_by-cons (λ (line : List ℕ). length line + 1) line.now (map (λ line. line.now) lines) in
-    let here : length (get_or (line ∷ lines) (suc i) d).now ≡ length (get_or lines i d).now = refl in
-    let rest = line_is_small lines i d (omega (arith, below)) in
-    omega (arith, all, here, rest)

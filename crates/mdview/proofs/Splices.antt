@@ -10,7 +10,7 @@ use Rattle.std.proofs.lemmas.List.FromFn.{fill_by_all}
 use Rattle.std.proofs.lemmas.Option.{unwrap_or-slice_get}
 use Rattle.mdview.specs.Lists.{replaced}
 use Rattle.mdview.specs.Patch.{Brings, brings}
-use Rattle.mdview.specs.Stretch.{Stretch}
+use Rattle.mdview.specs.ChangedPieces.{ChangedPieces}
 use Rattle.mdview.proofs.Sizes.{length_replaced}
 
 pub all_replaced : {A : Type 0} (P : A → Type 0) (xs add : List A) (at del : ℕ) → All P xs → All P add → All P (replaced xs at del add)
@@ -41,7 +41,7 @@ or_parts false true e = absurd (true≢false e)
 or_parts true b e = absurd (true≢false e)
 
 -- the others stay: those before the new ones, and those behind them
-pub record Stays {A : Type 0} (patch : Stretch) (old changed : List A) : Type 0 where
+pub record Stays {A : Type 0} (patch : ChangedPieces) (old changed : List A) : Type 0 where
   pub before : (i : ℕ) → i < patch.first → list_any (λ k. k == i) patch.again ≡ false → slice_get changed i ≡ slice_get old i
   pub behind : (j : ℕ) → patch.first + patch.removed ≤ j → j < length old → list_any (λ k. k == (j - patch.removed + patch.added)) patch.again ≡ false → slice_get changed j ≡ slice_get old j
 
@@ -50,7 +50,7 @@ is_behind : (new low : Bool) → (not low && new) ≡ false → low ≡ false �
 is_behind new false e f = e
 is_behind new true e f = absurd (true≢false f)
 
-member : {A : Type 0} (patch : Stretch) (old changed add : List A) (d : A) → length changed ≡ length old → patch.first + patch.removed ≤ length old → patch.added ≡ length add
+member : {A : Type 0} (patch : ChangedPieces) (old changed add : List A) (d : A) → length changed ≡ length old → patch.first + patch.removed ≤ length old → patch.added ≡ length add
     → Stays patch old changed → (k : ℕ) → k < length old - patch.removed + patch.added → (b low : Bool) → brings patch k ≡ b → nat_lt k patch.first ≡ low
     → get_or (replaced changed patch.first patch.removed add) k d
     ≡ (if b then get_or (replaced changed patch.first patch.removed add) k d
@@ -73,7 +73,7 @@ member patch old changed add d long within count stays k below false false e f =
     ∙ ap (λ i. get_or changed i d) place
     ∙ read_same changed old j d (stays.behind j (omega arith) (omega arith) none)
 
-pub spliced_brings : {A : Type 0} (patch : Stretch) (old changed add : List A) → length changed ≡ length old → patch.first + patch.removed ≤ length old → patch.added ≡ length add
+pub spliced_brings : {A : Type 0} (patch : ChangedPieces) (old changed add : List A) → length changed ≡ length old → patch.first + patch.removed ≤ length old → patch.added ≡ length add
     → Stays patch old changed → Brings patch old (replaced changed patch.first patch.removed add)
 spliced_brings patch old changed add long within count stays d =
     let len = length_replaced changed add patch.first patch.removed (omega arith) in

@@ -6,31 +6,28 @@ use Rattle.std.proofs.lemmas.List.Sums.{sum_by-append, sum_by-cons, sum_by_more}
 use Rattle.std.proofs.lemmas.Option.{slice_get-map, slice_get-get_or}
 use Rattle.mdhtml.specs.declared.options.Options.{Options}
 use Rattle.mdview.specs.declared.readings.Again.{Again}
-use Rattle.mdview.specs.HeldUnit.{HeldUnit, ReadUnit, found_in, read_of, texts_before, texts_in, texts_of, unit_piece}
-use Rattle.mdview.specs.Renewed.{Fits, IsWritten}
+use Rattle.mdview.specs.HeldUnit.{HeldUnit, ReadUnit, unit_in, read_of, texts_before, texts_in, texts_of, html_of}
+use Rattle.mdview.specs.Update.{Fits, IsWritten}
 
-pub texts_more : (units : List HeldUnit) (u : HeldUnit) → texts_of (map read_of (units ++ u ∷ [])) ≡ texts_of (map read_of units) + texts_in u.read.found
+pub texts_more : (units : List HeldUnit) (u : HeldUnit) → texts_of (map read_of (units ++ u ∷ [])) ≡ texts_of (map read_of units) + texts_in u.read.unit
 texts_more units u =
-    let f : ReadUnit → ℕ = λ u. texts_in u.found in
+    let f : ReadUnit → ℕ = λ u. texts_in u.unit in
     let all = ap texts_of (map-append read_of units (u ∷ [])) ∙ sum_by-append f (map read_of units) (read_of u ∷ []) in
     let one = sum_by-cons f (read_of u) [] in
     let none : sum_by f [] ≡ 0 = refl in
     omega (arith, all, one, none)
 
-pub texts_next : (units : List HeldUnit) (i : ℕ) (u : HeldUnit) → i < length units → u ≡ get_or units i u → texts_before (i + 1) units ≡ texts_before i units + texts_in u.read.found
-texts_next units i u below at = sum_by_more (λ (u : HeldUnit). texts_in u.read.found) units i u below ∙ ap (λ (v : HeldUnit). texts_before i units + texts_in v.read.found) (sym at)
-
-found_at : (units : List HeldUnit) (i : ℕ) (u : HeldUnit) → i < length units → slice_get (map found_in units) i ≡ Some (found_in (get_or units i u))
-found_at units i u below = slice_get-map found_in units i ∙ ap (option_map found_in) (slice_get-get_or units i u below)
+found_at : (units : List HeldUnit) (i : ℕ) (u : HeldUnit) → i < length units → slice_get (map unit_in units) i ≡ Some (unit_in (get_or units i u))
+found_at units i u below = slice_get-map unit_in units i ∙ ap (option_map unit_in) (slice_get-get_or units i u below)
 
 pub fits_at : (units : List HeldUnit) (one : Again) (i : ℕ) (u : HeldUnit) → i < length units → one.unit ≡ i → u ≡ get_or units i u
-    → length one.inlines.items ≡ texts_in u.read.found → Fits (map found_in units) one
+    → length one.inlines.items ≡ texts_in u.read.unit → Fits (map unit_in units) one
 fits_at units one i u below is at all =
-    let here : slice_get (map found_in units) one.unit ≡ Some (found_in u) = ap (slice_get (map found_in units)) is ∙ found_at units i u below ∙ ap (λ v. Some (found_in v)) (sym at) in
+    let here : slice_get (map unit_in units) one.unit ≡ Some (unit_in u) = ap (slice_get (map unit_in units)) is ∙ found_at units i u below ∙ ap (λ v. Some (unit_in v)) (sym at) in
     rw here all
 
 pub written_at : (options : Options) (units : List HeldUnit) (one : Again) (i : ℕ) (u : HeldUnit) → i < length units → one.unit ≡ i → u ≡ get_or units i u
-    → string_bytes one.piece ≡ unit_piece options (record { found = u.read.found; readings = one.inlines.items }) → IsWritten options (map found_in units) one
+    → string_bytes one.piece ≡ html_of options u.read.unit one.inlines.items → IsWritten options (map unit_in units) one
 written_at options units one i u below is at piece =
-    let here : slice_get (map found_in units) one.unit ≡ Some (found_in u) = ap (slice_get (map found_in units)) is ∙ found_at units i u below ∙ ap (λ v. Some (found_in v)) (sym at) in
+    let here : slice_get (map unit_in units) one.unit ≡ Some (unit_in u) = ap (slice_get (map unit_in units)) is ∙ found_at units i u below ∙ ap (λ v. Some (unit_in v)) (sym at) in
     rw here piece

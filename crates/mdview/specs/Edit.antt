@@ -13,6 +13,9 @@ pub record Call : Type 0 where
   pub del : ℕ
   pub add : List (List ℕ)
 
+abbrev pub call_of : ℕ → ℕ → List (List ℕ) → Call
+call_of at del add = record { at = at; del = del; add = add }
+
 -- the lines after the edit; U+0000 is replaced in the added ones (CommonMark 2.3)
 abbrev pub put : List (List ℕ) → Call → List (List ℕ)
 put lines call = replaced lines call.at call.del (map without_nul call.add)

@@ -1,14 +1,15 @@
 -- Units whose inline texts were read, and their HTML.
 use Rattle.std.specs.Prelude.{◌≡◌, ℕ, ◌+◌, ◌-◌, ◌^◌, min, List, [], false, length, sum_by, take, refl}
 use Rattle.std.specs.Coded.{Coded, code_by, coded×, coded_ℕ, coded_list}
-use Rattle.blockspec.specs.UnitTree.{FoundUnit, found_code}
+use Rattle.blockspec.specs.UnitTree.{UnitTree, unit_code}
 use Rattle.mdinline.specs.ParsedText.{ParsedText, parsed_code}
 use Rattle.mdhtml.specs.declared.options.Options.{Options}
 use Rattle.mdhtml.specs.BlockHtml.{blocks_html, trees_of}
 
--- a unit, and what each of its texts reads as
+-- how many lines a unit has, the unit, and what each of its texts reads as
 pub record ReadUnit : Type 0 where
-  pub found : FoundUnit
+  pub lines : ℕ
+  pub unit : UnitTree
   pub readings : List ParsedText
 
 -- a unit that is held, with its piece
@@ -17,14 +18,22 @@ pub record HeldUnit : Type 0 where
   pub piece : List ℕ
 
 abbrev pub read_unit_code : Coded ReadUnit
-read_unit_code = code_by (FoundUnit × List ParsedText) (coded× found_code (coded_list parsed_code)) (λ u. (u.found, u.readings)) (λ p. record { found = p.0; readings = p.1 }) (λ _. refl)
+read_unit_code =
+    code_by (ℕ × (UnitTree × List ParsedText)) (coded× coded_ℕ (coded× unit_code (coded_list parsed_code)))
+    (λ u. (u.lines, (u.unit, u.readings))) (λ p. record { lines = p.0; unit = p.1.0; readings = p.1.1 }) (λ _. refl)
 
 abbrev pub held_unit_code : Coded HeldUnit
-held_unit_code = code_by (ReadUnit × List ℕ) (coded× read_unit_code (coded_list coded_ℕ)) (λ u. (u.read, u.piece)) (λ p. record { read = p.0; piece = p.1 }) (λ _. refl)
+held_unit_code =
+    code_by (ReadUnit × List ℕ) (coded× read_unit_code (coded_list coded_ℕ))
+    (λ u. (u.read, u.piece)) (λ p. record { read = p.0; piece = p.1 }) (λ _. refl)
 
--- a unit's piece: the HTML of its blocks with the trees of its texts
+-- the HTML of a unit whose texts read so: that of its blocks with the trees of the texts
+abbrev pub html_of : Options → UnitTree → List ParsedText → List ℕ
+html_of options unit readings = blocks_html options (trees_of readings) false unit.blocks []
+
+-- a unit's piece
 abbrev pub unit_piece : Options → ReadUnit → List ℕ
-unit_piece options u = blocks_html options (trees_of u.readings) false u.found.unit.blocks []
+unit_piece options u = html_of options u.unit u.readings
 
 abbrev pub read_of : HeldUnit → ReadUnit
 read_of u = u.read
@@ -37,20 +46,21 @@ abbrev pub IsRendered : Options → HeldUnit → Type 0
 IsRendered options u = u.piece ≡ unit_piece options u.read
 
 -- how many inline texts a unit has
-abbrev pub texts_in : FoundUnit → ℕ
-texts_in found = length found.unit.texts
+abbrev pub texts_in : UnitTree → ℕ
+texts_in unit = length unit.texts
 
-abbrev pub found_in : HeldUnit → FoundUnit
-found_in u = u.read.found
+abbrev pub unit_in : HeldUnit → UnitTree
+unit_in u = u.read.unit
 
 -- how many inline texts the units have
 abbrev pub texts_of : List ReadUnit → ℕ
-texts_of units = sum_by (λ (u : ReadUnit). texts_in u.found) units
+texts_of units = sum_by (λ (u : ReadUnit). texts_in u.unit) units
 
 -- how many the first units have
 abbrev pub texts_before : ℕ → List HeldUnit → ℕ
-texts_before n units = sum_by (λ (u : HeldUnit). texts_in u.read.found) (take n units)
+texts_before n units = sum_by (λ (u : HeldUnit). texts_in u.read.unit) (take n units)
 
--- the first line of a unit where so many lines stand before the first one: those of the units before it are added, up to the greatest number
+-- the first line of a unit where so many lines stand before the first one: those of the units before it are added, up to the greatest
+-- number
 abbrev pub first_line : ℕ → List ReadUnit → ℕ → ℕ
-first_line head units number = min (head + sum_by (λ (u : ReadUnit). u.found.lines) (take number units)) (2 ^ 64 - 1)
+first_line head units number = min (head + sum_by (λ (u : ReadUnit). u.lines) (take number units)) (2 ^ 64 - 1)

@@ -5,9 +5,9 @@ use Rattle.std.specs.Cmp.Lexicographic.{slice_cmp}
 use Rattle.std.specs.Map.{lookup}
 use Rattle.std.specs.Ordering.{nat_cmp}
 use Rattle.inlinespec.specs.LabelMap.{LinkTarget, target_of}
+use Rattle.mdtext.specs.declared.labels.Target.{Target}
 use Rattle.mdview.specs.declared.held_labels.HeldLabels.{HeldLabels}
 use Rattle.mdview.specs.declared.held_labels.LabelsAfter.{LabelsAfter}
-use Rattle.mdview.specs.declared.label_changes.LabelChange.{LabelChange}
 
 -- what stands at a label in a map
 abbrev pub at : {A : Type 0} → List ℕ → List (List ℕ × A) → Option A
@@ -17,10 +17,11 @@ at label entries = lookup (is_at (slice_cmp nat_cmp label)) entries
 abbrev pub target_held : HeldLabels → List ℕ → Option LinkTarget
 target_held held label = option_and_then (option_map target_of) (at label held.targets.entries)
 
-abbrev pub changed : Option LabelChange → Option LinkTarget → Option LinkTarget
+-- where a label leads of which an edit says this, and that led so before
+abbrev pub changed : Option (Option Target) → Option LinkTarget → Option LinkTarget
 changed None before = before
-changed (Some change) before = option_map target_of change.target
+changed (Some target) before = option_map target_of target
 
--- the target of a label after an edit: where the edit touches it, what the change says
+-- the target of a label after an edit: where the edit changes it, what it says
 abbrev pub target_after : LabelsAfter → List ℕ → Option LinkTarget
-target_after after label = changed (at label after.changes.now.changes.entries) (target_held after.held.now label)
+target_after after label = changed (at label after.changes.now.targets.entries) (target_held after.held.now label)

@@ -1,13 +1,13 @@
 pub mod HeldUnit
-pub mod Reading
+pub mod ReadingEnd
 pub mod Lists
 pub mod Document
 pub mod Edit
-pub mod Stretch
+pub mod ChangedPieces
 pub mod Patch
 pub mod Outcome
 pub mod Run
 pub mod FaultNames
 pub mod NewText
 pub mod LabelTargets
-pub mod Renewed
+pub mod Update

@@ -4,13 +4,13 @@ use Rattle.mdview.specs.declared.fault.EditFault.{EditFault}
 use Rattle.mdview.specs.Document.{Document}
 use Rattle.mdview.specs.Edit.{Call, put, due}
 use Rattle.mdview.specs.Outcome.{outcome}
-use Rattle.mdview.specs.Reading.{Reading, read, nested, too_deep, starved}
+use Rattle.mdview.specs.ReadingEnd.{ReadingEnd, read, nested, too_deep, starved}
 use Rattle.mdview.specs.HeldUnit.{ReadUnit}
 
 -- a call of `edit`, and how the reading of its text ends
 pub record Turn : Type 0 where
   pub call : Call
-  pub reading : Reading
+  pub reading : ReadingEnd
 
 -- what a preview holds after these calls, in order
 abbrev pub held_after : Document → List Turn → Document
@@ -18,7 +18,7 @@ held_after old [] = old
 held_after old (turn ∷ turns) = held_after ((outcome old turn.call turn.reading).1) turns
 
 -- the lines after a call: those that it puts, where it is accepted
-abbrev pub lines_after : Option EditFault → Reading → List (List ℕ) → List (List ℕ) → List (List ℕ)
+abbrev pub lines_after : Option EditFault → ReadingEnd → List (List ℕ) → List (List ℕ) → List (List ℕ)
 lines_after (Some fault) reading old new = old
 lines_after None (nested line) old new = old
 lines_after None (too_deep line) old new = old
@@ -30,7 +30,7 @@ abbrev pub Units : Type 0
 Units = ℕ × List ReadUnit
 
 -- the units after a call: those that are held then, where it is accepted
-abbrev pub units_after : Option EditFault → Reading → Units → Units
+abbrev pub units_after : Option EditFault → ReadingEnd → Units → Units
 units_after (Some fault) reading old = old
 units_after None (nested line) old = old
 units_after None (too_deep line) old = old

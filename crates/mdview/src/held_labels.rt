@@ -10,7 +10,7 @@ use std::collections::BTreeMap;
 
 /// Where each label of the text leads (CommonMark 4.7). A label may have room here and lead nowhere.
 #[derive(Drop)]
-pub struct HeldLabels {
+pub(crate) struct HeldLabels {
     targets: BTreeMap<Label, Option<Target>, Global>,
 }
 
@@ -27,14 +27,18 @@ impl Labels for HeldLabels {
 
 impl HeldLabels {
     /// No label leads anywhere. Takes no memory.
-    pub fn new(alloc: Global) -> HeldLabels {
+    pub(crate) fn new(alloc: Global) -> HeldLabels {
         HeldLabels {
             targets: BTreeMap::new(alloc),
         }
     }
 
-    /// Makes room for the labels that an edit touches. They lead where they led.
-    pub fn make_room(&mut self, alloc: Global, changes: &LabelChanges) -> Result<(), NoMemory> {
+    /// Makes room for the labels that lead elsewhere after an edit. They lead where they led.
+    pub(crate) fn make_room(
+        &mut self,
+        alloc: Global,
+        changes: &LabelChanges,
+    ) -> Result<(), NoMemory> {
         for label in changes.labels() {
             if !self.targets.contains_key(label) {
                 self.targets.insert(label.copy(alloc)?, None)?;
@@ -44,7 +48,7 @@ impl HeldLabels {
     }
 
     /// Lets a label lead elsewhere, or nowhere. It takes no memory: room was made before.
-    pub fn exchange(&mut self, label: &Label, target: Option<Target>) {
+    pub(crate) fn set(&mut self, label: &Label, target: Option<Target>) {
         match target {
             None => {
                 self.targets.remove(label);
@@ -58,11 +62,11 @@ impl HeldLabels {
     }
 }
 
-/// Where labels lead after an edit: those that it touches as it says, and all others as before.
+/// Where labels lead after an edit: those that it changes as it says, and all others as before.
 #[derive(Clone, Copy)]
-pub struct LabelsAfter<'a> {
-    pub held: &'a HeldLabels,
-    pub changes: &'a LabelChanges,
+pub(crate) struct LabelsAfter<'a> {
+    pub(crate) held: &'a HeldLabels,
+    pub(crate) changes: &'a LabelChanges,
 }
 
 impl<'a> Labels for LabelsAfter<'a> {
@@ -70,7 +74,7 @@ impl<'a> Labels for LabelsAfter<'a> {
 
     fn find(&self, label: &Label) -> Option<&Target> {
         match self.changes.get(label) {
-            Some(change) => change.target.as_ref(),
+            Some(target) => target.as_ref(),
             None => self.held.find(label),
         }
     }

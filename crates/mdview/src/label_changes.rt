@@ -4,77 +4,62 @@ ghost use Rattle.std.specs.Prelude.{◌≡◌, ◌≤◌, length, option_copied}
 ghost use Rattle.mdview.specs.LabelTargets.{at};
 
 use crate::held_labels::HeldLabels;
-use crate::held_units::HeldUnit;
-use crate::renewals::Held;
-use crate::stretches::Stretch;
-use mdblock::{Definition, Found, Unit};
-use mdinline::{Asked, Labels};
+use crate::reparse::Reparsed;
+use crate::touched_labels::TouchedLabels;
+use crate::update::HeldText;
+use mdinline::Asked;
 use mdtext::{Label, NoMemory, Target};
 use std::alloc::Global;
 use std::collections::BTreeMap;
 use std::collections::btree_map::Keys;
 
-/// Where a label leads after an edit, and whether it led elsewhere before.
+/// The labels that lead elsewhere after an edit than before it, and where they lead then.
 #[derive(Drop)]
-pub struct LabelChange {
-    pub target: Option<Target>,
-    pub is_new: bool,
-}
-
-/// The labels that an edit touches: those that the units define which go, and those that the units define which come.
-#[derive(Drop)]
-pub struct LabelChanges {
-    changes: BTreeMap<Label, LabelChange, Global>,
-    some_are_new: bool,
+pub(crate) struct LabelChanges {
+    targets: BTreeMap<Label, Option<Target>, Global>,
 }
 
 impl LabelChanges {
-    /// What an edit changes that reads this stretch. The first definition of a label in the text counts (CommonMark 4.7).
-    pub fn of(held: &Held<'_>, stretch: &Stretch) -> Result<LabelChanges, NoMemory>
-        requires first { stretch.now.first ≤ stretch.now.next }
-        requires next { stretch.now.next ≤ length held.now.units.now }
+    /// What an edit changes that reads this. The first definition of a label in the text counts (CommonMark 4.7).
+    pub(crate) fn of(held: &HeldText<'_>, reparsed: &Reparsed) -> Result<LabelChanges, NoMemory>
+        requires first { reparsed.now.first ≤ reparsed.now.next }
+        requires next { reparsed.now.next ≤ length held.now.units.now }
     {
-        let alloc = held.alloc;
-        let mut changes = LabelChanges {
-            changes: BTreeMap::new(alloc),
-            some_are_new: false,
-        };
-        changes.touch_held(alloc, &held.units[stretch.first..stretch.next])?;
-        changes.touch_found(alloc, &stretch.found)?;
-        if !changes.changes.is_empty() {
-            changes.define_held(alloc, &held.units[..stretch.first])?;
-            changes.define_found(alloc, &stretch.found)?;
-            changes.define_held(alloc, &held.units[stretch.next..])?;
-            changes.compare(held.labels);
+        let mut touched = TouchedLabels::new(held.alloc);
+        touched.touch_held(&held.units[reparsed.first..reparsed.next])?;
+        touched.touch_found(&reparsed.found)?;
+        if !touched.is_empty() {
+            touched.define_held(&held.units[..reparsed.first])?;
+            touched.define_found(&reparsed.found)?;
+            touched.define_held(&held.units[reparsed.next..])?;
         }
-        Ok(changes)
+        Ok(LabelChanges {
+            targets: touched.changed(held.labels)?,
+        })
     }
 
-    /// The change of a label; none where the edit does not touch it.
-    pub fn get(&self, label: &Label) -> Option<&LabelChange>
-        ensures { option_copied result ≡ at label.now self.now.changes.entries }
+    /// Where a label leads after the edit, or that it leads nowhere then; none where it leads where it led.
+    pub(crate) fn get(&self, label: &Label) -> Option<&Option<Target>>
+        ensures { option_copied result ≡ at label.now self.now.targets.entries }
     {
-        self.changes.get(label)
+        self.targets.get(label)
     }
 
-    /// The labels that the edit touches.
-    pub fn labels(&self) -> Keys<'_, Label, LabelChange> {
-        self.changes.keys()
+    /// The labels that lead elsewhere after the edit.
+    pub(crate) fn labels(&self) -> Keys<'_, Label, Option<Target>> {
+        self.targets.keys()
     }
 
-    /// Whether a label leads elsewhere after the edit.
-    pub fn some_are_new(&self) -> bool {
-        self.some_are_new
+    /// Whether each label leads where it led.
+    pub(crate) fn is_empty(&self) -> bool {
+        self.targets.is_empty()
     }
 
     /// Whether a label was asked for that leads elsewhere after the edit.
-    pub fn concern(&self, asked: &Asked) -> bool {
-        if !self.some_are_new {
-            return false;
-        }
+    pub(crate) fn concern(&self, asked: &Asked) -> bool {
         for i in 0..asked.len() {
             if let Some(label) = asked.get(i)
-                && self.is_new(label)
+                && self.targets.contains_key(label)
             {
                 return true;
             }
@@ -82,93 +67,10 @@ impl LabelChanges {
         false
     }
 
-    fn is_new(&self, label: &Label) -> bool {
-        match self.changes.get(label) {
-            Some(change) => change.is_new,
-            None => false,
-        }
-    }
-
     /// Lets the labels lead where they do after the edit. It takes no memory.
-    pub fn carry_out(self, held: &mut HeldLabels) {
-        for (label, change) in self.changes {
-            held.exchange(&label, change.target);
+    pub(crate) fn commit(self, held: &mut HeldLabels) {
+        for (label, target) in self.targets {
+            held.set(&label, target);
         }
-    }
-
-    fn touch_held(&mut self, alloc: Global, units: &[HeldUnit]) -> Result<(), NoMemory> {
-        for unit in units {
-            self.touch(alloc, unit.found().unit())?;
-        }
-        Ok(())
-    }
-
-    fn touch_found(&mut self, alloc: Global, found: &[Found]) -> Result<(), NoMemory> {
-        for one in found {
-            self.touch(alloc, one.unit())?;
-        }
-        Ok(())
-    }
-
-    fn touch(&mut self, alloc: Global, unit: &Unit) -> Result<(), NoMemory> {
-        for definition in unit.definitions() {
-            if !self.changes.contains_key(&definition.label) {
-                let nowhere = LabelChange {
-                    target: None,
-                    is_new: false,
-                };
-                self.changes.insert(definition.label.copy(alloc)?, nowhere)?;
-            }
-        }
-        Ok(())
-    }
-
-    fn define_held(&mut self, alloc: Global, units: &[HeldUnit]) -> Result<(), NoMemory> {
-        for unit in units {
-            self.define(alloc, unit.found().unit())?;
-        }
-        Ok(())
-    }
-
-    fn define_found(&mut self, alloc: Global, found: &[Found]) -> Result<(), NoMemory> {
-        for one in found {
-            self.define(alloc, one.unit())?;
-        }
-        Ok(())
-    }
-
-    /// Each label that is touched and leads nowhere yet leads where the unit defines it to lead.
-    fn define(&mut self, alloc: Global, unit: &Unit) -> Result<(), NoMemory> {
-        for definition in unit.definitions() {
-            self.define_one(alloc, definition)?;
-        }
-        Ok(())
-    }
-
-    fn define_one(&mut self, alloc: Global, definition: &Definition) -> Result<(), NoMemory> {
-        if let Some(change) = self.changes.get_mut(&definition.label) {
-            if change.target.is_none() {
-                change.target = Some(definition.target.copy(alloc)?);
-            }
-        }
-        Ok(())
-    }
-
-    /// Marks the labels that led elsewhere before.
-    fn compare(&mut self, held: &HeldLabels) {
-        let mut some_are_new = false;
-        for (label, change) in &mut self.changes {
-            change.is_new = !is_same(held.find(label), change.target.as_ref());
-            some_are_new = some_are_new || change.is_new;
-        }
-        self.some_are_new = some_are_new;
-    }
-}
-
-fn is_same(one: Option<&Target>, other: Option<&Target>) -> bool {
-    match (one, other) {
-        (None, None) => true,
-        (Some(one), Some(other)) => one == other,
-        _ => false,
     }
 }

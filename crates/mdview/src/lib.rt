@@ -2,7 +2,7 @@
 #![tactic(auto)]
 
 mod clean;
-mod exchange;
+mod commit;
 mod fault;
 mod held_labels;
 mod held_units;
@@ -14,12 +14,13 @@ mod patch;
 mod pieces;
 mod preview;
 mod readings;
-mod renewals;
-mod replacing;
+mod reparse;
 mod resuming;
-mod stretches;
+mod splice;
 #[cfg(test)]
 mod tests;
+mod touched_labels;
+mod update;
 
 pub use fault::EditFault;
 pub use laws::edits_leave_the_present_text;

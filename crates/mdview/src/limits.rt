@@ -7,7 +7,7 @@ ghost use Rattle.mdview.specs.Edit.{has_line_ending, first_with_ending};
 use mdtext::{Class, clean_len, first_special};
 
 /// Whether a line ending stands in the line.
-pub fn has_line_break(line: &str) -> bool
+pub(crate) fn has_line_break(line: &str) -> bool
     ensures { result ≡ has_line_ending line.now }
 {
     let bytes = line.as_bytes();
@@ -15,7 +15,7 @@ pub fn has_line_break(line: &str) -> bool
 }
 
 /// The first line that holds a line ending.
-pub fn first_line_break(lines: &[&str]) -> Option<usize>
+pub(crate) fn first_line_break(lines: &[&str]) -> Option<usize>
     ensures { result ≡ first_with_ending 0 (map (λ line. line.now) lines.now) }
 {
     for i in 0..lines.len() {
@@ -27,7 +27,7 @@ pub fn first_line_break(lines: &[&str]) -> Option<usize>
 }
 
 /// The size of lines after NUL is replaced, up to the greatest number.
-pub fn clean_size(lines: &[&str]) -> usize
+pub(crate) fn clean_size(lines: &[&str]) -> usize
     ensures { result ≡ min (size_of (map without_nul (map (λ line. line.now) lines.now))) (2 ^ 64 - 1) }
 {
     let mut size: usize = 0;
@@ -38,7 +38,7 @@ pub fn clean_size(lines: &[&str]) -> usize
 }
 
 /// The size of kept lines.
-pub fn size(lines: &[String]) -> usize
+pub(crate) fn size(lines: &[String]) -> usize
     requires { size_of (map string_bytes lines.now) ≤ 16777216 }
     ensures { result ≡ size_of (map string_bytes lines.now) }
 {

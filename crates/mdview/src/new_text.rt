@@ -6,7 +6,7 @@ ghost use Rattle.mdview.specs.NewText.{lines_of};
 
 /// The lines that an edit would leave: those before it, those that it adds, and those behind it. None is copied.
 #[derive(Clone, Copy)]
-pub struct NewText<'a> {
+pub(crate) struct NewText<'a> {
     front: &'a [String],
     gone: &'a [String],
     added: &'a [String],
@@ -15,7 +15,12 @@ pub struct NewText<'a> {
 
 impl<'a> NewText<'a> {
     /// What is left of the lines where `del` of them at `at` give way to others.
-    pub fn new(lines: &'a [String], at: usize, del: usize, added: &'a [String]) -> NewText<'a>
+    pub(crate) fn new(
+        lines: &'a [String],
+        at: usize,
+        del: usize,
+        added: &'a [String],
+    ) -> NewText<'a>
         requires { at + del ≤ length lines.now }
         ensures { lines_of result ≡ replaced (map string_bytes lines.now) at del (map string_bytes added.now) }
     {
@@ -27,7 +32,7 @@ impl<'a> NewText<'a> {
         }
     }
 
-    pub fn len(&self) -> usize
+    pub(crate) fn len(&self) -> usize
         requires { length (lines_of self.now) ≤ 1000000 }
         ensures { result ≡ length (lines_of self.now) }
     {
@@ -35,7 +40,7 @@ impl<'a> NewText<'a> {
     }
 
     /// The line of this number.
-    pub fn line(&self, i: usize) -> &'a str
+    pub(crate) fn line(&self, i: usize) -> &'a str
         requires { i < length (lines_of self.now) }
         ensures { result.now ≡ get_or (lines_of self.now) i [] }
     {
@@ -50,7 +55,7 @@ impl<'a> NewText<'a> {
     }
 
     /// The number that a line behind the edit has in the text before it.
-    pub fn old_line(&self, i: usize) -> Option<usize> {
+    pub(crate) fn old_line(&self, i: usize) -> Option<usize> {
         let behind = i
             .checked_sub(self.front.len())?
             .checked_sub(self.added.len())?;
@@ -61,7 +66,7 @@ impl<'a> NewText<'a> {
     }
 
     /// The first line that the edit touches.
-    pub fn at(&self) -> usize
+    pub(crate) fn at(&self) -> usize
         ensures { result ≤ length (lines_of self.now) }
     {
         self.front.len()

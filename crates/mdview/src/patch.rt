@@ -16,9 +16,9 @@ pub struct Patch {
 }
 
 impl Model for Patch {
-    ghost use Rattle.mdview.specs.Stretch.{Stretch};
+    ghost use Rattle.mdview.specs.ChangedPieces.{ChangedPieces};
 
-    ghost Value = { Stretch };
+    ghost Value = { ChangedPieces };
 
     ghost view = { λ p. record { first = p.first; removed = p.removed; added = p.added; again = p.again.items } };
 }

@@ -1,15 +1,16 @@
-ghost use Rattle.std.specs.Prelude.{if◌then◌else◌, nat_lt, None, Some, ◌≡◌, ◌≤◌, ◌+◌, IfOk, IfErr, OnOk, List, [], map, length, slice_get, get_or, IsSome, option_map, string_bytes};
+ghost use Rattle.std.specs.Prelude.{if◌then◌else◌, nat_lt, None, Some, ◌≡◌, ◌≤◌, ◌+◌, IfOk, IfErr, OnOk};
+ghost use Rattle.std.specs.Prelude.{List, [], map, length, slice_get, get_or, IsSome, option_map, string_bytes};
 ghost use Rattle.mdview.specs.Document.{document, size_of};
-ghost use Rattle.mdview.specs.Edit.{Call, due, put};
+ghost use Rattle.mdview.specs.Edit.{Call, call_of, due, put};
 ghost use Rattle.mdview.specs.Outcome.{outcome};
 ghost use Rattle.mdview.specs.Lists.{replaced};
-ghost use Rattle.mdview.specs.Reading.{OfReading, reading_of};
+ghost use Rattle.mdview.specs.ReadingEnd.{OfReading, reading_of};
 ghost use Rattle.mdview.specs.HeldUnit.{ReadUnit, first_line, texts_of};
 ghost use Rattle.mdview.specs.Patch.{Brings};
-ghost use Rattle.mdview.specs.Renewed.{Renews};
+ghost use Rattle.mdview.specs.Update.{IsFitFor};
 
 use crate::clean::clean_lines;
-use crate::exchange::exchange;
+use crate::commit::commit;
 use crate::fault::EditFault;
 use crate::held_labels::HeldLabels;
 use crate::held_units::HeldUnit;
@@ -17,9 +18,9 @@ use crate::limits::{clean_size, first_line_break, size};
 use crate::new_text::NewText;
 use crate::patch::Patch;
 use crate::pieces::Pieces;
-use crate::renewals::{Held, Renewal};
-use crate::replacing::replace;
 use crate::resuming::begin_of;
+use crate::splice::splice;
+use crate::update::{HeldText, Update};
 use mdblock::Unit;
 use mdhtml::Options;
 use mdinline::Parsed;
@@ -56,9 +57,17 @@ impl Model for Preview {
 
     ghost coded = { Prim.hlevel (codes, read_unit_code) };
 
-    ghost view = { λ p. record { entities = p.entities; options = p.options; lines = map string_bytes p.lines.items; head = p.head; units = map read_of p.units.items; pieces = map piece_of p.units.items } };
+    ghost view = { λ p. record {
+      entities = p.entities;
+      options = p.options;
+      lines = map string_bytes p.lines.items;
+      head = p.head;
+      units = map read_of p.units.items;
+      pieces = map piece_of p.units.items;
+    } };
 
-    ghost invariant = { λ p. (p.size ≡ size_of (map string_bytes p.lines.items)) × (p.size ≤ 16777216) × (length p.lines.items ≤ 1000000) × All (IsRendered p.options) p.units.items };
+    ghost invariant = { λ p. (p.size ≡ size_of (map string_bytes p.lines.items)) × (p.size ≤ 16777216) × (length p.lines.items ≤ 1000000)
+        × All (IsRendered p.options) p.units.items };
 }
 
 impl Preview {
@@ -104,10 +113,10 @@ impl Preview {
 
     /// The unit of this number; nothing where the text has fewer.
     pub fn unit(&self, i: usize) -> Option<&Unit>
-        ensures { option_map (λ unit. unit.now) result ≡ option_map (λ (u : ReadUnit). u.found.unit) (slice_get self.now.units i) }
+        ensures { option_map (λ unit. unit.now) result ≡ option_map (λ (u : ReadUnit). u.unit) (slice_get self.now.units i) }
     {
         match self.units.get(i) {
-            Some(unit) => Some(unit.found().unit()),
+            Some(unit) => Some(unit.unit()),
             None => None,
         }
     }
@@ -154,12 +163,12 @@ impl Preview {
 impl Preview {
     /// The size of the text after the edit, or why it is refused, whatever the memory. Takes none.
     fn accept(&self, at: usize, del: usize, add: &[&str]) -> Result<usize, EditFault>
-        ensures ok { IfOk result (λ size. (due self.now.lines (record { at = at; del = del; add = map (λ line. line.now) add.now }) ≡ None)
-            × (size ≡ size_of (put self.now.lines (record { at = at; del = del; add = map (λ line. line.now) add.now })))) }
-        ensures err { IfErr result (λ fault. due self.now.lines (record { at = at; del = del; add = map (λ line. line.now) add.now }) ≡ Some fault) }
+        ensures ok { IfOk result (λ size. (due self.now.lines (call_of at del (map (λ line. line.now) add.now)) ≡ None)
+            × (size ≡ size_of (put self.now.lines (call_of at del (map (λ line. line.now) add.now))))) }
+        ensures err { IfErr result (λ fault. due self.now.lines (call_of at del (map (λ line. line.now) add.now)) ≡ Some fault) }
         ensures within { OnOk result (at + del ≤ length self.now.lines) }
-        ensures small { OnOk result ((length (put self.now.lines (record { at = at; del = del; add = map (λ line. line.now) add.now })) ≤ 1000000)
-            × (size_of (put self.now.lines (record { at = at; del = del; add = map (λ line. line.now) add.now })) ≤ 16777216)) }
+        ensures small { OnOk result ((length (put self.now.lines (call_of at del (map (λ line. line.now) add.now))) ≤ 1000000)
+            × (size_of (put self.now.lines (call_of at del (map (λ line. line.now) add.now))) ≤ 16777216)) }
     {
         let lines = self.lines.len();
         if at > lines || del > lines - at {
@@ -192,18 +201,18 @@ impl Preview {
         add: &[&str],
         count: &mut C,
     ) -> Result<Patch, EditFault>
-        ensures outcome { (result, self.new) ≡ outcome self.old (record { at = at; del = del; add = map (λ line. line.now) add.now }) (reading_of result self.new) }
+        ensures outcome { (result, self.new) ≡ outcome self.old (call_of at del (map (λ line. line.now) add.now)) (reading_of result self.new) }
         // The patch takes the old pieces to the new ones, and the units that it does not bring are held as they were.
         ensures patch { IfOk result (λ patch. Brings patch self.old.pieces self.new.pieces) }
         ensures units { IfOk result (λ patch. Brings patch self.old.units self.new.units) }
         // What was read is counted, and nothing is read where a refusal is due.
-        ensures lines { C.lines count.new ≤ C.lines count.old + length (put self.old.lines (record { at = at; del = del; add = map (λ line. line.now) add.now })) }
+        ensures lines { C.lines count.new ≤ C.lines count.old + length (put self.old.lines (call_of at del (map (λ line. line.now) add.now))) }
         ensures inlines { OnOk result (C.inlines count.new ≤ C.inlines count.old + texts_of self.new.units) }
-        ensures uncounted { IsSome (due self.old.lines (record { at = at; del = del; add = map (λ line. line.now) add.now })) → count.new ≡ count.old }
+        ensures uncounted { IsSome (due self.old.lines (call_of at del (map (λ line. line.now) add.now))) → count.new ≡ count.old }
     {
         let size = self.accept(at, del, add)?;
         let mut new_lines = clean_lines(self.alloc, add)?;
-        let held = Held {
+        let held = HeldText {
             alloc: self.alloc,
             entities: &self.entities,
             options: &self.options,
@@ -212,16 +221,16 @@ impl Preview {
             labels: &self.labels,
         };
         let text = NewText::new(&self.lines, at, del, &new_lines);
-        let renewal = Renewal::of(&held, text, count)?;
-        let patch = renewal.patch(self.alloc)?;
+        let update = Update::of(&held, text, count)?;
+        let patch = update.patch(self.alloc)?;
         self.lines.reserve(new_lines.len())?;
-        self.units.reserve(renewal.units.len())?;
-        self.labels.make_room(self.alloc, &renewal.changes)?;
+        self.units.reserve(update.units.len())?;
+        self.labels.make_room(self.alloc, &update.changes)?;
         // From here on nothing fails.
-        replace(&mut self.lines, at, del, &mut new_lines);
+        splice(&mut self.lines, at, del, &mut new_lines);
         self.size = size;
-        self.head = renewal.head;
-        exchange(&mut self.units, &mut self.labels, renewal);
+        self.head = update.head;
+        commit(&mut self.units, &mut self.labels, update);
         Ok(patch)
     }
 }

@@ -2,9 +2,9 @@
 
 ghost use Rattle.std.specs.Prelude.{◌≡◌, ◌+◌, ◌≤◌, ◌<◌, IfOk, IfErr, OnOk, length, map, string_bytes};
 ghost use Rattle.std.specs.List.{All};
-ghost use Rattle.mdview.specs.Reading.{OfReading};
-ghost use Rattle.mdview.specs.HeldUnit.{HeldUnit, IsRendered, unit_piece, texts_of, read_of, found_in, texts_before, texts_in};
-ghost use Rattle.mdview.specs.Renewed.{Fits, IsWritten};
+ghost use Rattle.mdview.specs.ReadingEnd.{OfReading};
+ghost use Rattle.mdview.specs.HeldUnit.{HeldUnit, IsRendered, html_of, texts_of, read_of, unit_in, texts_before, texts_in};
+ghost use Rattle.mdview.specs.Update.{Fits, IsWritten};
 
 use crate::fault::EditFault;
 use crate::held_labels::LabelsAfter;
@@ -17,24 +17,24 @@ use std::alloc::{AllocError, Global};
 
 /// Reads inline texts under the labels of the text that an edit leaves, and writes HTML. Each text that is read is counted.
 #[derive(Clone, Copy)]
-pub struct TextReader<'a> {
-    pub alloc: Global,
-    pub entities: &'a Entities,
-    pub options: &'a Options,
-    pub labels: LabelsAfter<'a>,
+pub(crate) struct TextReader<'a> {
+    pub(crate) alloc: Global,
+    pub(crate) entities: &'a Entities,
+    pub(crate) options: &'a Options,
+    pub(crate) labels: LabelsAfter<'a>,
 }
 
 /// A unit that is held, by its number, with what its texts read as after an edit, and its piece then.
 #[derive(Drop)]
-pub struct Again {
-    pub unit: usize,
-    pub inlines: Vec<Parsed>,
-    pub piece: String,
+pub(crate) struct Again {
+    pub(crate) unit: usize,
+    pub(crate) inlines: Vec<Parsed>,
+    pub(crate) piece: String,
 }
 
 impl<'a> TextReader<'a> {
     /// Reads the texts of the units that were found in the lines from `from` on.
-    pub fn read_units<C: Count>(
+    pub(crate) fn read_units<C: Count>(
         &self,
         found: Vec<Found>,
         from: usize,
@@ -57,10 +57,10 @@ impl<'a> TextReader<'a> {
     }
 
     fn read_unit<C: Count>(&self, found: Found, count: &mut C) -> Result<HeldUnit, InlineFault>
-        ensures found { IfOk result (λ unit. unit.read.found ≡ found) }
+        ensures unit { IfOk result (λ unit. unit.read.unit ≡ found.unit) }
         ensures piece { IfOk result (IsRendered self.now.options.now) }
         ensures lines { C.lines count.new ≡ C.lines count.old }
-        ensures inlines { IfOk result (λ unit. C.inlines count.new ≤ C.inlines count.old + texts_in unit.read.found) }
+        ensures inlines { IfOk result (λ unit. C.inlines count.new ≤ C.inlines count.old + texts_in unit.read.unit) }
     {
         let inlines = self.read_texts(found.unit(), count)?;
         let piece = unit_html(self.alloc, found.unit().blocks(), &inlines, self.options)?;
@@ -80,9 +80,9 @@ impl<'a> TextReader<'a> {
         Ok(inlines)
     }
 
-    /// Reads again those of the units from number `first` up to `next`, the first of which begins in line `begin` after the edit, that asked for a label
-    /// that leads elsewhere then. A text of theirs that did not ask for one is not read again.
-    pub fn read_again<C: Count>(
+    /// Reads again those of the units from number `first` up to `next`, the first of which begins in line `begin` after the edit,
+    /// that asked for a label that leads elsewhere then. A text of theirs that did not ask for one is not read again.
+    pub(crate) fn read_again<C: Count>(
         &self,
         units: &[HeldUnit],
         first: usize,
@@ -93,15 +93,15 @@ impl<'a> TextReader<'a> {
     ) -> Result<(), EditFault>
         requires order { first ≤ next }
         requires within { next ≤ length units.now }
-        requires fits { All (Fits (map found_in units.now)) again.old.items }
-        requires written { All (IsWritten self.now.options.now (map found_in units.now)) again.old.items }
-        ensures fits { OnOk result (All (Fits (map found_in units.now)) again.new.items) }
-        ensures written { OnOk result (All (IsWritten self.now.options.now (map found_in units.now)) again.new.items) }
+        requires fits { All (Fits (map unit_in units.now)) again.old.items }
+        requires written { All (IsWritten self.now.options.now (map unit_in units.now)) again.old.items }
+        ensures fits { OnOk result (All (Fits (map unit_in units.now)) again.new.items) }
+        ensures written { OnOk result (All (IsWritten self.now.options.now (map unit_in units.now)) again.new.items) }
         ensures fault { IfErr result OfReading }
         ensures lines { C.lines count.new ≡ C.lines count.old }
         ensures inlines { OnOk result (C.inlines count.new + texts_before first units.now ≤ C.inlines count.old + texts_before next units.now) }
     {
-        if !self.labels.changes.some_are_new() {
+        if self.labels.changes.is_empty() {
             return Ok(());
         }
         let mut begin = begin;
@@ -109,7 +109,7 @@ impl<'a> TextReader<'a> {
             if let Err(fault) = self.read_if_concerned(units, i, again, count) {
                 return Err(fault_in_unit(fault, begin));
             }
-            begin = begin.saturating_add(units[i].found().lines());
+            begin = begin.saturating_add(units[i].lines());
         }
         Ok(())
     }
@@ -123,10 +123,10 @@ impl<'a> TextReader<'a> {
         count: &mut C,
     ) -> Result<(), InlineFault>
         requires within { number < length units.now }
-        requires fits { All (Fits (map found_in units.now)) again.old.items }
-        requires written { All (IsWritten self.now.options.now (map found_in units.now)) again.old.items }
-        ensures fits { OnOk result (All (Fits (map found_in units.now)) again.new.items) }
-        ensures written { OnOk result (All (IsWritten self.now.options.now (map found_in units.now)) again.new.items) }
+        requires fits { All (Fits (map unit_in units.now)) again.old.items }
+        requires written { All (IsWritten self.now.options.now (map unit_in units.now)) again.old.items }
+        ensures fits { OnOk result (All (Fits (map unit_in units.now)) again.new.items) }
+        ensures written { OnOk result (All (IsWritten self.now.options.now (map unit_in units.now)) again.new.items) }
         ensures lines { C.lines count.new ≡ C.lines count.old }
         ensures inlines { C.inlines count.new + texts_before number units.now ≤ C.inlines count.old + texts_before (number + 1) units.now }
     {
@@ -154,18 +154,13 @@ impl<'a> TextReader<'a> {
         count: &mut C,
     ) -> Result<Again, InlineFault>
         ensures unit { IfOk result (λ again. again.unit ≡ number) }
-        ensures all { IfOk result (λ again. length again.inlines.items ≡ length unit.now.read.found.unit.texts) }
-        ensures piece { IfOk result (λ again. string_bytes again.piece ≡ unit_piece self.now.options.now (record { found = unit.now.read.found; readings = again.inlines.items })) }
+        ensures all { IfOk result (λ again. length again.inlines.items ≡ length unit.now.read.unit.texts) }
+        ensures piece { IfOk result (λ again. string_bytes again.piece ≡ html_of self.now.options.now unit.now.read.unit again.inlines.items) }
         ensures lines { C.lines count.new ≡ C.lines count.old }
-        ensures inlines { C.inlines count.new ≤ C.inlines count.old + length unit.now.read.found.unit.texts }
+        ensures inlines { C.inlines count.new ≤ C.inlines count.old + length unit.now.read.unit.texts }
     {
         let inlines = self.read_some(unit, count)?;
-        let piece = unit_html(
-            self.alloc,
-            unit.found().unit().blocks(),
-            &inlines,
-            self.options,
-        )?;
+        let piece = unit_html(self.alloc, unit.unit().blocks(), &inlines, self.options)?;
         Ok(Again {
             unit: number,
             inlines,
@@ -179,11 +174,11 @@ impl<'a> TextReader<'a> {
         unit: &HeldUnit,
         count: &mut C,
     ) -> Result<Vec<Parsed>, InlineFault>
-        ensures all { IfOk result (λ inlines. length inlines.items ≡ length unit.now.read.found.unit.texts) }
+        ensures all { IfOk result (λ inlines. length inlines.items ≡ length unit.now.read.unit.texts) }
         ensures lines { C.lines count.new ≡ C.lines count.old }
-        ensures inlines { C.inlines count.new ≤ C.inlines count.old + length unit.now.read.found.unit.texts }
+        ensures inlines { C.inlines count.new ≤ C.inlines count.old + length unit.now.read.unit.texts }
     {
-        let texts = unit.found().unit().texts();
+        let texts = unit.unit().texts();
         let held = unit.inlines();
         let mut inlines = Vec::with_capacity(self.alloc, texts.len())?;
         for i in 0..texts.len() {

@@ -7,26 +7,26 @@ use crate::held_units::HeldUnit;
 
 /// A unit by its number, and the number of its first line.
 #[derive(Clone, Copy)]
-pub struct Place {
-    pub unit: usize,
-    pub line: usize,
+pub(crate) struct UnitStart {
+    pub(crate) unit: usize,
+    pub(crate) line: usize,
 }
 
 /// Where reading begins: a line, and the first unit that is not before it.
 #[derive(Clone, Copy)]
-pub struct Resume {
-    pub from: usize,
-    pub place: Place,
+pub(crate) struct Resume {
+    pub(crate) from: usize,
+    pub(crate) start: UnitStart,
 }
 
 /// The last unit that begins above a line. Where there is none, it is the front of the text.
-pub fn resume_at(units: &[HeldUnit], head: usize, at: usize) -> Resume
+pub(crate) fn resume_at(units: &[HeldUnit], head: usize, at: usize) -> Resume
     ensures from { result.from ≤ at }
-    ensures unit { result.place.unit ≤ length units.now }
+    ensures unit { result.start.unit ≤ length units.now }
 {
     let mut resume = Resume {
         from: 0,
-        place: Place {
+        start: UnitStart {
             unit: 0,
             line: head,
         },
@@ -38,54 +38,54 @@ pub fn resume_at(units: &[HeldUnit], head: usize, at: usize) -> Resume
         }
         resume = Resume {
             from: begin,
-            place: Place {
+            start: UnitStart {
                 unit: i,
                 line: begin,
             },
         };
-        begin = begin.saturating_add(units[i].found().lines());
+        begin = begin.saturating_add(units[i].lines());
     }
     resume
 }
 
 /// The first line of the unit of this number, or the line behind the last unit.
-pub fn begin_of(units: &[HeldUnit], head: usize, number: usize) -> usize
+pub(crate) fn begin_of(units: &[HeldUnit], head: usize, number: usize) -> usize
     requires { number ≤ length units.now }
     ensures { result ≡ first_line head (map read_of units.now) number }
 {
     let mut begin = head;
     for i in 0..number {
-        begin = begin.saturating_add(units[i].found().lines());
+        begin = begin.saturating_add(units[i].lines());
     }
     begin
 }
 
 /// The units in their order, each with its first line. It goes on and never back.
 #[derive(Drop)]
-pub struct Cursor<'a> {
+pub(crate) struct UnitCursor<'a> {
     units: &'a [HeldUnit],
-    next: Place,
+    next: UnitStart,
 }
 
-impl<'a> Cursor<'a> {
+impl<'a> UnitCursor<'a> {
     /// A cursor at a unit.
-    pub fn at(units: &'a [HeldUnit], place: Place) -> Cursor<'a>
-        ensures { (result.units.now ≡ units.now) × (result.next ≡ place) }
+    pub(crate) fn at(units: &'a [HeldUnit], start: UnitStart) -> UnitCursor<'a>
+        ensures { (result.units.now ≡ units.now) × (result.next ≡ start) }
     {
-        Cursor { units, next: place }
+        UnitCursor { units, next: start }
     }
 
     /// The unit that begins at a line. The lines that are asked for ascend.
-    pub fn unit_at(&mut self, line: usize) -> Option<usize>
+    pub(crate) fn unit_at(&mut self, line: usize) -> Option<usize>
         ensures same { self.new.units.now ≡ self.old.units.now }
         ensures forward { self.old.next.unit ≤ self.new.next.unit }
         ensures unit { IfSome result (λ unit. (unit ≡ self.new.next.unit) × (unit < length self.new.units.now)) }
     {
         while self.next.unit < self.units.len() && self.next.line < line {
             let unit = &self.units[self.next.unit];
-            self.next = Place {
+            self.next = UnitStart {
                 unit: self.next.unit + 1,
-                line: self.next.line.saturating_add(unit.found().lines()),
+                line: self.next.line.saturating_add(unit.lines()),
             };
         }
         if self.next.unit < self.units.len() && self.next.line == line {

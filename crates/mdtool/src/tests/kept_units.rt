@@ -8,12 +8,37 @@ static SCRIPTS: [(&str, &str); 8] = [
     // a label that leads elsewhere
     (
         "edit 0 0 5\n[foo]\n\nx\n\n[foo]: /a\nedit 4 1 1\n[foo]: /b\n",
-        "ok 0 0 3 0\npiece 0 28\n<p><a href=\"/a\">foo</a></p>\npiece 1 9\n<p>x</p>\npiece 2 0\nok 1 2 2 1\npiece 0 28\n<p><a href=\"/b\">foo</a></p>\npiece 1 9\n<p>x</p>\npiece 2 0\n",
+        "ok 0 0 3 0
+piece 0 28
+<p><a href=\"/a\">foo</a></p>
+piece 1 9
+<p>x</p>
+piece 2 0
+ok 1 2 2 1
+piece 0 28
+<p><a href=\"/b\">foo</a></p>
+piece 1 9
+<p>x</p>
+piece 2 0
+",
     ),
     // the first definition of a label counts
     (
         "edit 0 0 5\n[foo]\n\nx\n\n[foo]: /a\nedit 0 0 2\n[foo]: /c\n\nedit 0 2 0\n",
-        "ok 0 0 3 0\npiece 0 28\n<p><a href=\"/a\">foo</a></p>\npiece 1 9\n<p>x</p>\npiece 2 0\nok 0 0 1 1\npiece 0 0\npiece 1 28\n<p><a href=\"/c\">foo</a></p>\nok 0 1 0 1\npiece 0 28\n<p><a href=\"/a\">foo</a></p>\n",
+        "ok 0 0 3 0
+piece 0 28
+<p><a href=\"/a\">foo</a></p>
+piece 1 9
+<p>x</p>
+piece 2 0
+ok 0 0 1 1
+piece 0 0
+piece 1 28
+<p><a href=\"/c\">foo</a></p>
+ok 0 1 0 1
+piece 0 28
+<p><a href=\"/a\">foo</a></p>
+",
     ),
     // a fence that is not closed any more
     (
@@ -23,12 +48,63 @@ static SCRIPTS: [(&str, &str); 8] = [
     // two lists that become one
     (
         "edit 0 0 3\n- a\n<!-- -->\n- b\nedit 1 1 0\nhtml\n",
-        "ok 0 0 3 0\npiece 0 22\n<ul>\n<li>a</li>\n</ul>\npiece 1 26\n<!-- raw HTML omitted -->\npiece 2 22\n<ul>\n<li>b</li>\n</ul>\nok 0 3 1 0\npiece 0 33\n<ul>\n<li>a</li>\n<li>b</li>\n</ul>\nhtml 33\n<ul>\n<li>a</li>\n<li>b</li>\n</ul>\n",
+        "ok 0 0 3 0
+piece 0 22
+<ul>
+<li>a</li>
+</ul>
+piece 1 26
+<!-- raw HTML omitted -->
+piece 2 22
+<ul>
+<li>b</li>
+</ul>
+ok 0 3 1 0
+piece 0 33
+<ul>
+<li>a</li>
+<li>b</li>
+</ul>
+html 33
+<ul>
+<li>a</li>
+<li>b</li>
+</ul>
+",
     ),
     // a paragraph's lines that become a table
     (
         "edit 0 0 4\nfoo\n| a |\n| - |\n| b |\nedit 0 1 0\n",
-        "ok 0 0 1 0\npiece 0 106\n<p>foo</p>\n<table>\n<thead>\n<tr>\n<th>a</th>\n</tr>\n</thead>\n<tbody>\n<tr>\n<td>b</td>\n</tr>\n</tbody>\n</table>\nok 0 1 1 0\npiece 0 95\n<table>\n<thead>\n<tr>\n<th>a</th>\n</tr>\n</thead>\n<tbody>\n<tr>\n<td>b</td>\n</tr>\n</tbody>\n</table>\n",
+        "ok 0 0 1 0
+piece 0 106
+<p>foo</p>
+<table>
+<thead>
+<tr>
+<th>a</th>
+</tr>
+</thead>
+<tbody>
+<tr>
+<td>b</td>
+</tr>
+</tbody>
+</table>
+ok 0 1 1 0
+piece 0 95
+<table>
+<thead>
+<tr>
+<th>a</th>
+</tr>
+</thead>
+<tbody>
+<tr>
+<td>b</td>
+</tr>
+</tbody>
+</table>
+",
     ),
     // a line below a paragraph that makes it a heading
     (

@@ -123,8 +123,19 @@ fn ends_at_each_device_fault(rt: HostRuntime) -> Result<(), Fail> {
 /// Two edits, of which the second leads a link elsewhere.
 const EDITS: &[u8] = b"edit 0 0 5\n[foo]\n\nx\n\n[foo]: /a\nedit 4 1 1\n[foo]: /b\n";
 
-const REPLIES: &str =
-    "ok 0 0 3 0\npiece 0 28\n<p><a href=\"/a\">foo</a></p>\npiece 1 9\n<p>x</p>\npiece 2 0\nok 1 2 2 1\npiece 0 28\n<p><a href=\"/b\">foo</a></p>\npiece 1 9\n<p>x</p>\npiece 2 0\n";
+const REPLIES: &str = "ok 0 0 3 0
+piece 0 28
+<p><a href=\"/a\">foo</a></p>
+piece 1 9
+<p>x</p>
+piece 2 0
+ok 1 2 2 1
+piece 0 28
+<p><a href=\"/b\">foo</a></p>
+piece 1 9
+<p>x</p>
+piece 2 0
+";
 
 /// The bytes of the first of these replies; the second has as many.
 const REPLY: u64 = 79;

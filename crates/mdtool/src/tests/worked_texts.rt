@@ -66,7 +66,25 @@ static BLOCKS: [(&str, &str); 16] = [
     ),
     (
         "| a | b |\n| :-- | --: |\n| 1 |\n| 2 | 3 | 4 |\n",
-        "<table>\n<thead>\n<tr>\n<th align=\"left\">a</th>\n<th align=\"right\">b</th>\n</tr>\n</thead>\n<tbody>\n<tr>\n<td align=\"left\">1</td>\n<td align=\"right\"></td>\n</tr>\n<tr>\n<td align=\"left\">2</td>\n<td align=\"right\">3</td>\n</tr>\n</tbody>\n</table>\n",
+        "<table>
+<thead>
+<tr>
+<th align=\"left\">a</th>
+<th align=\"right\">b</th>
+</tr>
+</thead>
+<tbody>
+<tr>
+<td align=\"left\">1</td>
+<td align=\"right\"></td>
+</tr>
+<tr>
+<td align=\"left\">2</td>
+<td align=\"right\">3</td>
+</tr>
+</tbody>
+</table>
+",
     ),
     (
         "- | a |\n  | - |\n",

@@ -4,12 +4,12 @@ use Rattle.std.proofs.lemmas.List.{length-map}
 use Rattle.mdtext.specs.Lines.{without_nul}
 use Rattle.mdview.specs.Document.{Document}
 use Rattle.mdview.specs.Edit.{Call, put}
-use Rattle.mdview.specs.HeldUnit.{HeldUnit, IsRendered, found_in, piece_of, read_of, unit_piece}
+use Rattle.mdview.specs.HeldUnit.{HeldUnit, IsRendered, unit_in, piece_of, read_of, unit_piece}
 use Rattle.mdview.specs.Lists.{replaced}
 use Rattle.mdview.specs.Outcome.{edited}
 use Rattle.mdview.specs.Patch.{Brings}
-use Rattle.mdview.specs.Renewed.{Renews, all_renewed}
-use Rattle.mdview.proofs.Exchanged.{exchanged_brings, exchanged_rendered, exchanged_texts, pieces_are}
+use Rattle.mdview.specs.Update.{IsFitFor, all_renewed}
+use Rattle.mdview.proofs.Committed.{committed_brings, committed_rendered, committed_texts, pieces_are}
 use Rattle.mdview.proofs.Outcomes.{accepted_is_outcome}
 use Rattle.mdview.proofs.Sizes.{map_replaced}
 use Rattle.mdview.proofs.preview.Preview.edit.Goals as goal
@@ -20,20 +20,20 @@ invariant_of-self-2 g c =
     let call : Call = record { at = c.args.at; del = c.args.del; add = add } in
     let was : map string_bytes c.self.inside.lines.items ≡ c.args.self.now.lines = ap (λ d. d.lines) c.self.view_is in
     let added : map string_bytes c.in_ok-new_lines.new_lines.items ≡ map without_nul add = c.in_ok-new_lines.ensures in
-    let exchanged : c.replace.new.items.items ≡ replaced c.self.inside.lines.items c.args.at c.args.del c.in_ok-new_lines.new_lines.items =
-    c.replace.ensures ∙ ap (λ xs. replaced xs c.args.at c.args.del c.in_ok-new_lines.new_lines.items) c.in_ok-reserve.ensures.items in
-    let lines : map string_bytes c.replace.new.items.items ≡ put c.args.self.now.lines call =
-    ap (map string_bytes) exchanged ∙ map_replaced string_bytes _ _ c.args.at c.args.del ∙ (rw (was, added) refl) in
+    let spliced : c.splice.new.items.items ≡ replaced c.self.inside.lines.items c.args.at c.args.del c.in_ok-new_lines.new_lines.items =
+    c.splice.ensures ∙ ap (λ xs. replaced xs c.args.at c.args.del c.in_ok-new_lines.new_lines.items) c.in_ok-reserve.ensures.items in
+    let lines : map string_bytes c.splice.new.items.items ≡ put c.args.self.now.lines call =
+    ap (map string_bytes) spliced ∙ map_replaced string_bytes _ _ c.args.at c.args.del ∙ (rw (was, added) refl) in
     let units : List HeldUnit = c.self.inside.units.items in
-    let r = c.in_ok-renewal.renewal in
+    let r = c.in_ok-update.update in
     let options = c.self.inside.options in
-    let renews : Renews options (map found_in units) r = subst (λ (us : List HeldUnit). Renews options (map found_in us) r) c.deref.ensures.value c.in_ok-renewal.ensures.renews in
-    let held : c.exchange.new.held.items ≡ replaced (all_renewed units r.again.items) r.first (r.next - r.first) r.units.items =
-    c.exchange.ensures ∙ ap (λ us. replaced (all_renewed us r.again.items) r.first (r.next - r.first) r.units.items) c.in_ok-reserve-2.ensures.items in
-    let count = length-map c.replace.new.items.items string_bytes in
+    let fit : IsFitFor options (map unit_in units) r = subst (λ (us : List HeldUnit). IsFitFor options (map unit_in us) r) c.deref.ensures.value c.in_ok-update.ensures.fit in
+    let held : c.commit.new.held.items ≡ replaced (all_renewed units r.again.items) r.first (r.next - r.first) r.units.items =
+    c.commit.ensures ∙ ap (λ us. replaced (all_renewed us r.again.items) r.first (r.next - r.first) r.units.items) c.in_ok-reserve-2.ensures.items in
+    let count = length-map c.splice.new.items.items string_bytes in
     let small = c.in_ok-size.ensures.small in
     let size = c.in_ok-size.ensures.ok.1 in
-    let rendered = exchanged_rendered options units r renews c.self.invariant.3 in
+    let rendered = committed_rendered options units r fit c.self.invariant.3 in
     rw lines (size, rw size small.1, omega (arith, small.0, ap length lines), subst (All (IsRendered options)) (sym held) rendered)
 
 pub returns-clause-outcome : goal.returns-clause-outcome
@@ -42,62 +42,62 @@ returns-clause-outcome g c =
     let call : Call = record { at = c.args.at; del = c.args.del; add = add } in
     let was : map string_bytes c.self.inside.lines.items ≡ c.args.self.now.lines = ap (λ d. d.lines) c.self.view_is in
     let added : map string_bytes c.in_ok-new_lines.new_lines.items ≡ map without_nul add = c.in_ok-new_lines.ensures in
-    let exchanged : c.replace.new.items.items ≡ replaced c.self.inside.lines.items c.args.at c.args.del c.in_ok-new_lines.new_lines.items =
-    c.replace.ensures ∙ ap (λ xs. replaced xs c.args.at c.args.del c.in_ok-new_lines.new_lines.items) c.in_ok-reserve.ensures.items in
-    let lines : map string_bytes c.replace.new.items.items ≡ put c.args.self.now.lines call =
-    ap (map string_bytes) exchanged ∙ map_replaced string_bytes _ _ c.args.at c.args.del ∙ (rw (was, added) refl) in
+    let spliced : c.splice.new.items.items ≡ replaced c.self.inside.lines.items c.args.at c.args.del c.in_ok-new_lines.new_lines.items =
+    c.splice.ensures ∙ ap (λ xs. replaced xs c.args.at c.args.del c.in_ok-new_lines.new_lines.items) c.in_ok-reserve.ensures.items in
+    let lines : map string_bytes c.splice.new.items.items ≡ put c.args.self.now.lines call =
+    ap (map string_bytes) spliced ∙ map_replaced string_bytes _ _ c.args.at c.args.del ∙ (rw (was, added) refl) in
     let units : List HeldUnit = c.self.inside.units.items in
-    let r = c.in_ok-renewal.renewal in
+    let r = c.in_ok-update.update in
     let options = c.self.inside.options in
-    let renews : Renews options (map found_in units) r = subst (λ (us : List HeldUnit). Renews options (map found_in us) r) c.deref.ensures.value c.in_ok-renewal.ensures.renews in
-    let held : c.exchange.new.held.items ≡ replaced (all_renewed units r.again.items) r.first (r.next - r.first) r.units.items =
-    c.exchange.ensures ∙ ap (λ us. replaced (all_renewed us r.again.items) r.first (r.next - r.first) r.units.items) c.in_ok-reserve-2.ensures.items in
+    let fit : IsFitFor options (map unit_in units) r = subst (λ (us : List HeldUnit). IsFitFor options (map unit_in us) r) c.deref.ensures.value c.in_ok-update.ensures.fit in
+    let held : c.commit.new.held.items ≡ replaced (all_renewed units r.again.items) r.first (r.next - r.first) r.units.items =
+    c.commit.ensures ∙ ap (λ us. replaced (all_renewed us r.again.items) r.first (r.next - r.first) r.units.items) c.in_ok-reserve-2.ensures.items in
     let old : Document = c.args.self.now in
     let same_options : options ≡ old.options = ap (λ d. d.options) c.self.view_is in
     let entities : c.self.inside.entities ≡ old.entities = ap (λ d. d.entities) c.self.view_is in
-    let new : List HeldUnit = c.exchange.new.held.items in
-    let rendered : All (IsRendered options) new = subst (All (IsRendered options)) (sym held) (exchanged_rendered options units r renews c.self.invariant.3) in
+    let new : List HeldUnit = c.commit.new.held.items in
+    let rendered : All (IsRendered options) new = subst (All (IsRendered options)) (sym held) (committed_rendered options units r fit c.self.invariant.3) in
     let pieces : map piece_of new ≡ map (unit_piece old.options) (map read_of new) = pieces_are options new rendered ∙ (rw same_options refl) in
-    let fresh : record { entities = c.self.inside.entities; options = options; lines = map string_bytes c.replace.new.items.items; head = r.head; units = map read_of new; pieces = map piece_of new }
+    let fresh : record { entities = c.self.inside.entities; options = options; lines = map string_bytes c.splice.new.items.items; head = r.head; units = map read_of new; pieces = map piece_of new }
     ≡ edited old call r.head (map read_of new) = rw (entities, same_options, lines, pieces) refl in
     accepted_is_outcome old _ call c.in_ok-patch.patch r.head (map read_of new) c.in_ok-size.ensures.ok.0 fresh
 
 pub returns-clause-patch : goal.returns-clause-patch
 returns-clause-patch g c =
     let units : List HeldUnit = c.self.inside.units.items in
-    let r = c.in_ok-renewal.renewal in
+    let r = c.in_ok-update.update in
     let options = c.self.inside.options in
-    let renews : Renews options (map found_in units) r = subst (λ (us : List HeldUnit). Renews options (map found_in us) r) c.deref.ensures.value c.in_ok-renewal.ensures.renews in
-    let held : c.exchange.new.held.items ≡ replaced (all_renewed units r.again.items) r.first (r.next - r.first) r.units.items =
-    c.exchange.ensures ∙ ap (λ us. replaced (all_renewed us r.again.items) r.first (r.next - r.first) r.units.items) c.in_ok-reserve-2.ensures.items in
+    let fit : IsFitFor options (map unit_in units) r = subst (λ (us : List HeldUnit). IsFitFor options (map unit_in us) r) c.deref.ensures.value c.in_ok-update.ensures.fit in
+    let held : c.commit.new.held.items ≡ replaced (all_renewed units r.again.items) r.first (r.next - r.first) r.units.items =
+    c.commit.ensures ∙ ap (λ us. replaced (all_renewed us r.again.items) r.first (r.next - r.first) r.units.items) c.in_ok-reserve-2.ensures.items in
     let small : length units < 2 ^ 63 = omega (arith, c.self.inside.units.ok.0, c.self.inside.units.ok.1, c.self.inside.units.small) in
     let few : length r.units.items < 2 ^ 63 = omega (arith, r.units.ok.0, r.units.ok.1, r.units.small) in
     let was : map piece_of units ≡ c.args.self.now.pieces = ap (λ d. d.pieces) c.self.view_is in
-    subst (λ ps. Brings c.in_ok-patch.patch ps (map piece_of c.exchange.new.held.items)) was
-    (subst (λ (us : List HeldUnit). Brings c.in_ok-patch.patch (map piece_of units) (map piece_of us)) (sym held) (exchanged_brings piece_of options units r c.in_ok-patch.patch renews c.in_ok-patch.ensures small few))
+    subst (λ ps. Brings c.in_ok-patch.patch ps (map piece_of c.commit.new.held.items)) was
+    (subst (λ (us : List HeldUnit). Brings c.in_ok-patch.patch (map piece_of units) (map piece_of us)) (sym held) (committed_brings piece_of options units r c.in_ok-patch.patch fit c.in_ok-patch.ensures small few))
 
 pub returns-clause-units : goal.returns-clause-units
 returns-clause-units g c =
     let units : List HeldUnit = c.self.inside.units.items in
-    let r = c.in_ok-renewal.renewal in
+    let r = c.in_ok-update.update in
     let options = c.self.inside.options in
-    let renews : Renews options (map found_in units) r = subst (λ (us : List HeldUnit). Renews options (map found_in us) r) c.deref.ensures.value c.in_ok-renewal.ensures.renews in
-    let held : c.exchange.new.held.items ≡ replaced (all_renewed units r.again.items) r.first (r.next - r.first) r.units.items =
-    c.exchange.ensures ∙ ap (λ us. replaced (all_renewed us r.again.items) r.first (r.next - r.first) r.units.items) c.in_ok-reserve-2.ensures.items in
+    let fit : IsFitFor options (map unit_in units) r = subst (λ (us : List HeldUnit). IsFitFor options (map unit_in us) r) c.deref.ensures.value c.in_ok-update.ensures.fit in
+    let held : c.commit.new.held.items ≡ replaced (all_renewed units r.again.items) r.first (r.next - r.first) r.units.items =
+    c.commit.ensures ∙ ap (λ us. replaced (all_renewed us r.again.items) r.first (r.next - r.first) r.units.items) c.in_ok-reserve-2.ensures.items in
     let small : length units < 2 ^ 63 = omega (arith, c.self.inside.units.ok.0, c.self.inside.units.ok.1, c.self.inside.units.small) in
     let few : length r.units.items < 2 ^ 63 = omega (arith, r.units.ok.0, r.units.ok.1, r.units.small) in
     let was : map read_of units ≡ c.args.self.now.units = ap (λ d. d.units) c.self.view_is in
-    subst (λ us. Brings c.in_ok-patch.patch us (map read_of c.exchange.new.held.items)) was
-    (subst (λ (us : List HeldUnit). Brings c.in_ok-patch.patch (map read_of units) (map read_of us)) (sym held) (exchanged_brings read_of options units r c.in_ok-patch.patch renews c.in_ok-patch.ensures small few))
+    subst (λ us. Brings c.in_ok-patch.patch us (map read_of c.commit.new.held.items)) was
+    (subst (λ (us : List HeldUnit). Brings c.in_ok-patch.patch (map read_of units) (map read_of us)) (sym held) (committed_brings read_of options units r c.in_ok-patch.patch fit c.in_ok-patch.ensures small few))
 
 pub returns-clause-inlines : goal.returns-clause-inlines
 returns-clause-inlines g c =
     let units : List HeldUnit = c.self.inside.units.items in
-    let r = c.in_ok-renewal.renewal in
+    let r = c.in_ok-update.update in
     let options = c.self.inside.options in
-    let renews : Renews options (map found_in units) r = subst (λ (us : List HeldUnit). Renews options (map found_in us) r) c.deref.ensures.value c.in_ok-renewal.ensures.renews in
-    let held : c.exchange.new.held.items ≡ replaced (all_renewed units r.again.items) r.first (r.next - r.first) r.units.items =
-    c.exchange.ensures ∙ ap (λ us. replaced (all_renewed us r.again.items) r.first (r.next - r.first) r.units.items) c.in_ok-reserve-2.ensures.items in
-    let texts = exchanged_texts units r.units.items r.again.items r.first r.next renews.order in
-    let counted = rw c.deref.ensures.value at c.in_ok-renewal.ensures.inlines in
+    let fit : IsFitFor options (map unit_in units) r = subst (λ (us : List HeldUnit). IsFitFor options (map unit_in us) r) c.deref.ensures.value c.in_ok-update.ensures.fit in
+    let held : c.commit.new.held.items ≡ replaced (all_renewed units r.again.items) r.first (r.next - r.first) r.units.items =
+    c.commit.ensures ∙ ap (λ us. replaced (all_renewed us r.again.items) r.first (r.next - r.first) r.units.items) c.in_ok-reserve-2.ensures.items in
+    let texts = committed_texts units r.units.items r.again.items r.first r.next fit.order in
+    let counted = rw c.deref.ensures.value at c.in_ok-update.ensures.inlines in
     rw held (omega (arith, texts, counted))

@@ -1,0 +1,115 @@
+-- What is held after an exchange.
+use Rattle.std.proofs.Common.{◌≡◌, ℕ, suc, [], ◌∷◌, ◌+◌, ◌-◌, ◌^◌, ◌≤◌, ◌<◌, true, false, List, ◌++◌, length, map, take, drop, slice_get, refl, ap, ◌∙◌, sym, arith, nat_lt, option_map}
+use Rattle.std.specs.Prelude.{◌==◌, sum_by}
+use Rattle.std.specs.List.{All}
+use Rattle.std.proofs.lemmas.Bool.{eqb-true, eq-eqb}
+use Rattle.std.proofs.lemmas.Bool.Decides.{nat_tests}
+use Rattle.std.proofs.lemmas.List.{length-map}
+use Rattle.std.specs.List.{take-map}
+use Rattle.std.proofs.lemmas.List.{take-take, take_all}
+use Rattle.std.proofs.lemmas.List.Sums.{sum_by-append, sum_by-cons, sum_by-take-drop}
+use Rattle.std.proofs.lemmas.Option.{slice_get-map}
+use Rattle.blockspec.specs.UnitTree.{UnitTree}
+use Rattle.mdhtml.specs.declared.options.Options.{Options}
+use Rattle.mdview.specs.declared.readings.Again.{Again}
+use Rattle.mdview.specs.declared.update.Update.{Update}
+use Rattle.mdview.specs.HeldUnit.{HeldUnit, ReadUnit, IsRendered, unit_in, piece_of, read_of, texts_before, texts_in, texts_of, unit_piece}
+use Rattle.mdview.specs.Lists.{replaced}
+use Rattle.mdview.specs.Patch.{Brings}
+use Rattle.mdview.specs.Update.{IsPatchOf, IsFitFor, all_renewed, number_after}
+use Rattle.mdview.specs.ChangedPieces.{ChangedPieces}
+use Rattle.mdview.proofs.RenewedUnits.{all_rendered, unit_trees_stay, none_other, units_stay}
+use Rattle.mdview.proofs.Sizes.{map_replaced}
+use Rattle.mdview.proofs.Splices.{Stays, all_replaced, spliced_brings}
+
+-- what is held is rendered
+pub committed_rendered : (options : Options) (units : List HeldUnit) (r : Update) → IsFitFor options (map unit_in units) r → All (IsRendered options) units
+    → All (IsRendered options) (replaced (all_renewed units r.again.items) r.first (r.next - r.first) r.units.items)
+committed_rendered options units r fit all =
+    all_replaced (IsRendered options) (all_renewed units r.again.items) r.units.items r.first (r.next - r.first)
+    (all_rendered options (map unit_in units) units r.again.items refl all fit.written) fit.pieces
+
+pub pieces_are : (options : Options) (units : List HeldUnit) → All (IsRendered options) units → map piece_of units ≡ map (unit_piece options) (map read_of units)
+pieces_are options [] all = refl
+pieces_are options (u ∷ units) all =
+    ap (λ p. p ∷ map piece_of units) (all 0 u (omega arith)) ∙ ap (λ ps. unit_piece options u.read ∷ ps) (pieces_are options units (λ k d below. all (suc k) d (omega arith)))
+
+-- a unit before those that go has its number afterwards
+same_number : (r : Update) (i : ℕ) → i < r.next → (one : Again) → (one.unit == i) ≡ true → (number_after r one.unit == i) ≡ true
+same_number r i below one e =
+    let is : one.unit ≡ i = eqb-true one.unit i e in
+    let low : nat_lt one.unit r.next ≡ true = grind (arith, nat_tests, is, below) in
+    rw low e
+
+-- one behind them is shifted
+other_number : (r : Update) (j : ℕ) → r.first ≤ r.next → r.next ≤ j → j - (r.next - r.first) + length r.units.items < 2 ^ 64 → (one : Again) → (one.unit == j) ≡ true
+    → (number_after r one.unit == (j - (r.next - r.first) + length r.units.items)) ≡ true
+other_number r j order above small one e =
+    let is : one.unit ≡ j = eqb-true one.unit j e in
+    let high : nat_lt one.unit r.next ≡ false = grind (arith, nat_tests, is, above) in
+    rw high (eq-eqb _ _ (omega (arith, is)))
+
+as_many : (units : List HeldUnit) (again : List Again) → length (all_renewed units again) ≡ length units
+as_many units again =
+    sym (length-map (all_renewed units again) unit_in) ∙ ap length (unit_trees_stay units again) ∙ length-map units unit_in
+
+-- a part of each unit, where the patch brings it and where not
+pub committed_brings : {A : Type 0} (g : HeldUnit → A) (options : Options) (units : List HeldUnit) (r : Update) (patch : ChangedPieces) → IsFitFor options (map unit_in units) r → IsPatchOf r patch
+    → length units < 2 ^ 63 → length r.units.items < 2 ^ 63
+    → Brings patch (map g units) (map g (replaced (all_renewed units r.again.items) r.first (r.next - r.first) r.units.items))
+committed_brings {A} g options units r patch fit is small few =
+    let changed : List HeldUnit = all_renewed units r.again.items in
+    let long : length (map g changed) ≡ length (map g units) = length-map changed g ∙ as_many units r.again.items ∙ sym (length-map units g) in
+    let many = length-map units g in
+    let within : patch.first + patch.removed ≤ length (map g units) = omega (arith, is.first, is.removed, fit.order, fit.within, length-map units unit_in) in
+    let count : patch.added ≡ length (map g r.units.items) = is.added ∙ sym (length-map r.units.items g) in
+    let stays : Stays patch (map g units) (map g changed) = record {
+      before = λ i below none. part i (units_stay units r.again.items i (none_other (λ (one : Again). one.unit) (λ (one : Again). number_after r one.unit) i i (same_number r i (omega (arith, is.first, fit.order))) r.again.items (rw is.again at none)));
+      behind = λ j above inside none. part j (units_stay units r.again.items j (none_other (λ (one : Again). one.unit) (λ (one : Again). number_after r one.unit) j (j - (r.next - r.first) + length r.units.items)
+          (other_number r j fit.order (omega (arith, is.first, is.removed, fit.order)) (omega arith)) r.again.items (rw (is.again, is.removed, is.added) at none)));
+    } in
+    let shape : map g (replaced changed r.first (r.next - r.first) r.units.items) ≡ replaced (map g changed) patch.first patch.removed (map g r.units.items) =
+    map_replaced g changed r.units.items r.first (r.next - r.first) ∙ (rw (is.first, is.removed) refl) in
+    rw shape (spliced_brings patch (map g units) (map g changed) (map g r.units.items) long within count stays)
+  where
+    part : (i : ℕ) → slice_get (all_renewed units r.again.items) i ≡ slice_get units i → slice_get (map g (all_renewed units r.again.items)) i ≡ slice_get (map g units) i
+    part i same = slice_get-map g (all_renewed units r.again.items) i ∙ ap (option_map g) same ∙ sym (slice_get-map g units i)
+
+abbrev in_units : List UnitTree → ℕ
+in_units trees = sum_by texts_in trees
+
+texts_by_units : (units : List HeldUnit) → sum_by (λ (u : HeldUnit). texts_in u.read.unit) units ≡ in_units (map unit_in units)
+texts_by_units [] = refl
+texts_by_units (u ∷ units) =
+    sum_by-cons (λ (u : HeldUnit). texts_in u.read.unit) u units ∙ ap (λ n. texts_in u.read.unit + n) (texts_by_units units) ∙ sym (sum_by-cons texts_in (unit_in u) (map unit_in units))
+
+texts_of_units : (units : List HeldUnit) → texts_of (map read_of units) ≡ in_units (map unit_in units)
+texts_of_units [] = refl
+texts_of_units (u ∷ units) =
+    sum_by-cons (λ (u : ReadUnit). texts_in u.unit) (read_of u) (map read_of units) ∙ ap (λ n. texts_in u.read.unit + n) (texts_of_units units) ∙ sym (sum_by-cons texts_in (unit_in u) (map unit_in units))
+
+pub texts_ascend : (i j : ℕ) (units : List HeldUnit) → i ≤ j → texts_before i units ≤ texts_before j units
+texts_ascend i j units below =
+    let f : HeldUnit → ℕ = λ u. texts_in u.read.unit in
+    let part = sum_by-take-drop f (take j units) i in
+    let same : sum_by f (take i (take j units)) ≡ texts_before i units = ap (sum_by f) (take-take i j units below) in
+    omega (arith, part, same)
+
+-- the texts of the units that are held afterwards
+pub committed_texts : (units add : List HeldUnit) (again : List Again) (first next : ℕ) → first ≤ next
+    → texts_of (map read_of (replaced (all_renewed units again) first (next - first) add)) + texts_before next units
+    ≡ texts_before first units + texts_of (map read_of add) + texts_before (length units) units
+committed_texts units add again first next order =
+    let trees : List UnitTree = map unit_in units in
+    let new : texts_of (map read_of (replaced (all_renewed units again) first (next - first) add)) ≡ in_units (replaced trees first (next - first) (map unit_in add)) =
+    texts_of_units (replaced (all_renewed units again) first (next - first) add)
+    ∙ ap in_units (map_replaced unit_in (all_renewed units again) add first (next - first) ∙ ap (λ fs. replaced fs first (next - first) (map unit_in add)) (unit_trees_stay units again)) in
+    let one = sum_by-append texts_in (take first trees ++ map unit_in add) (drop (first + (next - first)) trees) in
+    let two = sum_by-append texts_in (take first trees) (map unit_in add) in
+    let behind : in_units (drop (first + (next - first)) trees) ≡ in_units (drop next trees) = ap (λ n. in_units (drop n trees)) (omega arith) in
+    let all = sum_by-take-drop texts_in trees next in
+    let added = texts_of_units add in
+    let front : texts_before first units ≡ in_units (take first trees) = texts_by_units (take first units) ∙ ap in_units (sym (take-map unit_in first units)) in
+    let until : texts_before next units ≡ in_units (take next trees) = texts_by_units (take next units) ∙ ap in_units (sym (take-map unit_in next units)) in
+    let whole : texts_before (length units) units ≡ in_units trees = ap (sum_by (λ (u : HeldUnit). texts_in u.read.unit)) (take_all (length units) units (omega arith)) ∙ texts_by_units units in
+    omega (arith, new, one, two, behind, all, added, front, until, whole)

@@ -1,4 +1,0 @@
-use Rattle.mdview.proofs.renewals.Renewal.patch.Goals as goal
-
-pub overflow_sub-result : goal.overflow_sub-result
-overflow_sub-result c = c.requires

@@ -1,8 +1,0 @@
-use Rattle.std.proofs.Common.{◌≡◌, ◌++◌, drop, map}
-use Rattle.mdview.specs.declared.readings.Again.{Again}
-use Rattle.mdview.specs.Renewed.{number_after}
-use Rattle.mdview.proofs.renewals.Renewal.patch.Given as goal
-
--- the numbers so far and those of the rest are those of all
-abbrev pub invariant-loop-one : goal.invariant-loop-one
-invariant-loop-one l = l.again.items ++ map (λ (one : Again). number_after l.fn.self one.unit) (drop l.one-index l.fn.self.again.items) ≡ map (λ (one : Again). number_after l.fn.self one.unit) l.fn.self.again.items

@@ -1,0 +1,37 @@
+-- How the reading of a text ends.
+use Rattle.std.specs.Prelude.{ℕ, List, Result, Ok, Err}
+use Rattle.mdview.specs.declared.fault.EditFault.{EditFault}
+use Rattle.mdview.specs.declared.fault.EditFault.TheVariants.{OutOfRange, BreakInLine, TooManyLines, TooLarge, NestedTooDeep, InlineTooDeep, NoMemory}
+use Rattle.mdview.specs.Document.{Document}
+use Rattle.mdview.specs.HeldUnit.{ReadUnit}
+use Rattle.mdview.specs.ChangedPieces.{ChangedPieces}
+
+-- its units were read, and the patch says which of them are new; so many lines stand before the first;
+-- or this line begins a container too many; or the unit that begins in this line has a text with a span too many in one another;
+-- or memory was refused
+pub data ReadingEnd : Type 0 where
+  read : (patch : ChangedPieces) (head : ℕ) (units : List ReadUnit) → ReadingEnd
+  nested : (line : ℕ) → ReadingEnd
+  too_deep : (line : ℕ) → ReadingEnd
+  starved : ReadingEnd
+
+-- how the reading ended that an edit answers so, where this is held now
+abbrev pub reading_of : Result ChangedPieces EditFault → Document → ReadingEnd
+reading_of (Ok patch) new = read patch new.head new.units
+reading_of (Err (NestedTooDeep line)) new = nested line
+reading_of (Err (InlineTooDeep line)) new = too_deep line
+reading_of (Err NoMemory) new = starved
+reading_of (Err (OutOfRange lines)) new = starved
+reading_of (Err (BreakInLine index)) new = starved
+reading_of (Err TooManyLines) new = starved
+reading_of (Err TooLarge) new = starved
+
+-- an edit's fault that the reading of the new text gave
+abbrev pub OfReading : EditFault → Type 0
+OfReading (NestedTooDeep line) = Unit {0}
+OfReading (InlineTooDeep line) = Unit {0}
+OfReading NoMemory = Unit {0}
+OfReading (OutOfRange lines) = ⊥
+OfReading (BreakInLine index) = ⊥
+OfReading TooManyLines = ⊥
+OfReading TooLarge = ⊥

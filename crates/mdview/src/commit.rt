@@ -1,0 +1,56 @@
+//! Puts what an edit made in the place of what is held. None of it takes memory.
+
+ghost use Rattle.std.specs.Prelude.{◌≡◌, ◌+◌, ◌-◌, ◌≤◌, length, map};
+ghost use Rattle.std.specs.List.{All};
+ghost use Rattle.std.specs.Vec.{vec_len, vec_capacity};
+ghost use Rattle.mdview.specs.Lists.{replaced};
+ghost use Rattle.mdview.specs.HeldUnit.{unit_in};
+ghost use Rattle.mdview.specs.Update.{Fits, all_renewed, map_at, renewed};
+
+use crate::held_labels::HeldLabels;
+use crate::held_units::HeldUnit;
+use crate::readings::Again;
+use crate::splice::splice;
+use crate::update::Update;
+
+/// Puts what an edit made in the place of what is held. The room was reserved before.
+pub(crate) fn commit(held: &mut Vec<HeldUnit>, labels: &mut HeldLabels, update: Update)
+    requires order { update.first ≤ update.next }
+    requires within { update.next ≤ length held.old.items }
+    requires fits { All (Fits (map unit_in held.old.items)) update.again.items }
+    requires room { vec_len held.old + vec_len update.units ≤ vec_capacity held.old }
+    ensures { held.new.items ≡ replaced (all_renewed held.old.items update.again.items) update.first (update.next - update.first) update.units.items }
+{
+    let Update {
+        first,
+        next,
+        mut units,
+        again,
+        changes,
+        ..
+    } = update;
+    renew_units(held, again);
+    splice(held, first, next - first, &mut units);
+    changes.commit(labels);
+}
+
+/// Puts readings and pieces in the place of those that are held.
+pub(crate) fn renew_units(units: &mut Vec<HeldUnit>, again: Vec<Again>)
+    requires { All (Fits (map unit_in units.old.items)) again.items }
+    ensures value { units.new.items ≡ all_renewed units.old.items again.items }
+    ensures room { (vec_len units.new ≡ vec_len units.old) × (vec_capacity units.new ≡ vec_capacity units.old) }
+{
+    for one in again {
+        renew_unit(units, one);
+    }
+}
+
+fn renew_unit(units: &mut Vec<HeldUnit>, again: Again)
+    requires { Fits (map unit_in units.old.items) again }
+    ensures value { units.new.items ≡ map_at (renewed again) again.unit units.old.items }
+    ensures room { (vec_len units.new ≡ vec_len units.old) × (vec_capacity units.new ≡ vec_capacity units.old) }
+{
+    if again.unit < units.len() {
+        units[again.unit].renew(again.inlines, again.piece);
+    }
+}

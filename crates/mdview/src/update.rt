@@ -1,0 +1,138 @@
+//! What an edit changes, made before anything of the preview is.
+
+ghost use Rattle.std.specs.Prelude.{◌≡◌, ◌≤◌, ◌+◌, IfErr, IfOk, length, map};
+ghost use Rattle.mdview.specs.Document.{size_of};
+ghost use Rattle.mdview.specs.NewText.{lines_of};
+ghost use Rattle.mdview.specs.ReadingEnd.{OfReading};
+ghost use Rattle.mdview.specs.HeldUnit.{unit_in, read_of, texts_before, texts_of};
+ghost use Rattle.mdview.specs.Update.{IsFitFor, IsPatchOf, number_after};
+
+use crate::fault::EditFault;
+use crate::held_labels::{HeldLabels, LabelsAfter};
+use crate::held_units::HeldUnit;
+use crate::label_changes::LabelChanges;
+use crate::new_text::NewText;
+use crate::patch::Patch;
+use crate::readings::{Again, TextReader};
+use crate::reparse::{Reparsed, reparse};
+use mdblock::Found;
+use mdhtml::Options;
+use mdtext::{Count, Entities};
+use std::alloc::{AllocError, Global};
+
+/// What an edit finds held.
+#[derive(Clone, Copy)]
+pub(crate) struct HeldText<'a> {
+    pub(crate) alloc: Global,
+    pub(crate) entities: &'a Entities,
+    pub(crate) options: &'a Options,
+    /// How many lines stand before the first unit.
+    pub(crate) head: usize,
+    pub(crate) units: &'a [HeldUnit],
+    pub(crate) labels: &'a HeldLabels,
+}
+
+/// What an edit brings: `units` take the place of those from number `first` up to `next`, and `head` lines stand before the
+/// first unit then. The units of `again` are held and read again; they are numbered as before the edit.
+#[derive(Drop)]
+pub(crate) struct Update {
+    pub(crate) first: usize,
+    pub(crate) next: usize,
+    pub(crate) head: usize,
+    pub(crate) units: Vec<HeldUnit>,
+    pub(crate) again: Vec<Again>,
+    pub(crate) changes: LabelChanges,
+}
+
+impl Update {
+    /// What an edit brings that leaves this text. Each line and each inline text that is read is counted. Where several units
+    /// have a text that is too deep, the first of the text is named.
+    pub(crate) fn of<C: Count>(
+        held: &HeldText<'_>,
+        text: NewText<'_>,
+        count: &mut C,
+    ) -> Result<Update, EditFault>
+        requires few { length (lines_of text) ≤ 1000000 }
+        requires small { size_of (lines_of text) ≤ 16777216 }
+        ensures fault { IfErr result OfReading }
+        ensures inlines { IfOk result (λ r. C.inlines count.new + texts_before r.next held.now.units.now
+            ≤ C.inlines count.old + texts_before r.first held.now.units.now + texts_of (map read_of r.units.items)
+            + texts_before (length held.now.units.now) held.now.units.now) }
+        ensures fit { IfOk result (IsFitFor held.now.options.now (map unit_in held.now.units.now)) }
+        ensures lines { C.lines count.new ≤ C.lines count.old + length (lines_of text.entry) }
+    {
+        let reparsed = reparse(held, text, count)?;
+        let changes = LabelChanges::of(held, &reparsed)?;
+        let reader = TextReader {
+            alloc: held.alloc,
+            entities: held.entities,
+            options: held.options,
+            labels: LabelsAfter {
+                held: held.labels,
+                changes: &changes,
+            },
+        };
+        let Reparsed {
+            first,
+            next,
+            from,
+            meet,
+            found,
+        } = reparsed;
+        let head = if from == 0 {
+            head_of(&found, meet)
+        } else {
+            held.head
+        };
+        let mut again = Vec::new(held.alloc);
+        reader.read_again(held.units, 0, first, head, &mut again, count)?;
+        let units = reader.read_units(found, from, count)?;
+        reader.read_again(held.units, next, held.units.len(), meet, &mut again, count)?;
+        Ok(Update {
+            first,
+            next,
+            head,
+            units,
+            again,
+            changes,
+        })
+    }
+
+    /// The patch that the edit answers.
+    pub(crate) fn patch(&self, alloc: Global) -> Result<Patch, AllocError>
+        requires { self.now.first ≤ self.now.next }
+        ensures { IfOk result (IsPatchOf self.now) }
+    {
+        let added = self.units.len();
+        let mut again = Vec::with_capacity(alloc, self.again.len())?;
+        for one in &self.again {
+            again.push(self.number_after(one.unit))?;
+        }
+        Ok(Patch {
+            first: self.first,
+            removed: self.next - self.first,
+            added,
+            again,
+        })
+    }
+
+    /// The number that a unit which stays has after the edit.
+    fn number_after(&self, unit: usize) -> usize
+        ensures { result ≡ number_after self.now unit }
+    {
+        if unit < self.next {
+            return unit;
+        }
+        (unit - self.next)
+            .saturating_add(self.first)
+            .saturating_add(self.units.len())
+    }
+}
+
+/// How many lines stand before the first unit of a text of which these were found from its front up to line `meet`.
+fn head_of(found: &[Found], meet: usize) -> usize {
+    match found.first() {
+        Some(one) => one.begin(),
+        None => meet,
+    }
+}
