@@ -7,7 +7,7 @@ use Rattle.std.specs.List.{concat}
 use Rattle.blockspec.specs.UnitTree.{FoundUnit}
 use Rattle.mdhtml.specs.declared.options.Options.{Options}
 use Rattle.mdview.specs.HeldUnit.{ReadUnit, unit_piece}
-use Rattle.mdbatch.specs.BatchHtml.{AppendsUnit, AppendsUnits, UnitsHtml, IsRead, found_of}
+use Rattle.mdbatch.specs.BatchHtml.{AppendsUnit, AppendsUnits, UnitsHtml, IsRead, found_part, read_part}
 
 -- nothing is written yet
 pub none_written : (options : Options) (old : List ℕ) → AppendsUnits options [] old old
@@ -22,14 +22,14 @@ none_written options old = record {
 pub one_more : (options : Options) (found : List FoundUnit) (next : FoundUnit) (old mid new : List ℕ) → AppendsUnits options found old mid → AppendsUnit options next.unit mid new
     → AppendsUnits options (found ++ next ∷ []) old new
 one_more options found next old mid new before last =
-    let unit : ReadUnit = record { found = next; readings = last.readings } in
+    let unit : ReadUnit = record { lines = next.lines; unit = next.unit; readings = last.readings } in
     let piece : List ℕ = unit_piece options unit in
     let pieces : List (List ℕ) = map (unit_piece options) before.units in
     let joined : concat (map (unit_piece options) (before.units ++ unit ∷ [])) ≡ concat pieces ++ piece =
     ap concat (map-append (unit_piece options) before.units (unit ∷ [])) ∙ concat-append pieces (piece ∷ []) ∙ ap (λ l. concat pieces ++ l) (append-nil piece) in
     record {
       units = before.units ++ unit ∷ [];
-      are = map-append found_of before.units (unit ∷ []) ∙ ap (λ l. l ++ next ∷ []) before.are;
+      are = map-append read_part before.units (unit ∷ []) ∙ ap (λ l. l ++ found_part next ∷ []) before.are ∙ sym (map-append found_part found (next ∷ []));
       all = All-push IsRead before.units unit before.all last.all;
       written = last.written ∙ ap (λ l. l ++ piece) before.written ∙ append_assoc old (concat pieces) piece ∙ ap (λ l. old ++ l) (sym joined);
     }

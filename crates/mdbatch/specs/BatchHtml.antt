@@ -1,34 +1,37 @@
 -- What each end of the reading of a whole text says.
-use Rattle.std.specs.Prelude.{◌≡◌, ℕ, false, List, [], ◌++◌, Some, None, Result, Ok, Err, length, map, string_bytes, String}
+use Rattle.std.specs.Prelude.{◌≡◌, ℕ, List, [], ◌++◌, Some, None, Result, Ok, Err, length, map, string_bytes, String}
 use Rattle.std.specs.Global.{Global}
 use Rattle.std.specs.List.{All, concat}
 use Rattle.mdtext.specs.Lines.{text_lines}
 use Rattle.blockspec.specs.UnitTree.{UnitTree, FoundUnit}
 use Rattle.mdinline.specs.ParsedText.{ParsedText}
 use Rattle.mdhtml.specs.declared.options.Options.{Options}
-use Rattle.mdhtml.specs.BlockHtml.{blocks_html, trees_of}
 use Rattle.mdview.specs.declared.fault.EditFault.{EditFault}
 use Rattle.mdview.specs.declared.fault.EditFault.TheVariants.{OutOfRange, BreakInLine, TooManyLines, TooLarge, NestedTooDeep, InlineTooDeep, NoMemory}
 use Rattle.mdview.specs.Edit.{refusal}
-use Rattle.mdview.specs.HeldUnit.{ReadUnit, unit_piece}
+use Rattle.mdview.specs.HeldUnit.{ReadUnit, html_of, unit_piece}
 
 -- each text of the unit was read
 abbrev pub IsRead : ReadUnit → Type 0
-IsRead u = length u.readings ≡ length u.found.unit.texts
+IsRead u = length u.readings ≡ length u.unit.texts
 
-abbrev pub found_of : ReadUnit → FoundUnit
-found_of u = u.found
+-- a unit and how many lines it has, of one that was found and of one that was read
+abbrev pub found_part : FoundUnit → ℕ × UnitTree
+found_part found = (found.lines, found.unit)
+
+abbrev pub read_part : ReadUnit → ℕ × UnitTree
+read_part u = (u.lines, u.unit)
 
 -- behind the text so far stands the piece of the unit, whose texts were read
 pub record AppendsUnit (options : Options) (unit : UnitTree) (old new : List ℕ) : Type 0 where
   pub readings : List ParsedText
   pub all : length readings ≡ length unit.texts
-  pub written : new ≡ old ++ blocks_html options (trees_of readings) false unit.blocks []
+  pub written : new ≡ old ++ html_of options unit readings
 
 -- behind the text so far stand the pieces of these units, one after the other
 pub record AppendsUnits (options : Options) (found : List FoundUnit) (old new : List ℕ) : Type 0 where
   pub units : List ReadUnit
-  pub are : map found_of units ≡ found
+  pub are : map read_part units ≡ map found_part found
   pub all : All IsRead units
   pub written : new ≡ old ++ concat (map (unit_piece options) units)
 

@@ -3,7 +3,7 @@ ghost use Rattle.std.specs.Prelude.{◌≡◌, ◌++◌, ◌≤◌, true, IfErr,
 ghost use Rattle.mdtext.specs.Lines.{split_lines};
 ghost use Rattle.mdhtml.specs.BlockHtml.{ends_line};
 ghost use Rattle.mdview.specs.Document.{size_of};
-ghost use Rattle.mdview.specs.Reading.{OfReading};
+ghost use Rattle.mdview.specs.ReadingEnd.{OfReading};
 ghost use Rattle.mdbatch.specs.BatchHtml.{AppendsUnit, AppendsUnits, TextHtml, UnitsHtml};
 
 use crate::labels::labels_of;

@@ -2,7 +2,7 @@
 ghost use Rattle.std.specs.Prelude.{◌≤◌, IfErr, length};
 ghost use Rattle.mdtext.specs.Lines.{split_lines};
 ghost use Rattle.mdview.specs.Document.{size_of};
-ghost use Rattle.mdview.specs.Reading.{OfReading};
+ghost use Rattle.mdview.specs.ReadingEnd.{OfReading};
 
 use mdblock::{BlockFault, Found, Reader};
 use mdtext::{Entities, Tally, split_line};

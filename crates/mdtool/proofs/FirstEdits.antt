@@ -12,8 +12,8 @@ use Rattle.mdview.specs.Document.{Document, document}
 use Rattle.mdview.specs.Edit.{due, due_of_text, refusal, put, has_line_ending, first_with_ending}
 use Rattle.mdview.specs.HeldUnit.{ReadUnit, unit_piece}
 use Rattle.mdview.specs.Outcome.{outcome, outcome_due}
-use Rattle.mdview.specs.Reading.{Reading, read, nested, too_deep, starved}
-use Rattle.mdview.specs.Stretch.{Stretch}
+use Rattle.mdview.specs.ReadingEnd.{ReadingEnd, read, nested, too_deep, starved}
+use Rattle.mdview.specs.ChangedPieces.{ChangedPieces}
 use Rattle.mdbatch.specs.BatchHtml.{TextHtml, UnitsHtml}
 use Rattle.mdtool.specs.Convert.{whole_text, Accepts, Refuses, HasHtml, WholeHtml, refusal_of}
 
@@ -91,7 +91,7 @@ accepts : (entities : List (List ℕ × List ℕ)) (options : Options) (text : L
     → Accepts (document entities options [] 0 []) (text_lines text) (map (unit_piece options) units)
 accepts entities options text units e =
     let empty : Document = document entities options [] 0 [] in
-    let patch : Stretch = record { first = 0; removed = 0; added = length units; again = [] } in
+    let patch : ChangedPieces = record { first = 0; removed = 0; added = length units; again = [] } in
     let none = due_is_refusal text ∙ e in
     record {
       reading = read patch 0 units;
@@ -100,7 +100,7 @@ accepts entities options text units e =
       held = ap (λ d. (outcome_due d empty (whole_text (text_lines text)) (read patch 0 units)).1.pieces) none;
     }
 
-refuses : (entities : List (List ℕ × List ℕ)) (options : Options) (text : List ℕ) (reading : Reading) (fault : EditFault) (d : Option EditFault) → refusal (text_lines text) ≡ d
+refuses : (entities : List (List ℕ × List ℕ)) (options : Options) (text : List ℕ) (reading : ReadingEnd) (fault : EditFault) (d : Option EditFault) → refusal (text_lines text) ≡ d
     → (outcome_due d (document entities options [] 0 []) (whole_text (text_lines text)) reading).0 ≡ Err fault → refusal_of fault ≡ Refused fault
     → Refuses (document entities options [] 0 []) (text_lines text) fault
 refuses entities options text reading fault d e answer refused =
