@@ -1,5 +1,6 @@
 //! The units of a whole text.
-ghost use Rattle.std.specs.Prelude.{◌≤◌, IfErr, length};
+ghost use Rattle.std.specs.Prelude.{◌≡◌, ◌≤◌, ◌++◌, IfErr, OnOk, length};
+ghost use Rattle.std.specs.Option.{option_to_list};
 ghost use Rattle.mdtext.specs.Lines.{split_lines};
 ghost use Rattle.mdview.specs.Document.{size_of};
 ghost use Rattle.mdview.specs.ReadingEnd.{OfReading};
@@ -39,7 +40,9 @@ pub(crate) fn units_of(
     Ok(units)
 }
 
-fn push_some(units: &mut Vec<Found>, unit: Option<Found>) -> Result<(), AllocError> {
+fn push_some(units: &mut Vec<Found>, unit: Option<Found>) -> Result<(), AllocError>
+    ensures { OnOk result (units.new.items ≡ units.old.items ++ option_to_list unit) }
+{
     if let Some(unit) = unit {
         units.push(unit)?;
     }
