@@ -19,6 +19,7 @@ import bench_texts
 
 HERE = os.path.dirname(os.path.abspath(__file__))
 OURS, THEIRS = "mdrender", "cmark-gfm"
+TIME = "/usr/bin/time"
 
 
 def compiled(folder):
@@ -41,9 +42,11 @@ def programs(folder):
     if driver:
         found["md4c"] = [driver]
     else:
-        missing.append("md4c (gcc and libmd4c-html0-dev)")
+        missing.append("md4c (gcc, libmd4c-dev and libmd4c-html0-dev)")
     if not shutil.which("valgrind"):
         missing.append("valgrind (no instructions are counted)")
+    if not os.path.exists(TIME):
+        missing.append("time (no memory is measured)")
     return found, missing
 
 
@@ -53,22 +56,18 @@ def instructions(command, name):
     return int(re.search(r"refs:\s+([0-9,]+)", counted.stderr).group(1).replace(",", ""))
 
 
-def run(command, name):
-    """Seconds of processor time and kilobytes at the peak of one run, measured by a child of its own."""
-    reader, writer = os.pipe()
-    child = os.fork()
-    if child == 0:
-        subprocess.run(command + [name], stdout=subprocess.DEVNULL, check=True)
-        used = resource.getrusage(resource.RUSAGE_CHILDREN)
-        os.write(writer, f"{used.ru_utime + used.ru_stime} {used.ru_maxrss}".encode())
-        os._exit(0)
-    os.close(writer)
-    os.waitpid(child, 0)
-    said = os.read(reader, 100).split()
-    os.close(reader)
-    if not said:
-        sys.exit(f"{command[0]} failed on {name}")
-    return float(said[0]), int(said[1])
+def seconds(command, name):
+    """The processor time of one run."""
+    before = resource.getrusage(resource.RUSAGE_CHILDREN)
+    subprocess.run(command + [name], stdout=subprocess.DEVNULL, check=True)
+    after = resource.getrusage(resource.RUSAGE_CHILDREN)
+    return after.ru_utime + after.ru_stime - before.ru_utime - before.ru_stime
+
+
+def megabytes(command, name):
+    """The most memory that one run held; measured by a small program, since a child of this one begins with its memory."""
+    said = subprocess.run([TIME, "-f", "%M"] + command + [name], stdout=subprocess.DEVNULL, stderr=subprocess.PIPE, text=True, check=True).stderr
+    return int(said.split()[-1]) / 1000
 
 
 def measured(found, name, runs):
@@ -78,12 +77,13 @@ def measured(found, name, runs):
         size = max(1, os.path.getsize(name))
         figures["instructions a byte"] = {who: instructions(command, name) / size for who, command in found.items()}
     if runs:
-        least = {who: (float("inf"), float("inf")) for who in found}
+        least = {who: float("inf") for who in found}
         for _ in range(runs):
             for who, command in found.items():
-                least[who] = tuple(map(min, least[who], run(command, name)))
-        figures["milliseconds"] = {who: 1000 * time for who, (time, _) in least.items()}
-        figures["megabytes"] = {who: memory / 1000 for who, (_, memory) in least.items()}
+                least[who] = min(least[who], seconds(command, name))
+        figures["milliseconds"] = {who: 1000 * time for who, time in least.items()}
+    if os.path.exists(TIME):
+        figures["megabytes"] = {who: megabytes(command, name) for who, command in found.items()}
     return figures
 
 

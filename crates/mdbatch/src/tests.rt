@@ -136,6 +136,7 @@ static DEEP: &[(&str, &str)] = &[
 ];
 
 /// Numbers that look as if drawn by chance; the same for the same seed.
+#[derive(Drop)]
 struct Draws {
     state: u64,
 }
@@ -166,7 +167,7 @@ impl Draws {
         if self.below(12) == 0 {
             text.push_str("\u{FEFF}")?;
         }
-        for _ in 0..self.below(40) + 1 {
+        for _ in 0..self.below(40).saturating_add(1) {
             if self.below(60) == 0 {
                 self.push_deep(&mut text)?;
             } else {
@@ -178,7 +179,7 @@ impl Draws {
 
     /// A text that lies in 60 to 69 others, or in twice as many.
     fn push_deep(&mut self, text: &mut String) -> Result<(), NoMemory> {
-        let depth = self.below(10) + 60;
+        let depth = self.below(10).saturating_add(60);
         let (before, behind) = match DEEP.get(self.below(DEEP.len())) {
             Some((before, behind)) => (*before, *behind),
             None => ("*", "*"),
@@ -300,8 +301,15 @@ fn agrees_with_the_preview_on_worked_texts(rt: HostRuntime) -> Result<(), Fail> 
 
 /// A text of this many times the same part.
 fn repeated(alloc: Global, part: &str, count: usize) -> Result<String, NoMemory> {
+    let mut many = String::new(alloc);
+    for _ in 0..1000 {
+        many.push_str(part)?;
+    }
     let mut text = String::new(alloc);
-    for _ in 0..count {
+    for _ in 0..count / 1000 {
+        text.push_str(&many)?;
+    }
+    for _ in 0..count % 1000 {
         text.push_str(part)?;
     }
     Ok(text)
