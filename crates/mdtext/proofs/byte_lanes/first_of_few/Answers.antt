@@ -9,7 +9,7 @@ use Rattle.mdtext.proofs.byte_lanes.first_of_few.Goals as goal
 filled : (bytes copied zeros : List ℕ) → copied ≡ bytes → length bytes ≤ 32 → length zeros ≡ 32 → slice_range (copied ++ drop (length bytes) zeros) 0 32 ≡ bytes ++ drop (length bytes) zeros
 filled bytes copied zeros e short all =
     let size : length (copied ++ drop (length bytes) zeros) ≤ 32 =
-        omega (arith, length-append copied (drop (length bytes) zeros), length-drop (length bytes) zeros, ap length e, short, all) in
+    omega (arith, length-append copied (drop (length bytes) zeros), length-drop (length bytes) zeros, ap length e, short, all) in
     take_all 32 (copied ++ drop (length bytes) zeros) size ∙ ap (λ l. l ++ drop (length bytes) zeros) e
 
 pub returns : goal.returns
