@@ -14,7 +14,7 @@ mod pieces;
 mod tables;
 
 pub use options::{Breaks, Options};
-pub use pieces::unit_html;
+pub use pieces::{append_unit_html, unit_html};
 
 #[cfg(test)]
 mod tests;

@@ -26,8 +26,25 @@ pub fn unit_html(
     ensures ends_line { IfOk result (λ piece. ends_line (string_bytes piece) ≡ true) }
 {
     let mut out = String::new(alloc);
-    write_blocks(blocks, false, texts, options, &mut out)?;
+    append_unit_html(blocks, texts, options, &mut out)?;
     Ok(out)
+}
+
+/// Appends to a text that is empty or ends with LF what `unit_html` answers, and leaves it so. After `NoMemory` a beginning of it may stand there.
+pub fn append_unit_html(
+    blocks: &[Block],
+    texts: &[Parsed],
+    options: &Options,
+    out: &mut String,
+) -> Result<(), NoMemory>
+    requires within { BlocksIn (length texts.now) (blocks_view blocks.now) }
+    requires on_a_line { ends_line (string_bytes out.old) ≡ true }
+    ensures value { OnOk result (string_bytes out.new
+        ≡ string_bytes out.old ++ blocks_html options.now (trees_of texts.now) false (blocks_view blocks.now) []) }
+    ensures ends_line { OnOk result (ends_line (string_bytes out.new) ≡ true) }
+{
+    write_blocks(blocks, false, texts, options, out)?;
+    Ok(())
 }
 
 /// A line ending, unless the piece so far is empty or ends with one.

@@ -7,7 +7,7 @@ use Rattle.mdtext.proofs.PlainRuns.{front_plain, run_stays}
 use Rattle.mdtext.proofs.Specials.{replaces_nul}
 use Rattle.std.proofs.lemmas.List.{append-nil}
 use Rattle.std.proofs.lemmas.List.Sums.{position_or_len_is}
-use Rattle.memchr.specs.Find.{IsFirstByte, is_byte, is_byte2}
+use Rattle.memchr.specs.Find.{IsFirstByte, is_byte}
 use Rattle.mdtext.specs.ByteClass.{in_class}
 
 fails : (b : Bool) → ¬ (b ≡ true) → b ≡ false
@@ -27,14 +27,6 @@ one false c h = h
 
 pub first_of_one : (a : ℕ) (bs : List ℕ) (r : Option ℕ) → IsFirstByte (is_byte a) bs r → unwrap_or r (length bs) ≡ position_or_len (in_class (a ∷ [])) bs
 first_of_one a bs r h = first_place (a ∷ []) (is_byte a) (λ x. one _ _ refl) bs r h
-
-two : (b c : Bool) → (b || (c || false)) ≡ (b || c)
-two true c = refl
-two false true = refl
-two false false = refl
-
-pub first_of_two : (a b : ℕ) (bs : List ℕ) (r : Option ℕ) → IsFirstByte (is_byte2 a b) bs r → unwrap_or r (length bs) ≡ position_or_len (in_class (a ∷ b ∷ [])) bs
-first_of_two a b bs r h = first_place (a ∷ b ∷ []) (is_byte2 a b) (λ x. two _ _) bs r h
 
 -- the items of short lists
 pub only : (xs : List ℕ) → length xs ≡ 1 → get_or xs 0 0 ∷ [] ≡ xs

@@ -1,5 +1,5 @@
 -- A class among 32 bytes at a time.
-use Rattle.std.proofs.Common.{◌≡◌, ℕ, ◌+◌, ◌<◌, ◌≤◌, zero, suc, max, Bool, true, false, cond, not, ◌||◌, List, [], ◌∷◌, length, take, drop, map, get_or, refl, ap, sym, ◌∙◌, arith, eqb}
+use Rattle.std.proofs.Common.{◌≡◌, ℕ, ◌+◌, ◌<◌, ◌≤◌, zero, suc, max, min, ◌++◌, eqb-true, Bool, true, false, cond, not, ◌||◌, List, [], ◌∷◌, length, take, drop, map, get_or, refl, ap, sym, ◌∙◌, arith, eqb}
 use Rattle.std.specs.Int.{bit_at}
 use Rattle.std.specs.Int.RustNames.{bit_or}
 use Rattle.std.specs.Simd.Lanes.{mask_l}
@@ -63,3 +63,13 @@ not_here p bytes at w n h e large =
     let within : n ≤ w = omega (arith, e, ap (position_or_len p) (block_is bytes at w), prefix_len-le-length (λ x. not (p x)) (block bytes at w), length-block bytes at w h) in
     let all : position_or_len p (drop at bytes) ≡ w + position_or_len p (drop (at + w) bytes) = cut p bytes at w n h e ∙ grind (arith, within, large) in
     omega (arith, all)
+
+kept_at : (n m : ℕ) (t : Bool) (rest : ℕ) → n ≤ m → eqb n m ≡ t → min (cond t (m + rest) n) m ≡ n
+kept_at n m true rest h e = omega (arith, h, eqb-true n m e)
+kept_at n m false rest h e = omega (arith, h)
+
+-- what stands behind the bytes makes no difference to the first place among them
+pub first_of_front : (p : ℕ → Bool) (bytes rest block : List ℕ) (n : ℕ) → block ≡ bytes ++ rest → n ≡ position_or_len p block → min n (length bytes) ≡ position_or_len p bytes
+first_of_front p bytes rest block n e h =
+    ap (λ k. min k (length bytes)) (h ∙ ap (position_or_len p) e ∙ prefix_len-append (λ x. not (p x)) bytes rest)
+    ∙ kept_at (position_or_len p bytes) (length bytes) _ (position_or_len p rest) (prefix_len-le-length (λ x. not (p x)) bytes) refl

@@ -4,7 +4,7 @@ ghost use Rattle.std.specs.List.{position_or_len};
 ghost use Rattle.mdtext.specs.ByteClass.{in_class};
 
 use crate::byte_lanes::first_of_many;
-use memchr::{memchr, memchr2};
+use memchr::memchr;
 use std::marker::Model;
 
 /// A set of at most 16 bytes.
@@ -66,9 +66,8 @@ fn first_of_one(bytes: &[u8], one: u8) -> usize
 }
 
 #[inline(never)]
-#[tactic(auto, using(crate::proofs::FirstPlaces::first_of_two))]
 fn first_of_two(bytes: &[u8], one: u8, other: u8) -> usize
     ensures { result ≡ position_or_len (in_class (one ∷ other ∷ [])) bytes.now }
 {
-    memchr2(one, other, bytes).unwrap_or(bytes.len())
+    first_of_many(bytes, &[one, other])
 }

@@ -58,22 +58,13 @@ fn equal(block: u8x32, byte: u8) -> u64
     block.simd_eq(u8x32::splat(byte)).to_bitmask()
 }
 
-/// The same of less than 32 bytes.
+/// The same of at most 32 bytes, which are copied to the front of a block.
 #[inline(always)]
 fn first_of_few(bytes: &[u8], class: &[u8]) -> usize
+    requires { length bytes.now ≤ 32 }
     ensures { result ≡ position_or_len (in_class class.now) bytes.now }
 {
-    for (i, byte) in bytes.iter().enumerate() {
-        if is_among(class, *byte) {
-            return i;
-        }
-    }
-    bytes.len()
-}
-
-#[inline(always)]
-fn is_among(class: &[u8], byte: u8) -> bool
-    ensures { result ≡ in_class class.now byte }
-{
-    class.iter().any(|b| byte == *b)
+    let mut block = [0; 32];
+    block[..bytes.len()].copy_from_slice(bytes);
+    first_in_block(&block, 0, class).min(bytes.len())
 }

@@ -9,7 +9,7 @@ pub use self::entity_file::TableFault;
 pub use self::entity_table::Entities;
 pub use self::escapes::escape_text;
 pub use self::labels::{Label, Target, fold_label};
-pub use self::lines::{clean_len, clean_line, lines_of};
+pub use self::lines::{after_mark, clean_len, clean_line, is_clean, lines_of, split_line};
 pub use self::references::{Reference, Referent, read_reference};
 pub use self::unescapes::unescape;
 pub use self::urls::escape_url;

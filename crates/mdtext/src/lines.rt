@@ -24,7 +24,8 @@ pub fn lines_of(alloc: Global, text: &str) -> Result<Vec<String>, NoMemory>
     Ok(lines)
 }
 
-fn after_mark(text: &str) -> &str
+/// The text without U+FEFF at its beginning: what a whole text is read from. Takes no memory.
+pub fn after_mark(text: &str) -> &str
     ensures { result.now ≡ without_mark text.now }
 {
     match text.strip_prefix("\u{FEFF}") {
@@ -33,8 +34,8 @@ fn after_mark(text: &str) -> &str
     }
 }
 
-// The first line, and the text after its ending.
-fn split_line(text: &str) -> (&str, &str)
+/// The first line of a text that is not empty, without its ending, and the text after that ending (CommonMark 2.1). Takes no memory.
+pub fn split_line(text: &str) -> (&str, &str)
     requires { 0 < length text.now }
     ensures lines { split_lines text.now ≡ result.0.now ∷ split_lines result.1.now }
     ensures shorter { length result.1.now < length text.now }
@@ -81,18 +82,18 @@ pub fn clean_line(alloc: Global, line: &str) -> Result<String, NoMemory>
 pub fn clean_len(line: &str) -> usize
     ensures { result ≡ min (length (without_nul line.now)) (2 ^ 64 - 1) }
 {
-    if is_clean(line.as_bytes()) {
+    if is_clean(line) {
         return line.len();
     }
     replaced_len(line.as_bytes())
 }
 
-// Whether the line stays as it is.
+/// Whether no U+0000 stands in the text, so that it is read as it is (CommonMark 2.3). Takes no memory.
 #[tactic(auto, using(crate::proofs::FirstPlaces::stays))]
-fn is_clean(line: &[u8]) -> bool
-    ensures { IsTrue result → without_nul line.now ≡ line.now }
+pub fn is_clean(text: &str) -> bool
+    ensures { IsTrue result → without_nul text.now ≡ text.now }
 {
-    memchr(0, line).is_none()
+    memchr(0, text.as_bytes()).is_none()
 }
 
 fn replaced_len(line: &[u8]) -> usize

@@ -12,3 +12,4 @@ pub mod PatchLine
 pub mod ServeRuns
 pub mod ServeEnds
 pub mod Rows
+pub mod FirstEdits

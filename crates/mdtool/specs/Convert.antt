@@ -1,5 +1,6 @@
 -- What each end of a conversion says.
-use Rattle.std.specs.Prelude.{◌≡◌, ℕ, List, Option, Result, Ok, Err}
+use Rattle.std.specs.Prelude.{◌≡◌, ℕ, List, Option, Result, Ok, Err, String, string_bytes}
+use Rattle.std.specs.Global.{Global}
 use Rattle.std.specs.List.{concat}
 use Rattle.std.specs.Str.Lossy.{utf8_lossy}
 use Rattle.mdtext.specs.Lines.{text_lines}
@@ -16,7 +17,11 @@ use Rattle.mdview.specs.Outcome.{outcome}
 use Rattle.mdview.specs.ReadingEnd.{ReadingEnd}
 use Rattle.viewspec.specs.ChangedPieces.{ChangedPieces}
 
--- the lines of all bytes that were left; bytes that are no UTF-8 are read as U+FFFD
+-- the text of all bytes that were left; bytes that are no UTF-8 are read as U+FFFD
+abbrev pub TextRead : Option (List ℕ) → List ℕ → Option (List ℕ) → Type 0
+TextRead left text left' = (bytes : List ℕ) × TakesAll left bytes left' × (text ≡ utf8_lossy bytes)
+
+-- the lines of all bytes that were left
 abbrev pub LinesRead : Option (List ℕ) → List (List ℕ) → Option (List ℕ) → Type 0
 LinesRead left lines left' = (bytes : List ℕ) × TakesAll left bytes left' × (lines ≡ text_lines (utf8_lossy bytes))
 
@@ -47,16 +52,22 @@ pub record Refuses (empty : Document) (lines : List (List ℕ)) (fault : EditFau
   pub answer : (outcome empty (whole_text lines) reading).0 ≡ Err fault
   pub refusal : refusal_of fault ≡ Refused fault
 
--- what each end of the edit of a whole text says; there is no other
-abbrev pub FirstEdit : {T : Type 0} → Result T ToolFault → Document → List (List ℕ) → List (List ℕ) → Type 0
-FirstEdit (Ok answer) empty lines pieces = Accepts empty lines pieces
-FirstEdit (Err (Refused fault)) empty lines pieces = Refuses empty lines fault
-FirstEdit (Err NoMemory) empty lines pieces = Unit {0}
-FirstEdit (Err Read) empty lines pieces = ⊥
-FirstEdit (Err Write) empty lines pieces = ⊥
-FirstEdit (Err (BadCommand line)) empty lines pieces = ⊥
-FirstEdit (Err (Truncated line)) empty lines pieces = ⊥
-FirstEdit (Err (Table fault)) empty lines pieces = ⊥
+-- the lines are accepted, and these are their pieces, one after the other
+pub record HasHtml (empty : Document) (lines : List (List ℕ)) (html : List ℕ) : Type 0 where
+  pub pieces : List (List ℕ)
+  pub accepted : Accepts empty lines pieces
+  pub html_is : html ≡ concat pieces
+
+-- what each end of the reading of a whole text says; there is no other
+abbrev pub WholeHtml : Result (String Global) ToolFault → Document → List (List ℕ) → Type 0
+WholeHtml (Ok html) empty lines = HasHtml empty lines (string_bytes html)
+WholeHtml (Err (Refused fault)) empty lines = Refuses empty lines fault
+WholeHtml (Err NoMemory) empty lines = Unit {0}
+WholeHtml (Err Read) empty lines = ⊥
+WholeHtml (Err Write) empty lines = ⊥
+WholeHtml (Err (BadCommand line)) empty lines = ⊥
+WholeHtml (Err (Truncated line)) empty lines = ⊥
+WholeHtml (Err (Table fault)) empty lines = ⊥
 
 -- all bytes were read and their lines accepted, and the pieces were written, one after the other
 pub record Converted (empty : Document) (left left' written written' : Option (List ℕ)) : Type 0 where

@@ -1,23 +1,23 @@
 //! Turns a whole text into HTML.
-ghost use Rattle.std.specs.Prelude.{◌≡◌, ◌-◌, ◌^◌, ◌<◌, [], map, string_bytes};
-ghost use Rattle.std.specs.List.{concat};
-ghost use Rattle.std.specs.Result.{is_ok};
-ghost use Rattle.mdtool.specs.Bytes.{Puts};
-ghost use Rattle.mdtool.specs.Convert.{Conversion, FirstEdit, LinesRead, refusal_of};
+ghost use Rattle.std.specs.Prelude.{◌≡◌, ◌-◌, ◌^◌, ◌<◌, IfOk, [], string_bytes};
+ghost use Rattle.std.specs.Str.Lossy.{utf8_lossy};
+ghost use Rattle.mdtext.specs.Lines.{text_lines};
+ghost use Rattle.mdtool.specs.Convert.{Conversion, TextRead, WholeHtml, refusal_of};
 ghost use Rattle.mdview.specs.Document.{document};
 ghost use Rattle.mdtool.specs.Drained.{TakesSome};
 ghost use Rattle.mdtool.specs.Serve.{out_failures_after};
 ghost use Rattle.mdtool.specs.Steps.{Steps, failures_after};
 ghost use Rattle.mdhtml.specs.Limits.{HasLimits};
 
-use crate::device::{DeviceFault, Feed, Out, put_all};
+use crate::device::{Feed, Out};
 use crate::draining::read_all;
 use crate::fault::ToolFault;
-use crate::serving::lent;
+use crate::serving::send;
+use mdbatch::to_html;
 use mdhtml::Options;
-use mdtext::{Entities, Tally, lines_of};
-use mdview::{EditFault, Preview};
-use std::alloc::Global;
+use mdtext::Entities;
+use mdview::EditFault;
+use std::alloc::{AllocError, Global};
 
 /// Writes the HTML of the text that the feed has left, and flushes.
 ///
@@ -39,36 +39,49 @@ pub fn convert<R: Feed, W: Out>(
     ensures feed { R.failures feed.new ≡ failures_after result (R.failures feed.old) }
     ensures out { W.failures out.new ≡ out_failures_after result (W.failures out.old) }
 {
-    let lines = read_lines(alloc, feed)?;
-    let mut preview = Preview::new(alloc, entities, options);
-    put_text(alloc, &mut preview, &lines)?;
-    if send_pieces(&preview, out).is_err() {
+    let text = read_text(alloc, feed)?;
+    let html = whole_html(alloc, &text, &entities, &options)?;
+    if send(out, html.as_bytes()).is_err() {
         return Err(ToolFault::Write);
     }
     Ok(())
 }
 
-/// The lines of all bytes that the feed has left.
-fn read_lines<R: Feed>(alloc: Global, feed: &mut R) -> Result<Vec<String>, ToolFault>
+/// The text of all bytes that the feed has left.
+fn read_text<R: Feed>(alloc: Global, feed: &mut R) -> Result<String, ToolFault>
     requires { R.failures feed.old < 2 ^ 64 - 1 }
     ensures steps { Steps result
-        (λ lines. LinesRead (R.left feed.old) (map string_bytes lines.items) (R.left feed.new))
+        (λ text. TextRead (R.left feed.old) (string_bytes text) (R.left feed.new))
         (TakesSome (R.left feed.old) (R.left feed.new))
         (TakesSome (R.left feed.old) (R.left feed.new)) }
     ensures failures { R.failures feed.new ≡ failures_after result (R.failures feed.old) }
 {
     let bytes = read_all(alloc, feed)?;
-    let text = String::from_utf8_lossy(alloc, &bytes)?;
-    Ok(lines_of(alloc, &text)?)
+    Ok(lossy_text(alloc, bytes)?)
 }
 
-/// Puts the lines into an empty preview. Want of memory is no refusal of the text.
-fn put_text(alloc: Global, preview: &mut Preview, lines: &[String]) -> Result<(), ToolFault>
-    ensures { FirstEdit result preview.old (map string_bytes lines.now) preview.new.pieces }
+/// The bytes as a text, which are not copied where they are one.
+fn lossy_text(alloc: Global, bytes: Vec<u8>) -> Result<String, AllocError>
+    ensures { IfOk result (λ text. string_bytes text ≡ utf8_lossy bytes.items) }
 {
-    let lines = lent(alloc, lines)?;
-    match preview.edit(0, 0, &lines, &mut Tally::new()) {
-        Ok(_) => Ok(()),
+    match String::from_utf8(bytes) {
+        Ok(text) => Ok(text),
+        Err(fault) => String::from_utf8_lossy(alloc, fault.as_bytes()),
+    }
+}
+
+/// The HTML of a text. Want of memory is no refusal of it.
+fn whole_html(
+    alloc: Global,
+    text: &str,
+    entities: &Entities,
+    options: &Options,
+) -> Result<String, ToolFault>
+    requires { HasLimits options.now }
+    ensures { WholeHtml result (document entities.now options.now [] 0 []) (text_lines text.now) }
+{
+    match to_html(alloc, text, entities, options) {
+        Ok(html) => Ok(html),
         Err(fault) => Err(refusal(fault)),
     }
 }
@@ -80,15 +93,4 @@ fn refusal(fault: EditFault) -> ToolFault
         EditFault::NoMemory => ToolFault::NoMemory,
         _ => ToolFault::Refused(fault),
     }
-}
-
-/// Writes all pieces and flushes.
-fn send_pieces<W: Out>(preview: &Preview, out: &mut W) -> Result<(), DeviceFault>
-    requires { W.failures out.old < 2 ^ 64 - 1 }
-    ensures { Puts (W.written out.old) (W.failures out.old) (concat preview.now.pieces) (is_ok result) (W.written out.new) (W.failures out.new) }
-{
-    for piece in preview.pieces() {
-        put_all(out, piece.as_bytes())?;
-    }
-    out.flush()
 }

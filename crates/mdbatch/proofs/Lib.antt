@@ -1,0 +1,3 @@
+pub mod DueRefusals
+pub mod SplitText
+pub mod UnitsWritten

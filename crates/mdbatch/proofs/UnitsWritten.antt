@@ -1,0 +1,40 @@
+-- Units that are written one after the other.
+use Rattle.std.proofs.Common.{◌≡◌, ℕ, List, [], ◌∷◌, ◌++◌, map, refl, ap, sym, ◌∙◌, arith, append_assoc, append-nil}
+use Rattle.std.proofs.lemmas.List.{map-append}
+use Rattle.std.proofs.lemmas.List.Elements.{All-push}
+use Rattle.std.proofs.lemmas.List.Folds.{concat-append}
+use Rattle.std.specs.List.{concat}
+use Rattle.blockspec.specs.UnitTree.{FoundUnit}
+use Rattle.mdhtml.specs.declared.options.Options.{Options}
+use Rattle.mdview.specs.HeldUnit.{ReadUnit, unit_piece}
+use Rattle.mdbatch.specs.BatchHtml.{AppendsUnit, AppendsUnits, UnitsHtml, IsRead, found_part, read_part}
+
+-- nothing is written yet
+pub none_written : (options : Options) (old : List ℕ) → AppendsUnits options [] old old
+none_written options old = record {
+  units = [];
+  are = refl;
+  all = λ k d below. absurd (omega arith);
+  written = sym (append-nil old);
+}
+
+-- one unit more is written
+pub one_more : (options : Options) (found : List FoundUnit) (next : FoundUnit) (old mid new : List ℕ) → AppendsUnits options found old mid → AppendsUnit options next.unit mid new
+    → AppendsUnits options (found ++ next ∷ []) old new
+one_more options found next old mid new before last =
+    let unit : ReadUnit = record { lines = next.lines; unit = next.unit; readings = last.readings } in
+    let piece : List ℕ = unit_piece options unit in
+    let pieces : List (List ℕ) = map (unit_piece options) before.units in
+    let joined : concat (map (unit_piece options) (before.units ++ unit ∷ [])) ≡ concat pieces ++ piece =
+    ap concat (map-append (unit_piece options) before.units (unit ∷ [])) ∙ concat-append pieces (piece ∷ []) ∙ ap (λ l. concat pieces ++ l) (append-nil piece) in
+    record {
+      units = before.units ++ unit ∷ [];
+      are = map-append read_part before.units (unit ∷ []) ∙ ap (λ l. l ++ found_part next ∷ []) before.are ∙ sym (map-append found_part found (next ∷ []));
+      all = All-push IsRead before.units unit before.all last.all;
+      written = last.written ∙ ap (λ l. l ++ piece) before.written ∙ append_assoc old (concat pieces) piece ∙ ap (λ l. old ++ l) (sym joined);
+    }
+
+-- what stands behind the empty text is the HTML of the units
+pub all_written : (options : Options) (found : List FoundUnit) (old html : List ℕ) → old ≡ [] → AppendsUnits options found old html → UnitsHtml options html
+all_written options found old html none writes =
+    record { units = writes.units; all = writes.all; written = writes.written ∙ ap (λ l. l ++ concat (map (unit_piece options) writes.units)) none }

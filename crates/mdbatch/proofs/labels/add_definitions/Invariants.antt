@@ -1,0 +1,8 @@
+use Rattle.std.proofs.Common.{◌≡◌, drop, map}
+use Rattle.mdleaf.specs.LinkDefinition.{definition_of}
+use Rattle.mdbatch.specs.TextLabels.{with_definitions}
+use Rattle.mdbatch.proofs.labels.add_definitions.Given as goal
+
+abbrev pub invariant-loop-definition : goal.invariant-loop-definition
+invariant-loop-definition l =
+    with_definitions l.labels (map definition_of (drop l.definition-index l.definitions)) ≡ with_definitions l.fn.labels (map definition_of l.definitions)

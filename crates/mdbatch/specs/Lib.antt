@@ -1,0 +1,2 @@
+pub mod BatchHtml
+pub mod TextLabels

@@ -1,0 +1,16 @@
+-- Where the labels of a text lead (CommonMark 4.7).
+use Rattle.std.specs.Prelude.{List, [], ◌∷◌}
+use Rattle.mdleaf.specs.LinkDefinition.{LinkDefinition}
+use Rattle.blockspec.specs.UnitTree.{FoundUnit}
+use Rattle.inlinespec.specs.LabelMap.{LabelMap, put_first}
+
+-- the map with these definitions after those that it has: a label keeps its first target
+abbrev pub with_definitions : LabelMap → List LinkDefinition → LabelMap
+with_definitions labels [] = labels
+with_definitions labels (definition ∷ definitions) =
+    with_definitions (put_first labels definition.label (record { url = definition.url; title = definition.title })) definitions
+
+-- the map with the definitions of these units, in order
+abbrev pub with_units : LabelMap → List FoundUnit → LabelMap
+with_units labels [] = labels
+with_units labels (found ∷ units) = with_units (with_definitions labels found.unit.definitions) units

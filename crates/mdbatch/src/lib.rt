@@ -1,0 +1,14 @@
+//! The HTML of a whole text at once, with no preview held.
+#![tactic(auto)]
+
+mod batch;
+mod labels;
+mod limits;
+#[cfg(test)]
+mod tests;
+mod units;
+
+pub use batch::to_html;
+pub use mdhtml::{Breaks, Options};
+pub use mdtext::Entities;
+pub use mdview::EditFault;

@@ -1,0 +1,39 @@
+//! The limits on the lines and bytes of a whole text.
+ghost use Rattle.std.specs.Prelude.{◌≡◌, IfErr, OnOk, Some, None, map};
+ghost use Rattle.mdtext.specs.Lines.{split_lines, without_nul};
+ghost use Rattle.mdview.specs.Edit.{refusal};
+
+use mdtext::{clean_len, split_line};
+use mdview::EditFault;
+
+const MAX_LINES: usize = 1_000_000;
+
+const MAX_SIZE: usize = 16_777_216;
+
+/// Whether the text, U+FFFD standing for each U+0000, has no more than 1,000,000 lines and 16,777,216 bytes, with one counted for each line's end.
+/// Takes no memory.
+pub(crate) fn within_limits(text: &str) -> Result<(), EditFault>
+    ensures within { OnOk result (refusal (map without_nul (split_lines text.now)) ≡ None) }
+    ensures beyond { IfErr result (λ fault. refusal (map without_nul (split_lines text.now)) ≡ Some fault) }
+{
+    // A text has no more lines than bytes, and a byte stands for at most three.
+    if text.len() < MAX_LINES {
+        return Ok(());
+    }
+    let mut lines: usize = 0;
+    let mut size: usize = 0;
+    let mut rest = text;
+    while !rest.is_empty() {
+        let (line, after) = split_line(rest);
+        lines = lines.saturating_add(1);
+        size = size.saturating_add(clean_len(line)).saturating_add(1);
+        rest = after;
+    }
+    if lines > MAX_LINES {
+        return Err(EditFault::TooManyLines);
+    }
+    if size > MAX_SIZE {
+        return Err(EditFault::TooLarge);
+    }
+    Ok(())
+}
