@@ -31,7 +31,8 @@ pub(crate) fn autolink_of(
     entities: &Entities,
 ) -> Result<Inline, AllocError>
     ensures { IfOk result (λ inline. made_events inline
-        ≡ within (LinkTo (record { url = scheme_before is_mail ++ without_references entities.now 0 inside.now; title = [] })) (written (without_references entities.now 0 inside.now))) }
+        ≡ within (LinkTo (record { url = scheme_before is_mail ++ without_references entities.now 0 inside.now; title = [] }))
+        (written (without_references entities.now 0 inside.now))) }
 {
     let shown = without_references(alloc, inside, entities)?;
     let mut url = String::new(alloc);

@@ -38,7 +38,8 @@ pub(crate) fn bracket_at(text: &[u8], at: usize) -> Option<Bracket>
     requires { at < length text.now }
     ensures end { IfSome result (λ bracket. EndsAfterMark text.now at bracket.end) }
     ensures mark { IfSome result (λ _. slice_index text.now at < 128) }
-    ensures value { (entities : EntityTable) → MatchOption result (is_bracket (lex entities text.now at).kind ≡ false) (λ bracket. lex entities text.now at ≡ bracket_of at bracket) }
+    ensures value { (entities : EntityTable) → MatchOption result (is_bracket (lex entities text.now at).kind ≡ false)
+        (λ bracket. lex entities text.now at ≡ bracket_of at bracket) }
 {
     let next = at + 1;
     match text[at] {
@@ -87,7 +88,8 @@ impl BracketStack {
 
     pub(crate) fn push(&mut self, opening: Opening) -> Result<(), AllocError>
         ensures unused { OnOk result (self.new.unused.items ≡ self.old.unused.items ++ opening ∷ []) }
-        ensures openers { OnOk result ((ps : List Piece) → AreOpenersOf ps self.old → AreOpenersOf (piece.Opening opening.is_image opening.begin ∷ ps) self.new) }
+        ensures openers { OnOk result ((ps : List Piece) → AreOpenersOf ps self.old
+            → AreOpenersOf (piece.Opening opening.is_image opening.begin ∷ ps) self.new) }
     {
         self.unused.push(opening)?;
         Ok(())
@@ -95,8 +97,10 @@ impl BracketStack {
 
     /// Uses up the nearest one, and answers it with whether it is live.
     pub(crate) fn take(&mut self) -> Option<(Opening, bool)>
-        ensures unused { MatchOption result (self.new.unused.items ≡ self.old.unused.items) (λ taken. self.old.unused.items ≡ self.new.unused.items ++ taken.0 ∷ []) }
-        ensures taken { (ps : List Piece) → AreOpenersOf ps self.old → MatchOption result (nearest_opener ps ≡ None) (λ taken. (o : Opened) × IsTaken ps taken o) }
+        ensures unused { MatchOption result (self.new.unused.items ≡ self.old.unused.items)
+            (λ taken. self.old.unused.items ≡ self.new.unused.items ++ taken.0 ∷ []) }
+        ensures taken { (ps : List Piece) → AreOpenersOf ps self.old
+            → MatchOption result (nearest_opener ps ≡ None) (λ taken. (o : Opened) × IsTaken ps taken o) }
         ensures left { (ps : List Piece) → AreOpenersOf ps self.old → AreOpenersOf (spent ps) self.new }
     {
         let Some(opening) = self.unused.pop() else {

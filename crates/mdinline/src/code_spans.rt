@@ -1,6 +1,7 @@
 //! Code spans (CommonMark 6.1).
 
-ghost use Rattle.std.specs.Prelude.{◌≡◌, ◌+◌, ◌-◌, ◌<◌, ◌≤◌, ◌==◌, ◌||◌, ℕ, true, false, not, IfOk, IfSome, MatchOption, length, drop, slice_index, option_map, string_bytes};
+ghost use Rattle.std.specs.Prelude.{◌≡◌, ◌+◌, ◌-◌, ◌<◌, ◌≤◌, ◌==◌, ◌||◌, ℕ, true};
+ghost use Rattle.std.specs.Prelude.{false, not, IfOk, IfSome, MatchOption, length, drop, slice_index, option_map, string_bytes};
 ghost use Rattle.std.specs.BTreeMap.{get};
 ghost use Rattle.std.specs.List.{list_any};
 ghost use Rattle.std.specs.Ordering.{nat_cmp};

@@ -55,7 +55,8 @@ fn paired(alloc: Global, pieces: &[Piece]) -> Result<Vec<PairedRun>, AllocError>
 }
 
 fn take_all(runs: &mut Vec<PairedRun>, matches: &[Match]) -> Result<(), AllocError>
-    ensures { OnOk result ((rs : List DelimiterRun) → All (IsOrdered (length rs)) matches.now → ArePaired [] rs runs.old.items → ArePaired matches.now rs runs.new.items) }
+    ensures { OnOk result ((rs : List DelimiterRun) → All (IsOrdered (length rs)) matches.now → ArePaired [] rs runs.old.items
+        → ArePaired matches.now rs runs.new.items) }
 {
     for matched in matches {
         take(runs, matched)?;

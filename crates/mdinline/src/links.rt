@@ -122,7 +122,8 @@ fn look_up<L: Labels>(
 ) -> Result<Option<FoundLink>, AllocError>
     ensures end { IfOk result (λ found. IfSome found (λ reference. reference.end ≡ end)) }
     ensures value { IfOk result (λ found. (at : ℕ) → IsLinkOf at (by_link_tail (L.target labels.now) at (by_label (label_of inside.now) end)) found) }
-    ensures asks { OnOk result ((at : ℕ) → asked.new.keys ≡ with_asked asked.old.keys (by_link_tail (L.target labels.now) at (by_label (label_of inside.now) end)).asks) }
+    ensures asks { OnOk result ((at : ℕ)
+        → asked.new.keys ≡ with_asked asked.old.keys (by_link_tail (L.target labels.now) at (by_label (label_of inside.now) end)).asks) }
 {
     let Some(label) = fold_label(alloc, inside)? else {
         return Ok(None);

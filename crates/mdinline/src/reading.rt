@@ -129,9 +129,11 @@ impl Reading {
         ensures size { (ps : List settled.Piece) → AreOpenersOf ps self.old.openings
             → IfOk result (λ end. end ≡ at + (item_by entities.now (L.target labels.now) text.now at ps (bracket.end - at) (kind_of bracket.kind)).size) }
         ensures asks { (ps : List settled.Piece) → AreOpenersOf ps self.old.openings
-            → OnOk result (self.new.asked.keys ≡ with_asked self.old.asked.keys (item_by entities.now (L.target labels.now) text.now at ps (bracket.end - at) (kind_of bracket.kind)).asks) }
+            → OnOk result (self.new.asked.keys ≡ with_asked self.old.asked.keys
+            (item_by entities.now (L.target labels.now) text.now at ps (bracket.end - at) (kind_of bracket.kind)).asks) }
         ensures openers { (ps : List settled.Piece) → AreOpenersOf ps self.old.openings
-            → OnOk result (AreOpenersOf (after_deed (item_by entities.now (L.target labels.now) text.now at ps (bracket.end - at) (kind_of bracket.kind)).deed ps) self.new.openings) }
+            → OnOk result (AreOpenersOf (after_deed
+            (item_by entities.now (L.target labels.now) text.now at ps (bracket.end - at) (kind_of bracket.kind)).deed ps) self.new.openings) }
     {
         match bracket.kind {
             BracketKind::Link => self.open(false, bracket.end)?,
@@ -142,7 +144,8 @@ impl Reading {
     }
 
     fn open(&mut self, is_image: bool, begin: usize) -> Result<(), AllocError>
-        ensures openers { OnOk result ((ps : List settled.Piece) → AreOpenersOf ps self.old.openings → AreOpenersOf (settled.Opening is_image begin ∷ ps) self.new.openings) }
+        ensures openers { OnOk result ((ps : List settled.Piece) → AreOpenersOf ps self.old.openings
+            → AreOpenersOf (settled.Opening is_image begin ∷ ps) self.new.openings) }
         ensures asked { OnOk result (self.new.asked ≡ self.old.asked) }
         ensures brackets { OnOk result ((text : List ℕ) (at : ℕ) → IsCharBoundary text begin → at ≤ begin → AreBracketsOf text at self.old.openings.unused.items
             → AreBracketsOf text begin self.new.openings.unused.items) }
@@ -174,7 +177,8 @@ impl Reading {
         ensures size { (ps : List settled.Piece) → AreOpenersOf ps self.old.openings
             → IfOk result (λ end. end ≡ at + (closing entities.now (L.target labels.now) text.now at (nearest_opener ps)).size) }
         ensures asks { (ps : List settled.Piece) → AreOpenersOf ps self.old.openings
-            → OnOk result (self.new.asked.keys ≡ with_asked self.old.asked.keys (closing entities.now (L.target labels.now) text.now at (nearest_opener ps)).asks) }
+            → OnOk result (self.new.asked.keys ≡ with_asked self.old.asked.keys
+            (closing entities.now (L.target labels.now) text.now at (nearest_opener ps)).asks) }
         ensures openers { (ps : List settled.Piece) → AreOpenersOf ps self.old.openings
             → OnOk result (AreOpenersOf (after_deed (closing entities.now (L.target labels.now) text.now at (nearest_opener ps)).deed ps) self.new.openings) }
     {
@@ -206,10 +210,13 @@ impl Reading {
         ensures end { IfOk result (λ found. IfSome found (λ found. IsLinkEnd text.now (at + 1) found.1.end)) }
         ensures brackets { OnOk result (AreBracketsOf text.now at self.new.openings.unused.items) }
         ensures value { (ps : List settled.Piece) → AreOpenersOf ps self.old.openings
-            → IfOk result (λ found. IsLinkOf at (closing entities.now (L.target labels.now) text.now at (nearest_opener ps)) (option_map (λ found. found.1) found)) }
+            → IfOk result (λ found. IsLinkOf at (closing entities.now (L.target labels.now) text.now at (nearest_opener ps)) (option_map
+            (λ found. found.1) found)) }
         ensures asks { (ps : List settled.Piece) → AreOpenersOf ps self.old.openings
-            → OnOk result (self.new.asked.keys ≡ with_asked self.old.asked.keys (closing entities.now (L.target labels.now) text.now at (nearest_opener ps)).asks) }
-        ensures taken { (ps : List settled.Piece) → AreOpenersOf ps self.old.openings → IfOk result (λ found. IfSome found (λ found. (o : Opened) × IsTaken ps (found.0, true) o)) }
+            → OnOk result (self.new.asked.keys ≡ with_asked self.old.asked.keys
+            (closing entities.now (L.target labels.now) text.now at (nearest_opener ps)).asks) }
+        ensures taken { (ps : List settled.Piece) → AreOpenersOf ps self.old.openings
+            → IfOk result (λ found. IfSome found (λ found. (o : Opened) × IsTaken ps (found.0, true) o)) }
         ensures openers { (ps : List settled.Piece) → AreOpenersOf ps self.old.openings → OnOk result (AreOpenersOf (spent ps) self.new.openings) }
         ensures pieces { self.new.pieces ≡ self.old.pieces }
     {
@@ -237,7 +244,8 @@ impl Reading {
     /// Makes a link or an image of the pieces from a bracket on.
     fn link(&mut self, alloc: Global, opening: Opening, target: Target) -> Result<(), InlineFault>
         ensures unused { OnOk result (self.new.openings.unused.items ≡ self.old.openings.unused.items) }
-        ensures openers { OnOk result ((ps : List settled.Piece) (o : Opened) (t : LinkTarget) → IsTaken ps (opening, true) o → AreOpenersOf (spent ps) self.old.openings
+        ensures openers { OnOk result ((ps : List settled.Piece) (o : Opened) (t : LinkTarget) → IsTaken ps (opening, true) o
+            → AreOpenersOf (spent ps) self.old.openings
             → AreOpenersOf (linked t ps (nearest_opener ps)) self.new.openings) }
         ensures asked { OnOk result (self.new.asked ≡ self.old.asked) }
     {

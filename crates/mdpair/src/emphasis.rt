@@ -62,7 +62,8 @@ fn pass(
     requires bottoms { All (IsBottomUpTo place (stack passed.old.items)) bottoms.old.items }
     requires each { AllByRecursion IsLeft (stack passed.old.items) }
     requires low { AllByRecursion (IsBelow place) (stack passed.old.items) }
-    ensures leads { IfOk result (λ _. (start rest : List Left) → Leads start matches.old.items (onto (stack passed.old.items) (left_of place run.length run ++ rest))
+    ensures leads { IfOk result (λ _. (start rest : List Left)
+        → Leads start matches.old.items (onto (stack passed.old.items) (left_of place run.length run ++ rest))
         → Leads start matches.new.items (onto (stack passed.new.items) rest)) }
     ensures clear { IfOk result (λ _. IsClear (stack passed.new.items)) }
     ensures each { IfOk result (λ _. AllByRecursion IsLeft (stack passed.new.items)) }
@@ -132,7 +133,9 @@ fn close(
 fn opener(passed: &[Remaining], closer: &DelimiterRun, bottom: usize) -> Option<usize>
     requires falls { Descends (stack passed.now) }
     requires bottom { IsBottom bottom closer.now (stack passed.now) }
-    ensures { MatchOption result (nearest closer.now (stack passed.now) ≡ None) (λ i. (i < length passed.now) × ((d : Left) → nearest closer.now (stack passed.now) ≡ Some (slice_index_or passed.now i d, stack (take i passed.now)))) }
+    ensures { MatchOption result (nearest closer.now (stack passed.now) ≡ None)
+        (λ i. (i < length passed.now)
+        × ((d : Left) → nearest closer.now (stack passed.now) ≡ Some (slice_index_or passed.now i d, stack (take i passed.now)))) }
 {
     for i in (0..passed.len()).rev() {
         if passed[i].place < bottom {

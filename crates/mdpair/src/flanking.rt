@@ -3,7 +3,8 @@
 ghost use Rattle.std.specs.Prelude.{◌≡◌, ◌+◌, ◌-◌, ◌<◌, ◌≤◌, IfSome, length, drop, slice_get};
 ghost use Rattle.std.specs.Str.{chars, IsCharBoundary};
 ghost use Rattle.std.specs.Option.{option_and_then};
-ghost use Rattle.mdpair.specs.Neighbours.{white_at, punct_at, left_flanking, right_flanking, opens_between, closes_between, run_between, char_before, char_after, delimiter_of, byte_of, run_length, run_at};
+ghost use Rattle.mdpair.specs.Neighbours.{white_at, punct_at, left_flanking, right_flanking, opens_between, closes_between};
+ghost use Rattle.mdpair.specs.Neighbours.{run_between, char_before, char_after, delimiter_of, byte_of, run_length, run_at};
 
 use crate::runs::{DelimiterChar, DelimiterRun};
 use mdtext::{is_punct, is_white};
