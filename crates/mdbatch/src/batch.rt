@@ -77,7 +77,7 @@ impl<'a> TextWriter<'a> {
     /// Appends the HTML of the units; each is let go as soon as it is written.
     fn append_units(&self, units: Vec<Found>, out: &mut String) -> Result<(), EditFault>
         requires limits { HasLimits self.now.options.now }
-        requires { ends_line (string_bytes out.old) ≡ true }
+        requires piece { ends_line (string_bytes out.old) ≡ true }
         ensures html { OnOk result (AppendsUnits self.now.options.now units.items (string_bytes out.old) (string_bytes out.new)) }
         ensures fault { IfErr result OfReading }
     {
@@ -91,7 +91,7 @@ impl<'a> TextWriter<'a> {
 
     fn append_unit(&self, unit: &Unit, out: &mut String) -> Result<(), InlineFault>
         requires limits { HasLimits self.now.options.now }
-        requires { ends_line (string_bytes out.old) ≡ true }
+        requires piece { ends_line (string_bytes out.old) ≡ true }
         ensures html { OnOk result (AppendsUnit self.now.options.now unit.now (string_bytes out.old) (string_bytes out.new)) }
         ensures ends_line { OnOk result (ends_line (string_bytes out.new) ≡ true) }
     {
