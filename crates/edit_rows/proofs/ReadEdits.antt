@@ -52,7 +52,7 @@ answer_by setting source call None =
     let p = places setting source call in
     let patch = patch_of setting source call in
     answers (from_line p) (meeting_line p) patch.first patch.removed patch.added patch.again (texts_read setting source call)
-      (changed_labels setting source (put source call))
+    (changed_labels setting source (put source call))
 
 -- what a call of a preview of a source gives
 unfoldable pub answer : Setting → Source → Call → Answer

@@ -1,4 +1,4 @@
--- HTML of blocks (CommonMark 4 and 5; GFM, Tables and Task list items). Each is a function of the piece so far, since a block begins on a line of its own.
+-- HTML of blocks (CommonMark 4 and 5; GFM Tables (extension), GFM Task list items (extension)). Each is a function of the piece so far, since a block begins on a line of its own.
 use Rattle.std.specs.Prelude.{ℕ, ◌-◌, List, [], ◌++◌, codes, if◌then◌else◌, ◌==◌, ◌||◌, Bool, true, false, Option, Some, None, length, map, slice_index}
 use Rattle.std.specs.Fmt.{decimal}
 use Rattle.mdtext.specs.Escaped.{escaped}

@@ -1,4 +1,4 @@
--- HTML of inlines (CommonMark 6; GFM, Strikethrough).
+-- HTML of inlines (CommonMark 6; GFM Strikethrough (extension)).
 use Rattle.std.specs.Prelude.{ℕ, List, [], ◌++◌, codes, if◌then◌else◌}
 use Rattle.mdtext.specs.Escaped.{escaped}
 use Rattle.inlinespec.specs.InlineTree.{Inline, Inlines, no_inlines, inline, text, code, raw, soft, hard, emph, strong, strike, link, image}

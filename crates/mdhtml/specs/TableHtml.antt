@@ -1,4 +1,4 @@
--- HTML of tables (GFM, Tables).
+-- HTML of tables (GFM Tables (extension)).
 use Rattle.std.specs.Prelude.{ℕ, ◌+◌, List, [], ◌∷◌, ◌++◌, codes, if◌then◌else◌, length, ◌==◌, slice_index_or}
 use Rattle.mdscan.specs.declared.delimiter_rows.Align.{Align}
 use Rattle.mdscan.specs.declared.delimiter_rows.Align.TheVariants.{Plain, Left, Center, Right}

@@ -34,7 +34,7 @@ past_the_text lines at del = if nat_lt lines at || nat_lt (lines - at) del then 
 abbrev pub due_at_once : Source → Call → Option Refusal
 due_at_once source (edit at del add) =
     option_or (past_the_text (length source.lines) at del)
-      (option_or (option_map break_in_line (line_ending_from 0 add)) (size_refusal (put source (edit at del add)).lines))
+    (option_or (option_map break_in_line (line_ending_from 0 add)) (size_refusal (put source (edit at del add)).lines))
 due_at_once source (set_prelude lines) =
     option_or (option_map break_in_line (line_ending_from 0 lines)) (size_refusal (put source (set_prelude lines)).prelude)
 

@@ -29,7 +29,7 @@ leads_elsewhere old new label = not (is_same_target (old label) (new label))
 abbrev pub changed_labels : Setting → (old new : Source) → List (List ℕ)
 changed_labels setting old new =
     as_set (filter (leads_elsewhere (table setting.entities old) (table setting.entities new))
-      (map (λ definition. definition.label) (definitions_in setting.entities old ++ definitions_in setting.entities new)))
+    (map (λ definition. definition.label) (definitions_in setting.entities old ++ definitions_in setting.entities new)))
 
 -- a text asked for a label that leads elsewhere in another table
 abbrev pub asks_changed : (old new : Table) → ParsedText → Bool
@@ -66,7 +66,7 @@ places setting old (edit at del add) =
       new_lines = length new.lines;
       at = at;
       gone = del;
-      come = length add
+      come = length add;
     }
 places setting old (set_prelude lines) =
     record { old_begins = []; new_begins = []; new_lines = 0; at = 0; gone = 0; come = 0 }
@@ -80,7 +80,7 @@ patch_of setting old call =
       first = units_before p;
       removed = units_removed p;
       added = units_added p;
-      again = asking_from (table setting.entities old) (table setting.entities new) (units_before p) (units_added p) 0 (view setting new)
+      again = asking_from (table setting.entities old) (table setting.entities new) (units_before p) (units_added p) 0 (view setting new);
     }
 
 -- how many inline texts such a call reads at most

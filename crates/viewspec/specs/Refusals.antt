@@ -63,7 +63,7 @@ is_more (block first later) = true
 abbrev pub undefining_line : Setting → List (List ℕ) → Option ℕ
 undefining_line setting prelude =
     option_or (first_too_deep setting.options.max_containers prelude)
-      (option_map (λ (found : FoundUnit). found.begin) (find (λ (found : FoundUnit). is_more found.unit.blocks) (units setting.entities prelude)))
+    (option_map (λ (found : FoundUnit). found.begin) (find (λ (found : FoundUnit). is_more found.unit.blocks) (units setting.entities prelude)))
 
 -- why the prelude of a source that is not too large is none, the first reason of: other blocks than definitions, spans in one another in the document
 abbrev pub prelude_refusal : Setting → Source → Option Refusal

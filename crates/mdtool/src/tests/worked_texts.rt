@@ -6,7 +6,7 @@ use std::alloc::{AllocError, Global};
 use std::process::Abort;
 use std::test::Fail;
 
-/// Blocks (CommonMark 4 and 5; GFM, Tables and Task list items).
+/// Blocks (CommonMark 4 and 5; GFM Tables (extension), GFM Task list items (extension)).
 static BLOCKS: [(&str, &str); 16] = [
     (
         "\tfoo\tbaz\t\tbim\n",
@@ -92,7 +92,7 @@ static BLOCKS: [(&str, &str); 16] = [
     ),
 ];
 
-/// Inlines (CommonMark 6; GFM, Strikethrough) and definitions (CommonMark 4.7).
+/// Inlines (CommonMark 6; GFM Strikethrough (extension)) and definitions (CommonMark 4.7).
 static INLINES: [(&str, &str); 20] = [
     (
         "[foo]: /url\n===\n[foo]\n",
