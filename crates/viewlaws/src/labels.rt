@@ -12,8 +12,8 @@ ghost use Rattle.viewspec.specs.Setting.{Setting, Source};
 ghost use Rattle.viewspec.specs.Stretch.{from_line, meeting_line, old_line};
 ghost use Rattle.viewspec.specs.View.{reading_of};
 
-/// Where a label leads behind an edit, and where it led, is told by the definitions of the units in front, of those that are new or give way, of those behind, and of
-/// the prelude: the first of these counts.
+/// Where a label leads behind an edit, and where it led, is told by the definitions of the units in front, of those that are new or
+/// give way, of those behind, and of the prelude: the first of these counts.
 pub fn labels_are_those_of_three_parts()
     ensures behind { (setting : Setting) (old : Source) (at del : ℕ) (add : List (List ℕ)) (label : List ℕ) → at + del ≤ length old.lines
         → let p = places setting old (edit at del add) in

@@ -160,7 +160,8 @@ static LOOKED_UP: [Defined; 13] = [
     (
         "[c] [b] [a] [b] [C]",
         &[("b", "/u", "")],
-        "[Text(\"[c] \"), Link(Target { url: \"/u\", title: \"\" }, [Text(\"b\")]), Text(\" [a] \"), Link(Target { url: \"/u\", title: \"\" }, [Text(\"b\")]), Text(\" [C]\")]",
+        "[Text(\"[c] \"), Link(Target { url: \"/u\", title: \"\" }, [Text(\"b\")]), Text(\" [a] \"), Link(Target { url: \"/u\", \
+        title: \"\" }, [Text(\"b\")]), Text(\" [C]\")]",
     ),
     (
         "[a [b](/u) c]",

@@ -69,7 +69,8 @@ static SIMPLE: [(&str, &str); 70] = [
     ),
     (
         "**Gomphocarpus (*Gomphocarpus physocarpus*, syn.\n*Asclepias physocarpa*)**",
-        "[Strong([Text(\"Gomphocarpus (\"), Emph([Text(\"Gomphocarpus physocarpus\")]), Text(\", syn.\"), Soft, Emph([Text(\"Asclepias physocarpa\")]), Text(\")\")])]",
+        "[Strong([Text(\"Gomphocarpus (\"), Emph([Text(\"Gomphocarpus physocarpus\")]), Text(\", syn.\"), \
+        Soft, Emph([Text(\"Asclepias physocarpa\")]), Text(\")\")])]",
     ),
     (
         "**foo \"*bar*\" foo**",

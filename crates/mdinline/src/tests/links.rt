@@ -94,7 +94,8 @@ static LINKS: [(&str, &str); 65] = [
     ),
     (
         "[link](/url \"title\")\n[link](/url 'title')\n[link](/url (title))",
-        "[Link(Target { url: \"/url\", title: \"title\" }, [Text(\"link\")]), Soft, Link(Target { url: \"/url\", title: \"title\" }, [Text(\"link\")]), Soft, Link(Target { url: \"/url\", title: \"title\" }, [Text(\"link\")])]",
+        "[Link(Target { url: \"/url\", title: \"title\" }, [Text(\"link\")]), Soft, Link(Target { url: \"/url\", \
+        title: \"title\" }, [Text(\"link\")]), Soft, Link(Target { url: \"/url\", title: \"title\" }, [Text(\"link\")])]",
     ),
     (
         "[link](/url \"title \\\"&quot;\")",

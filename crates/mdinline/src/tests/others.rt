@@ -13,8 +13,11 @@ static OTHERS: [(&str, &str); 97] = [
         "[Text(\"\\\\\\t\\\\A\\\\a\\\\ \\\\3\\\\φ\\\\«\")]",
     ),
     (
-        "\\*not emphasized*\n\\<br/> not a tag\n\\[not a link](/foo)\n\\`not code`\n1\\. not a list\n\\* not a list\n\\# not a heading\n\\[foo]: /url \"not a reference\"\n\\&ouml; not a character entity",
-        "[Text(\"*not emphasized*\"), Soft, Text(\"<br/> not a tag\"), Soft, Text(\"[not a link](/foo)\"), Soft, Text(\"`not code`\"), Soft, Text(\"1. not a list\"), Soft, Text(\"* not a list\"), Soft, Text(\"# not a heading\"), Soft, Text(\"[foo]: /url \\\"not a reference\\\"\"), Soft, Text(\"&ouml; not a character entity\")]",
+        "\\*not emphasized*\n\\<br/> not a tag\n\\[not a link](/foo)\n\\`not code`\n1\\. not a list\n\\* not a list\n\
+        \\# not a heading\n\\[foo]: /url \"not a reference\"\n\\&ouml; not a character entity",
+        "[Text(\"*not emphasized*\"), Soft, Text(\"<br/> not a tag\"), Soft, Text(\"[not a link](/foo)\"), \
+        Soft, Text(\"`not code`\"), Soft, Text(\"1. not a list\"), Soft, Text(\"* not a list\"), Soft, Text(\"# not a heading\"), \
+        Soft, Text(\"[foo]: /url \\\"not a reference\\\"\"), Soft, Text(\"&ouml; not a character entity\")]",
     ),
     (
         "\\\\*emphasis*",

@@ -32,12 +32,14 @@ static REFERENCES: [Defined; 55] = [
     (
         "[foo [bar](/uri)][ref]",
         &[("ref", "/uri", "")],
-        "[Text(\"[foo \"), Link(Target { url: \"/uri\", title: \"\" }, [Text(\"bar\")]), Text(\"]\"), Link(Target { url: \"/uri\", title: \"\" }, [Text(\"ref\")])]",
+        "[Text(\"[foo \"), Link(Target { url: \"/uri\", title: \"\" }, [Text(\"bar\")]), Text(\"]\"), Link(Target { url: \"/uri\", \
+        title: \"\" }, [Text(\"ref\")])]",
     ),
     (
         "[foo *bar [baz][ref]*][ref]",
         &[("ref", "/uri", "")],
-        "[Text(\"[foo \"), Emph([Text(\"bar \"), Link(Target { url: \"/uri\", title: \"\" }, [Text(\"baz\")])]), Text(\"]\"), Link(Target { url: \"/uri\", title: \"\" }, [Text(\"ref\")])]",
+        "[Text(\"[foo \"), Emph([Text(\"bar \"), Link(Target { url: \"/uri\", title: \"\" }, [Text(\"baz\")])]), \
+        Text(\"]\"), Link(Target { url: \"/uri\", title: \"\" }, [Text(\"ref\")])]",
     ),
     (
         "*[foo*][ref]",
