@@ -19,6 +19,41 @@ at_the_end : answer plain (source_of (codes "a" ∷ [] ∷ codes "b" ∷ []) [])
 unfolding answer
 at_the_end = refl
 
+-- five lines, and an edit far behind them
+worked_range : answer plain (source_of (codes "[foo]" ∷ [] ∷ codes "x" ∷ [] ∷ codes "[foo]: /a" ∷ []) []) (edit 9 1 []) ≡ refused (out_of_range 5)
+unfolding answer
+worked_range = refl
+
+-- a carriage return inside a line
+worked_break : answer plain (source_of (codes "[foo]" ∷ [] ∷ codes "x" ∷ [] ∷ codes "[foo]: /a" ∷ []) []) (edit 0 0 (codes "a\rb" ∷ [])) ≡
+    refused (break_in_line 0)
+unfolding answer
+worked_break = refl
+
+-- 64 quotes in one another are accepted
+worked_fits : answer plain (source_of [] []) (edit 0 0 (codes ">>>>>>>>>>>>>>>>>>>>>>>>>>>>>>>>>>>>>>>>>>>>>>>>>>>>>>>>>>>>>>>>x" ∷ [])) ≡
+    answers 0 1 0 0 1 [] 1 []
+unfolding answer
+worked_fits = refl
+
+-- 65 are not, and the line is named
+worked_containers : answer plain (source_of [] []) (edit 0 0 ([] ∷ codes ">>>>>>>>>>>>>>>>>>>>>>>>>>>>>>>>>>>>>>>>>>>>>>>>>>>>>>>>>>>>>>>>>x" ∷ [])) ≡
+    refused (nested_too_deep 1)
+unfolding answer
+worked_containers = refl
+
+-- 64 spans in one another are accepted
+worked_spans : answer plain (source_of [] []) (edit 0 0 (codes "*a *a *a *a *a *a *a *a *a *a *a *a *a *a *a *a *a *a *a *a *a *a *a *a *a *a *a *a *a *a *a *a *a *a *a *a *a *a *a *a *a *a *a *a *a *a *a *a *a *a *a *a *a *a *a *a *a *a *a *a *a *a *a *a [k] a* a* a* a* a* a* a* a* a* a* a* a* a* a* a* a* a* a* a* a* a* a* a* a* a* a* a* a* a* a* a* a* a* a* a* a* a* a* a* a* a* a* a* a* a* a* a* a* a* a* a* a* a* a* a* a* a* a* a* a* a* a* a* a*" ∷ [] ∷ codes "x" ∷ [] ∷ [])) ≡
+    answers 0 4 0 0 2 [] 2 []
+unfolding answer
+worked_spans = refl
+
+-- a definition makes a link inside of them
+worked_far_text : answer plain (source_of (codes "*a *a *a *a *a *a *a *a *a *a *a *a *a *a *a *a *a *a *a *a *a *a *a *a *a *a *a *a *a *a *a *a *a *a *a *a *a *a *a *a *a *a *a *a *a *a *a *a *a *a *a *a *a *a *a *a *a *a *a *a *a *a *a *a [k] a* a* a* a* a* a* a* a* a* a* a* a* a* a* a* a* a* a* a* a* a* a* a* a* a* a* a* a* a* a* a* a* a* a* a* a* a* a* a* a* a* a* a* a* a* a* a* a* a* a* a* a* a* a* a* a* a* a* a* a* a* a* a* a*" ∷ [] ∷ codes "x" ∷ [] ∷ []) []) (edit 4 0 (codes "[k]: /u" ∷ [])) ≡
+    refused (inline_too_deep 0)
+unfolding answer
+worked_far_text = refl
+
 -- a line that comes holds CR; the first such is named
 carriage_return : answer plain (source_of (codes "a" ∷ []) []) (edit 0 0 (codes "x" ∷ codes "y\rz" ∷ codes "\r" ∷ [])) ≡ refused (break_in_line 1)
 unfolding answer
