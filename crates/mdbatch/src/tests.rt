@@ -1,4 +1,6 @@
 //! The batch way beside the preview: the same HTML, and the same refusals.
+ghost use Rattle.mdhtml.specs.Limits.{HasLimits};
+
 use super::*;
 use mdtext::{NoMemory, Tally, lines_of};
 use mdview::Preview;
@@ -150,7 +152,9 @@ impl Draws {
         (self.state >> 33) as usize % count.max(1)
     }
 
-    fn options(&mut self) -> Options {
+    fn options(&mut self) -> Options
+        ensures { HasLimits result }
+    {
         let breaks = match self.below(3) {
             0 => Breaks::Soft,
             1 => Breaks::Hard,
@@ -209,7 +213,9 @@ fn previewed(
     text: &str,
     entities: Entities,
     options: Options,
-) -> Result<String, EditFault> {
+) -> Result<String, EditFault>
+    requires { HasLimits options }
+{
     let lines = lines_of(alloc, text)?;
     let mut lent = Vec::with_capacity(alloc, lines.len())?;
     for line in &lines {
@@ -225,7 +231,9 @@ fn previewed(
 }
 
 /// Whether both ways end alike: with the same bytes, or with the same refusal.
-fn agree(alloc: Global, text: &str, options: Options) -> Result<bool, Fail> {
+fn agree(alloc: Global, text: &str, options: Options) -> Result<bool, Fail>
+    requires { HasLimits options }
+{
     let entities = Entities::builtin(alloc)?;
     let html = to_html(alloc, text, &entities, &options);
     let wanted = previewed(alloc, text, entities, options);
