@@ -9,7 +9,7 @@ use crate::destinations::{write_destination, write_title};
 use crate::images::write_image;
 use crate::options::{Breaks, Options};
 use mdinline::Inline;
-use mdtext::{NoMemory, Target, escape_text};
+use mdtext::{NoMemory, escape_text};
 
 #[cycle(inline)]
 pub(crate) fn write_inlines(
@@ -41,7 +41,7 @@ fn write_inline(inline: &Inline, options: &Options, out: &mut String) -> Result<
         Inline::Strong(inner) => write_span("strong", inner, options, out),
         Inline::Strike(inner) => write_span("del", inner, options, out),
         Inline::Link(target, inner) => {
-            open_link(target, options, out)?;
+            open_link(&target.url, &target.title, options, out)?;
             write_inlines(inner, options, out)?;
             out.push_str("</a>")?;
             Ok(())
@@ -80,7 +80,7 @@ fn write_code_span(text: &str, out: &mut String) -> Result<(), NoMemory>
     Ok(())
 }
 
-fn write_raw(text: &str, options: &Options, out: &mut String) -> Result<(), NoMemory>
+pub(crate) fn write_raw(text: &str, options: &Options, out: &mut String) -> Result<(), NoMemory>
     ensures { OnOk result (string_bytes out.new
         ≡ string_bytes out.old ++ raw_html options.now text.now) }
 {
@@ -93,7 +93,7 @@ fn write_raw(text: &str, options: &Options, out: &mut String) -> Result<(), NoMe
     Ok(())
 }
 
-fn write_soft(options: &Options, out: &mut String) -> Result<(), NoMemory>
+pub(crate) fn write_soft(options: &Options, out: &mut String) -> Result<(), NoMemory>
     ensures { OnOk result (string_bytes out.new
         ≡ string_bytes out.old ++ break_html options.now.breaks) }
 {
@@ -105,21 +105,25 @@ fn write_soft(options: &Options, out: &mut String) -> Result<(), NoMemory>
     Ok(())
 }
 
-fn write_hard(out: &mut String) -> Result<(), NoMemory>
+pub(crate) fn write_hard(out: &mut String) -> Result<(), NoMemory>
     ensures { OnOk result (string_bytes out.new ≡ string_bytes out.old ++ codes "<br />\n") }
 {
     out.push_str("<br />\n")?;
     Ok(())
 }
 
-fn open_link(target: &Target, options: &Options, out: &mut String) -> Result<(), NoMemory>
-    ensures { OnOk result (string_bytes out.new ≡ string_bytes out.old ++ link_open options.now
-        (string_bytes target.now.url) (string_bytes target.now.title)) }
+pub(crate) fn open_link(
+    url: &str,
+    title: &str,
+    options: &Options,
+    out: &mut String,
+) -> Result<(), NoMemory>
+    ensures { OnOk result (string_bytes out.new ≡ string_bytes out.old ++ link_open options.now url.now title.now) }
 {
     out.push_str("<a href=\"")?;
-    write_destination(&target.url, options, out)?;
+    write_destination(url, options, out)?;
     out.push_str("\"")?;
-    write_title(&target.title, out)?;
+    write_title(title, out)?;
     out.push_str(">")?;
     Ok(())
 }

@@ -6,6 +6,7 @@ mod code;
 mod destinations;
 mod headings;
 mod images;
+mod inline_writer;
 mod inlines;
 mod lists;
 mod options;
