@@ -1,9 +1,8 @@
-//! HTML of code blocks and HTML blocks.
+//! HTML of code blocks, fenced and indented.
 
 ghost use Rattle.std.specs.Prelude.{◌≡◌, ◌++◌, OnOk, string_bytes};
-ghost use Rattle.mdhtml.specs.BlockHtml.{fresh, code_html, code_open, raw_block_html};
+ghost use Rattle.mdhtml.specs.BlockHtml.{fresh, code_html, code_open};
 
-use crate::options::Options;
 use crate::pieces::write_fresh;
 use mdtext::{NoMemory, escape_text};
 
@@ -28,21 +27,5 @@ fn open_code(lang: &str, out: &mut String) -> Result<(), NoMemory>
         escape_text(lang, out)?;
         out.push_str("\">")?;
     }
-    Ok(())
-}
-
-/// An HTML block, which is left out without `unsafe_html`.
-pub(crate) fn write_html(text: &str, options: &Options, out: &mut String) -> Result<(), NoMemory>
-    ensures { OnOk result (string_bytes out.new
-        ≡ fresh (string_bytes out.old) ++ raw_block_html options.now text.now) }
-{
-    write_fresh(out)?;
-    let shown = if options.unsafe_html {
-        text
-    } else {
-        "<!-- raw HTML omitted -->"
-    };
-    out.push_str(shown)?;
-    out.push_str("\n")?;
     Ok(())
 }

@@ -1,5 +1,5 @@
 use Rattle.std.proofs.Common.{◌≡◌, ℕ, Bool, false, List, ◌++◌, if◌then◌else◌, sym, ◌∙◌, ap, append_assoc}
-use Rattle.mdhtml.proofs.code.open_code.Goals as goal
+use Rattle.mdhtml.proofs.code_blocks.open_code.Goals as goal
 
 last_case : (empty : Bool) (out short before lang after : List ℕ) → empty ≡ false → ((out ++ before) ++ lang) ++ after ≡ out ++ (if empty then short else before ++ lang ++ after)
 last_case empty out short before lang after e =
