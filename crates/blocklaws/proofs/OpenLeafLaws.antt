@@ -9,7 +9,7 @@ use Rattle.std.specs.Option.{option_or, option_map}
 use Rattle.std.specs.Prelude.{cond, nat_le}
 use Rattle.mdtext.specs.EntityTable.{EntityTable}
 use Rattle.mdscan.specs.declared.atx_headings.AtxLine.{AtxLine}
-use Rattle.mdscan.specs.declared.fences.FenceLine.{FenceLine}
+use Rattle.mdscan.specs.declared.code_fences.FenceLine.{FenceLine}
 use Rattle.mdscan.specs.declared.list_markers.Marker.{Marker}
 use Rattle.mdscan.specs.AtxHeading.{atx_heading}
 use Rattle.mdscan.specs.BlockQuote.{is_quote_marker}

@@ -15,7 +15,7 @@ use Rattle.mdblock.specs.held.LeafEnds.{IsEndOf, end_definitions}
 use Rattle.mdblock.specs.held.OpenLeaves.{IsLeafOf}
 use Rattle.mdblock.specs.held.ParagraphLines.{HeldText}
 use Rattle.mdblock.specs.declared.blocks.Block.{Block}
-use Rattle.mdblock.specs.declared.leaf.fences.Fence.{Fence}
+use Rattle.mdblock.specs.declared.leaf.fenced_code.Fence.{Fence}
 use Rattle.mdblock.specs.declared.leaf.html_blocks.HtmlBlock as html
 use Rattle.mdblock.specs.declared.leaf.indented_code.IndentedCode as code
 use Rattle.mdblock.specs.declared.leaf.tables.Table as table

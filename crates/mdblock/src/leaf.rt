@@ -16,7 +16,7 @@ ghost use Rattle.blockspec.specs.UnitBegin.{is_stop};
 ghost use Rattle.mdblock.specs.held.OpenPositions.{LeafIn, LeafAfterIn};
 ghost use Rattle.mdblock.specs.held.StartSpans.{IsStartOf};
 
-pub(crate) mod fences;
+pub(crate) mod fenced_code;
 pub(crate) mod headings;
 pub(crate) mod html_blocks;
 pub(crate) mod indented_code;
@@ -28,7 +28,7 @@ use crate::block_starts::BlockStart;
 use crate::blocks::Block;
 use crate::gathering::Gathering;
 use crate::lines::Line;
-use fences::Fence;
+use fenced_code::Fence;
 use html_blocks::HtmlBlock;
 use indented_code::IndentedCode;
 use paragraphs::Paragraph;
@@ -70,7 +70,7 @@ impl Leaf {
     {
         match opening {
             Some(BlockStart::Heading(heading)) => headings::begin(heading, line, gathering),
-            Some(BlockStart::Fence(fence)) => fences::begin(fence, line, gathering),
+            Some(BlockStart::Fence(fence)) => fenced_code::begin(fence, line, gathering),
             Some(BlockStart::Html(kind)) => html_blocks::begin(kind, line, gathering),
             Some(BlockStart::Break) => Ok(thematic_breaks::begin()),
             Some(BlockStart::Code) => indented_code::begin(line, gathering),

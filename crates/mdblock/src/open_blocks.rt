@@ -15,9 +15,9 @@ ghost use Rattle.mdblock.specs.Positions.{BlockIn, BlocksIn, ItemsIn};
 use crate::block_starts::{BlockStart, Mode, start};
 use crate::blocks::Block;
 use crate::closed_blocks::{push_found, with_found, with_item, with_list, with_quote};
-use crate::container::items::{Entry, enter_item};
+use crate::container::block_quotes;
+use crate::container::list_items::{Entry, enter_item};
 use crate::container::lists::{self, OpenList};
-use crate::container::quotes;
 use crate::faults::BlockFault;
 use crate::gathering::Gathering;
 use crate::leaf::{Leaf, LeafAfter};
@@ -109,7 +109,7 @@ impl Level {
 
     /// Whether a line is one of the block quote that holds these blocks.
     fn goes_on_in_quote(&self, line: &Line) -> bool {
-        line.is_lazy() || quotes::matches(line) || self.goes_on_lazily(line)
+        line.is_lazy() || block_quotes::matches(line) || self.goes_on_lazily(line)
     }
 
     /// Whether a line that a container around does not match continues the paragraph that is open here.
@@ -260,7 +260,7 @@ impl Level {
             OpenBlock::Shut => Ok(()),
             OpenBlock::Leaf(_) => Ok(self.add_to_leaf(line, gathering)?),
             OpenBlock::Quote(inner) => {
-                quotes::enter(&mut line);
+                block_quotes::enter(&mut line);
                 let continuation = inner.continuation(&line);
                 inner.add(line, continuation, deeper(room)?, gathering)
             }
@@ -346,7 +346,7 @@ impl Level {
         let alloc = gathering.alloc();
         match start(&line, Mode::Free) {
             Some(BlockStart::Quote) => {
-                quotes::take_marker(&mut line);
+                block_quotes::take_marker(&mut line);
                 let mut inner = Level::new(alloc, false);
                 inner.begin(line, deeper(room)?, gathering)?;
                 Ok(self.hold_quote(alloc, inner)?)

@@ -1,5 +1,5 @@
 -- What the writer of inlines holds after a step.
-use Rattle.std.proofs.Common.{◌≡◌, ◌≢◌, ℕ, ◌<◌, Bool, true, false, List, [], ◌∷◌, ◌++◌, String, Global, string_bytes, Vec, length, map, reverse, get_or, refl, sym, ap, ◌∙◌, append_assoc, append-nil, arith}
+use Rattle.std.proofs.Common.{◌≡◌, ℕ, true, false, List, [], ◌∷◌, ◌++◌, String, Global, string_bytes, length, map, reverse, refl, sym, ap, ◌∙◌, append_assoc, append-nil, arith}
 use Rattle.std.proofs.lemmas.List.{reverse-append, map-append}
 use Rattle.std.proofs.lemmas.Grind.{flat_map-append}
 use Rattle.mdtext.specs.Escaped.{escaped, escaped_byte}
@@ -9,7 +9,7 @@ use Rattle.inlinespec.proofs.CodeContents.{IsOneLine, stays}
 use Rattle.mdhtml.specs.declared.options.Options.{Options}
 use Rattle.mdhtml.specs.declared.inline_writer.InlineWriter.{InlineWriter}
 use Rattle.mdhtml.specs.declared.inline_writer.OpenSpan.{OpenSpan}
-use Rattle.mdhtml.specs.InlineWriting.{SpanEnd, NoTag, Writing, writing, shows, begins, tag_begins, span_begins, span_ends, ends_by, after_event, after_events}
+use Rattle.mdhtml.specs.InlineWriting.{SpanEnd, NoTag, Writing, writing, shows, begins, tag_begins, span_begins, ends_by, after_event, after_events}
 use Rattle.mdhtml.specs.held.InlineWriter.{end_of, writing_of, Takes}
 use Rattle.mdhtml.proofs.WrittenEvents.{text_shown}
 
@@ -79,7 +79,3 @@ line_written out line after rest all h e w = simp append_assoc (ap (λ x. out ++
 
 pub last_written : (out rest all : List ℕ) → IsOneLine rest → out ++ escaped (as_one_line rest) ≡ all → out ++ escaped rest ≡ all
 last_written out rest all h w = ap (λ r. out ++ escaped r) (sym (append-nil rest) ∙ sym (stays rest [] h) ∙ ap as_one_line (append-nil rest)) ∙ w
-
--- the beginning of an image, in three steps
-pub image_begun : (html one two src url alternative : List ℕ) → one ≡ html ++ src → two ≡ one ++ url → two ++ alternative ≡ html ++ ((src ++ url) ++ alternative)
-image_begun html one two src url alternative e f = rw (f, e) (simp append_assoc)

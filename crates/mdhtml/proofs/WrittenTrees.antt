@@ -1,17 +1,15 @@
 -- The HTML of inlines that come from left to right is that of their tree.
-use Rattle.std.proofs.Common.{◌≡◌, ◌⊎◌, inl, inr, ℕ, zero, suc, ◌+◌, Bool, true, false, List, [], ◌∷◌, ◌++◌, length, codes, refl, sym, ap, ◌∙◌, append_assoc, append-nil}
-use Rattle.std.specs.Prelude.{if◌then◌else◌, ◌<◌}
+use Rattle.std.proofs.Common.{◌≡◌, ℕ, zero, suc, Bool, true, false, List, [], ◌∷◌, ◌++◌, length, codes, refl, sym, ap, ◌∙◌, append_assoc, append-nil}
+use Rattle.std.specs.Prelude.{◌<◌}
 use Rattle.std.proofs.Common.{arith}
 use Rattle.std.proofs.lemmas.Grind.{flat_map-append}
 use Rattle.mdtext.specs.Escaped.{escaped, escaped_byte}
 use Rattle.inlinespec.specs.InlineTree.{Inline, Inlines, no_inlines, inline, text, code, raw, soft, hard, emph, strong, strike, link, image}
 use Rattle.inlinespec.specs.InlineEvents.{InlineSpan, Emphasis, StrongEmphasis, Strikethrough, LinkTo, ImageOf, Event, Byte, CodeSpan, RawHtml, SoftBreak, HardBreak, Enter, Leave, span_tree, with_byte, in_front, closed, rows_of, first_row, tree_of}
-use Rattle.inlinespec.specs.LabelMap.{LinkTarget}
 use Rattle.inlinespec.specs.SpanEnds.{EndSpans}
 use Rattle.mdhtml.specs.declared.options.Options.{Options}
-use Rattle.mdhtml.specs.Attributes.{destination_html, title_html}
-use Rattle.mdhtml.specs.InlineHtml.{link_open, alt, alts, inline_html, inlines_html}
-use Rattle.mdhtml.specs.InlineWriting.{SpanEnd, EndTag, EndImage, NoTag, Writing, writing, shows, shown_in, span_begins, span_ends, ends_by, after_event, after_events}
+use Rattle.mdhtml.specs.InlineHtml.{link_open, image_begins, image_ends, alt, alts, inline_html, inlines_html}
+use Rattle.mdhtml.specs.InlineWriting.{SpanEnd, EndTag, EndImage, NoTag, Writing, writing, shows, shown_in, span_begins, span_ends, ends_by, after_events}
 use Rattle.mdhtml.proofs.WrittenEvents.{shows_nothing, shows_more, tags_whole}
 
 -- inlines where they stand, in an image or not
@@ -88,9 +86,6 @@ alt_inside (ImageOf t) inside = refl
 alternative_whole : (html : List ℕ) (span : InlineSpan) (inside : Inlines) → (html ++ []) ++ escaped (alts inside) ≡ html ++ escaped (alt (span_tree span inside))
 alternative_whole html span inside = ap (λ x. x ++ escaped (alts inside)) (append-nil html) ∙ ap (λ x. html ++ escaped x) (alt_inside span inside)
 
-image_whole : (html a b c inside d e f : List ℕ) → ((html ++ ((a ++ b) ++ c)) ++ inside) ++ ((d ++ e) ++ f) ≡ html ++ ((((((a ++ b) ++ c) ++ inside) ++ d) ++ e) ++ f)
-image_whole html a b c inside d e f = simp append_assoc
-
 link_whole : (html a inside c : List ℕ) → ((html ++ a) ++ inside) ++ c ≡ html ++ ((a ++ inside) ++ c)
 link_whole html a inside c = simp append_assoc
 
@@ -102,7 +97,7 @@ span_where o html ends false StrongEmphasis inside = ap (λ x. writing x ends fa
 span_where o html ends false Strikethrough inside = ap (λ x. writing x ends false) (tags_whole html (codes "<") (codes "del") (codes ">") (inlines_html o inside) (codes "</"))
 span_where o html ends false (LinkTo t) inside = ap (λ x. writing x ends false) (link_whole html (link_open o t.url t.title) (inlines_html o inside) (codes "</a>"))
 span_where o html ends false (ImageOf t) inside =
-    ap (λ x. writing x ends false) (image_whole html (codes "<img src=\"") (destination_html o t.url) (codes "\" alt=\"") (escaped (alts inside)) (codes "\"") (title_html t.title) (codes " />"))
+    ap (λ x. writing x ends false) (link_whole html (image_begins o t.url) (escaped (alts inside)) (image_ends t.title))
 
 -- a span as it is written: its beginning, its inside, its end
 span_whole : (o : Options) (w : Writing) (span : InlineSpan) (inside : Inlines)

@@ -4,8 +4,7 @@ use Rattle.std.specs.List.{fold}
 use Rattle.mdtext.specs.Escaped.{escaped, escaped_byte}
 use Rattle.inlinespec.specs.InlineEvents.{InlineSpan, Emphasis, StrongEmphasis, Strikethrough, LinkTo, ImageOf, Event, Byte, CodeSpan, RawHtml, SoftBreak, HardBreak, Enter, Leave}
 use Rattle.mdhtml.specs.declared.options.Options.{Options}
-use Rattle.mdhtml.specs.Attributes.{destination_html, title_html}
-use Rattle.mdhtml.specs.InlineHtml.{wrapped, break_html, raw_html, link_open}
+use Rattle.mdhtml.specs.InlineHtml.{wrapped, break_html, raw_html, link_open, image_begins, image_ends}
 
 -- How a span that is open ends: with a tag; or it is an image, with its title behind the alternative text; or it stands in an image, where no tags are.
 pub data SpanEnd : Type 0 where
@@ -32,9 +31,6 @@ shown_in in_image inside outside = if in_image then inside else outside
 abbrev pub begins : Writing → (tag : List ℕ) → SpanEnd → Writing
 begins w tag end = writing (w.html ++ tag) (end ∷ w.ends) w.in_image
 
-abbrev pub image_begins : Options → (url : List ℕ) → List ℕ
-image_begins o url = codes "<img src=\"" ++ destination_html o url ++ codes "\" alt=\""
-
 abbrev pub tag_begins : Options → Writing → InlineSpan → Writing
 tag_begins o w Emphasis = begins w (codes "<em>") (EndTag (codes "</em>"))
 tag_begins o w StrongEmphasis = begins w (codes "<strong>") (EndTag (codes "</strong>"))
@@ -44,9 +40,6 @@ tag_begins o w (ImageOf t) = writing (w.html ++ image_begins o t.url) (EndImage 
 
 abbrev pub span_begins : Options → Writing → InlineSpan → Writing
 span_begins o w span = if w.in_image then begins w [] NoTag else tag_begins o w span
-
-abbrev pub image_ends : (title : List ℕ) → List ℕ
-image_ends title = codes "\"" ++ title_html title ++ codes " />"
 
 -- The span that began last ends; where none is open nothing happens.
 abbrev pub ends_by : Writing → List SpanEnd → Writing

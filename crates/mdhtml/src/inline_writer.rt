@@ -3,11 +3,13 @@
 ghost use Rattle.std.specs.Prelude.{◌≡◌, ◌++◌, OnOk, [], true, false, codes, string_bytes, reverse};
 ghost use Rattle.mdtext.specs.Escaped.{escaped};
 ghost use Rattle.inlinespec.specs.CodeSpans.{as_one_line};
-ghost use Rattle.mdhtml.specs.InlineWriting.{image_ends};
 
-use crate::destinations::{write_destination, write_title};
-use crate::inlines::{open_link, write_hard, write_raw, write_soft};
+use crate::code_spans::write_as_one_line;
+use crate::images::{begin_image, end_image};
+use crate::line_breaks::{write_hard, write_soft};
+use crate::links::open_link;
 use crate::options::Options;
+use crate::raw_html::write_raw;
 use mdinline::{InlineSink, SpanKind};
 use mdtext::{NoMemory, escape_text};
 use std::alloc::Global;
@@ -125,9 +127,8 @@ impl InlineSink for InlineWriter {
             return self.begin("", OpenSpan::Alternative);
         }
         let title = String::from_str(self.alloc, title)?;
-        self.html.push_str("<img src=\"")?;
-        write_destination(url, &self.options, &mut self.html)?;
-        self.begin("\" alt=\"", OpenSpan::Image(title))?;
+        begin_image(url, &self.options, &mut self.html)?;
+        self.begin("", OpenSpan::Image(title))?;
         self.in_image = true;
         Ok(())
     }
@@ -136,7 +137,7 @@ impl InlineSink for InlineWriter {
         match self.spans.pop() {
             Some(OpenSpan::Tag(end)) => self.html.push_str(end)?,
             Some(OpenSpan::Image(title)) => {
-                close_image(&title, &mut self.html)?;
+                end_image(&title, &mut self.html)?;
                 self.in_image = false;
             }
             Some(OpenSpan::Alternative) => {}
@@ -163,27 +164,4 @@ impl InlineWriter {
         self.spans.push(span)?;
         Ok(())
     }
-}
-
-/// Appends what stands behind an image's alternative text.
-fn close_image(title: &str, out: &mut String) -> Result<(), NoMemory>
-    ensures { OnOk result (string_bytes out.new ≡ string_bytes out.old ++ image_ends title.now) }
-{
-    out.push_str("\"")?;
-    write_title(title, out)?;
-    out.push_str(" />")?;
-    Ok(())
-}
-
-/// Appends a code span's content with a space for each line ending (CommonMark 6.1).
-fn write_as_one_line(content: &str, out: &mut String) -> Result<(), NoMemory>
-    ensures { OnOk result (string_bytes out.new ≡ string_bytes out.old ++ escaped (as_one_line content.now)) }
-{
-    let mut rest = content;
-    while let Some((line, after)) = rest.split_once('\n') {
-        escape_text(line, out)?;
-        out.push_str(" ")?;
-        rest = after;
-    }
-    escape_text(rest, out)
 }

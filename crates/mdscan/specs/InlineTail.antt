@@ -3,7 +3,7 @@
 use Rattle.std.specs.Prelude.{ℕ, ◌+◌, nat_lt, List, drop, Option, Some, None, IfSome, if◌then◌else◌}
 use Rattle.std.specs.Option.{option_or}
 use Rattle.mdscan.specs.declared.spans.Span.{Span}
-use Rattle.mdscan.specs.declared.links.Dest.{Dest}
+use Rattle.mdscan.specs.declared.link_destinations.Dest.{Dest}
 use Rattle.mdscan.specs.declared.inline_tails.Tail.{Tail}
 use Rattle.mdscan.specs.Blanks.{begins_with}
 use Rattle.mdscan.specs.Gaps.{past_gap}

@@ -5,8 +5,8 @@ use Rattle.std.specs.Prelude.{ℕ, ◌+◌, ◌==◌, nat_lt, List, length, drop
 use Rattle.std.specs.List.{prefix_len}
 use Rattle.std.specs.Option.{option_or}
 use Rattle.mdscan.specs.declared.spans.Span.{Span}
-use Rattle.mdscan.specs.declared.links.Dest.{Dest}
-use Rattle.mdscan.specs.declared.definitions.Def.{Def}
+use Rattle.mdscan.specs.declared.link_destinations.Dest.{Dest}
+use Rattle.mdscan.specs.declared.link_definitions.Def.{Def}
 use Rattle.mdscan.specs.Blanks.{is_blank, begins_with}
 use Rattle.mdscan.specs.Gaps.{past_gap}
 use Rattle.std.specs.Str.{IsCharBoundary}

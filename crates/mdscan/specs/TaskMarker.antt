@@ -2,7 +2,7 @@
 -- on the same line something else.
 use Rattle.std.specs.Prelude.{ℕ, ◌+◌, Bool, false, not, ◌||◌, ◌&&◌, ◌==◌, nat_lt, List, [], ◌∷◌, drop, slice_index, Option, Some, None, if◌then◌else◌}
 use Rattle.std.specs.List.{prefix_len}
-use Rattle.mdscan.specs.declared.tasks.TaskMark.{TaskMark}
+use Rattle.mdscan.specs.declared.task_list_items.TaskMark.{TaskMark}
 use Rattle.mdscan.specs.Blanks.{is_blank}
 
 -- `x` in either case

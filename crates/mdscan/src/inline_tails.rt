@@ -7,7 +7,8 @@ ghost use Rattle.mdscan.specs.Gaps.{past_gap};
 ghost use Rattle.mdscan.specs.InlineTail.{AreTailSpans, inline_tail_at, tail_inside, tail_to, titled_tail};
 
 use crate::gaps::gap;
-use crate::links::{Dest, quoted, target};
+use crate::link_destinations::{Dest, target};
+use crate::link_titles::quoted;
 use crate::runs::begins;
 use crate::spans::Span;
 

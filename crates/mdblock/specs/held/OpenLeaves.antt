@@ -12,7 +12,7 @@ use Rattle.blockspec.specs.LeafContents.{code_text, without_last, without_end_bl
 use Rattle.blockspec.specs.OpenLeaf.{end_blank_lines}
 use Rattle.mdblock.specs.held.ParagraphLines.{HoldsLines}
 use Rattle.blockspec.specs.Stretches.{Step as LineStep, Continues, IsLastLine, IsOverBefore, ends_html}
-use Rattle.mdblock.specs.declared.leaf.fences.Fence.{Fence}
+use Rattle.mdblock.specs.declared.leaf.fenced_code.Fence.{Fence}
 use Rattle.mdblock.specs.declared.leaf.html_blocks.HtmlBlock as html
 use Rattle.mdblock.specs.declared.leaf.indented_code.IndentedCode as code
 use Rattle.mdblock.specs.declared.leaf.Leaf.{Leaf}

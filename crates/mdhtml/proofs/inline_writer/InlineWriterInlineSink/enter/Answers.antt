@@ -1,4 +1,3 @@
-use Rattle.std.proofs.Common.{ap, ◌∙◌}
 use Rattle.std.proofs.lemmas.Result.{on_ok_weaker}
 use Rattle.inlinespec.specs.InlineEvents.{Emphasis, StrongEmphasis, Strikethrough}
 use Rattle.mdinline.specs.SpanKinds.{span_of}

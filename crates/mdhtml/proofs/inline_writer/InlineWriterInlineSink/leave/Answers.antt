@@ -1,6 +1,7 @@
 use Rattle.std.proofs.Common.{ap, sym, ◌∙◌, ◌∷◌, ◌++◌, [], refl, false, map, reverse, string_bytes}
 use Rattle.mdhtml.specs.declared.inline_writer.OpenSpan.TheVariants.{Tag, Image, Alternative}
-use Rattle.mdhtml.specs.InlineWriting.{EndTag, EndImage, NoTag, writing, image_ends}
+use Rattle.mdhtml.specs.InlineWriting.{EndTag, EndImage, NoTag, writing}
+use Rattle.mdhtml.specs.InlineHtml.{image_ends}
 use Rattle.mdhtml.specs.held.InlineWriter.{end_of}
 use Rattle.mdhtml.proofs.InlineWriterSteps.{ends_popped, none_open, takes_end}
 use Rattle.mdhtml.proofs.inline_writer.InlineWriterInlineSink.leave.Goals as goal
@@ -13,14 +14,14 @@ returns-in_ok-push_str-in-Some-Tag c =
     (ends_popped w.spans.items left c.in-Some-Tag.field-0 (Tag c.in-Some-Tag.end) c.in-Some-Tag.ensures.items c.in-Some-Tag.field-0-is) refl
     (ap (λ h. writing h (reverse (map end_of left)) w.in_image) c.in_ok-push_str-in-Some-Tag.ensures.bytes)
 
-pub returns-in_ok-close_image-in-Some-Image : goal.returns-in_ok-close_image-in-Some-Image
-returns-in_ok-close_image-in-Some-Image c =
+pub returns-in_ok-end_image-in-Some-Image : goal.returns-in_ok-end_image-in-Some-Image
+returns-in_ok-end_image-in-Some-Image c =
     let w = c.args.self.now in
     let left = c.pop.new.self.items in
-    takes_end w (record { alloc = w.alloc; options = w.options; html = c.close_image.new.out; spans = c.pop.new.self; in_image = false }) (EndImage (string_bytes c.in-Some-Image.title) ∷ reverse (map end_of left))
+    takes_end w (record { alloc = w.alloc; options = w.options; html = c.end_image.new.out; spans = c.pop.new.self; in_image = false }) (EndImage (string_bytes c.in-Some-Image.title) ∷ reverse (map end_of left))
     (ends_popped w.spans.items left c.in-Some-Image.field-0 (Image c.in-Some-Image.title) c.in-Some-Image.ensures.items c.in-Some-Image.field-0-is) refl
     (ap (λ h. writing h (reverse (map end_of left)) false)
-    (c.in_ok-close_image-in-Some-Image.ensures ∙ ap (λ t. string_bytes w.html ++ image_ends t) c.deref.ensures))
+    (c.in_ok-end_image-in-Some-Image.ensures ∙ ap (λ t. string_bytes w.html ++ image_ends t) c.deref.ensures))
 
 pub returns-in-Some-Alternative : goal.returns-in-Some-Alternative
 returns-in-Some-Alternative c =
