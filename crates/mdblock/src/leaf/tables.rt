@@ -49,7 +49,7 @@ impl Table {
     /// Reads a data row.
     pub(crate) fn add(
         mut self,
-        line: Line,
+        line: &Line,
         gathering: &mut Gathering,
     ) -> Result<LeafAfter, AllocError>
         requires { TableIn (length gathering.old.texts.items) self }
