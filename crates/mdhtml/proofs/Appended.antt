@@ -1,7 +1,6 @@
 -- HTML behind a text that is empty or ends with LF: it is appended to it.
 use Rattle.std.proofs.Common.{◌≡◌, ℕ, Bool, true, false, List, [], ◌∷◌, ◌++◌, codes, refl, ap, sym, ◌∙◌, arith, cond, append_assoc, append-nil, length-append}
 use Rattle.std.proofs.lemmas.Grind.{common_steps}
-use Rattle.inlinespec.specs.InlineTree.{Inlines}
 use Rattle.blockspec.specs.BlockTree.{Block, paragraph, heading, thematic_break, code_block, html_block, block_quote, list, table, Blocks, no_blocks, block, Items, no_items, item}
 use Rattle.mdhtml.specs.declared.options.Options.{Options}
 use Rattle.mdhtml.specs.TableHtml.{table_html}
@@ -37,9 +36,9 @@ paragraph_behind out x inner false e =
     ∙ append_assoc out ((fresh x ++ codes "<p>") ++ inner) (codes "</p>\n")
 
 mutual
-  block_behind : (o : Options) (ts : List Inlines) (tight : Bool) (b : Block) (out x : List ℕ) → ends_line out ≡ true → block_html o ts tight b (out ++ x) ≡ out ++ block_html o ts tight b x
-  block_behind o ts tight (paragraph at task) out x e = paragraph_behind out x (task_box task ++ text_html o ts at) tight e
-  block_behind o ts tight (heading level at) out x e = line_behind out x (heading_html level (text_html o ts at)) e
+  block_behind : (o : Options) (ts : List (List ℕ)) (tight : Bool) (b : Block) (out x : List ℕ) → ends_line out ≡ true → block_html o ts tight b (out ++ x) ≡ out ++ block_html o ts tight b x
+  block_behind o ts tight (paragraph at task) out x e = paragraph_behind out x (task_box task ++ text_html ts at) tight e
+  block_behind o ts tight (heading level at) out x e = line_behind out x (heading_html level (text_html ts at)) e
   block_behind o ts tight thematic_break out x e = line_behind out x (codes "<hr />\n") e
   block_behind o ts tight (code_block lang body) out x e = line_behind out x (code_html lang body) e
   block_behind o ts tight (html_block lines) out x e = line_behind out x (raw_block_html o lines) e
@@ -52,14 +51,14 @@ mutual
       ap (λ l. items_html o ts t is l ++ list_close kind) (line_behind out x (list_open kind) e)
       ∙ ap (λ l. l ++ list_close kind) (items_behind o ts t is out (fresh x ++ list_open kind) e)
       ∙ append_assoc out (items_html o ts t is (fresh x ++ list_open kind)) (list_close kind)
-  block_behind o ts tight (table aligns head rows) out x e = line_behind out x (table_html o ts aligns head rows) e
+  block_behind o ts tight (table aligns head rows) out x e = line_behind out x (table_html ts aligns head rows) e
 
-  blocks_behind : (o : Options) (ts : List Inlines) (tight : Bool) (bs : Blocks) (out x : List ℕ) → ends_line out ≡ true → blocks_html o ts tight bs (out ++ x) ≡ out ++ blocks_html o ts tight bs x
+  blocks_behind : (o : Options) (ts : List (List ℕ)) (tight : Bool) (bs : Blocks) (out x : List ℕ) → ends_line out ≡ true → blocks_html o ts tight bs (out ++ x) ≡ out ++ blocks_html o ts tight bs x
   blocks_behind o ts tight no_blocks out x e = refl
   blocks_behind o ts tight (block b bs) out x e =
       ap (blocks_html o ts tight bs) (block_behind o ts tight b out x e) ∙ blocks_behind o ts tight bs out (block_html o ts tight b x) e
 
-  items_behind : (o : Options) (ts : List Inlines) (tight : Bool) (is : Items) (out x : List ℕ) → ends_line out ≡ true → items_html o ts tight is (out ++ x) ≡ out ++ items_html o ts tight is x
+  items_behind : (o : Options) (ts : List (List ℕ)) (tight : Bool) (is : Items) (out x : List ℕ) → ends_line out ≡ true → items_html o ts tight is (out ++ x) ≡ out ++ items_html o ts tight is x
   items_behind o ts tight no_items out x e = refl
   items_behind o ts tight (item bs is) out x e =
       let inner = blocks_html o ts tight bs (fresh x ++ codes "<li>") in
@@ -69,5 +68,5 @@ mutual
       ∙ items_behind o ts tight is out (inner ++ codes "</li>\n") e
 
 -- the HTML of blocks is appended to such a text
-pub blocks_appended : (o : Options) (ts : List Inlines) (bs : Blocks) (out : List ℕ) → ends_line out ≡ true → blocks_html o ts false bs out ≡ out ++ blocks_html o ts false bs []
+pub blocks_appended : (o : Options) (ts : List (List ℕ)) (bs : Blocks) (out : List ℕ) → ends_line out ≡ true → blocks_html o ts false bs out ≡ out ++ blocks_html o ts false bs []
 blocks_appended o ts bs out e = ap (blocks_html o ts false bs) (sym (append-nil out)) ∙ blocks_behind o ts false bs out [] e

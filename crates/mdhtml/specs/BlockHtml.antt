@@ -2,17 +2,16 @@
 use Rattle.std.specs.Prelude.{ℕ, ◌-◌, List, [], ◌++◌, codes, if◌then◌else◌, ◌==◌, ◌||◌, Bool, true, false, Option, Some, None, length, map, slice_index}
 use Rattle.std.specs.Fmt.{decimal}
 use Rattle.mdtext.specs.Escaped.{escaped}
-use Rattle.inlinespec.specs.InlineTree.{Inlines}
 use Rattle.mdinline.specs.ParsedText.{ParsedText}
 use Rattle.blockspec.specs.BlockTree.{ListKind, bullet, ordered, Block, paragraph, heading, thematic_break, code_block, html_block, block_quote, list, table, Blocks, no_blocks, block, Items, no_items, item}
 use Rattle.mdhtml.specs.declared.options.Options.{Options}
-use Rattle.mdhtml.specs.InlineHtml.{raw_html}
+use Rattle.mdhtml.specs.InlineHtml.{raw_html, inlines_html}
 use Rattle.mdhtml.specs.TableHtml.{table_html}
 pub use Rattle.mdhtml.specs.TableHtml.{text_html}
 
--- the trees of the texts that were read
-abbrev pub trees_of : List ParsedText → List Inlines
-trees_of texts = map (λ p. p.tree) texts
+-- the HTML of the texts that read so
+abbrev pub texts_html : Options → List ParsedText → List (List ℕ)
+texts_html o readings = map (λ r. inlines_html o r.tree) readings
 
 -- the piece is empty or ends with LF
 abbrev pub ends_line : List ℕ → Bool
@@ -62,20 +61,20 @@ list_close (bullet m) = codes "</ul>\n"
 list_close (ordered d start) = codes "</ol>\n"
 
 abbrev mutual
-  pub block_html : Options → List Inlines → (tight : Bool) → Block → List ℕ → List ℕ
-  block_html o trees tight (paragraph at task) out = paragraph_html tight (task_box task ++ text_html o trees at) out
-  block_html o trees tight (heading level at) out = fresh out ++ heading_html level (text_html o trees at)
-  block_html o trees tight thematic_break out = fresh out ++ codes "<hr />\n"
-  block_html o trees tight (code_block lang body) out = fresh out ++ code_html lang body
-  block_html o trees tight (html_block lines) out = fresh out ++ raw_block_html o lines
-  block_html o trees tight (block_quote bs) out = fresh (blocks_html o trees false bs (fresh out ++ codes "<blockquote>\n")) ++ codes "</blockquote>\n"
-  block_html o trees tight (list kind t is) out = items_html o trees t is (fresh out ++ list_open kind) ++ list_close kind
-  block_html o trees tight (table aligns head rows) out = fresh out ++ table_html o trees aligns head rows
+  pub block_html : Options → List (List ℕ) → (tight : Bool) → Block → List ℕ → List ℕ
+  block_html o texts tight (paragraph at task) out = paragraph_html tight (task_box task ++ text_html texts at) out
+  block_html o texts tight (heading level at) out = fresh out ++ heading_html level (text_html texts at)
+  block_html o texts tight thematic_break out = fresh out ++ codes "<hr />\n"
+  block_html o texts tight (code_block lang body) out = fresh out ++ code_html lang body
+  block_html o texts tight (html_block lines) out = fresh out ++ raw_block_html o lines
+  block_html o texts tight (block_quote bs) out = fresh (blocks_html o texts false bs (fresh out ++ codes "<blockquote>\n")) ++ codes "</blockquote>\n"
+  block_html o texts tight (list kind t is) out = items_html o texts t is (fresh out ++ list_open kind) ++ list_close kind
+  block_html o texts tight (table aligns head rows) out = fresh out ++ table_html texts aligns head rows
 
-  pub blocks_html : Options → List Inlines → (tight : Bool) → Blocks → List ℕ → List ℕ
-  blocks_html o trees tight no_blocks out = out
-  blocks_html o trees tight (block b bs) out = blocks_html o trees tight bs (block_html o trees tight b out)
+  pub blocks_html : Options → List (List ℕ) → (tight : Bool) → Blocks → List ℕ → List ℕ
+  blocks_html o texts tight no_blocks out = out
+  blocks_html o texts tight (block b bs) out = blocks_html o texts tight bs (block_html o texts tight b out)
 
-  pub items_html : Options → List Inlines → (tight : Bool) → Items → List ℕ → List ℕ
-  items_html o trees tight no_items out = out
-  items_html o trees tight (item bs is) out = items_html o trees tight is (blocks_html o trees tight bs (fresh out ++ codes "<li>") ++ codes "</li>\n")
+  pub items_html : Options → List (List ℕ) → (tight : Bool) → Items → List ℕ → List ℕ
+  items_html o texts tight no_items out = out
+  items_html o texts tight (item bs is) out = items_html o texts tight is (blocks_html o texts tight bs (fresh out ++ codes "<li>") ++ codes "</li>\n")

@@ -4,4 +4,5 @@ pub mod InlineHtml
 pub mod InlineWriting
 pub mod TableHtml
 pub mod Limits
+pub mod WrittenUnits
 pub mod held

@@ -1,1 +1,2 @@
 pub mod InlineWriter
+pub mod UnitTexts

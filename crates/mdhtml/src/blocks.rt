@@ -3,7 +3,8 @@
 ghost use Rattle.std.specs.Prelude.{◌≡◌, ◌<◌, OnOk, length, string_bytes};
 ghost use Rattle.mdblock.specs.BlockView.{block_view, blocks_view};
 ghost use Rattle.mdblock.specs.Positions.{BlockIn, BlocksIn};
-ghost use Rattle.mdhtml.specs.BlockHtml.{trees_of, block_html, blocks_html};
+ghost use Rattle.mdhtml.specs.held.UnitTexts.{shown_texts};
+ghost use Rattle.mdhtml.specs.BlockHtml.{block_html, blocks_html};
 
 use crate::block_quotes::write_quote;
 use crate::code_blocks::write_code;
@@ -14,8 +15,8 @@ use crate::options::Options;
 use crate::paragraphs::write_paragraph;
 use crate::tables::write_table;
 use crate::thematic_breaks::write_thematic_break;
+use crate::unit_texts::UnitTexts;
 use mdblock::Block;
-use mdinline::Parsed;
 use mdtext::NoMemory;
 
 /// Blocks in a row; `tight` is whether they are the children of a tight list's item.
@@ -23,13 +24,13 @@ use mdtext::NoMemory;
 pub(crate) fn write_blocks(
     blocks: &[Block],
     tight: bool,
-    texts: &[Parsed],
+    texts: &UnitTexts<'_>,
     options: &Options,
     out: &mut String,
 ) -> Result<(), NoMemory>
-    requires { BlocksIn (length texts.now) (blocks_view blocks.now) }
+    requires { BlocksIn (length (shown_texts texts.now)) (blocks_view blocks.now) }
     ensures { OnOk result (string_bytes out.new ≡ blocks_html options.now
-        (trees_of texts.now) tight (blocks_view blocks.now) (string_bytes out.old)) }
+        (shown_texts texts.now) tight (blocks_view blocks.now) (string_bytes out.old)) }
 {
     for block in blocks {
         write_block(block, tight, texts, options, out)?;
@@ -41,19 +42,19 @@ pub(crate) fn write_blocks(
 fn write_block(
     block: &Block,
     tight: bool,
-    texts: &[Parsed],
+    texts: &UnitTexts<'_>,
     options: &Options,
     out: &mut String,
 ) -> Result<(), NoMemory>
-    requires { BlockIn (length texts.now) (block_view block.now) }
+    requires { BlockIn (length (shown_texts texts.now)) (block_view block.now) }
     ensures { OnOk result (string_bytes out.new ≡ block_html options.now
-        (trees_of texts.now) tight (block_view block.now) (string_bytes out.old)) }
+        (shown_texts texts.now) tight (block_view block.now) (string_bytes out.old)) }
 {
     match block {
         Block::Paragraph { text, task } => {
-            write_paragraph(*text, *task, tight, texts, options, out)
+            write_paragraph(*text, *task, tight, texts, out)
         }
-        Block::Heading { level, text } => write_heading(*level, *text, texts, options, out),
+        Block::Heading { level, text } => write_heading(*level, *text, texts, out),
         Block::Break => write_thematic_break(out),
         Block::Code { lang, body } => write_code(lang, body, out),
         Block::Html(lines) => write_html(lines, options, out),
@@ -62,7 +63,7 @@ fn write_block(
             write_list(*kind, *tight, items, texts, options, out)
         }
         Block::Table { aligns, head, rows } => {
-            write_table(aligns, head, rows, texts, options, out)
+            write_table(aligns, head, rows, texts, out)
         }
     }
 }

@@ -1,30 +1,29 @@
 //! HTML of headings.
 
 ghost use Rattle.std.specs.Prelude.{◌≡◌, ◌++◌, ◌<◌, OnOk, length, string_bytes};
-ghost use Rattle.mdhtml.specs.BlockHtml.{fresh, heading_html, heading_tag, text_html, trees_of};
+ghost use Rattle.mdhtml.specs.held.UnitTexts.{shown_texts};
+ghost use Rattle.mdhtml.specs.BlockHtml.{fresh, heading_html, heading_tag, text_html};
 
-use crate::options::Options;
-use crate::pieces::{write_fresh, write_text};
-use mdinline::Parsed;
+use crate::pieces::write_fresh;
+use crate::unit_texts::UnitTexts;
 use mdtext::NoMemory;
 
 pub(crate) fn write_heading(
     level: u8,
     text: usize,
-    texts: &[Parsed],
-    options: &Options,
+    texts: &UnitTexts<'_>,
     out: &mut String,
 ) -> Result<(), NoMemory>
-    requires { text < length texts.now }
+    requires { text < length (shown_texts texts.now) }
     ensures { OnOk result (string_bytes out.new ≡ fresh (string_bytes out.old)
-        ++ heading_html level (text_html options.now (trees_of texts.now) text)) }
+        ++ heading_html level (text_html (shown_texts texts.now) text)) }
 {
     let tag = heading_tag(level);
     write_fresh(out)?;
     out.push_str("<")?;
     out.push_str(tag)?;
     out.push_str(">")?;
-    write_text(text, texts, options, out)?;
+    texts.append_text(text, out)?;
     out.push_str("</")?;
     out.push_str(tag)?;
     out.push_str(">\n")?;

@@ -13,6 +13,7 @@ use crate::raw_html::write_raw;
 use mdinline::{InlineSink, SpanKind};
 use mdtext::{NoMemory, escape_text};
 use std::alloc::Global;
+use std::mem;
 
 /// A span that is open, by what is written at its end.
 #[derive(Drop)]
@@ -40,11 +41,8 @@ impl InlineWriter {
     ghost use Rattle.mdhtml.specs.held.InlineWriter.{writing_of};
     ghost use Rattle.mdhtml.specs.InlineWriting.{writing};
 
-    /// Nothing is written yet. Takes no memory.
-    pub(crate) fn new(alloc: Global, options: Options) -> InlineWriter
-        ensures options { result.options ≡ options }
-        ensures nothing { writing_of result ≡ writing [] [] false }
-    {
+    /// A writer that needs `begin` before it takes inlines. Takes no memory.
+    pub(crate) fn new(alloc: Global, options: Options) -> InlineWriter {
         InlineWriter {
             alloc,
             options,
@@ -52,6 +50,25 @@ impl InlineWriter {
             spans: Vec::new(alloc),
             in_image: false,
         }
+    }
+
+    /// Begins a text: nothing of it is written yet. What `room` has is let go.
+    pub(crate) fn begin_text(&mut self, options: Options, room: String)
+        ensures options { self.new.options ≡ options }
+        ensures nothing { writing_of self.new ≡ writing [] [] false }
+    {
+        self.options = options;
+        self.html = room;
+        self.html.clear();
+        self.spans.clear();
+        self.in_image = false;
+    }
+
+    /// The HTML of the text that was taken.
+    pub(crate) fn take_html(&mut self) -> String
+        ensures { string_bytes result ≡ string_bytes self.old.html }
+    {
+        mem::replace(&mut self.html, String::new(self.alloc))
     }
 }
 

@@ -22,9 +22,12 @@ mod pieces;
 mod raw_html;
 mod tables;
 mod thematic_breaks;
+mod unit_texts;
+mod unit_writer;
 
 pub use options::{Breaks, Options};
 pub use pieces::{append_unit_html, unit_html};
+pub use unit_writer::UnitWriter;
 
 #[cfg(test)]
 mod tests;

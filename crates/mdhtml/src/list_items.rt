@@ -3,26 +3,27 @@
 ghost use Rattle.std.specs.Prelude.{◌≡◌, ◌++◌, ◌<◌, OnOk, length, string_bytes};
 ghost use Rattle.mdblock.specs.BlockView.{items_view};
 ghost use Rattle.mdblock.specs.Positions.{ItemsIn};
-ghost use Rattle.mdhtml.specs.BlockHtml.{task_box, trees_of, items_html};
+ghost use Rattle.mdhtml.specs.held.UnitTexts.{shown_texts};
+ghost use Rattle.mdhtml.specs.BlockHtml.{task_box, items_html};
 
 use crate::blocks::write_blocks;
 use crate::options::Options;
 use crate::pieces::write_fresh;
+use crate::unit_texts::UnitTexts;
 use mdblock::Item;
-use mdinline::Parsed;
 use mdtext::NoMemory;
 
 #[cycle(block)]
 pub(crate) fn write_items(
     items: &[Item],
     tight: bool,
-    texts: &[Parsed],
+    texts: &UnitTexts<'_>,
     options: &Options,
     out: &mut String,
 ) -> Result<(), NoMemory>
-    requires { ItemsIn (length texts.now) (items_view items.now) }
+    requires { ItemsIn (length (shown_texts texts.now)) (items_view items.now) }
     ensures { OnOk result (string_bytes out.new ≡ items_html options.now
-        (trees_of texts.now) tight (items_view items.now) (string_bytes out.old)) }
+        (shown_texts texts.now) tight (items_view items.now) (string_bytes out.old)) }
 {
     for item in items {
         write_fresh(out)?;

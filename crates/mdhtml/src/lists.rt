@@ -4,13 +4,14 @@ ghost use Rattle.std.specs.Prelude.{◌≡◌, ◌++◌, ◌<◌, OnOk, false, l
 ghost use Rattle.mdblock.specs.BlockView.{kind_view, items_view};
 ghost use Rattle.blockspec.specs.BlockTree.{list};
 ghost use Rattle.mdblock.specs.Positions.{ItemsIn};
-ghost use Rattle.mdhtml.specs.BlockHtml.{trees_of, block_html, list_open, list_close, numbered_open};
+ghost use Rattle.mdhtml.specs.held.UnitTexts.{shown_texts};
+ghost use Rattle.mdhtml.specs.BlockHtml.{block_html, list_open, list_close, numbered_open};
 
 use crate::list_items::write_items;
 use crate::options::Options;
 use crate::pieces::write_fresh;
+use crate::unit_texts::UnitTexts;
 use mdblock::{Item, ListKind};
-use mdinline::Parsed;
 use mdtext::NoMemory;
 
 #[cycle(block)]
@@ -18,13 +19,13 @@ pub(crate) fn write_list(
     kind: ListKind,
     tight: bool,
     items: &[Item],
-    texts: &[Parsed],
+    texts: &UnitTexts<'_>,
     options: &Options,
     out: &mut String,
 ) -> Result<(), NoMemory>
-    requires { ItemsIn (length texts.now) (items_view items.now) }
+    requires { ItemsIn (length (shown_texts texts.now)) (items_view items.now) }
     ensures { OnOk result (string_bytes out.new ≡ block_html options.now
-        (trees_of texts.now) false (list (kind_view kind) tight (items_view items.now))
+        (shown_texts texts.now) false (list (kind_view kind) tight (items_view items.now))
         (string_bytes out.old)) }
 {
     write_fresh(out)?;

@@ -3,11 +3,12 @@
 ghost use Rattle.std.specs.Prelude.{◌≡◌, ◌++◌, ◌<◌, IfOk, OnOk, true, false, [], length, string_bytes};
 ghost use Rattle.mdblock.specs.BlockView.{blocks_view};
 ghost use Rattle.mdblock.specs.Positions.{BlocksIn};
-ghost use Rattle.mdhtml.specs.BlockHtml.{fresh, ends_line, text_html, trees_of, blocks_html};
+ghost use Rattle.mdhtml.specs.held.UnitTexts.{shown_texts};
+ghost use Rattle.mdhtml.specs.BlockHtml.{fresh, ends_line, texts_html, blocks_html};
 
 use crate::blocks::write_blocks;
-use crate::inlines::write_inlines;
 use crate::options::Options;
+use crate::unit_texts::UnitTexts;
 use mdblock::Block;
 use mdinline::Parsed;
 use mdtext::NoMemory;
@@ -22,7 +23,7 @@ pub fn unit_html(
 ) -> Result<String, NoMemory>
     requires { BlocksIn (length texts.now) (blocks_view blocks.now) }
     ensures value { IfOk result (λ piece. string_bytes piece
-        ≡ blocks_html options.now (trees_of texts.now) false (blocks_view blocks.now) []) }
+        ≡ blocks_html options.now (texts_html options.now texts.now) false (blocks_view blocks.now) []) }
     ensures ends_line { IfOk result (λ piece. ends_line (string_bytes piece) ≡ true) }
 {
     let mut out = String::new(alloc);
@@ -40,7 +41,23 @@ pub fn append_unit_html(
     requires within { BlocksIn (length texts.now) (blocks_view blocks.now) }
     requires on_a_line { ends_line (string_bytes out.old) ≡ true }
     ensures value { OnOk result (string_bytes out.new
-        ≡ string_bytes out.old ++ blocks_html options.now (trees_of texts.now) false (blocks_view blocks.now) []) }
+        ≡ string_bytes out.old ++ blocks_html options.now (texts_html options.now texts.now) false (blocks_view blocks.now) []) }
+    ensures ends_line { OnOk result (ends_line (string_bytes out.new) ≡ true) }
+{
+    append_blocks(blocks, &UnitTexts::Read(texts, options), options, out)
+}
+
+/// Appends to a text that is empty or ends with LF the HTML of a unit's blocks, and leaves it so.
+pub(crate) fn append_blocks(
+    blocks: &[Block],
+    texts: &UnitTexts<'_>,
+    options: &Options,
+    out: &mut String,
+) -> Result<(), NoMemory>
+    requires within { BlocksIn (length (shown_texts texts.now)) (blocks_view blocks.now) }
+    requires on_a_line { ends_line (string_bytes out.old) ≡ true }
+    ensures value { OnOk result (string_bytes out.new
+        ≡ string_bytes out.old ++ blocks_html options.now (shown_texts texts.now) false (blocks_view blocks.now) []) }
     ensures ends_line { OnOk result (ends_line (string_bytes out.new) ≡ true) }
 {
     write_blocks(blocks, false, texts, options, out)?;
@@ -59,18 +76,4 @@ pub(crate) fn write_fresh(out: &mut String) -> Result<(), NoMemory>
             Ok(())
         }
     }
-}
-
-/// The inlines of the text at a position.
-pub(crate) fn write_text(
-    text: usize,
-    texts: &[Parsed],
-    options: &Options,
-    out: &mut String,
-) -> Result<(), NoMemory>
-    requires { text < length texts.now }
-    ensures { OnOk result (string_bytes out.new
-        ≡ string_bytes out.old ++ text_html options.now (trees_of texts.now) text) }
-{
-    write_inlines(texts[text].tree(), options, out)
 }

@@ -3,32 +3,31 @@
 ghost use Rattle.std.specs.Prelude.{◌≡◌, ◌++◌, ◌<◌, OnOk, length, map, string_bytes, slice_index_or};
 ghost use Rattle.std.specs.List.{AllByRecursion};
 ghost use Rattle.mdblock.specs.Positions.{CellsIn};
-ghost use Rattle.mdhtml.specs.BlockHtml.{fresh, text_html, trees_of};
+ghost use Rattle.mdhtml.specs.held.UnitTexts.{shown_texts};
+ghost use Rattle.mdhtml.specs.BlockHtml.{fresh, text_html};
 ghost use Rattle.mdhtml.specs.TableHtml.{align_attribute, align_of, cell_html, cells_html, row_html, rows_html, head_html, body_html, table_html};
 
-use crate::options::Options;
-use crate::pieces::{write_fresh, write_text};
+use crate::pieces::write_fresh;
+use crate::unit_texts::UnitTexts;
 use mdblock::Align;
-use mdinline::Parsed;
 use mdtext::NoMemory;
 
 pub(crate) fn write_table(
     aligns: &[Align],
     head: &[usize],
     rows: &[Vec<usize>],
-    texts: &[Parsed],
-    options: &Options,
+    texts: &UnitTexts<'_>,
     out: &mut String,
 ) -> Result<(), NoMemory>
-    requires head { CellsIn (length texts.now) head.now }
-    requires rows { AllByRecursion (CellsIn (length texts.now)) (map (λ row. row.items) rows.now) }
+    requires head { CellsIn (length (shown_texts texts.now)) head.now }
+    requires rows { AllByRecursion (CellsIn (length (shown_texts texts.now))) (map (λ row. row.items) rows.now) }
     ensures { OnOk result (string_bytes out.new ≡ fresh (string_bytes out.old)
-        ++ table_html options.now (trees_of texts.now) aligns.now head.now (map (λ row. row.items) rows.now)) }
+        ++ table_html (shown_texts texts.now) aligns.now head.now (map (λ row. row.items) rows.now)) }
 {
     write_fresh(out)?;
     out.push_str("<table>\n")?;
-    write_head(aligns, head, texts, options, out)?;
-    write_body(aligns, rows, texts, options, out)?;
+    write_head(aligns, head, texts, out)?;
+    write_body(aligns, rows, texts, out)?;
     out.push_str("</table>\n")?;
     Ok(())
 }
@@ -37,16 +36,15 @@ pub(crate) fn write_table(
 fn write_head(
     aligns: &[Align],
     head: &[usize],
-    texts: &[Parsed],
-    options: &Options,
+    texts: &UnitTexts<'_>,
     out: &mut String,
 ) -> Result<(), NoMemory>
-    requires { CellsIn (length texts.now) head.now }
+    requires { CellsIn (length (shown_texts texts.now)) head.now }
     ensures { OnOk result (string_bytes out.new ≡ string_bytes out.old
-        ++ head_html options.now (trees_of texts.now) aligns.now head.now) }
+        ++ head_html (shown_texts texts.now) aligns.now head.now) }
 {
     out.push_str("<thead>\n")?;
-    write_row("th", aligns, head, texts, options, out)?;
+    write_row("th", aligns, head, texts, out)?;
     out.push_str("</thead>\n")?;
     Ok(())
 }
@@ -55,19 +53,18 @@ fn write_head(
 fn write_body(
     aligns: &[Align],
     rows: &[Vec<usize>],
-    texts: &[Parsed],
-    options: &Options,
+    texts: &UnitTexts<'_>,
     out: &mut String,
 ) -> Result<(), NoMemory>
-    requires { AllByRecursion (CellsIn (length texts.now)) (map (λ row. row.items) rows.now) }
+    requires { AllByRecursion (CellsIn (length (shown_texts texts.now))) (map (λ row. row.items) rows.now) }
     ensures { OnOk result (string_bytes out.new ≡ string_bytes out.old
-        ++ body_html options.now (trees_of texts.now) aligns.now (map (λ row. row.items) rows.now)) }
+        ++ body_html (shown_texts texts.now) aligns.now (map (λ row. row.items) rows.now)) }
 {
     if rows.is_empty() {
         return Ok(());
     }
     out.push_str("<tbody>\n")?;
-    write_rows(aligns, rows, texts, options, out)?;
+    write_rows(aligns, rows, texts, out)?;
     out.push_str("</tbody>\n")?;
     Ok(())
 }
@@ -75,16 +72,15 @@ fn write_body(
 fn write_rows(
     aligns: &[Align],
     rows: &[Vec<usize>],
-    texts: &[Parsed],
-    options: &Options,
+    texts: &UnitTexts<'_>,
     out: &mut String,
 ) -> Result<(), NoMemory>
-    requires { AllByRecursion (CellsIn (length texts.now)) (map (λ row. row.items) rows.now) }
+    requires { AllByRecursion (CellsIn (length (shown_texts texts.now))) (map (λ row. row.items) rows.now) }
     ensures { OnOk result (string_bytes out.new ≡ string_bytes out.old
-        ++ rows_html options.now (trees_of texts.now) aligns.now (map (λ row. row.items) rows.now)) }
+        ++ rows_html (shown_texts texts.now) aligns.now (map (λ row. row.items) rows.now)) }
 {
     for row in rows {
-        write_row("td", aligns, row, texts, options, out)?;
+        write_row("td", aligns, row, texts, out)?;
     }
     Ok(())
 }
@@ -93,16 +89,15 @@ fn write_row(
     tag: &str,
     aligns: &[Align],
     cells: &[usize],
-    texts: &[Parsed],
-    options: &Options,
+    texts: &UnitTexts<'_>,
     out: &mut String,
 ) -> Result<(), NoMemory>
-    requires { CellsIn (length texts.now) cells.now }
+    requires { CellsIn (length (shown_texts texts.now)) cells.now }
     ensures { OnOk result (string_bytes out.new ≡ string_bytes out.old
-        ++ row_html options.now (trees_of texts.now) tag.now aligns.now cells.now) }
+        ++ row_html (shown_texts texts.now) tag.now aligns.now cells.now) }
 {
     out.push_str("<tr>\n")?;
-    write_cells(tag, aligns, cells, texts, options, out)?;
+    write_cells(tag, aligns, cells, texts, out)?;
     out.push_str("</tr>\n")?;
     Ok(())
 }
@@ -111,16 +106,15 @@ fn write_cells(
     tag: &str,
     aligns: &[Align],
     cells: &[usize],
-    texts: &[Parsed],
-    options: &Options,
+    texts: &UnitTexts<'_>,
     out: &mut String,
 ) -> Result<(), NoMemory>
-    requires { CellsIn (length texts.now) cells.now }
+    requires { CellsIn (length (shown_texts texts.now)) cells.now }
     ensures { OnOk result (string_bytes out.new ≡ string_bytes out.old
-        ++ cells_html options.now (trees_of texts.now) tag.now aligns.now 0 cells.now) }
+        ++ cells_html (shown_texts texts.now) tag.now aligns.now 0 cells.now) }
 {
     for (column, cell) in cells.iter().enumerate() {
-        write_cell(tag, align_of(aligns, column), *cell, texts, options, out)?;
+        write_cell(tag, align_of(aligns, column), *cell, texts, out)?;
     }
     Ok(())
 }
@@ -129,19 +123,18 @@ fn write_cell(
     tag: &str,
     align: Align,
     text: usize,
-    texts: &[Parsed],
-    options: &Options,
+    texts: &UnitTexts<'_>,
     out: &mut String,
 ) -> Result<(), NoMemory>
-    requires { text < length texts.now }
+    requires { text < length (shown_texts texts.now) }
     ensures { OnOk result (string_bytes out.new ≡ string_bytes out.old
-        ++ cell_html tag.now align (text_html options.now (trees_of texts.now) text)) }
+        ++ cell_html tag.now align (text_html (shown_texts texts.now) text)) }
 {
     out.push_str("<")?;
     out.push_str(tag)?;
     out.push_str(align_attribute(align))?;
     out.push_str(">")?;
-    write_text(text, texts, options, out)?;
+    texts.append_text(text, out)?;
     out.push_str("</")?;
     out.push_str(tag)?;
     out.push_str(">\n")?;

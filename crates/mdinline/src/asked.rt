@@ -1,6 +1,6 @@
 //! The labels that were looked up for a text.
 
-ghost use Rattle.std.specs.Prelude.{◌≡◌, ◌==◌, ◌↔◌, IsTrue, IfOk, Contains, length, slice_get, option_copied};
+ghost use Rattle.std.specs.Prelude.{◌≡◌, ◌==◌, ◌↔◌, ◌∷◌, ◌++◌, [], ℕ, List, IsTrue, IfOk, OnOk, Contains, length, slice_get, option_copied};
 
 use mdtext::{Label, NoMemory};
 use std::alloc::Global;
@@ -76,6 +76,36 @@ impl Asked {
         Ok(Asked {
             labels: copy_labels(alloc, &self.labels)?,
         })
+    }
+}
+
+/// What is told which labels are looked up for texts, found or not.
+pub trait AsksLabels {
+    /// The value after these labels were looked up.
+    ghost asks: { Self → List (List ℕ) → Self → Type 0 };
+
+    /// Takes a label that is looked up.
+    fn ask(&mut self, label: &Label) -> Result<(), NoMemory>
+        ensures { OnOk result (asks self.old (label.now ∷ []) self.new) };
+
+    ghost asks_none: { (a : Self) → asks a [] a };
+
+    ghost asks_more: { (a b c : Self) (ls ms : List (List ℕ)) → asks a ls b → asks b ms c → asks a (ls ++ ms) c };
+}
+
+/// Keeps no labels.
+#[derive(Clone, Copy, Debug, Drop)]
+pub struct Unasked;
+
+impl AsksLabels for Unasked {
+    ghost asks = { λ a labels b. Unit {0} };
+
+    ghost asks_none = { λ a. tt };
+
+    ghost asks_more = { λ a b c ls ms h k. tt };
+
+    fn ask(&mut self, _label: &Label) -> Result<(), NoMemory> {
+        Ok(())
     }
 }
 

@@ -17,17 +17,19 @@ mod links;
 mod parsed;
 mod pieces;
 mod raw_html;
+mod readers;
 mod reading;
 mod scanner;
 mod sinks;
 mod texts;
 mod trees;
 
-pub use asked::Asked;
+pub use asked::{Asked, AsksLabels, Unasked};
 pub use faults::InlineFault;
 pub use inlines::Inline;
 pub use labels::{LabelTable, Labels};
 pub use parsed::Parsed;
+pub use readers::TextReader;
 pub use reading::read;
 pub use sinks::{InlineSink, SpanKind};
 

@@ -1,12 +1,12 @@
 use Rattle.std.proofs.Common.{◌≡◌, ◌++◌, string_bytes, drop, length}
 use Rattle.mdblock.specs.Positions.{CellsIn}
-use Rattle.mdhtml.specs.BlockHtml.{trees_of}
+use Rattle.mdhtml.specs.held.UnitTexts.{shown_texts}
 use Rattle.mdhtml.specs.TableHtml.{cells_html}
 use Rattle.mdhtml.proofs.tables.write_cells.Given as goal
 
 abbrev pub invariant-loop-column : goal.invariant-loop-column
 invariant-loop-column l = record {
-  within : CellsIn (length l.texts) (drop l.column l.cells);
-  written : string_bytes l.out ++ cells_html l.options (trees_of l.texts) l.tag l.aligns l.column (drop l.column l.cells)
-      ≡ string_bytes l.fn.out ++ cells_html l.options (trees_of l.texts) l.tag l.aligns 0 l.cells;
+  within : CellsIn (length (shown_texts l.texts)) (drop l.column l.cells);
+  written : string_bytes l.out ++ cells_html (shown_texts l.texts) l.tag l.aligns l.column (drop l.column l.cells)
+      ≡ string_bytes l.fn.out ++ cells_html (shown_texts l.texts) l.tag l.aligns 0 l.cells;
 }
