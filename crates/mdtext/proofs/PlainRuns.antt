@@ -32,15 +32,6 @@ stops p q bs view n e h g =
 front : (bs : List ℕ) (n : ℕ) → slice_range bs 0 n ≡ take n bs
 front bs n = grind arith
 
--- the text is the run alone
-pub run_alone : (p : ℕ → Bool) (bs run : List ℕ) (n : ℕ) → Stops p bs n → run ≡ slice_range bs 0 n → n ≡ length bs → bs ≡ run
-run_alone p bs run n s e h = sym (e ∙ front bs n ∙ ap (λ k. take k bs) h ∙ take-length bs)
-
--- the text is the run, the special byte and the rest
-pub run_then : (p : ℕ → Bool) (bs run rest : List ℕ) (n : ℕ) → Stops p bs n → run ≡ slice_range bs 0 n → rest ≡ drop (n + 1) bs → n < length bs → bs ≡ run ++ get_or bs n 0 ∷ rest
-run_then p bs run rest n s e g h =
-    sym (ap (λ r. r ++ get_or bs n 0 ∷ rest) (e ∙ front bs n) ∙ ap (λ r. take n bs ++ get_or bs n 0 ∷ r) g ∙ ap (λ r. take n bs ++ r) (sym (drop_more bs n 0 h)) ∙ take-append-drop n bs)
-
 pub run_plain : (p : ℕ → Bool) (bs run : List ℕ) (n : ℕ) → Stops p bs n → run ≡ slice_range bs 0 n → list_any p run ≡ false
 run_plain p bs run n s e = ap (list_any p) (e ∙ front bs n) ∙ s.plain
 
