@@ -10,6 +10,7 @@ mod emphasis;
 mod headings;
 mod html_blocks;
 mod images;
+mod inline_writer;
 mod inlines;
 mod line_breaks;
 mod links;

@@ -21,20 +21,25 @@ pub(crate) fn write_link(
         ++ link_open options.now (string_bytes target.now.url) (string_bytes target.now.title)
         ++ inlines_html options.now (inlines_view inner.now) ++ codes "</a>") }
 {
-    open_link(target, options, out)?;
+    open_link(&target.url, &target.title, options, out)?;
     write_inlines(inner, options, out)?;
     out.push_str("</a>")?;
     Ok(())
 }
 
-fn open_link(target: &Target, options: &Options, out: &mut String) -> Result<(), NoMemory>
-    ensures { OnOk result (string_bytes out.new ≡ string_bytes out.old ++ link_open options.now
-        (string_bytes target.now.url) (string_bytes target.now.title)) }
+/// The tag with which a link begins.
+pub(crate) fn open_link(
+    url: &str,
+    title: &str,
+    options: &Options,
+    out: &mut String,
+) -> Result<(), NoMemory>
+    ensures { OnOk result (string_bytes out.new ≡ string_bytes out.old ++ link_open options.now url.now title.now) }
 {
     out.push_str("<a href=\"")?;
-    write_destination(&target.url, options, out)?;
+    write_destination(url, options, out)?;
     out.push_str("\"")?;
-    write_title(&target.title, out)?;
+    write_title(title, out)?;
     out.push_str(">")?;
     Ok(())
 }
