@@ -322,6 +322,19 @@ three_facts true false true e = absurd (let x : ⊥ = cc in x)
 three_facts true true c e = absurd (let x : ⊥ = cc in x)
 three_facts false b c e = absurd (let x : ⊥ = cc in x)
 
+-- Where a line goes on with no block, the stretches from it on are those of the lines from it on alone, so many lines further on.
+pub stretches_meet : (T : List BlockLine → Tip) (xs : List BlockLine) (l : BlockLine) (ys : List BlockLine) → is_apart T (cut_by T xs).tail l ≡ true → is_blank_line l ≡ false →
+    stretches (cut_by T (xs ++ l ∷ ys)) ≡ stretches (cut_by T xs) ++ shift_all (gap_behind T (cut_by T xs)) (length xs) (stretches (cut_by T (l ∷ ys)))
+stretches_meet T xs l ys a b =
+    let c : Cut = cut_by T xs in
+    let c' : Cut = cut_by T (l ∷ ys) in
+    let gap = gap_behind T c in
+    let n : c.lines ≡ length xs = cut_lines T no_lines xs ∙ (let z : 0 + length xs ≡ length xs = omega arith in z) in
+    ap (λ (z : Cut). stretches z) (cut_from_append T no_lines xs (l ∷ ys) ∙ meets T c l ys a b)
+    ∙ all_of_prepend (stretches c) (moved gap c.lines c').before (moved gap c.lines c').tail
+    ∙ ap (λ z. stretches c ++ z) (stretches_moved gap c.lines c'.before c'.tail c'.blank c'.lines)
+    ∙ ap (λ k. stretches c ++ shift_all gap k (stretches c')) n
+
 -- Where a line begins a unit, the units before it are those of the lines before it alone, and from it on they are those
 -- of the lines from it on alone, so many lines further on.
 pub units_split : (e : EntityTable) (d : ℕ) (xs : List BlockLine) (l : BlockLine) (ys : List BlockLine) →
@@ -336,12 +349,6 @@ units_split e d xs l ys b =
     let c' : Cut = cut_by T (l ∷ ys) in
     let gap = gap_behind T c in
     let total = length (xs ++ l ∷ ys) in
-    let n : c.lines ≡ length xs = cut_lines T no_lines xs ∙ (let z : 0 + length xs ≡ length xs = omega arith in z) in
-    let cut_is : stretches (cut_by T (xs ++ l ∷ ys)) ≡ stretches c ++ shift_all gap c.lines (stretches c') =
-    ap (λ (z : Cut). stretches z) (cut_from_append T no_lines xs (l ∷ ys) ∙ meets T c l ys w.0 w.1)
-    ∙ all_of_prepend (stretches c) (moved gap c.lines c').before (moved gap c.lines c').tail
-    ∙ ap (λ z. stretches c ++ z) (stretches_moved gap c.lines c'.before c'.tail c'.blank c'.lines) in
-    ap (λ z. found_units (grouped (map G z)) total) cut_is
-    ∙ ap (λ z. found_units (grouped (map G (stretches c ++ shift_all gap z (stretches c')))) total) n
+    ap (λ z. found_units (grouped (map G z)) total) (stretches_meet T xs l ys w.0 w.1)
     ∙ behind e (groups_within e d) c.before c.tail (stretches c') (list_mark (begun l)) gap (length xs) (length (l ∷ ys)) total
     (cut_whole T no_lines xs refl) (first_headed T l ys w.1) w.2 (both_lengths xs (l ∷ ys))

@@ -1,5 +1,5 @@
 -- The cells of a table stand one behind the other, row by row, as they are handed in.
-use Rattle.std.proofs.Common.{◌≡◌, ℕ, zero, suc, ◌+◌, Vec, Global, List, [], ◌∷◌, ◌++◌, length, map, refl, ap, sym, ◌∙◌, subst, arith, append_assoc, length-append}
+use Rattle.std.proofs.Common.{◌≡◌, ℕ, ◌+◌, Vec, Global, List, [], ◌∷◌, ◌++◌, length, map, ap, sym, ◌∙◌, arith, length-append}
 use Rattle.std.proofs.lemmas.List.{length-map}
 use Rattle.std.specs.Prelude.{String, string_bytes}
 use Rattle.std.specs.Vec.{vec_len}
@@ -7,9 +7,9 @@ use Rattle.std.specs.List.{range_with_len, flat_map}
 use Rattle.mdscan.specs.declared.delimiter_rows.Align.{Align}
 use Rattle.mdleaf.specs.TableRows.{TableHeader, filled, row_texts}
 use Rattle.mdleaf.proofs.CellTexts.{length_filled}
-use Rattle.blockspec.specs.NodeTree.{Leaf, table_leaf, leaf_texts, row_positions}
+use Rattle.blockspec.specs.NodeTree.{table_leaf, leaf_texts, row_positions}
 use Rattle.blockspec.specs.OpenLeaf.{open_table, row_of}
-use Rattle.mdblock.specs.held.HeldTables.{CellsStand, IsHeaderRow, IsRowMore, held_rows}
+use Rattle.mdblock.specs.held.HeldTables.{CellsStand, IsHeaderRow, IsRowMore}
 use Rattle.mdblock.specs.declared.leaf.Leaf as held
 use Rattle.mdblock.specs.declared.leaf.Leaf.TheVariants as leaf
 use Rattle.mdblock.specs.declared.leaf.tables.Table.{Table}

@@ -1,8 +1,7 @@
 -- The bytes before a stop, place by place.
 use Rattle.std.specs.Prelude.{if◌then◌else◌}
-use Rattle.std.proofs.Common.{◌≡◌, ℕ, ◌+◌, ◌-◌, ◌<◌, ◌≤◌, true, false, not, ◌&&◌, Bool, List, ◌∷◌, length, take, drop, get_or, drop-cons, add-one, refl, arith}
+use Rattle.std.proofs.Common.{◌≡◌, ℕ, ◌+◌, ◌-◌, ◌<◌, true, false, not, ◌&&◌, Bool, List, ◌∷◌, length, take, drop, get_or, drop-cons, add-one, refl, arith}
 use Rattle.std.proofs.lemmas.List.{take_rest}
-use Rattle.std.proofs.Math.ListN.{drop_of_length-le}
 use Rattle.mdscan.specs.Escapes.{begins_escape, is_one_of, run_after}
 
 pub from_here : (text : List ℕ) (at : ℕ) → at < length text → drop at text ≡ get_or text at 0 ∷ drop (at + 1) text
@@ -25,4 +24,3 @@ pub past_byte : (escaped : Bool) (stops text : List ℕ) (at all : ℕ) → at <
     → at + 1 + run_after (not escaped && begins_escape (take (length text - at) (drop at text))) stops (drop (at + 1) text) ≡ all
 past_byte escaped stops text at all inside s inv =
     let e = rw s at (step escaped stops text at inside) in rw (take_rest text at) (omega arith)
-

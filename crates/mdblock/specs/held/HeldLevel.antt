@@ -1,7 +1,6 @@
 -- How the blocks that a reader holds stand for the summary of the lines that it read: they name inline texts by position,
 -- and the summary has the texts in place.
 use Rattle.std.specs.Prelude.{◌≡◌, ℕ, zero, suc, ◌+◌, ◌<◌, Bool, true, false, not, ◌&&◌, List, [], ◌∷◌, ◌++◌, length, map, string_bytes, Option, option_map, ◌-◌}
-use Rattle.std.specs.List.{range_with_len}
 use Rattle.mdtext.specs.EntityTable.{EntityTable}
 use Rattle.mdleaf.specs.LinkDefinition.{LinkDefinition, definition_of}
 use Rattle.blockspec.specs.BlockLine.{BlockLine, is_blank_line}
@@ -11,9 +10,9 @@ use Rattle.mdblock.specs.BlockView.{kind_view, blocks_view, items_view}
 use Rattle.mdblock.specs.held.HeldNodes.{ListSoFar, list_of, over_nodes, handed_nodes, closed_nodes, tasked}
 use Rattle.blockspec.specs.LineSummary.{Summary, summary, Last, nothing_yet, ended_block, open_leaf, open_container, closed, summary_gap, summary_tip}
 use Rattle.blockspec.specs.ListGroups.{Part, Leaves, Quoted, Listed, Group, kind_of, items_before, is_tight_inside}
-use Rattle.blockspec.specs.NodeTree.{Nodes, texts_in, texts_in_items, definitions_in, row_positions, placed, placed_items, unit_of}
+use Rattle.blockspec.specs.NodeTree.{Nodes, texts_in, texts_in_items, definitions_in, placed, placed_items, unit_of}
 use Rattle.blockspec.specs.UnitTree.{FoundUnit}
-use Rattle.blockspec.specs.OpenLeaf.{OpenLeaf, open_table, leaf_from}
+use Rattle.blockspec.specs.OpenLeaf.{OpenLeaf, leaf_from}
 pub use Rattle.mdblock.specs.held.HeldTables.{CellsStand}
 use Rattle.mdblock.specs.held.OpenLeaves.{IsLeafOf}
 use Rattle.mdblock.specs.declared.blocks.Block.{Block}

@@ -13,7 +13,6 @@ pub use Rattle.mdblock.specs.held.HeldTables.{IsTableEnd}
 use Rattle.blockspec.specs.LeafContents.{code_text, without_end_blank_lines}
 use Rattle.blockspec.specs.NodeTree.{code_leaf, html_leaf}
 use Rattle.blockspec.specs.OpenLeaf.{leaf_from}
-use Rattle.blockspec.specs.BlockTree.{table, block, no_blocks}
 use Rattle.mdblock.specs.held.ClosedViews.{found_view}
 use Rattle.mdblock.specs.declared.blocks.Block.{Block}
 use Rattle.mdblock.specs.declared.leaf.Leaf as held

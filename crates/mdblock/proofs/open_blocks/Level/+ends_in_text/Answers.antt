@@ -1,4 +1,4 @@
-use Rattle.std.proofs.Common.{false, subst, sym, ◌∙◌}
+use Rattle.std.proofs.Common.{subst, sym, ◌∙◌}
 use Rattle.mdblock.specs.held.HeldLevel.{EndsIn}
 use Rattle.mdblock.proofs.TipLaws.{shut_tip, leaf_tip_is, quote_tip, item_tip, ended_tip}
 use Rattle.mdblock.proofs.open_blocks.Level.+ends_in_text.Goals as goal
