@@ -56,17 +56,17 @@ impl Leaf {
     /// The leaf that a line begins.
     pub(crate) fn begin(
         opening: Option<BlockStart>,
-        line: Line,
+        line: &mut Line,
         gathering: &mut Gathering,
     ) -> Result<LeafAfter, AllocError>
-        requires { IfSome opening (λ o. IsStartOf (rest line) o) }
+        requires { IfSome opening (λ o. IsStartOf (rest line.old) o) }
         ensures within { IfOk result (λ step. LeafAfterIn (length gathering.new.texts.items) step) }
         ensures grows { length gathering.old.texts.items ≤ length gathering.new.texts.items }
         ensures entities { gathering.new.entities.now ≡ gathering.old.entities.now }
         ensures step { IfOk result (λ step. IsBegun gathering.old.entities.now (length gathering.old.texts.items)
-            (opened_kind line.entry opening) line.entry step) }
+            (opened_kind line.old opening) line.old step) }
         ensures texts { OnOk result (map string_bytes gathering.new.texts.items
-            ≡ map string_bytes gathering.old.texts.items ++ begun_texts (opened_kind line.entry opening)) }
+            ≡ map string_bytes gathering.old.texts.items ++ begun_texts (opened_kind line.old opening)) }
     {
         match opening {
             Some(BlockStart::Heading(heading)) => headings::begin(heading, line, gathering),
@@ -107,7 +107,7 @@ impl Leaf {
     /// Reads a line that the leaf takes. `first`: whether it may be the first block of a list item.
     pub(crate) fn add(
         self,
-        line: Line,
+        line: &mut Line,
         first: bool,
         gathering: &mut Gathering,
     ) -> Result<LeafAfter, AllocError>
@@ -116,8 +116,8 @@ impl Leaf {
         ensures grows { length gathering.old.texts.items ≤ length gathering.new.texts.items }
         ensures entities { gathering.new.entities.now ≡ gathering.old.entities.now }
         ensures step { (entities : EntityTable) (kind : Kind) (begin : BlockLine) (later : List BlockLine) → IsLeafOf entities self kind begin later
-            → (tip : List BlockLine → Tip) → IfOk result (IsLeft entities (step tip kind begin later line.entry) begin (later ++ line.entry ∷ [])) }
-        ensures row { IfOk result (IsRowIn self (rest line.entry) (gathered_texts gathering.old) (gathered_texts gathering.new)) }
+            → (tip : List BlockLine → Tip) → IfOk result (IsLeft entities (step tip kind begin later line.old) begin (later ++ line.old ∷ [])) }
+        ensures row { IfOk result (IsRowIn self (rest line.old) (gathered_texts gathering.old) (gathered_texts gathering.new)) }
     {
         match self {
             Leaf::Paragraph(paragraph) => paragraph.add(line, first, gathering),

@@ -1,11 +1,11 @@
 //! The open blocks: each level holds the blocks that are over in it, and the one that is still open.
 
-ghost use Rattle.std.specs.Prelude.{◌≡◌, ◌+◌, ◌≤◌, ℕ, List, IfErr, IfOk, IfSome, OnOk, length};
+ghost use Rattle.std.specs.Prelude.{◌≡◌, ◌+◌, ◌≤◌, ℕ, List, IfErr, IfOk, IfSome, OnOk, length, true};
 ghost use Rattle.mdblock.specs.declared.faults.BlockFault.TheVariants.{Failed, NestedTooDeep};
 ghost use Rattle.mdtext.specs.Columns.{AreMarks};
 ghost use Rattle.blockspec.specs.BlockLine.{rest};
 ghost use Rattle.mdblock.specs.BlockView.{block_view, blocks_view, items_view};
-ghost use Rattle.mdblock.specs.held.HeldLevel.{StandsFor, ClosesAll, EndsIn, is_front};
+ghost use Rattle.mdblock.specs.held.HeldLevel.{StandsFor, ClosesAll, EndsIn, is_front, is_shut};
 ghost use Rattle.blockspec.specs.LineSummary.{no_summary};
 ghost use Rattle.mdtext.specs.EntityTable.{EntityTable};
 ghost use Rattle.mdblock.specs.held.OpenPositions.{LevelIn, LeafAfterIn, IsContinuationOf};
@@ -55,9 +55,9 @@ enum OpenBlock {
 /// How a line continues the open block, or an open list.
 #[derive(Clone, Copy, Debug, PartialEq, Eq)]
 pub(crate) enum Continuation {
-    /// A line of the block, or of the open item.
+    /// A line of the leaf, or a blank line of the open item.
     Matched,
-    /// A line of the paragraph that is open in the item, which does not match it.
+    /// A line of the paragraph that is open in the container, which the line does not match.
     Lazy,
     /// A blank line outside of items. An item that began with one ends there.
     Between,
@@ -83,6 +83,20 @@ impl Level {
         }
     }
 
+    /// Whether no block is open.
+    pub(crate) fn is_shut(&self) -> bool
+        ensures { result ≡ is_shut self.now.last }
+    {
+        matches!(self.last, OpenBlock::Shut)
+    }
+
+    /// Reads a blank line where no block is open.
+    pub(crate) fn pass_blank(&mut self)
+        ensures { self.new ≡ record self.old { blank = true } }
+    {
+        self.blank = true;
+    }
+
     /// Whether the last block is an open paragraph, or holds one at its end.
     fn ends_in_text(&self) -> bool
         ensures { EndsIn self.now result }
@@ -95,21 +109,26 @@ impl Level {
         }
     }
 
-    /// How a line continues the open block.
+    /// How a line continues the open block, which is no container that it matches.
     pub(crate) fn continuation(&self, line: &Line) -> Continuation
         ensures { IsContinuationOf (rest line.now) result }
     {
         match &self.last {
             OpenBlock::Shut => matched_if(line.is_lazy()),
             OpenBlock::Leaf(leaf) => matched_if(line.is_lazy() || leaf.takes(line)),
-            OpenBlock::Quote(inner) => matched_if(inner.goes_on_in_quote(line)),
+            OpenBlock::Quote(inner) => inner.continuation_in_quote(line),
             OpenBlock::List(inner, list) => inner.continuation_in(list, line),
         }
     }
 
-    /// Whether a line is one of the block quote that holds these blocks.
-    fn goes_on_in_quote(&self, line: &Line) -> bool {
-        line.is_lazy() || block_quotes::matches(line) || self.goes_on_lazily(line)
+    /// How a line without the marker continues the block quote that holds these blocks.
+    fn continuation_in_quote(&self, line: &Line) -> Continuation
+        ensures { IsContinuationOf (rest line.now) result }
+    {
+        if line.is_lazy() || self.goes_on_lazily(line) {
+            return Continuation::Lazy;
+        }
+        Continuation::Outside
     }
 
     /// Whether a line that a container around does not match continues the paragraph that is open here.
@@ -129,9 +148,6 @@ impl Level {
                 return Continuation::Matched;
             }
             return Continuation::Between;
-        }
-        if list.matches(line) {
-            return Continuation::Matched;
         }
         if list.is_open() && self.goes_on_lazily(line) {
             return Continuation::Lazy;
@@ -213,17 +229,74 @@ impl Level {
         Ok(())
     }
 
+    /// Reads one line more, where at most `room` containers may be open inside one another.
+    #[cycle(reading)]
+    fn read(
+        &mut self,
+        line: &mut Line,
+        room: usize,
+        gathering: &mut Gathering,
+    ) -> Result<(), BlockFault>
+        requires { LevelIn (length gathering.old.texts.items) self.old }
+        ensures within { OnOk result (LevelIn (length gathering.new.texts.items) self.new) }
+        ensures grows { length gathering.old.texts.items ≤ length gathering.new.texts.items }
+        ensures entities { gathering.new.entities.now ≡ gathering.old.entities.now }
+        ensures fault { IfErr result (λ fault. fault ≡ Failed → ⊥) }
+    {
+        if self.follow(line, room, gathering)? {
+            return Ok(());
+        }
+        let continuation = self.continuation(line);
+        self.add(line, continuation, room, gathering)
+    }
+
+    /// Reads a line with the marker or the indentation of the open container, and answers whether it has it. Else it changes nothing.
+    #[cycle(reading)]
+    #[tactic(auto, using(crate::proofs::Within::growing))]
+    pub(crate) fn follow(
+        &mut self,
+        line: &mut Line,
+        room: usize,
+        gathering: &mut Gathering,
+    ) -> Result<bool, BlockFault>
+        requires { LevelIn (length gathering.old.texts.items) self.old }
+        ensures within { OnOk result (LevelIn (length gathering.new.texts.items) self.new) }
+        ensures grows { length gathering.old.texts.items ≤ length gathering.new.texts.items }
+        ensures entities { gathering.new.entities.now ≡ gathering.old.entities.now }
+        ensures fault { IfErr result (λ fault. fault ≡ Failed → ⊥) }
+    {
+        match &mut self.last {
+            OpenBlock::Shut | OpenBlock::Leaf(_) => return Ok(false),
+            OpenBlock::Quote(inner) => {
+                if !block_quotes::matches(line) {
+                    return Ok(false);
+                }
+                block_quotes::take_marker(line);
+                inner.read(line, deeper(room)?, gathering)?;
+            }
+            OpenBlock::List(inner, list) => {
+                if !list.matches(line) {
+                    return Ok(false);
+                }
+                list.enter(line);
+                inner.read(line, deeper(room)?, gathering)?;
+            }
+        }
+        self.blank = false;
+        Ok(true)
+    }
+
     /// Reads one line more, which continues what is open so, where at most `room` containers may be open inside one another.
     #[cycle(reading)]
     pub(crate) fn add(
         &mut self,
-        line: Line,
+        line: &mut Line,
         continuation: Continuation,
         room: usize,
         gathering: &mut Gathering,
     ) -> Result<(), BlockFault>
         requires level { LevelIn (length gathering.old.texts.items) self.old }
-        requires continuation { IsContinuationOf (rest line) continuation }
+        requires continuation { IsContinuationOf (rest line.old) continuation }
         ensures within { OnOk result (LevelIn (length gathering.new.texts.items) self.new) }
         ensures grows { length gathering.old.texts.items ≤ length gathering.new.texts.items }
         ensures entities { gathering.new.entities.now ≡ gathering.old.entities.now }
@@ -244,13 +317,13 @@ impl Level {
     #[tactic(auto, using(crate::proofs::Within::growing))]
     fn go_on(
         &mut self,
-        mut line: Line,
+        line: &mut Line,
         continuation: Continuation,
         room: usize,
         gathering: &mut Gathering,
     ) -> Result<(), BlockFault>
         requires level { LevelIn (length gathering.old.texts.items) self.old }
-        requires continuation { IsContinuationOf (rest line) continuation }
+        requires continuation { IsContinuationOf (rest line.old) continuation }
         ensures within { OnOk result (LevelIn (length gathering.new.texts.items) self.new) }
         ensures grows { length gathering.old.texts.items ≤ length gathering.new.texts.items }
         ensures entities { gathering.new.entities.now ≡ gathering.old.entities.now }
@@ -260,17 +333,13 @@ impl Level {
             OpenBlock::Shut => Ok(()),
             OpenBlock::Leaf(_) => Ok(self.add_to_leaf(line, gathering)?),
             OpenBlock::Quote(inner) => {
-                block_quotes::enter(&mut line);
-                let continuation = inner.continuation(&line);
-                inner.add(line, continuation, deeper(room)?, gathering)
+                line.make_lazy();
+                inner.read(line, deeper(room)?, gathering)
             }
             OpenBlock::List(inner, list) => {
                 let room = deeper(room)?;
-                match enter_item(inner, list, self.blank, &mut line, continuation, gathering)? {
-                    Entry::Goes => {
-                        let continuation = inner.continuation(&line);
-                        inner.add(line, continuation, room, gathering)
-                    }
+                match enter_item(inner, list, self.blank, line, continuation, gathering)? {
+                    Entry::Goes => inner.read(line, room, gathering),
                     Entry::Begins => inner.begin(line, room, gathering),
                     Entry::Stays => Ok(()),
                 }
@@ -291,7 +360,7 @@ impl Level {
 
     #[tactic(auto, using(crate::proofs::Within::growing))]
     /// Reads a line that the open leaf takes.
-    fn add_to_leaf(&mut self, line: Line, gathering: &mut Gathering) -> Result<(), AllocError>
+    fn add_to_leaf(&mut self, line: &mut Line, gathering: &mut Gathering) -> Result<(), AllocError>
         requires { LevelIn (length gathering.old.texts.items) self.old }
         ensures within { OnOk result (LevelIn (length gathering.new.texts.items) self.new) }
         ensures grows { length gathering.old.texts.items ≤ length gathering.new.texts.items }
@@ -326,7 +395,7 @@ impl Level {
     #[tactic(auto, using(crate::proofs::Within::growing))]
     fn begin(
         &mut self,
-        mut line: Line,
+        line: &mut Line,
         room: usize,
         gathering: &mut Gathering,
     ) -> Result<(), BlockFault>
@@ -344,15 +413,15 @@ impl Level {
         self.begun = true;
         self.spaced = self.spaced || gap;
         let alloc = gathering.alloc();
-        match start(&line, Mode::Free) {
+        match start(line, Mode::Free) {
             Some(BlockStart::Quote) => {
-                block_quotes::take_marker(&mut line);
+                block_quotes::take_marker(line);
                 let mut inner = Level::new(alloc, false);
                 inner.begin(line, deeper(room)?, gathering)?;
                 Ok(self.hold_quote(alloc, inner)?)
             }
             Some(BlockStart::Item(marker)) => {
-                let needed = lists::take_marker(&mut line, marker);
+                let needed = lists::take_marker(line, marker);
                 let list = OpenList::new(alloc, marker, needed);
                 let mut inner = Level::new(alloc, true);
                 inner.begin(line, deeper(room)?, gathering)?;

@@ -87,13 +87,19 @@ impl<'e> Reader<'e> {
         ensures inlines { C.inlines count.new ≡ C.inlines count.old }
     {
         count.line();
-        let Some(mut held) = self.held.take() else {
+        let Some(held) = &mut self.held else {
             return Err(BlockFault::Failed);
         };
-        let found = held.read(text, self.fed, self.limit)?;
-        self.fed += 1;
-        self.held = Some(held);
-        Ok(found)
+        match held.read(text, self.fed, self.limit) {
+            Ok(found) => {
+                self.fed += 1;
+                Ok(found)
+            }
+            Err(fault) => {
+                self.held = None;
+                Err(fault)
+            }
+        }
     }
 
     /// The last unit. After a fault the answer is `Failed`.
@@ -150,7 +156,14 @@ impl<'e> OpenUnit<'e> {
         ensures entities { OnOk result (self.new.gathering.entities.now ≡ self.old.gathering.entities.now) }
         ensures fault { IfErr result (λ fault. fault ≡ Failed → ⊥) }
     {
-        let line = Line::new(text);
+        let mut line = Line::new(text);
+        if line.is_blank() && self.level.is_shut() {
+            self.level.pass_blank();
+            return Ok(None);
+        }
+        if self.level.follow(&mut line, limit, &mut self.gathering)? {
+            return Ok(None);
+        }
         let continuation = self.level.continuation(&line);
         let found = if continuation == Continuation::Outside && !line.is_blank() {
             self.begin_unit(fed)?
@@ -158,7 +171,7 @@ impl<'e> OpenUnit<'e> {
             None
         };
         self.level
-            .add(line, continuation, limit, &mut self.gathering)?;
+            .add(&mut line, continuation, limit, &mut self.gathering)?;
         Ok(found)
     }
 

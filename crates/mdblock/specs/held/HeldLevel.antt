@@ -73,6 +73,13 @@ abbrev pub is_front : (in_item : Bool) → List Block → Bool
 is_front in_item [] = in_item
 is_front in_item (block ∷ over) = false
 
+-- whether no block is open
+abbrev pub is_shut : OpenBlock → Bool
+is_shut open_block.Shut = true
+is_shut (open_block.Leaf held) = false
+is_shut (open_block.Quote' p over last in_item begun blank spaced) = false
+is_shut (open_block.List' p over last in_item begun blank spaced list) = false
+
 -- the level inside a list between two items: it holds nothing
 abbrev pub IsShut : OpenBlock → Type 0
 IsShut open_block.Shut = Unit {0}

@@ -4,7 +4,7 @@ ghost use Rattle.std.specs.Prelude.{◌≡◌, IsTrue};
 ghost use Rattle.mdtext.specs.Columns.{AreMarks};
 ghost use Rattle.blockspec.specs.BlockLine.{rest};
 ghost use Rattle.blockspec.specs.BlockStart.{Quote};
-ghost use Rattle.blockspec.specs.ContainerLines.{matches, opened, inside};
+ghost use Rattle.blockspec.specs.ContainerLines.{matches, opened};
 
 use crate::lines::Line;
 use mdscan::quote_marker;
@@ -26,16 +26,4 @@ pub(crate) fn take_marker(line: &mut Line)
 {
     line.take_mark(1);
     line.take_columns(1);
-}
-
-/// Takes the marker off a later line of the quote; one without it is lazy.
-#[tactic(auto, unfolding(blockspec::specs::ContainerLines::inside, blockspec::specs::ContainerLines::opened))]
-pub(crate) fn enter(line: &mut Line)
-    ensures { line.new ≡ inside Quote line.old }
-{
-    if matches(line) {
-        take_marker(line);
-    } else {
-        line.make_lazy();
-    }
 }

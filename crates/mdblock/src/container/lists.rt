@@ -1,8 +1,8 @@
 //! Lists and their items (CommonMark 5.2, 5.3).
 
-ghost use Rattle.std.specs.Prelude.{◌≡◌, ℕ, ◌+◌, ◌^◌, ◌<◌, ◌&&◌, ◌||◌, nat_le, is_some, true, false, Some, IfSome, OnOk};
+ghost use Rattle.std.specs.Prelude.{◌≡◌, ℕ, ◌+◌, ◌^◌, ◌<◌, ◌&&◌, ◌||◌, not, nat_le, is_some, true, false, Some, IfSome, OnOk};
 ghost use Rattle.mdtext.specs.Columns.{AreMarks};
-ghost use Rattle.blockspec.specs.BlockLine.{rest, indentation, without_columns};
+ghost use Rattle.blockspec.specs.BlockLine.{rest, indentation, is_blank_line, without_columns};
 ghost use Rattle.blockspec.specs.BlockStart.{Item as ItemWith, Holds, padding, item_of, begun};
 ghost use Rattle.mdblock.specs.BlockView.{kind_view, block_view, blocks_view, items_view};
 ghost use Rattle.blockspec.specs.ContainerLines.{opened};
@@ -51,11 +51,11 @@ impl OpenList {
         self.item_open
     }
 
-    /// Whether a line that is not blank has the columns that the open item needs.
+    /// Whether a line that is neither blank nor lazy has the columns that the open item needs.
     pub(crate) fn matches(&self, line: &Line) -> bool
-        ensures { result ≡ (self.now.item_open && nat_le self.now.needed (indentation line.now)) }
+        ensures { result ≡ (self.now.item_open && not line.now.lazy && not (is_blank_line line.now) && nat_le self.now.needed (indentation line.now)) }
     {
-        self.item_open && line.indent() >= self.needed
+        self.item_open && !line.is_lazy() && !line.is_blank() && line.indent() >= self.needed
     }
 
     /// Takes the columns off a line of the open item.

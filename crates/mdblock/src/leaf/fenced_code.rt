@@ -35,13 +35,13 @@ pub(crate) struct Fence {
 /// The code that a line opens.
 pub(crate) fn begin(
     fence: FenceLine,
-    line: Line,
+    line: &Line,
     gathering: &Gathering,
 ) -> Result<LeafAfter, AllocError>
-    requires { IsSpanOf (rest line) fence.info }
+    requires { IsSpanOf (rest line.now) fence.info }
     ensures within { (n : ℕ) → IfOk result (λ step. LeafAfterIn n step) }
     ensures step { IfOk result (λ step. IsGoing (IsFenceLeaf gathering.now.entities.now
-        (indentation line.entry) fence.mark fence.length (part (rest line.entry) fence.info) []) step) }
+        (indentation line.now) fence.mark fence.length (part (rest line.now) fence.info) []) step) }
 {
     let text = line.text();
     let info = &text[fence.info.start..fence.info.end];
@@ -70,14 +70,14 @@ impl Fence {
     }
 
     /// Reads a line: what closes the code, or a line of it.
-    pub(crate) fn add(mut self, mut line: Line) -> Result<LeafAfter, AllocError>
+    pub(crate) fn add(mut self, line: &mut Line) -> Result<LeafAfter, AllocError>
         ensures within { (n : ℕ) → IfOk result (λ step. LeafAfterIn n step) }
         ensures step { (entities : EntityTable) (info : List ℕ) (later : List BlockLine)
             → IsFenceOf entities self.indent self.mark self.length info later self
-            → IfOk result (λ step. IsFenceStep (closes self.mark self.length line.entry) entities
-            self.indent self.mark self.length info later line.entry step) }
+            → IfOk result (λ step. IsFenceStep (closes self.mark self.length line.old) entities
+            self.indent self.mark self.length info later line.old step) }
     {
-        if self.closes(&line) {
+        if self.closes(line) {
             return Ok(over(self.end()));
         }
         line.take_columns(self.indent);

@@ -18,15 +18,15 @@ use std::alloc::AllocError;
 /// The heading that a line is (CommonMark 4.2).
 pub(crate) fn begin(
     heading: AtxLine,
-    line: Line,
+    line: &Line,
     gathering: &mut Gathering,
 ) -> Result<LeafAfter, AllocError>
-    requires { IsSpanOf (rest line) heading.content }
+    requires { IsSpanOf (rest line.now) heading.content }
     ensures within { IfOk result (λ step. LeafAfterIn (length gathering.new.texts.items) step) }
     ensures grows { length gathering.old.texts.items ≤ length gathering.new.texts.items }
     ensures entities { gathering.new.entities.now ≡ gathering.old.entities.now }
     ensures step { IfOk result (λ step. IsOver (heading_block heading.level (length gathering.old.texts.items)) step) }
-    ensures texts { OnOk result (gathered_texts gathering.new ≡ gathered_texts gathering.old ++ part (rest line.entry) heading.content ∷ []) }
+    ensures texts { OnOk result (gathered_texts gathering.new ≡ gathered_texts gathering.old ++ part (rest line.now) heading.content ∷ []) }
 {
     let line = line.text();
     let content = &line[heading.content.start..heading.content.end];

@@ -24,13 +24,13 @@ pub(crate) struct HtmlBlock {
 }
 
 /// The block that a line begins.
-pub(crate) fn begin(kind: u8, line: Line, gathering: &Gathering) -> Result<LeafAfter, AllocError>
+pub(crate) fn begin(kind: u8, line: &Line, gathering: &Gathering) -> Result<LeafAfter, AllocError>
     ensures within { (n : ℕ) → IfOk result (λ step. LeafAfterIn n step) }
-    ensures step { IfOk result (λ step. IsHtmlStep (ends_html kind line.entry) kind (line.entry ∷ []) step) }
+    ensures step { IfOk result (λ step. IsHtmlStep (ends_html kind line.now) kind (line.now ∷ []) step) }
 {
     let mut body = String::new(gathering.alloc());
     line.push_to(&mut body)?;
-    Ok(HtmlBlock { kind, body }.after(&line))
+    Ok(HtmlBlock { kind, body }.after(line))
 }
 
 impl HtmlBlock {
@@ -42,14 +42,14 @@ impl HtmlBlock {
     }
 
     /// Reads a line of the block.
-    pub(crate) fn add(mut self, line: Line) -> Result<LeafAfter, AllocError>
+    pub(crate) fn add(mut self, line: &Line) -> Result<LeafAfter, AllocError>
         ensures within { (n : ℕ) → IfOk result (λ step. LeafAfterIn n step) }
         ensures step { (first : BlockLine) (later : List BlockLine) → IsHtmlOf self.kind (first ∷ later) self
-            → IfOk result (λ step. IsHtmlStep (ends_html self.kind line.entry) self.kind (first ∷ later ++ line.entry ∷ []) step) }
+            → IfOk result (λ step. IsHtmlStep (ends_html self.kind line.now) self.kind (first ∷ later ++ line.now ∷ []) step) }
     {
         self.body.push_str("\n")?;
         line.push_to(&mut self.body)?;
-        Ok(self.after(&line))
+        Ok(self.after(line))
     }
 
     /// Whether a line holds what ends the block.

@@ -23,9 +23,9 @@ pub(crate) struct IndentedCode {
 }
 
 /// The code that a line begins.
-pub(crate) fn begin(line: Line, gathering: &Gathering) -> Result<LeafAfter, AllocError>
+pub(crate) fn begin(line: &mut Line, gathering: &Gathering) -> Result<LeafAfter, AllocError>
     ensures within { (n : ℕ) → IfOk result (λ step. LeafAfterIn n step) }
-    ensures step { IfOk result (λ step. IsGoing (IsCodeLeaf (line.entry ∷ [])) step) }
+    ensures step { IfOk result (λ step. IsGoing (IsCodeLeaf (line.old ∷ [])) step) }
 {
     let code = IndentedCode {
         body: String::new(gathering.alloc()),
@@ -43,9 +43,9 @@ impl IndentedCode {
     }
 
     /// Reads a line of the code.
-    pub(crate) fn add(mut self, mut line: Line) -> Result<LeafAfter, AllocError>
+    pub(crate) fn add(mut self, line: &mut Line) -> Result<LeafAfter, AllocError>
         ensures within { (n : ℕ) → IfOk result (λ step. LeafAfterIn n step) }
-        ensures step { (lines : List BlockLine) → IsCodeOf lines self → IfOk result (λ step. IsGoing (IsCodeLeaf (lines ++ line.entry ∷ [])) step) }
+        ensures step { (lines : List BlockLine) → IsCodeOf lines self → IfOk result (λ step. IsGoing (IsCodeLeaf (lines ++ line.old ∷ [])) step) }
     {
         let blank = line.is_blank();
         line.take_columns(4);

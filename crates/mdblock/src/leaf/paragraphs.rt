@@ -64,9 +64,9 @@ enum ParagraphStep {
 }
 
 /// The paragraph that a line begins.
-pub(crate) fn begin(line: Line, gathering: &Gathering) -> Result<LeafAfter, AllocError>
+pub(crate) fn begin(line: &Line, gathering: &Gathering) -> Result<LeafAfter, AllocError>
     ensures within { (n : ℕ) → IfOk result (λ step. LeafAfterIn n step) }
-    ensures step { IfOk result (λ step. IsGoing (IsParagraphLeaf (line.entry ∷ [])) step) }
+    ensures step { IfOk result (λ step. IsGoing (IsParagraphLeaf (line.now ∷ [])) step) }
 {
     Ok(going(Leaf::Paragraph(Paragraph {
         text: String::from_str(gathering.alloc(), line.text())?,
@@ -175,7 +175,7 @@ impl Paragraph {
     /// Reads a line that the paragraph takes.
     pub(crate) fn add(
         self,
-        line: Line,
+        line: &Line,
         first: bool,
         gathering: &mut Gathering,
     ) -> Result<LeafAfter, AllocError>
@@ -183,26 +183,26 @@ impl Paragraph {
         ensures grows { length gathering.old.texts.items ≤ length gathering.new.texts.items }
         ensures entities { gathering.new.entities.now ≡ gathering.old.entities.now }
         ensures goes { (begin : BlockLine) (later : List BlockLine) → HoldsLines (begin ∷ later) self
-            → paragraph_step line.entry.lazy (is_blank_line line.entry) (start Inside (begin ∷ later) line.entry) ≡ Continues ParagraphKind
-            → IfOk result (λ step. IsGoing (IsParagraphLeaf (begin ∷ later ++ line.entry ∷ [])) step) }
+            → paragraph_step line.now.lazy (is_blank_line line.now) (start Inside (begin ∷ later) line.now) ≡ Continues ParagraphKind
+            → IfOk result (λ step. IsGoing (IsParagraphLeaf (begin ∷ later ++ line.now ∷ [])) step) }
         ensures goes_texts { (lines : List BlockLine) → HoldsLines lines self
-            → paragraph_step line.entry.lazy (is_blank_line line.entry) (start Inside lines line.entry) ≡ Continues ParagraphKind
+            → paragraph_step line.now.lazy (is_blank_line line.now) (start Inside lines line.now) ≡ Continues ParagraphKind
             → OnOk result ((gathered_texts gathering.new ≡ gathered_texts gathering.old)
             × (gathered_definitions gathering.new ≡ gathered_definitions gathering.old)) }
         ensures underlined { (lines : List BlockLine) (level : ℕ) → HoldsLines lines self
-            → paragraph_step line.entry.lazy (is_blank_line line.entry) (start Inside lines line.entry) ≡ IsLastLine (SetextHeading level)
+            → paragraph_step line.now.lazy (is_blank_line line.now) (start Inside lines line.now) ≡ IsLastLine (SetextHeading level)
             → IfOk result (λ step. IsOver (heading_block level (length gathering.old.texts.items)) step) }
         ensures underlined_texts { (lines : List BlockLine) (level : ℕ) → HoldsLines lines self
-            → paragraph_step line.entry.lazy (is_blank_line line.entry) (start Inside lines line.entry) ≡ IsLastLine (SetextHeading level)
+            → paragraph_step line.now.lazy (is_blank_line line.now) (start Inside lines line.now) ≡ IsLastLine (SetextHeading level)
             → OnOk result ((gathered_texts gathering.new ≡ gathered_texts gathering.old ++ behind_definitions (without_end_blanks self.text) ∷ [])
             × (gathered_definitions gathering.new ≡ gathered_definitions gathering.old
             ++ leading_of gathering.old.entities.now (without_end_blanks self.text))) }
     {
-        match self.step(&line) {
+        match self.step(line) {
             ParagraphStep::Underlines(level) => self.turn_into_heading(level, gathering),
             ParagraphStep::Delimits => self.turn_into_table(line.text(), first, gathering),
             ParagraphStep::IsOverBefore | ParagraphStep::Continues => Ok(going(Leaf::Paragraph(
-                self.with_line(&line)?,
+                self.with_line(line)?,
             ))),
         }
     }

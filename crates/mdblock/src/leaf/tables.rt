@@ -58,7 +58,7 @@ impl Table {
     /// Reads a data row.
     pub(crate) fn add(
         mut self,
-        line: Line,
+        line: &Line,
         gathering: &mut Gathering,
     ) -> Result<LeafAfter, AllocError>
         requires { TableIn (length gathering.old.texts.items) self }
@@ -67,7 +67,7 @@ impl Table {
         ensures entities { gathering.new.entities.now ≡ gathering.old.entities.now }
         ensures row { IfOk result (λ step. IsGoing (IsRowMore (length gathering.old.texts.items) self) step) }
         ensures texts { OnOk result (gathered_texts gathering.new
-            ≡ gathered_texts gathering.old ++ row_of self.aligns.items (rest line.entry)) }
+            ≡ gathered_texts gathering.old ++ row_of self.aligns.items (rest line.now)) }
         ensures definitions { gathering.new.definitions ≡ gathering.old.definitions }
     {
         let cells = data_row(gathering.alloc(), line.text(), self.aligns.len())?;

@@ -10,5 +10,5 @@ pub returns-clause-step : goal.returns-clause-step
 returns-clause-step c =
     rw c.going.ensures.value (record {
       nothing_over = refl;
-      going = first_line c.args.line _ (c.in_ok-from_str.ensures.ok ∙ c.text.ensures);
+      going = first_line c.args.line.now _ (c.in_ok-from_str.ensures.ok ∙ c.text.ensures);
     })

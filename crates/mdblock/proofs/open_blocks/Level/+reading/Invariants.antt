@@ -1,8 +1,14 @@
 use Rattle.std.proofs.Common.{◌+◌, ◌*◌}
 use Rattle.mdblock.proofs.open_blocks.Level.+reading.Given as goal
 
+abbrev pub decreases-read : goal.decreases-read
+decreases-read l = 4 * l.room + 3
+
+abbrev pub decreases-follow : goal.decreases-follow
+decreases-follow l = 4 * l.room + 2
+
 abbrev pub decreases-add : goal.decreases-add
-decreases-add l = 2 * l.room + 1
+decreases-add l = 4 * l.room + 1
 
 abbrev pub decreases-go_on : goal.decreases-go_on
-decreases-go_on l = 2 * l.room
+decreases-go_on l = 4 * l.room

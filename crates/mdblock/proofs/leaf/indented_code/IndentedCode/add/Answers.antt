@@ -11,7 +11,7 @@ returns-clause-step c = λ lines h.
     rw c.going-2.ensures.value (record {
       nothing_over = refl;
       going = record {
-        body = body_next lines c.args.line _ _ _ _ _ blank h.body h.blanks row c.in_ok-push_str.ensures.bytes all;
-        blanks = c.clear.ensures.bytes ∙ ap (code_text 4) (sym (end_is_none lines c.args.line blank));
+        body = body_next lines c.args.line.now _ _ _ _ _ blank h.body h.blanks row c.in_ok-push_str.ensures.bytes all;
+        blanks = c.clear.ensures.bytes ∙ ap (code_text 4) (sym (end_is_none lines c.args.line.now blank));
       };
     })
