@@ -3,6 +3,7 @@ pub mod ClosedViews
 pub mod HandedIn
 pub mod HeldLevel
 pub mod HeldNodes
+pub mod HeldTables
 pub mod LeafEnds
 pub mod OpenLeaves
 pub mod OpenPositions

@@ -8,7 +8,7 @@ ghost use Rattle.mdblock.specs.BlockView.{block_view};
 ghost use Rattle.mdblock.specs.held.HandedIn.{gathered_texts, gathered_definitions};
 ghost use Rattle.blockspec.specs.Laziness.{Tip};
 ghost use Rattle.mdblock.specs.held.LeafEnds.{IsEndOf, IsTableEnd, is_paragraph, end_definitions};
-ghost use Rattle.mdblock.specs.held.OpenLeaves.{IsBegun, begun_texts, IsLeafOf, IsLeft, IsOver};
+ghost use Rattle.mdblock.specs.held.OpenLeaves.{IsBegun, begun_texts, IsLeafOf, IsLeft, IsOver, IsRowIn};
 ghost use Rattle.mdblock.specs.held.StartKind.{opened_kind};
 ghost use Rattle.mdblock.specs.Positions.{BlockIn};
 ghost use Rattle.blockspec.specs.Stretches.{step};
@@ -117,6 +117,7 @@ impl Leaf {
         ensures entities { gathering.new.entities.now ≡ gathering.old.entities.now }
         ensures step { (entities : EntityTable) (kind : Kind) (begin : BlockLine) (later : List BlockLine) → IsLeafOf entities self kind begin later
             → (tip : List BlockLine → Tip) → IfOk result (IsLeft entities (step tip kind begin later line.old) begin (later ++ line.old ∷ [])) }
+        ensures row { IfOk result (IsRowIn self (rest line.old) (gathered_texts gathering.old) (gathered_texts gathering.new)) }
     {
         match self {
             Leaf::Paragraph(paragraph) => paragraph.add(line, first, gathering),

@@ -6,7 +6,7 @@ ghost use Rattle.mdscan.specs.Spans.{IsSpanOf};
 ghost use Rattle.mdscan.specs.LinkDefinition.{AreDefSpans, definition_of, labelled_def, titled_def, def_to, line_end};
 ghost use Rattle.mdscan.specs.LinkLabel.{label_at};
 
-use crate::inline_tails::after_gap;
+use crate::inline_tails::after_spacing;
 use crate::link_destinations::{Dest, target};
 use crate::link_labels::brackets;
 use crate::link_titles::quoted;
@@ -61,7 +61,7 @@ fn labelled(text: &[u8], label: Span) -> Option<Def>
     if !begins(&text[label.end + 1..], b':') {
         return None;
     }
-    match target(text, after_gap(text, label.end + 2)) {
+    match target(text, after_spacing(text, label.end + 2)) {
         Some(dest) => with_title(text, label, dest).or(without_title(text, label, dest)),
         None => None,
     }
@@ -79,7 +79,7 @@ fn without_title(text: &[u8], label: Span, dest: Dest) -> Option<Def>
     up_to(label, dest, None, rest_of_line(text, dest.end))
 }
 
-/// The definition with a title, which a gap parts from the destination.
+/// The definition with a title, which spacing parts from the destination.
 #[tactic(auto, unfolding(crate::specs::LinkDefinition::titled_def))]
 fn with_title(text: &[u8], label: Span, dest: Dest) -> Option<Def>
     requires { dest.end ≤ length text.now }
@@ -89,7 +89,7 @@ fn with_title(text: &[u8], label: Span, dest: Dest) -> Option<Def>
     ensures within { IfSome result (λ def. def.end ≤ length text.now) }
     ensures spans { IsUtf8 text.now → IsSpanOf text.now label → IsSpanOf text.now dest.span → IfSome result (λ def. AreDefSpans text.now def) }
 {
-    let next = after_gap(text, dest.end);
+    let next = after_spacing(text, dest.end);
     if next <= dest.end {
         return None;
     }

@@ -24,9 +24,9 @@ pub fn task(text: &str) -> Option<TaskMark>
     if !has_box(bytes) {
         return None;
     }
-    let gap = leading_blanks(&bytes[3..]);
-    let after = 3 + gap;
-    if gap > 0 && text_follows(&bytes[after..]) {
+    let blanks = leading_blanks(&bytes[3..]);
+    let after = 3 + blanks;
+    if blanks > 0 && text_follows(&bytes[after..]) {
         Some(TaskMark {
             ticked: tick(bytes[1]),
             after,

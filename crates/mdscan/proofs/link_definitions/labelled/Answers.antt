@@ -15,7 +15,7 @@ returns-in-Some-clause-spans c utf8 label =
     let ascii : get_or text at 0 < 128 = grind (arith, common_steps) in
     let e : at + 1 ≡ c.args.label.end + 2 = omega arith in
     let behind = subst (λ (i : ℕ). IsCharBoundary text i) e (IsCharBoundary-after_ascii text at utf8 inside ascii) in
-    let span = c.in-Some.ensures.span utf8 (c.after_gap.ensures.boundary utf8 behind) in
+    let span = c.in-Some.ensures.span utf8 (c.after_spacing.ensures.boundary utf8 behind) in
     let end = c.in-Some.ensures.end utf8 in
     subst (λ (r : Option Def). IfSome r (λ def. AreDefSpans text def)) (sym c.or.ensures)
     (or_some c.with_title.result c.without_title.result (λ def. AreDefSpans text def) (c.with_title.ensures.spans utf8 label span) (c.without_title.ensures.spans utf8 label span end.whole))

@@ -1,14 +1,14 @@
 //! Spaces and tabs with at most one line ending.
 
 ghost use Rattle.std.specs.Prelude.{◌≡◌, ◌≤◌, length};
-ghost use Rattle.mdscan.specs.Gaps.{gap_length};
+ghost use Rattle.mdscan.specs.Spacing.{spacing_length};
 
 use crate::runs::{begins, leading_blanks};
 
 /// How many of the first bytes are spaces and tabs with at most one line ending among them.
-#[tactic(auto, unfolding(crate::specs::Gaps::gap_length))]
-pub(crate) fn gap(text: &[u8]) -> usize
-    ensures value { result ≡ gap_length text.now }
+#[tactic(auto, unfolding(crate::specs::Spacing::spacing_length))]
+pub(crate) fn spacing(text: &[u8]) -> usize
+    ensures value { result ≡ spacing_length text.now }
     ensures within { result ≤ length text.now }
 {
     let first = leading_blanks(text);
