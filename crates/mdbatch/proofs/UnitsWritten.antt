@@ -1,13 +1,36 @@
 -- Units that are written one after the other.
-use Rattle.std.proofs.Common.{◌≡◌, ℕ, List, [], ◌∷◌, ◌++◌, map, refl, ap, sym, ◌∙◌, arith, append_assoc, append-nil}
-use Rattle.std.proofs.lemmas.List.{map-append}
+use Rattle.std.proofs.Common.{◌≡◌, ℕ, List, [], ◌∷◌, ◌++◌, false, length, map, refl, ap, sym, ◌∙◌, arith, append_assoc, append-nil}
+use Rattle.std.proofs.lemmas.List.{map-append, length-map}
 use Rattle.std.proofs.lemmas.List.Elements.{All-append, All-push}
 use Rattle.std.proofs.lemmas.List.Folds.{concat-append}
 use Rattle.std.specs.List.{concat}
-use Rattle.blockspec.specs.UnitTree.{FoundUnit}
+use Rattle.inlinespec.specs.InlineTree.{Inlines}
+use Rattle.blockspec.specs.UnitTree.{UnitTree, FoundUnit}
+use Rattle.mdinline.specs.ParsedText.{ParsedText}
 use Rattle.mdhtml.specs.declared.options.Options.{Options}
+use Rattle.mdhtml.specs.InlineHtml.{inlines_html}
+use Rattle.mdhtml.specs.BlockHtml.{blocks_html, texts_html}
+use Rattle.mdhtml.specs.WrittenUnits.{WritesUnit}
 use Rattle.mdview.specs.HeldUnit.{ReadUnit, unit_piece}
 use Rattle.mdbatch.specs.BatchHtml.{AppendsUnit, AppendsUnits, UnitsHtml, IsRead, found_part, read_part}
+
+abbrev reading : Inlines → ParsedText
+reading tree = record { tree = tree; asked = [] }
+
+shown_same : (options : Options) (trees : List Inlines) → map (inlines_html options) trees ≡ texts_html options (map reading trees)
+shown_same options [] = refl
+shown_same options (tree ∷ trees) = ap (λ texts. inlines_html options tree ∷ texts) (shown_same options trees)
+
+-- A unit that is written from trees is one whose texts read so.
+pub appended : {options mine : Options} (unit : UnitTree) (old new : List ℕ) → options ≡ mine → WritesUnit options unit old new → AppendsUnit mine unit old new
+appended {options} {mine} unit old new same writes =
+    let readings = map reading writes.are.trees in
+    record {
+      readings = readings;
+      all = length-map writes.are.trees reading ∙ writes.are.all;
+      written = writes.written ∙ ap (λ (o : Options). old ++ blocks_html o writes.texts false unit.blocks []) same
+          ∙ ap (λ texts. old ++ blocks_html mine texts false unit.blocks []) (writes.are.shown ∙ ap (λ (o : Options). map (inlines_html o) writes.are.trees) same ∙ shown_same mine writes.are.trees);
+    }
 
 -- nothing is written yet
 pub none_written : (options : Options) (old : List ℕ) → AppendsUnits options [] old old

@@ -4,17 +4,18 @@ ghost use Rattle.blockspec.specs.UnitTree.{FoundUnit};
 ghost use Rattle.mdtext.specs.Lines.{split_lines};
 ghost use Rattle.mdhtml.specs.Limits.{HasLimits};
 ghost use Rattle.mdhtml.specs.BlockHtml.{ends_line};
+ghost use Rattle.mdhtml.specs.WrittenUnits.{options_of};
 ghost use Rattle.mdview.specs.Document.{size_of};
 ghost use Rattle.mdview.specs.ReadingEnd.{OfReading};
-ghost use Rattle.mdbatch.specs.BatchHtml.{AppendsUnit, AppendsUnits, Gathers, TextHtml, UnitsHtml};
+ghost use Rattle.mdbatch.specs.BatchHtml.{AppendsUnits, Gathers, TextHtml, UnitsHtml};
 
 use crate::labels::labels_of;
 use crate::limits::within_limits;
 use crate::units::{Gathered, gathered_units};
-use mdblock::{Found, Unit};
-use mdhtml::{Options, append_unit_html};
-use mdinline::{InlineFault, LabelTable, Parsed, read};
-use mdtext::{Entities, Tally, after_mark, clean_line, is_clean};
+use mdblock::Found;
+use mdhtml::{Options, UnitWriter};
+use mdinline::{InlineFault, LabelTable};
+use mdtext::{Entities, after_mark, clean_line, is_clean};
 use mdview::EditFault;
 use std::alloc::Global;
 
@@ -71,71 +72,29 @@ fn whole_html(
     ensures fault { IfErr result OfReading }
 {
     let Gathered { mut html, units } = gathered;
-    let writer = TextWriter {
-        alloc,
-        entities,
-        options,
-        labels: labels_of(alloc, &units)?,
-    };
-    writer.append_units(units, &mut html)?;
+    let labels = labels_of(alloc, &units)?;
+    let mut writer = UnitWriter::new(alloc, entities, options);
+    append_units(&mut writer, units, &labels, &mut html)?;
     Ok(html)
 }
 
-/// Reads inline texts under the labels of a text, and writes HTML.
-#[derive(Drop)]
-struct TextWriter<'a> {
-    alloc: Global,
-    entities: &'a Entities,
-    options: &'a Options,
-    labels: LabelTable,
-}
-
-impl<'a> TextWriter<'a> {
-    /// Appends the HTML of the units; each is let go as soon as it is written.
-    fn append_units(&self, units: Vec<Found>, out: &mut String) -> Result<(), EditFault>
-        requires limits { HasLimits self.now.options.now }
-        requires piece { ends_line (string_bytes out.old) ≡ true }
-        ensures html { OnOk result (AppendsUnits self.now.options.now units.items (string_bytes out.old) (string_bytes out.new)) }
-        ensures fault { IfErr result OfReading }
-    {
-        for found in units {
-            if let Err(fault) = self.append_unit(found.unit(), out) {
-                return Err(fault_in_unit(fault, found.begin()));
-            }
+/// Appends the HTML of the units, whose texts are read under these labels; each is let go as soon as it is written.
+fn append_units<'a>(
+    writer: &mut UnitWriter<'a>,
+    units: Vec<Found>,
+    labels: &'a LabelTable,
+    out: &mut String,
+) -> Result<(), EditFault>
+    requires { ends_line (string_bytes out.old) ≡ true }
+    ensures html { OnOk result (AppendsUnits (options_of writer.old) units.items (string_bytes out.old) (string_bytes out.new)) }
+    ensures fault { IfErr result OfReading }
+{
+    for found in units {
+        if let Err(fault) = writer.append_unit(found.unit(), labels, out) {
+            return Err(fault_in_unit(fault, found.begin()));
         }
-        Ok(())
     }
-
-    fn append_unit(&self, unit: &Unit, out: &mut String) -> Result<(), InlineFault>
-        requires limits { HasLimits self.now.options.now }
-        requires piece { ends_line (string_bytes out.old) ≡ true }
-        ensures html { OnOk result (AppendsUnit self.now.options.now unit.now (string_bytes out.old) (string_bytes out.new)) }
-        ensures ends_line { OnOk result (ends_line (string_bytes out.new) ≡ true) }
-    {
-        let inlines = self.read_texts(unit)?;
-        append_unit_html(unit.blocks(), &inlines, self.options, out)?;
-        Ok(())
-    }
-
-    fn read_texts(&self, unit: &Unit) -> Result<Vec<Parsed>, InlineFault>
-        requires limits { HasLimits self.now.options.now }
-        ensures { IfOk result (λ inlines. length inlines.items ≡ length unit.now.texts) }
-    {
-        let texts = unit.texts();
-        let mut inlines = Vec::with_capacity(self.alloc, texts.len())?;
-        let mut count = Tally::new();
-        for text in texts {
-            inlines.push(read(
-                self.alloc,
-                text,
-                &self.labels,
-                self.entities,
-                self.options.max_spans,
-                &mut count,
-            )?)?;
-        }
-        Ok(inlines)
-    }
+    Ok(())
 }
 
 fn fault_in_unit(fault: InlineFault, begin: usize) -> EditFault

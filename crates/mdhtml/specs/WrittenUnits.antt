@@ -3,8 +3,13 @@ use Rattle.std.specs.Prelude.{◌≡◌, ℕ, List, [], ◌++◌, false, length,
 use Rattle.inlinespec.specs.InlineTree.{Inlines}
 use Rattle.blockspec.specs.UnitTree.{UnitTree}
 use Rattle.mdhtml.specs.declared.options.Options.{Options}
+use Rattle.mdhtml.specs.declared.unit_writer.UnitWriter.{UnitWriter}
 use Rattle.mdhtml.specs.InlineHtml.{inlines_html}
 use Rattle.mdhtml.specs.BlockHtml.{blocks_html}
+
+-- the options of a writer
+abbrev pub options_of : UnitWriter → Options
+options_of writer = writer.options
 
 -- these are the HTML of so many trees, one for each text
 pub record AreTexts (options : Options) (count : ℕ) (texts : List (List ℕ)) : Type 0 where

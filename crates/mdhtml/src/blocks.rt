@@ -51,9 +51,7 @@ fn write_block(
         (shown_texts texts.now) tight (block_view block.now) (string_bytes out.old)) }
 {
     match block {
-        Block::Paragraph { text, task } => {
-            write_paragraph(*text, *task, tight, texts, out)
-        }
+        Block::Paragraph { text, task } => { write_paragraph(*text, *task, tight, texts, out) }
         Block::Heading { level, text } => write_heading(*level, *text, texts, out),
         Block::Break => write_thematic_break(out),
         Block::Code { lang, body } => write_code(lang, body, out),
@@ -62,8 +60,6 @@ fn write_block(
         Block::List { kind, tight, items } => {
             write_list(*kind, *tight, items, texts, options, out)
         }
-        Block::Table { aligns, head, rows } => {
-            write_table(aligns, head, rows, texts, out)
-        }
+        Block::Table { aligns, head, rows } => { write_table(aligns, head, rows, texts, out) }
     }
 }

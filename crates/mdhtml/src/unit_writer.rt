@@ -5,7 +5,6 @@ ghost use Rattle.inlinespec.specs.InlineTree.{Inlines};
 ghost use Rattle.mdhtml.specs.BlockHtml.{ends_line};
 ghost use Rattle.mdhtml.specs.InlineHtml.{inlines_html};
 ghost use Rattle.mdhtml.specs.Limits.{HasLimits};
-ghost use Rattle.mdhtml.specs.WrittenUnits.{AreTexts, WritesUnit};
 
 use crate::inline_writer::InlineWriter;
 use crate::options::Options;
@@ -30,10 +29,12 @@ pub struct UnitWriter<'a> {
 }
 
 impl<'a> UnitWriter<'a> {
+    ghost use Rattle.mdhtml.specs.WrittenUnits.{options_of, AreTexts, WritesUnit};
+
     /// A writer of units whose texts are read with these entities. Takes no memory.
     pub fn new(alloc: Global, entities: &'a Entities, options: &Options) -> UnitWriter<'a>
         requires { HasLimits options.now }
-        ensures { result.options ≡ options.now }
+        ensures { options_of result ≡ options.now }
     {
         UnitWriter {
             alloc,
@@ -54,9 +55,9 @@ impl<'a> UnitWriter<'a> {
         out: &mut String,
     ) -> Result<(), InlineFault>
         requires { ends_line (string_bytes out.old) ≡ true }
-        ensures html { OnOk result (WritesUnit self.old.options unit.now (string_bytes out.old) (string_bytes out.new)) }
+        ensures html { OnOk result (WritesUnit (options_of self.old) unit.now (string_bytes out.old) (string_bytes out.new)) }
         ensures ends_line { OnOk result (ends_line (string_bytes out.new) ≡ true) }
-        ensures options { self.new.options ≡ self.old.options }
+        ensures options { options_of self.new ≡ options_of self.old }
     {
         self.write_texts(unit.texts(), labels)?;
         append_blocks(
@@ -69,13 +70,9 @@ impl<'a> UnitWriter<'a> {
     }
 
     /// Reads the texts of a unit, and holds their HTML.
-    fn write_texts<L: Labels>(
-        &mut self,
-        texts: &[String],
-        labels: &'a L,
-    ) -> Result<(), InlineFault>
-        ensures texts { OnOk result (AreTexts self.old.options (length texts.now) (map string_bytes self.new.texts.items)) }
-        ensures options { self.new.options ≡ self.old.options }
+    fn write_texts<L: Labels>(&mut self, texts: &[String], labels: &'a L) -> Result<(), InlineFault>
+        ensures texts { OnOk result (AreTexts (options_of self.old) (length texts.now) (map string_bytes self.new.texts.items)) }
+        ensures options { options_of self.new ≡ options_of self.old }
     {
         self.let_go()?;
         for text in texts {
@@ -88,7 +85,7 @@ impl<'a> UnitWriter<'a> {
     /// The texts of the unit before leave their room to those that come.
     fn let_go(&mut self) -> Result<(), NoMemory>
         ensures texts { OnOk result (self.new.texts.items ≡ []) }
-        ensures options { self.new.options ≡ self.old.options }
+        ensures options { options_of self.new ≡ options_of self.old }
     {
         while let Some(html) = self.texts.pop() {
             self.spare.push(html)?;
@@ -97,9 +94,9 @@ impl<'a> UnitWriter<'a> {
     }
 
     fn text_html<L: Labels>(&mut self, text: &str, labels: &'a L) -> Result<String, InlineFault>
-        ensures html { IfOk result (λ html. (tree : Inlines) × (string_bytes html ≡ inlines_html self.old.options tree)) }
+        ensures html { IfOk result (λ html. (tree : Inlines) × (string_bytes html ≡ inlines_html (options_of self.old) tree)) }
         ensures texts { self.new.texts ≡ self.old.texts }
-        ensures options { self.new.options ≡ self.old.options }
+        ensures options { options_of self.new ≡ options_of self.old }
     {
         let room = match self.spare.pop() {
             Some(room) => room,

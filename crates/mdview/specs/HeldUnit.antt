@@ -4,7 +4,7 @@ use Rattle.std.specs.Coded.{Coded, code_by, coded×, coded_ℕ, coded_list}
 use Rattle.blockspec.specs.UnitTree.{UnitTree, unit_code}
 use Rattle.mdinline.specs.ParsedText.{ParsedText, parsed_code}
 use Rattle.mdhtml.specs.declared.options.Options.{Options}
-use Rattle.mdhtml.specs.BlockHtml.{blocks_html, trees_of}
+use Rattle.mdhtml.specs.BlockHtml.{blocks_html, texts_html}
 
 -- how many lines a unit has, the unit, and what each of its texts reads as
 pub record ReadUnit : Type 0 where
@@ -29,7 +29,7 @@ held_unit_code =
 
 -- the HTML of a unit whose texts read so: that of its blocks with the trees of the texts
 abbrev pub html_of : Options → UnitTree → List ParsedText → List ℕ
-html_of options unit readings = blocks_html options (trees_of readings) false unit.blocks []
+html_of options unit readings = blocks_html options (texts_html options readings) false unit.blocks []
 
 -- a unit's piece
 abbrev pub unit_piece : Options → ReadUnit → List ℕ

@@ -7,7 +7,7 @@ use Rattle.inlinespec.specs.LinkTails.{Table}
 use Rattle.inlinespec.specs.TextTree.{inl, asked}
 use Rattle.mdinline.specs.ParsedText.{ParsedText}
 use Rattle.mdhtml.specs.declared.options.Options.{Options}
-use Rattle.mdhtml.specs.BlockHtml.{trees_of, blocks_html}
+use Rattle.mdhtml.specs.BlockHtml.{texts_html, blocks_html}
 use Rattle.viewspec.specs.Setting.{Setting, Source}
 use Rattle.viewspec.specs.LabelTable.{table}
 
@@ -24,7 +24,7 @@ reading_of entities labels text = record { tree = inl entities labels text; aske
 
 abbrev pub viewed_with : Options → FoundUnit → List ParsedText → ViewedUnit
 viewed_with options found readings =
-    record { begin = found.begin; unit = found.unit; readings = readings; piece = blocks_html options (trees_of readings) false found.unit.blocks [] }
+    record { begin = found.begin; unit = found.unit; readings = readings; piece = blocks_html options (texts_html options readings) false found.unit.blocks [] }
 
 abbrev pub viewed : Setting → Table → FoundUnit → ViewedUnit
 viewed setting labels found = viewed_with setting.options found (map (reading_of setting.entities labels) found.unit.texts)

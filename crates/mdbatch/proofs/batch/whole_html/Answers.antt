@@ -1,7 +1,10 @@
-use Rattle.std.proofs.Common.{string_bytes}
+use Rattle.std.proofs.Common.{string_bytes, subst}
+use Rattle.mdhtml.specs.declared.options.Options.{Options}
+use Rattle.mdbatch.specs.BatchHtml.{AppendsUnits}
 use Rattle.mdbatch.proofs.UnitsGathered.{all_gathered}
 use Rattle.mdbatch.proofs.batch.whole_html.Goals as goal
 
 pub returns-clause-html : goal.returns-clause-html
 returns-clause-html c = λ all gathers.
-    all_gathered c.args.options.now all (string_bytes c.args.gathered.html) (string_bytes c.append_units.new.out) c.args.gathered.units.items gathers c.in_ok-append_units.ensures.html
+    all_gathered c.args.options.now all (string_bytes c.args.gathered.html) (string_bytes c.append_units.new.out) c.args.gathered.units.items gathers
+    (subst (λ (o : Options). AppendsUnits o c.args.gathered.units.items (string_bytes c.args.gathered.html) (string_bytes c.append_units.new.out)) c.new-writer.ensures c.in_ok-append_units.ensures.html)
