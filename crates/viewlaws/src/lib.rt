@@ -2,9 +2,11 @@
 #![tactic(auto)]
 
 mod edits;
+mod html;
 mod labels;
 
 pub use edits::{edits_splice, stretches_tell_the_first_too_deep};
+pub use html::events_are_written_as_their_tree;
 pub use labels::{
     labels_are_those_of_three_parts, one_asking_is_the_other, too_deep_units_asked,
     unasked_texts_stay, undefined_labels_stay,
