@@ -50,12 +50,8 @@ takes_tag old new span f o w = record { options = o; writing = w ∙ tag_there o
 
 -- a span ends
 
-ends_pushed : (xs : List OpenSpan) (x : OpenSpan) → reverse (map end_of (xs ++ x ∷ [])) ≡ end_of x ∷ reverse (map end_of xs)
+pub ends_pushed : (xs : List OpenSpan) (x : OpenSpan) → reverse (map end_of (xs ++ x ∷ [])) ≡ end_of x ∷ reverse (map end_of xs)
 ends_pushed xs x = ap reverse (map-append end_of xs (x ∷ [])) ∙ reverse-append (map end_of xs) (end_of x ∷ [])
-
-pub ends_popped : (all left : List OpenSpan) (popped span : OpenSpan) → all ≡ left ++ popped ∷ [] → popped ≡ span
-    → reverse (map end_of all) ≡ end_of span ∷ reverse (map end_of left)
-ends_popped all left popped span e f = ap (λ xs. reverse (map end_of xs)) e ∙ ends_pushed left popped ∙ ap (λ s. end_of s ∷ reverse (map end_of left)) f
 
 pub none_open : (xs : List OpenSpan) → length xs ≡ 0 → reverse (map end_of xs) ≡ []
 none_open [] h = refl

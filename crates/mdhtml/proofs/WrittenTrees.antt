@@ -9,7 +9,7 @@ use Rattle.inlinespec.specs.InlineEvents.{InlineSpan, Emphasis, StrongEmphasis, 
 use Rattle.inlinespec.specs.SpanEnds.{EndSpans}
 use Rattle.mdhtml.specs.declared.options.Options.{Options}
 use Rattle.mdhtml.specs.InlineHtml.{link_open, image_begins, image_ends, alt, alts, inline_html, inlines_html}
-use Rattle.mdhtml.specs.InlineWriting.{SpanEnd, EndTag, EndImage, NoTag, Writing, writing, shows, shown_in, span_begins, span_ends, ends_by, after_events}
+use Rattle.mdhtml.specs.InlineWriting.{SpanEnd, EndTag, EndImage, NoTag, Writing, writing, shows, shown_in, span_begins, span_ends, ended, ends_by, all_end_by, all_end, after_event, after_events}
 use Rattle.mdhtml.proofs.WrittenEvents.{shows_nothing, shows_more, tags_whole}
 
 -- inlines where they stand, in an image or not
@@ -203,3 +203,74 @@ events_shown o w (Leave ∷ es) (suc n) e h =
 pub tree_shown : (o : Options) (w : Writing) (es : List Event) → w.ends ≡ [] → EndSpans 0 es
     → after_events o w es ≡ shows w (row_html o w.in_image (tree_of es))
 tree_shown o w es none h = events_shown o w es 0 (ap length none) h ∙ one_row o w (rows_of es) (rows_by es 0 h)
+
+-- Whatever events come: those that end a span that did not begin are left out, and what is open at the end ends there.
+
+completed : ℕ → List Event → List Event
+completed n (Byte b ∷ es) = Byte b ∷ completed n es
+completed n (CodeSpan s ∷ es) = CodeSpan s ∷ completed n es
+completed n (RawHtml s ∷ es) = RawHtml s ∷ completed n es
+completed n (SoftBreak ∷ es) = SoftBreak ∷ completed n es
+completed n (HardBreak ∷ es) = HardBreak ∷ completed n es
+completed n (Enter span ∷ es) = Enter span ∷ completed (suc n) es
+completed zero (Leave ∷ es) = completed zero es
+completed (suc n) (Leave ∷ es) = Leave ∷ completed n es
+completed zero [] = []
+completed (suc n) [] = Leave ∷ completed n []
+
+completed_ends : (n : ℕ) (es : List Event) → EndSpans n (completed n es)
+unfolding completed
+completed_ends n (Byte b ∷ es) = completed_ends n es
+completed_ends n (CodeSpan s ∷ es) = completed_ends n es
+completed_ends n (RawHtml s ∷ es) = completed_ends n es
+completed_ends n (SoftBreak ∷ es) = completed_ends n es
+completed_ends n (HardBreak ∷ es) = completed_ends n es
+completed_ends n (Enter span ∷ es) = completed_ends (suc n) es
+completed_ends zero (Leave ∷ es) = completed_ends zero es
+completed_ends (suc n) (Leave ∷ es) = completed_ends n es
+completed_ends zero [] = refl
+completed_ends (suc n) [] = completed_ends n []
+
+ended_ends : (w : Writing) (end : SpanEnd) → (ended w end).ends ≡ w.ends
+ended_ends w (EndTag tag) = refl
+ended_ends w (EndImage title) = refl
+ended_ends w NoTag = refl
+
+end_first : (w : Writing) (ends : List SpanEnd) → w.ends ≡ ends → all_end_by w ends ≡ all_end (span_ends w)
+unfolding all_end_by
+end_first w [] e = sym (ap (λ ends. all_end (ends_by w ends)) e ∙ ap (all_end_by w) e)
+end_first w (end ∷ ends) e =
+    sym (ap (all_end_by (span_ends w)) (ap (λ es. (ends_by w es).ends) e ∙ ended_ends (writing w.html ends w.in_image) end))
+
+-- to end all is to end the last and then all
+pub end_once : (w : Writing) → all_end w ≡ all_end (span_ends w)
+end_once w = end_first w w.ends refl
+
+none_open : (ends : List SpanEnd) → length ends ≡ 0 → ends ≡ []
+none_open [] h = refl
+none_open (end ∷ ends) h = absurd (omega (arith, h))
+
+pub none_to_end : (w : Writing) → w.ends ≡ [] → all_end w ≡ w
+unfolding all_end_by
+none_to_end w e = ap (all_end_by w) e
+
+completed_written : (o : Options) (n : ℕ) (es : List Event) (w : Writing) → length w.ends ≡ n → after_events o w (completed n es) ≡ all_end (after_events o w es)
+unfolding after_events completed
+completed_written o n (Byte b ∷ es) w e = completed_written o n es (after_event o w (Byte b)) e
+completed_written o n (CodeSpan s ∷ es) w e = completed_written o n es (after_event o w (CodeSpan s)) e
+completed_written o n (RawHtml s ∷ es) w e = completed_written o n es (after_event o w (RawHtml s)) e
+completed_written o n (SoftBreak ∷ es) w e = completed_written o n es (after_event o w SoftBreak) e
+completed_written o n (HardBreak ∷ es) w e = completed_written o n es (after_event o w HardBreak) e
+completed_written o n (Enter span ∷ es) w e = completed_written o (suc n) es (span_begins o w span) (begun_open o w span ∙ ap suc e)
+completed_written o zero (Leave ∷ es) w e =
+    completed_written o zero es w e ∙ ap (λ v. all_end (after_events o v es)) (sym (ap (ends_by w) (none_open w.ends e)))
+completed_written o (suc n) (Leave ∷ es) w e = completed_written o n es (span_ends w) (left_open w n e)
+completed_written o zero [] w e = sym (none_to_end w (none_open w.ends e))
+completed_written o (suc n) [] w e = completed_written o n [] (span_ends w) (left_open w n e) ∙ sym (end_once w)
+
+-- what is written of events is the HTML of a tree, once all spans have ended
+pub tree_closed : (o : Options) (w : Writing) (es : List Event) → w.ends ≡ []
+    → (tree : Inlines) × (all_end (after_events o w es) ≡ shows w (row_html o w.in_image tree))
+tree_closed o w es none =
+    let whole = completed 0 es in
+    (tree_of whole, sym (completed_written o 0 es w (ap length none)) ∙ tree_shown o w whole none (completed_ends 0 es))

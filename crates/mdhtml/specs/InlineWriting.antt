@@ -41,15 +41,27 @@ tag_begins o w (ImageOf t) = writing (w.html ++ image_begins o t.url) (EndImage 
 abbrev pub span_begins : Options → Writing → InlineSpan → Writing
 span_begins o w span = if w.in_image then begins w [] NoTag else tag_begins o w span
 
+-- a span ends that is open no more
+abbrev pub ended : Writing → SpanEnd → Writing
+ended w (EndTag tag) = writing (w.html ++ tag) w.ends w.in_image
+ended w (EndImage title) = writing (w.html ++ image_ends title) w.ends false
+ended w NoTag = w
+
 -- The span that began last ends; where none is open nothing happens.
 abbrev pub ends_by : Writing → List SpanEnd → Writing
 ends_by w [] = w
-ends_by w (EndTag tag ∷ ends) = writing (w.html ++ tag) ends w.in_image
-ends_by w (EndImage title ∷ ends) = writing (w.html ++ image_ends title) ends false
-ends_by w (NoTag ∷ ends) = writing w.html ends w.in_image
+ends_by w (end ∷ ends) = ended (writing w.html ends w.in_image) end
 
 abbrev pub span_ends : Writing → Writing
 span_ends w = ends_by w w.ends
+
+-- these spans end, one after the other, and so does each that is open
+unfoldable pub all_end_by : Writing → List SpanEnd → Writing
+all_end_by w [] = w
+all_end_by w (end ∷ ends) = all_end_by (span_ends w) ends
+
+abbrev pub all_end : Writing → Writing
+all_end w = all_end_by w w.ends
 
 abbrev pub after_event : Options → Writing → Event → Writing
 after_event o w (Byte b) = shows w (escaped_byte b)

@@ -152,15 +152,9 @@ impl InlineSink for InlineWriter {
 
     fn leave(&mut self) -> Result<(), NoMemory> {
         match self.spans.pop() {
-            Some(OpenSpan::Tag(end)) => self.html.push_str(end)?,
-            Some(OpenSpan::Image(title)) => {
-                end_image(&title, &mut self.html)?;
-                self.in_image = false;
-            }
-            Some(OpenSpan::Alternative) => {}
-            None => {}
+            Some(span) => self.end(span),
+            None => Ok(()),
         }
-        Ok(())
     }
 
     ghost takes_none = { takes_nothing };
@@ -170,7 +164,35 @@ impl InlineSink for InlineWriter {
 
 impl InlineWriter {
     ghost use Rattle.mdhtml.specs.held.InlineWriter.{end_of, writing_of};
-    ghost use Rattle.mdhtml.specs.InlineWriting.{begins};
+    ghost use Rattle.mdhtml.specs.InlineWriting.{begins, ended, all_end};
+
+    /// Ends a span that is open no more.
+    fn end(&mut self, span: OpenSpan) -> Result<(), NoMemory>
+        ensures options { self.new.options ≡ self.old.options }
+        ensures spans { self.new.spans ≡ self.old.spans }
+        ensures ended { OnOk result (writing_of self.new ≡ ended (writing_of self.old) (end_of span)) }
+    {
+        match span {
+            OpenSpan::Tag(end) => self.html.push_str(end)?,
+            OpenSpan::Image(title) => {
+                end_image(&title, &mut self.html)?;
+                self.in_image = false;
+            }
+            OpenSpan::Alternative => {}
+        }
+        Ok(())
+    }
+
+    /// Ends each span that is open.
+    pub(crate) fn end_all(&mut self) -> Result<(), NoMemory>
+        ensures options { self.new.options ≡ self.old.options }
+        ensures ended { OnOk result (writing_of self.new ≡ all_end (writing_of self.old)) }
+    {
+        while let Some(span) = self.spans.pop() {
+            self.end(span)?;
+        }
+        Ok(())
+    }
 
     /// Writes the tag with which a span begins, or what is left of it. The span is open then.
     fn begin(&mut self, tag: &str, span: OpenSpan) -> Result<(), NoMemory>

@@ -105,6 +105,7 @@ impl<'a> UnitWriter<'a> {
         self.writer.begin_text(self.options, room);
         self.reader
             .read_into(text, labels, &mut Unasked, &mut self.writer)?;
+        self.writer.end_all()?;
         Ok(self.writer.take_html())
     }
 }

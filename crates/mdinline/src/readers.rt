@@ -2,7 +2,6 @@
 
 ghost use Rattle.std.specs.Prelude.{◌≤◌, List, OnOk};
 ghost use Rattle.inlinespec.specs.InlineEvents.{Event};
-ghost use Rattle.inlinespec.specs.SpanEnds.{EndSpans};
 
 use crate::asked::AsksLabels;
 use crate::faults::InlineFault;
@@ -40,7 +39,7 @@ impl<'a> TextReader<'a> {
         _asked: &mut A,
         sink: &mut S,
     ) -> Result<(), InlineFault>
-        ensures { OnOk result ((es : List Event) × EndSpans 0 es × S.takes sink.old es sink.new) }
+        ensures { OnOk result ((es : List Event) × S.takes sink.old es sink.new) }
     {
         Err(InlineFault::NoMemory)
     }

@@ -1,34 +1,16 @@
-use Rattle.std.proofs.Common.{ap, sym, ◌∙◌, ◌∷◌, ◌++◌, [], refl, false, map, reverse, string_bytes}
-use Rattle.mdhtml.specs.declared.inline_writer.OpenSpan.TheVariants.{Tag, Image, Alternative}
-use Rattle.mdhtml.specs.InlineWriting.{EndTag, EndImage, NoTag, writing}
-use Rattle.mdhtml.specs.InlineHtml.{image_ends}
+use Rattle.std.proofs.Common.{ap, sym, ◌∙◌, ◌∷◌, [], refl, map, reverse, string_bytes}
+use Rattle.std.proofs.lemmas.Result.{on_ok_weaker}
+use Rattle.mdhtml.specs.InlineWriting.{writing}
 use Rattle.mdhtml.specs.held.InlineWriter.{end_of}
-use Rattle.mdhtml.proofs.InlineWriterSteps.{ends_popped, none_open, takes_end}
+use Rattle.mdhtml.proofs.InlineWriterSteps.{ends_pushed, none_open, takes_end}
 use Rattle.mdhtml.proofs.inline_writer.InlineWriterInlineSink.leave.Goals as goal
 
-pub returns-in_ok-push_str-in-Some-Tag : goal.returns-in_ok-push_str-in-Some-Tag
-returns-in_ok-push_str-in-Some-Tag c =
+pub returns-in-Some : goal.returns-in-Some
+returns-in-Some c =
     let w = c.args.self.now in
     let left = c.pop.new.self.items in
-    takes_end w _ (EndTag c.in-Some-Tag.end.now ∷ reverse (map end_of left))
-    (ends_popped w.spans.items left c.in-Some-Tag.field-0 (Tag c.in-Some-Tag.end) c.in-Some-Tag.ensures.items c.in-Some-Tag.field-0-is) refl
-    (ap (λ h. writing h (reverse (map end_of left)) w.in_image) c.in_ok-push_str-in-Some-Tag.ensures.bytes)
-
-pub returns-in_ok-end_image-in-Some-Image : goal.returns-in_ok-end_image-in-Some-Image
-returns-in_ok-end_image-in-Some-Image c =
-    let w = c.args.self.now in
-    let left = c.pop.new.self.items in
-    takes_end w (record { alloc = w.alloc; options = w.options; html = c.end_image.new.out; spans = c.pop.new.self; in_image = false }) (EndImage (string_bytes c.in-Some-Image.title) ∷ reverse (map end_of left))
-    (ends_popped w.spans.items left c.in-Some-Image.field-0 (Image c.in-Some-Image.title) c.in-Some-Image.ensures.items c.in-Some-Image.field-0-is) refl
-    (ap (λ h. writing h (reverse (map end_of left)) false)
-    (c.in_ok-end_image-in-Some-Image.ensures ∙ ap (λ t. string_bytes w.html ++ image_ends t) c.deref.ensures))
-
-pub returns-in-Some-Alternative : goal.returns-in-Some-Alternative
-returns-in-Some-Alternative c =
-    let w = c.args.self.now in
-    let left = c.pop.new.self.items in
-    takes_end w _ (NoTag ∷ reverse (map end_of left))
-    (ends_popped w.spans.items left c.in-Some-Alternative.field-0 Alternative c.in-Some-Alternative.ensures.items c.in-Some-Alternative.field-0-is) refl refl
+    on_ok_weaker c.end.result (takes_end w c.end.new.self (end_of c.in-Some.span ∷ reverse (map end_of left))
+    (ap (λ xs. reverse (map end_of xs)) c.in-Some.ensures.items ∙ ends_pushed left c.in-Some.span) c.end.ensures.options) c.end.ensures.ended
 
 pub returns-in-None : goal.returns-in-None
 returns-in-None c =
