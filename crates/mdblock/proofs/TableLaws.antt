@@ -1,15 +1,16 @@
 -- The cells of a table stand one behind the other, row by row, as they are handed in.
-use Rattle.std.proofs.Common.{◌≡◌, ℕ, ◌+◌, Vec, Global, List, [], ◌∷◌, ◌++◌, length, map, ap, sym, ◌∙◌, arith, length-append}
+use Rattle.std.proofs.Common.{true, refl, Option, Some, None, option_map, ◌≡◌, ℕ, ◌+◌, Vec, Global, List, [], ◌∷◌, ◌++◌, length, map, ap, sym, ◌∙◌, arith, length-append}
 use Rattle.std.proofs.lemmas.List.{length-map}
 use Rattle.std.specs.Prelude.{String, string_bytes}
 use Rattle.std.specs.Vec.{vec_len}
 use Rattle.std.specs.List.{range_with_len, flat_map}
 use Rattle.mdscan.specs.declared.delimiter_rows.Align.{Align}
-use Rattle.mdleaf.specs.TableRows.{TableHeader, filled, row_texts}
+use Rattle.mdleaf.specs.declared.table_rows.Header.{Header}
+use Rattle.mdleaf.specs.TableRows.{TableHeader, begins_table, filled, header_of, row_texts, table_header}
 use Rattle.mdleaf.proofs.CellTexts.{length_filled}
 use Rattle.blockspec.specs.NodeTree.{table_leaf, leaf_texts, row_positions}
 use Rattle.blockspec.specs.OpenLeaf.{open_table, row_of}
-use Rattle.mdblock.specs.held.HeldTables.{CellsStand, IsHeaderRow, IsRowMore}
+use Rattle.mdblock.specs.held.HeldTables.{CellsStand, IsHeaderRow, IsRowMore, first_rows}
 use Rattle.mdblock.specs.declared.leaf.Leaf as held
 use Rattle.mdblock.specs.declared.leaf.Leaf.TheVariants as leaf
 use Rattle.mdblock.specs.declared.leaf.tables.Table.{Table}
@@ -51,3 +52,20 @@ row_stands at texts above aligns head rows t (leaf.Paragraph p) row cells behind
 row_stands at texts above aligns head rows t (leaf.Fence p) row cells behind more = absurd more
 row_stands at texts above aligns head rows t (leaf.Html p) row cells behind more = absurd more
 row_stands at texts above aligns head rows t (leaf.Code p) row cells behind more = absurd more
+
+-- ---- what the first two rows say
+
+told : (head delimiters : List ℕ) → begins_table head delimiters ≡ true → table_header head delimiters ≡ Some (first_rows head delimiters)
+unfolding table_header
+told head delimiters b = rw b refl
+
+pub header_told : (o : Option Header) (header : Header) (head last delimiters : List ℕ) → o ≡ Some header → option_map header_of o ≡ table_header head delimiters → head ≡ last →
+    begins_table last delimiters ≡ true → header_of header ≡ first_rows last delimiters
+header_told o header head last delimiters i e same b =
+    let found : ◌≡◌ {A = Option TableHeader} (Some (header_of header)) (Some (first_rows last delimiters)) = sym (ap (option_map header_of) i) ∙ e ∙ ap (λ t. table_header t delimiters) same ∙ told last delimiters b in
+    cc
+
+pub header_there : (o : Option Header) (head last delimiters : List ℕ) → o ≡ None → option_map header_of o ≡ table_header head delimiters → head ≡ last → begins_table last delimiters ≡ true → ⊥
+header_there o head last delimiters i e same b =
+    let found : ◌≡◌ {A = Option TableHeader} None (Some (first_rows last delimiters)) = sym (ap (option_map header_of) i) ∙ e ∙ ap (λ t. table_header t delimiters) same ∙ told last delimiters b in
+    cc

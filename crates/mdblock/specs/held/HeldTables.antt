@@ -1,17 +1,21 @@
 -- What an open table holds of its lines, and what it hands in (GFM Tables (extension)). Its cells are handed in as they are
 -- read, row behind row, so it holds their positions.
-use Rattle.std.specs.Prelude.{◌≡◌, ℕ, ◌+◌, List, [], ◌∷◌, ◌++◌, length, map, Option}
+use Rattle.std.specs.Prelude.{◌≡◌, ℕ, ◌+◌, List, [], ◌∷◌, ◌++◌, Bool, length, map, Option}
+use Rattle.std.specs.Option.{MatchOption}
 use Rattle.std.specs.List.{range_with_len}
 use Rattle.mdleaf.specs.LinkDefinition.{LinkDefinition}
-use Rattle.mdleaf.specs.TableRows.{TableHeader}
+use Rattle.mdleaf.specs.ParagraphText.{behind_definitions, without_end_blanks}
+use Rattle.mdleaf.specs.TableRows.{TableHeader, row_aligns, row_texts}
 use Rattle.mdscan.specs.declared.delimiter_rows.Align.{Align}
 use Rattle.blockspec.specs.BlockTree.{table, Blocks, block, no_blocks}
 use Rattle.blockspec.specs.NodeTree.{row_positions}
 use Rattle.blockspec.specs.OpenLeaf.{OpenLeaf, open_table}
 use Rattle.mdblock.specs.held.ClosedViews.{found_view}
+use Rattle.mdblock.specs.held.HandedIn.{left_behind, IsHandedIn}
 use Rattle.mdblock.specs.declared.blocks.Block.{Block}
 use Rattle.mdblock.specs.declared.leaf.Leaf.{Leaf}
 use Rattle.mdblock.specs.declared.leaf.Leaf.TheVariants as leaf
+use Rattle.mdblock.specs.declared.leaf.LeafAfter.{LeafAfter}
 use Rattle.mdblock.specs.declared.leaf.tables.Table.{Table}
 
 abbrev pub held_rows : Table → List (List ℕ)
@@ -33,6 +37,21 @@ CellsStand at held kept = Unit {0}
 -- a table of a header row, whose cells are the first texts behind so many
 abbrev pub IsHeaderRow : (texts : ℕ) → TableHeader → Table → Type 0
 IsHeaderRow texts header t = (t.aligns.items ≡ header.aligns) × (t.head.items ≡ range_with_len texts (length header.cells)) × (t.rows.items ≡ [])
+
+abbrev pub IsHeaderLeaf : (texts : ℕ) → TableHeader → Leaf → Type 0
+IsHeaderLeaf texts header (leaf.Table t) = IsHeaderRow texts header t
+IsHeaderLeaf texts header held = ⊥
+
+-- what the first two rows say
+abbrev pub first_rows : (head delimiters : List ℕ) → TableHeader
+first_rows head delimiters = record { aligns = row_aligns delimiters; cells = row_texts head }
+
+-- a table behind a paragraph of the text above it, which is over and has been handed in first
+pub record IsTableBehind (at_front : Bool) (above : List ℕ) (header : TableHeader) (old new : List (List ℕ)) (s : LeafAfter) : Type 0 where
+  pub between : List (List ℕ)
+  pub paragraph : IsHandedIn (left_behind at_front (behind_definitions (without_end_blanks above))) old between s.over
+  pub begun : MatchOption s.going ⊥ (IsHeaderLeaf (length between) header)
+  pub texts : new ≡ between ++ header.cells
 
 -- the same table with a data row more, whose cells are the first texts behind so many
 abbrev pub IsRowMore : (texts : ℕ) → (old : Table) → Leaf → Type 0

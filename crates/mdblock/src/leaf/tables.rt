@@ -1,6 +1,6 @@
 //! Tables (GFM Tables (extension)).
 
-ghost use Rattle.std.specs.Prelude.{◌≡◌, ◌≤◌, ℕ, [], ◌∷◌, ◌++◌, IfOk, IfSome, OnOk, length};
+ghost use Rattle.std.specs.Prelude.{◌≡◌, ◌≤◌, ℕ, [], ◌∷◌, ◌++◌, IfOk, IfSome, OnOk, Some, length};
 ghost use Rattle.blockspec.specs.BlockLine.{rest};
 ghost use Rattle.blockspec.specs.BlockTree.{table};
 ghost use Rattle.blockspec.specs.OpenLeaf.{row_of};
@@ -88,7 +88,8 @@ impl Table {
 
     /// The open table behind a paragraph that is over.
     pub(crate) fn behind(self, over: Option<Block>) -> LeafAfter
-        ensures { (n : ℕ) → IfSome over (λ block. BlockIn n (block_view block)) → TableIn n self → LeafAfterIn n result }
+        ensures value { result ≡ record { over = over; going = Some (Leaf.Table self) } }
+        ensures within { (n : ℕ) → IfSome over (λ block. BlockIn n (block_view block)) → TableIn n self → LeafAfterIn n result }
     {
         LeafAfter {
             over,
