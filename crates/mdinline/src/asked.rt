@@ -1,6 +1,7 @@
 //! The labels that were looked up for a text.
 
-ghost use Rattle.std.specs.Prelude.{◌≡◌, ◌==◌, ◌↔◌, IsTrue, IfOk, Contains, length, slice_get, option_copied};
+ghost use Rattle.std.specs.Prelude.{◌≡◌, ◌==◌, ◌↔◌, ◌∷◌, ◌++◌, [], ℕ, List, IsTrue, IfOk, OnOk, Contains, length, refl, slice_get, option_copied};
+ghost use Rattle.mdinline.specs.held.AskedLabels.{asked_more, with_asked};
 
 use mdtext::{Label, NoMemory};
 use std::alloc::Global;
@@ -76,6 +77,73 @@ impl Asked {
         Ok(Asked {
             labels: copy_labels(alloc, &self.labels)?,
         })
+    }
+}
+
+/// What is told which labels are looked up for texts, found or not.
+pub trait AsksLabels {
+    /// The value after these labels were looked up.
+    ghost asks: { Self → List (List ℕ) → Self → Type 0 };
+
+    /// Takes a label that is looked up.
+    fn ask(&mut self, label: &Label) -> Result<(), NoMemory>
+        ensures { OnOk result (asks self.old (label.now ∷ []) self.new) };
+
+    ghost asks_none: { (a : Self) → asks a [] a };
+
+    ghost asks_more: { (a b c : Self) (ls ms : List (List ℕ)) → asks a ls b → asks b ms c → asks a (ls ++ ms) c };
+}
+
+/// Keeps no labels.
+#[derive(Clone, Copy, Debug, Drop)]
+pub struct Unasked;
+
+impl AsksLabels for Unasked {
+    ghost asks = { λ a labels b. Unit {0} };
+
+    ghost asks_none = { λ a. tt };
+
+    ghost asks_more = { λ a b c ls ms h k. tt };
+
+    fn ask(&mut self, _label: &Label) -> Result<(), NoMemory> {
+        Ok(())
+    }
+}
+
+/// The labels that were looked up so far.
+#[derive(Drop)]
+pub(crate) struct AskedSet {
+    alloc: Global,
+    labels: BTreeSet<Label, Global>,
+}
+
+impl AskedSet {
+    pub(crate) fn new(alloc: Global) -> AskedSet
+        ensures { result.labels.keys ≡ [] }
+    {
+        AskedSet {
+            alloc,
+            labels: BTreeSet::new(alloc),
+        }
+    }
+
+    pub(crate) fn finish(self) -> Result<Asked, NoMemory>
+        ensures { IfOk result (λ asked. asked ≡ self.labels.keys) }
+    {
+        Asked::of(self.alloc, self.labels)
+    }
+}
+
+impl AsksLabels for AskedSet {
+    ghost asks = { λ a labels b. b.labels.keys ≡ with_asked a.labels.keys labels };
+
+    ghost asks_none = { λ a. refl };
+
+    ghost asks_more = { λ a b c ls ms h k. asked_more a.labels.keys b.labels.keys c.labels.keys ls ms h k };
+
+    fn ask(&mut self, label: &Label) -> Result<(), NoMemory> {
+        self.labels.insert(label.copy(self.alloc)?)?;
+        Ok(())
     }
 }
 
