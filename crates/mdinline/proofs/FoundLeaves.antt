@@ -1,41 +1,22 @@
 -- What was found at a place, by its parts.
-use Rattle.std.proofs.Common.{◌≡◌, ℕ, ◌+◌, ◌-◌, List, [], ◌∷◌, String, Global, string_bytes, ap, ◌∙◌, arith}
-use Rattle.inlinespec.specs.InlineEvents.{Event, CodeSpan, RawHtml, HardBreak, SoftBreak, inline_events, written}
-use Rattle.inlinespec.specs.InlineTree.{Inline}
-use Rattle.mdinline.specs.TreeView.{inline_step}
-use Rattle.mdinline.specs.declared.inlines.Inline.TheOpen.{Inline-F}
-use Rattle.mdinline.specs.declared.inlines.Inline.TheFolds.{fold-roll-Inline}
-use Rattle.mdinline.specs.declared.inlines.Inline.TheBlock as made
-use Rattle.mdinline.specs.declared.inlines.Inline.TheViews.{roll-Inline}
-use denote.Hole.Carrier.{roll}
+use Rattle.std.proofs.Common.{◌≡◌, ℕ, ◌+◌, ◌-◌, List, ap, sym, subst, ◌∙◌, arith}
+use Rattle.mdtext.specs.EntityTable.{EntityTable}
+use Rattle.inlinespec.specs.InlineEvents.{Event}
 use Rattle.inlinespec.specs.Lexing.{Lexeme, leaf}
-use Rattle.mdinline.specs.held.Recognised.{made_events, lexeme_of, bracket_of, kind_of}
+use Rattle.mdinline.specs.held.LeafEvents.{IsTokenOf, leaf_events}
+use Rattle.mdinline.specs.held.Recognised.{lexeme_of, bracket_of, kind_of}
 use Rattle.mdinline.specs.declared.bracket_stack.Bracket.{Bracket}
 use Rattle.mdinline.specs.declared.bracket_stack.BracketKind.{BracketKind}
 use Rattle.mdinline.specs.declared.scanner.Found.{Found}
+use Rattle.mdinline.specs.declared.tokens.Token.{Token}
 
-pub found_is : (at end : ℕ) (found : Found) (es : List Event) → found.end ≡ end → made_events found.inline ≡ es → lexeme_of at found ≡ leaf (end - at) es
-found_is at end found es e is = ap (λ k. leaf (k - at) (made_events found.inline)) e ∙ ap (leaf (end - at)) is
+pub found_is : (entities : EntityTable) (text : List ℕ) (at end : ℕ) (found : Found) (token : Token) (es : List Event) → found.end ≡ end → found.token ≡ token →
+    leaf_events entities text token ≡ es → lexeme_of entities text at found ≡ leaf (end - at) es
+found_is entities text at end found token es e same is =
+    ap (λ k. leaf (k - at) (leaf_events entities text found.token)) e ∙ ap (λ t. leaf (end - at) (leaf_events entities text t)) same ∙ ap (leaf (end - at)) is
 
-pub hard_seen : made_events made.Hard ≡ HardBreak ∷ []
-unfolding roll-Inline roll
-hard_seen = ap inline_events (fold-roll-Inline Inline inline_step Inline-F.Hard)
-
-pub soft_seen : made_events made.Soft ≡ SoftBreak ∷ []
-unfolding roll-Inline roll
-soft_seen = ap inline_events (fold-roll-Inline Inline inline_step Inline-F.Soft)
-
-pub code_seen : (code : String Global) → made_events (made.Code code) ≡ CodeSpan (string_bytes code) ∷ []
-unfolding roll-Inline roll
-code_seen code = ap inline_events (fold-roll-Inline Inline inline_step (Inline-F.Code code))
-
-pub text_seen : (text : String Global) → made_events (made.Text text) ≡ written (string_bytes text)
-unfolding roll-Inline roll
-text_seen text = ap inline_events (fold-roll-Inline Inline inline_step (Inline-F.Text text))
-
-pub html_seen : (html : String Global) → made_events (made.Html html) ≡ RawHtml (string_bytes html) ∷ []
-unfolding roll-Inline roll
-html_seen html = ap inline_events (fold-roll-Inline Inline inline_step (Inline-F.Html html))
+pub token_kept : (text : List ℕ) (found : Found) (token : Token) → found.token ≡ token → IsTokenOf text token → IsTokenOf text found.token
+token_kept text found token e h = subst (IsTokenOf text) (sym e) h
 
 pub bracket_is : (at end size : ℕ) (bracket : Bracket) (kind : BracketKind) → bracket.end ≡ end → bracket.kind ≡ kind → end ≡ at + size → ◌≡◌ {A = Lexeme} (bracket_of at bracket) (record { size = size; kind = kind_of kind })
 bracket_is at end size bracket kind e k is =

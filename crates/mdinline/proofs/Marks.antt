@@ -98,3 +98,7 @@ pub linked : {X E : Type 0} (f : X → ℕ) (r : Result (Option X) E) (text : Li
 linked f (Ok (Some x)) text after end h k = subst (λ e. IsLinkEnd text after e) (sym h) k
 linked f (Ok None) text after end h k = tt
 linked f (Err e) text after end h k = tt
+
+pub if_ok : {X E : Type 0} (r : Result X E) (P Q : X → Type 0) → ((x : X) → P x → Q x) → IfOk r P → IfOk r Q
+if_ok (Ok x) P Q f h = f x h
+if_ok (Err e) P Q f h = h

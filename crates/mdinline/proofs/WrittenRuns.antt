@@ -49,7 +49,7 @@ in_spaces text i k le lt =
     grind (arith, nat_tests, passes, there)
 
 -- the bytes before the first stop from a place on
-before_stop : (text : List ℕ) (start i : ℕ) → start ≤ i → i < start + position_or_len is_stop (drop start text) → is_stop (get_or text i 0) ≡ false
+pub before_stop : (text : List ℕ) (start i : ℕ) → start ≤ i → i < start + position_or_len is_stop (drop start text) → is_stop (get_or text i 0) ≡ false
 before_stop text start i le lt =
     let passes : not (is_stop (get_or (drop start text) (i - start) 0)) ≡ true = prefix_len_passes (λ b. not (is_stop b)) (drop start text) (i - start) 0 (omega arith) in
     let same : start + (i - start) ≡ i = omega arith in

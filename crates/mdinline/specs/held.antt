@@ -1,7 +1,9 @@
+pub mod AskedLabels
 pub mod BacktickTable
 pub mod Brackets
 pub mod FoundLinks
 pub mod KnownText
+pub mod LeafEvents
 pub mod LongTags
 pub mod PairedRuns
 pub mod PlainText
@@ -9,4 +11,5 @@ pub mod Recognised
 pub mod StoredTree
 pub mod Ticks
 pub mod TreeBuilding
+pub mod TreeTakings
 pub mod UnusedOpeners

@@ -1,6 +1,7 @@
 //! The labels that were looked up for a text.
 
-ghost use Rattle.std.specs.Prelude.{◌≡◌, ◌==◌, ◌↔◌, ◌∷◌, ◌++◌, [], ℕ, List, IsTrue, IfOk, OnOk, Contains, length, slice_get, option_copied};
+ghost use Rattle.std.specs.Prelude.{◌≡◌, ◌==◌, ◌↔◌, ◌∷◌, ◌++◌, [], ℕ, List, IsTrue, IfOk, OnOk, Contains, length, refl, slice_get, option_copied};
+ghost use Rattle.mdinline.specs.held.AskedLabels.{asked_more, with_asked};
 
 use mdtext::{Label, NoMemory};
 use std::alloc::Global;
@@ -105,6 +106,43 @@ impl AsksLabels for Unasked {
     ghost asks_more = { λ a b c ls ms h k. tt };
 
     fn ask(&mut self, _label: &Label) -> Result<(), NoMemory> {
+        Ok(())
+    }
+}
+
+/// The labels that were looked up so far.
+#[derive(Drop)]
+pub(crate) struct AskedSet {
+    alloc: Global,
+    labels: BTreeSet<Label, Global>,
+}
+
+impl AskedSet {
+    pub(crate) fn new(alloc: Global) -> AskedSet
+        ensures { result.labels.keys ≡ [] }
+    {
+        AskedSet {
+            alloc,
+            labels: BTreeSet::new(alloc),
+        }
+    }
+
+    pub(crate) fn finish(self) -> Result<Asked, NoMemory>
+        ensures { IfOk result (λ asked. asked ≡ self.labels.keys) }
+    {
+        Asked::of(self.alloc, self.labels)
+    }
+}
+
+impl AsksLabels for AskedSet {
+    ghost asks = { λ a labels b. b.labels.keys ≡ with_asked a.labels.keys labels };
+
+    ghost asks_none = { λ a. refl };
+
+    ghost asks_more = { λ a b c ls ms h k. asked_more a.labels.keys b.labels.keys c.labels.keys ls ms h k };
+
+    fn ask(&mut self, label: &Label) -> Result<(), NoMemory> {
+        self.labels.insert(label.copy(self.alloc)?)?;
         Ok(())
     }
 }

@@ -1,6 +1,6 @@
 //! Brackets, and those of a text that no `]` has used up (CommonMark 6.3, 6.4).
 
-ghost use Rattle.std.specs.Prelude.{◌≡◌, ◌<◌, ◌||◌, nat_le, true, false, List, None, [], ◌∷◌, ◌++◌, IfSome, OnOk, MatchOption, length, slice_index};
+ghost use Rattle.std.specs.Prelude.{◌≡◌, ◌<◌, ◌==◌, ◌||◌, nat_le, true, false, List, None, [], ◌∷◌, ◌++◌, IfSome, OnOk, MatchOption, length, slice_index};
 ghost use Rattle.mdtext.specs.EntityTable.{EntityTable};
 ghost use Rattle.mdscan.specs.Spans.{EndsAfterMark};
 ghost use Rattle.inlinespec.specs.InlineEvents.{Event};
@@ -38,6 +38,7 @@ pub(crate) fn bracket_at(text: &[u8], at: usize) -> Option<Bracket>
     requires { at < length text.now }
     ensures end { IfSome result (λ bracket. EndsAfterMark text.now at bracket.end) }
     ensures mark { IfSome result (λ _. slice_index text.now at < 128) }
+    ensures closing { IfSome result (λ bracket. bracket.kind ≡ BracketKind.Closing → slice_index text.now at ≡ 93) }
     ensures value { (entities : EntityTable) → MatchOption result (is_bracket (lex entities text.now at).kind ≡ false)
         (λ bracket. lex entities text.now at ≡ bracket_of at bracket) }
 {
@@ -59,10 +60,11 @@ fn make_bracket(kind: BracketKind, end: usize) -> Bracket
     Bracket { kind, end }
 }
 
-/// An opening bracket: its place among the pieces, and where the text behind it begins.
+/// An opening bracket: its place among the tokens, how many runs were pending before it, and where the text behind it begins.
 #[derive(Clone, Copy, Drop)]
 pub(crate) struct Opening {
-    pub piece: usize,
+    pub token: usize,
+    pub runs: usize,
     pub begin: usize,
     pub is_image: bool,
 }
@@ -84,6 +86,20 @@ impl BracketStack {
             unused: Vec::new(alloc),
             before_link: 0,
         }
+    }
+
+    pub(crate) fn clear(&mut self)
+        ensures unused { self.new.unused.items ≡ [] }
+        ensures none { AreOpenersOf [] self.new }
+    {
+        self.unused.clear();
+        self.before_link = 0;
+    }
+
+    pub(crate) fn is_empty(&self) -> bool
+        ensures { result ≡ (length self.now.unused.items == 0) }
+    {
+        self.unused.is_empty()
     }
 
     pub(crate) fn push(&mut self, opening: Opening) -> Result<(), AllocError>

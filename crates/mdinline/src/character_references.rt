@@ -7,32 +7,25 @@ ghost use Rattle.mdtext.specs.Referents.{meaning_of, referent_text};
 ghost use Rattle.mdscan.specs.Spans.{IsEndAfter};
 ghost use Rattle.inlinespec.specs.AutolinkText.{without_references};
 ghost use Rattle.inlinespec.specs.Lexing.{reference_lexeme};
+ghost use Rattle.mdinline.specs.held.LeafEvents.{IsTokenOf};
 ghost use Rattle.mdinline.specs.held.Recognised.{IsFound};
 
-use crate::inlines::Inline;
-use crate::scanner::{Found, simple};
+use crate::scanner::{Found, leaf_of};
+use crate::tokens::Token;
 use mdtext::{Entities, Reference, Referent, read_reference};
-use std::alloc::{AllocError, Global};
+use std::alloc::AllocError;
 
 /// The reference whose `&` stands at a place.
-pub(crate) fn reference(
-    alloc: Global,
-    text: &str,
-    at: usize,
-    entities: &Entities,
-) -> Result<Option<Found>, AllocError>
+pub(crate) fn reference<'a>(text: &str, at: usize, entities: &'a Entities) -> Option<Found<'a>>
     requires inside { at < length text.now }
     requires mark { slice_index text.now at < 128 }
-    ensures end { IfOk result (λ found. IfSome found (λ found. IsEndAfter text.now at found.end)) }
-    ensures value { IfOk result (λ found. IsFound text.now at (reference_lexeme (drop at text.now) (reference entities.now (drop (at + 1) text.now))) found) }
+    ensures end { IfSome result (λ found. IsEndAfter text.now at found.end) }
+    ensures token { IfSome result (λ found. IsTokenOf text.now found.token) }
+    ensures value { IsFound entities.now text.now at (reference_lexeme (drop at text.now) (reference entities.now (drop (at + 1) text.now))) result }
 {
     match reference_at(text, at, entities) {
-        Some(reference) => {
-            let mut meaning = String::new(alloc);
-            push_referent(reference.referent, &mut meaning)?;
-            Ok(Some(simple(Inline::Text(meaning), at + reference.len)))
-        }
-        None => Ok(None),
+        Some(reference) => Some(leaf_of(Token::Meaning(reference.referent), at + reference.len)),
+        None => None,
     }
 }
 
@@ -45,7 +38,7 @@ fn reference_at<'a>(text: &str, at: usize, entities: &'a Entities) -> Option<Ref
     read_reference(&text[at + 1..], entities)
 }
 
-fn push_referent(referent: Referent, out: &mut String) -> Result<(), AllocError>
+pub(crate) fn push_referent(referent: Referent<'_>, out: &mut String) -> Result<(), AllocError>
     ensures { OnOk result (string_bytes out.new ≡ string_bytes out.old ++ referent_text referent.entry) }
 {
     match referent {
@@ -54,23 +47,22 @@ fn push_referent(referent: Referent, out: &mut String) -> Result<(), AllocError>
     }
 }
 
-/// A text in which each reference is replaced by what it stands for. Backslashes stay.
-pub(crate) fn without_references(
-    alloc: Global,
+/// Appends a text in which each reference is replaced by what it stands for. Backslashes stay.
+pub(crate) fn append_without_references(
     text: &str,
     entities: &Entities,
-) -> Result<String, AllocError>
-    ensures { IfOk result (λ out. string_bytes out ≡ without_references entities.now 0 text.now) }
+    out: &mut String,
+) -> Result<(), AllocError>
+    ensures { OnOk result (string_bytes out.new ≡ string_bytes out.old ++ without_references entities.now 0 text.now) }
 {
-    let mut out = String::with_capacity(alloc, text.len())?;
     let mut rest = text;
     while let Some((plain, after)) = rest.split_once('&') {
         out.push_str(plain)?;
-        let taken = push_meaning(after, entities, &mut out)?;
+        let taken = push_meaning(after, entities, out)?;
         rest = &after[taken..];
     }
     out.push_str(rest)?;
-    Ok(out)
+    Ok(())
 }
 
 /// Appends what a `&` stands for with what follows it, and answers how much of that goes with it.

@@ -1,22 +1,25 @@
 //! Code spans (CommonMark 6.1).
 
-ghost use Rattle.std.specs.Prelude.{◌≡◌, ◌+◌, ◌-◌, ◌<◌, ◌≤◌, ◌==◌, ◌||◌, ℕ, true};
-ghost use Rattle.std.specs.Prelude.{false, not, IfOk, IfSome, MatchOption, length, drop, slice_index, option_map, string_bytes};
+ghost use Rattle.std.specs.Prelude.{◌≡◌, ◌+◌, ◌-◌, ◌<◌, ◌≤◌, ◌==◌, ◌||◌, ℕ, List, true};
+ghost use Rattle.std.specs.Prelude.{false, not, IfOk, IfSome, MatchOption, length, drop, slice_index, slice_range, option_map};
 ghost use Rattle.std.specs.BTreeMap.{get};
 ghost use Rattle.std.specs.List.{list_any};
 ghost use Rattle.std.specs.Ordering.{nat_cmp};
+ghost use Rattle.mdtext.specs.EntityTable.{EntityTable};
 ghost use Rattle.mdscan.specs.Blanks.{begins_with};
-ghost use Rattle.mdscan.specs.Spans.{IsEndAfter};
+ghost use Rattle.mdscan.specs.Spans.{IsEndAfter, IsSpanOf, part};
 ghost use Rattle.inlinespec.specs.BacktickStrings.{IsNextString};
-ghost use Rattle.mdinline.specs.held.BacktickTable.{HoldsLast};
-ghost use Rattle.inlinespec.specs.CodeSpans.{as_one_line, before_backticks, code_content, code_inside, is_padded, is_space_or_feed, unpadded};
+ghost use Rattle.mdinline.specs.held.BacktickTable.{HoldsLast, KnowsStrings};
+ghost use Rattle.inlinespec.specs.CodeSpans.{as_one_line, before_backticks, code_inside, is_padded, is_space_or_feed, unpadded};
 ghost use Rattle.inlinespec.specs.Lexing.{code_lexeme};
+ghost use Rattle.mdinline.specs.held.LeafEvents.{IsTokenOf};
 ghost use Rattle.mdinline.specs.held.Recognised.{IsFound};
 ghost use Rattle.mdinline.specs.held.Ticks.{AreTicksFrom};
 
-use crate::inlines::Inline;
-use crate::scanner::{Found, simple};
-use crate::texts::{past_marks, text_of};
+use crate::scanner::{Found, leaf_of};
+use crate::texts::past_marks;
+use crate::tokens::Token;
+use mdscan::Span;
 use mdtext::{Class, first_special};
 use std::alloc::{AllocError, Global};
 use std::collections::BTreeMap;
@@ -28,61 +31,106 @@ pub(crate) struct Ticks {
     end: usize,
 }
 
-/// The last run of backticks of each length in a text, so that a run that has none of its length behind it is not searched for.
+/// The last run of backticks of each length in a text, so that no run that has none of its length behind it is searched for again. It is made where one is not
+/// found for the first time.
 #[derive(Drop)]
 pub(crate) struct Backticks {
-    last: BTreeMap<usize, usize, Global>,
+    last: Option<BTreeMap<usize, usize, Global>>,
 }
 
 impl Backticks {
-    pub(crate) fn of(alloc: Global, text: &[u8]) -> Result<Backticks, AllocError>
-        ensures { IfOk result (λ backticks. (at : ℕ) → HoldsLast text.now at (get nat_cmp backticks.last)) }
+    pub(crate) fn new() -> Backticks
+        ensures { (text : List ℕ) → KnowsStrings text result }
     {
-        let mut last = BTreeMap::new(alloc);
-        let mut at = 0;
-        while let Some(run) = next_run(text, at) {
-            last.insert(run.end - run.start, run.start)?;
-            at = run.end;
-        }
-        Ok(Backticks { last })
+        Backticks { last: None }
     }
 
     /// The code span whose run of backticks stands at a place, or the run as text where no run of its length closes it.
     pub(crate) fn code_or_run(
-        &self,
+        &mut self,
         alloc: Global,
         text: &str,
         at: usize,
-    ) -> Result<Option<Found>, AllocError>
+    ) -> Result<Option<Found<'static>>, AllocError>
         requires inside { at < length text.now }
         requires mark { slice_index text.now at < 128 }
         ensures end { IfOk result (λ found. IfSome found (λ found. IsEndAfter text.now at found.end)) }
-        ensures value { slice_index text.now at ≡ 96 → ((k : ℕ) → HoldsLast text.now k (get nat_cmp self.now.last))
-            → IfOk result (λ found. IsFound text.now at (code_lexeme (drop at text.now) (code_inside (drop at text.now))) found) }
+        ensures token { slice_index text.now at ≡ 96 → IfOk result (λ found. IfSome found (λ found. IsTokenOf text.now found.token)) }
+        ensures value { slice_index text.now at ≡ 96 → KnowsStrings text.now self.old
+            → IfOk result (λ found. (entities : EntityTable)
+            → IsFound entities text.now at (code_lexeme (drop at text.now) (code_inside (drop at text.now))) found) }
+        ensures knows { KnowsStrings text.now self.old → KnowsStrings text.now self.new }
     {
         let bytes = text.as_bytes();
         let start = past_marks(bytes, at, b'`');
-        match self.closing(bytes, start, start - at) {
+        match self.closing(alloc, bytes, start, start - at)? {
             Some(run) => {
-                let code = code_of(alloc, &text[start..run.start])?;
-                Ok(Some(simple(Inline::Code(code), run.end)))
+                let content = without_padding(bytes, start, run.start);
+                Ok(Some(leaf_of(Token::Code(content), run.end)))
             }
-            None => Ok(Some(simple(text_of(alloc, &text[at..start])?, start))),
+            None => {
+                let run = Span {
+                    start: at,
+                    end: start,
+                };
+                Ok(Some(leaf_of(Token::Plain(run), start)))
+            }
         }
     }
 
     /// The first run of this length from a place on.
-    fn closing(&self, text: &[u8], from: usize, size: usize) -> Option<Ticks>
+    fn closing(
+        &mut self,
+        alloc: Global,
+        text: &[u8],
+        from: usize,
+        size: usize,
+    ) -> Result<Option<Ticks>, AllocError>
         requires { from ≤ length text.now }
-        ensures place { IfSome result (λ run. AreTicksFrom text.now from run) }
-        ensures size { IfSome result (λ run. run.end ≡ run.start + size) }
-        ensures value { 0 < size → begins_with 96 (drop from text.now) ≡ false → ((k : ℕ) → HoldsLast text.now k (get nat_cmp self.now.last))
-            → option_map (λ run. run.start) result ≡ option_map (λ k. from + k) (before_backticks false size (drop from text.now)) }
+        ensures place { IfOk result (λ found. IfSome found (λ run. AreTicksFrom text.now from run)) }
+        ensures size { IfOk result (λ found. IfSome found (λ run. run.end ≡ run.start + size)) }
+        ensures value { 0 < size → begins_with 96 (drop from text.now) ≡ false → KnowsStrings text.now self.old
+            → IfOk result (λ found. option_map (λ run. run.start) found ≡ option_map (λ k. from + k) (before_backticks false size (drop from text.now))) }
+        ensures knows { KnowsStrings text.now self.old → KnowsStrings text.now self.new }
     {
-        match self.last.get(&size) {
-            Some(last) if from <= *last => find_run(text, from, size),
-            _ => None,
+        if let Some(last) = &self.last {
+            return Ok(known_closing(last, text, from, size));
         }
+        let found = find_run(text, from, size);
+        if found.is_none() {
+            self.last = Some(last_runs(alloc, text)?);
+        }
+        Ok(found)
+    }
+}
+
+fn last_runs(alloc: Global, text: &[u8]) -> Result<BTreeMap<usize, usize, Global>, AllocError>
+    ensures { IfOk result (λ last. (k : ℕ) → HoldsLast text.now k (get nat_cmp last)) }
+{
+    let mut last = BTreeMap::new(alloc);
+    let mut at = 0;
+    while let Some(run) = next_run(text, at) {
+        last.insert(run.end - run.start, run.start)?;
+        at = run.end;
+    }
+    Ok(last)
+}
+
+fn known_closing(
+    last: &BTreeMap<usize, usize, Global>,
+    text: &[u8],
+    from: usize,
+    size: usize,
+) -> Option<Ticks>
+    requires { from ≤ length text.now }
+    ensures place { IfSome result (λ run. AreTicksFrom text.now from run) }
+    ensures size { IfSome result (λ run. run.end ≡ run.start + size) }
+    ensures value { 0 < size → begins_with 96 (drop from text.now) ≡ false → ((k : ℕ) → HoldsLast text.now k (get nat_cmp last.now))
+        → option_map (λ run. run.start) result ≡ option_map (λ k. from + k) (before_backticks false size (drop from text.now)) }
+{
+    match last.get(&size) {
+        Some(last) if from <= *last => find_run(text, from, size),
+        _ => None,
     }
 }
 
@@ -118,28 +166,24 @@ fn next_run(text: &[u8], from: usize) -> Option<Ticks>
     None
 }
 
-/// The code of a code span: line endings become spaces, and a space goes from each end where both have one and not all is spaces.
-fn code_of(alloc: Global, inside: &str) -> Result<String, AllocError>
-    ensures { IfOk result (λ code. string_bytes code ≡ code_content inside.now) }
+/// The content of a code span: a space goes from each end where both have one and not all is spaces. Line endings are spaces too.
+fn without_padding(text: &[u8], start: usize, end: usize) -> Span
+    requires ordered { start ≤ end }
+    requires inside { end ≤ length text.now }
+    ensures from { start ≤ result.start }
+    ensures ordered { result.start ≤ result.end }
+    ensures to { result.end ≤ end }
+    ensures starts { start < result.start → slice_index text.now (result.start - 1) < 128 }
+    ensures ends { result.end < end → slice_index text.now result.end < 128 }
+    ensures value { part text.now result ≡ unpadded (slice_range text.now start end) }
 {
-    let mut code = String::with_capacity(alloc, inside.len())?;
-    let mut rest = without_padding(inside);
-    while let Some((line, after)) = rest.split_once('\n') {
-        code.push_str(line)?;
-        code.push_str(" ")?;
-        rest = after;
-    }
-    code.push_str(rest)?;
-    Ok(code)
-}
-
-fn without_padding(inside: &str) -> &str
-    ensures { result.now ≡ unpadded inside.now }
-{
-    if is_padded(inside.as_bytes()) {
-        &inside[1..inside.len() - 1]
+    if is_padded(&text[start..end]) {
+        Span {
+            start: start + 1,
+            end: end - 1,
+        }
     } else {
-        inside
+        Span { start, end }
     }
 }
 

@@ -1,20 +1,23 @@
 //! Hard and soft line breaks (CommonMark 6.7, 6.8).
 
 ghost use Rattle.std.specs.Prelude.{◌≡◌, ◌+◌, ◌<◌, ◌≤◌, IfSome, length, drop, slice_index};
+ghost use Rattle.mdtext.specs.EntityTable.{EntityTable};
 ghost use Rattle.mdscan.specs.Spans.{IsEndAfter};
 ghost use Rattle.inlinespec.specs.Lexing.{break_or_written};
 ghost use Rattle.inlinespec.specs.LineBreaks.{spaces, spaced_break};
+ghost use Rattle.mdinline.specs.held.LeafEvents.{IsTokenOf};
 ghost use Rattle.mdinline.specs.held.Recognised.{IsFound};
 
-use crate::inlines::Inline;
-use crate::scanner::{Found, simple};
+use crate::scanner::{Found, leaf_of};
 use crate::texts::past_marks;
+use crate::tokens::Token;
 
 /// The line break at a place, from the spaces before it to those after it. Two or more spaces before it make it a hard one.
-pub(crate) fn line_break(text: &str, at: usize) -> Option<Found>
+pub(crate) fn line_break(text: &str, at: usize) -> Option<Found<'static>>
     requires inside { at < length text.now }
     ensures end { IfSome result (λ found. IsEndAfter text.now at found.end) }
-    ensures value { IsFound text.now at (break_or_written (drop at text.now) (spaced_break (drop at text.now))) result }
+    ensures token { IfSome result (λ found. IsTokenOf text.now found.token) }
+    ensures value { (entities : EntityTable) → IsFound entities text.now at (break_or_written (drop at text.now) (spaced_break (drop at text.now))) result }
 {
     let bytes = text.as_bytes();
     let feed = past_spaces(bytes, at);
@@ -23,9 +26,9 @@ pub(crate) fn line_break(text: &str, at: usize) -> Option<Found>
     }
     let end = past_break(text, at, feed);
     if feed - at > 1 {
-        Some(simple(Inline::Hard, end))
+        Some(leaf_of(Token::HardBreak, end))
     } else {
-        Some(simple(Inline::Soft, end))
+        Some(leaf_of(Token::SoftBreak, end))
     }
 }
 

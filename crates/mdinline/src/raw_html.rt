@@ -1,21 +1,21 @@
 //! Raw HTML, and what a `<` begins (CommonMark 6.5, 6.6).
 
-ghost use Rattle.std.specs.Prelude.{◌≡◌, ◌+◌, ◌<◌, ℕ, List, None, IfOk, IfSome, length, drop, slice_index, option_map};
+ghost use Rattle.std.specs.Prelude.{◌≡◌, ◌+◌, ◌<◌, ℕ, List, None, IfSome, length, drop, slice_index, option_map};
 ghost use Rattle.std.specs.Char.{is_ascii_alphabetic};
+ghost use Rattle.mdtext.specs.EntityTable.{EntityTable};
 ghost use Rattle.mdscan.specs.AutoLink.{autolink_at};
 ghost use Rattle.mdscan.specs.Tag.{first_is};
 ghost use Rattle.mdscan.specs.RawHtml.{place_of, raw_html};
 ghost use Rattle.mdscan.specs.Spans.{IsEndAfter, EndsAfterMark};
 ghost use Rattle.inlinespec.specs.Lexing.{angle_lexeme};
+ghost use Rattle.mdinline.specs.held.LeafEvents.{IsTokenOf};
 ghost use Rattle.mdinline.specs.held.LongTags.{BeginsTag, FollowsMark, KnowsEnds, close_text, is_endless};
 ghost use Rattle.mdinline.specs.held.Recognised.{IsFound};
 
-use crate::autolinks::{autolink_of, written};
-use crate::inlines::Inline;
-use crate::scanner::{Found, simple};
-use mdscan::{autolink, find_from, html_tag};
-use mdtext::Entities;
-use std::alloc::{AllocError, Global};
+use crate::autolinks::autolink_found;
+use crate::scanner::{Found, leaf_of};
+use crate::tokens::Token;
+use mdscan::{Span, find_from, html_tag};
 
 /// Raw HTML that may reach to the end of a text to find its own end.
 #[derive(Clone, Copy, Drop)]
@@ -48,34 +48,22 @@ impl EndlessTags {
     }
 
     /// The autolink or the raw HTML whose `<` stands at a place.
-    pub(crate) fn autolink_or_html(
-        &mut self,
-        alloc: Global,
-        text: &str,
-        at: usize,
-        entities: &Entities,
-    ) -> Result<Option<Found>, AllocError>
+    pub(crate) fn autolink_or_html(&mut self, text: &str, at: usize) -> Option<Found<'static>>
         requires inside { at < length text.now }
         requires mark { slice_index text.now at < 128 }
-        ensures end { IfOk result (λ found. IfSome found (λ found. IsEndAfter text.now at found.end)) }
+        ensures end { IfSome result (λ found. IsEndAfter text.now at found.end) }
+        ensures token { IfSome result (λ found. IsTokenOf text.now found.token) }
         ensures value { slice_index text.now at ≡ 60 → KnowsEnds text.now at self.old
-            → IfOk result (λ found. IsFound text.now at (angle_lexeme entities.now text.now at (autolink_at text.now at) (raw_html (drop at text.now))) found) }
+            → (entities : EntityTable)
+            → IsFound entities text.now at (angle_lexeme entities text.now at (autolink_at text.now at) (raw_html (drop at text.now))) result }
         ensures knows { KnowsEnds text.now at self.old → KnowsEnds text.now at self.new }
     {
-        if let Some(auto) = autolink(text, at) {
-            let inline = autolink_of(alloc, written(text, at, auto), auto.mail, entities)?;
-            return Ok(Some(Found {
-                inline,
-                depth: 1,
-                end: auto.end,
-            }));
+        if let Some(found) = autolink_found(text, at) {
+            return Some(found);
         }
         match self.html_end(text, at) {
-            Some(end) => {
-                let html = String::from_str(alloc, &text[at..end])?;
-                Ok(Some(simple(Inline::Html(html), end)))
-            }
-            None => Ok(None),
+            Some(end) => Some(leaf_of(Token::Html(Span { start: at, end }), end)),
+            None => None,
         }
     }
 

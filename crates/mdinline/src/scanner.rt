@@ -1,42 +1,37 @@
-//! The inlines that stand at a place of a text, whatever stands before it.
+//! The leaves that stand at a place of a text, whatever stands before it.
 
-ghost use Rattle.std.specs.Prelude.{◌≡◌, ◌<◌, false, None, IfOk, IfSome, length};
+ghost use Rattle.std.specs.Prelude.{◌≡◌, ◌<◌, false, None, IfOk, IfSome, List, length, ℕ};
 ghost use Rattle.std.specs.Str.{IsCharBoundary};
 ghost use Rattle.mdscan.specs.Spans.{IsEndAfter};
 ghost use Rattle.mdpair.specs.Neighbours.{run_at};
 ghost use Rattle.mdinline.specs.held.KnownText.{KnowsText, IsLeafAt};
 ghost use Rattle.inlinespec.specs.Lexing.{lex};
+ghost use Rattle.mdinline.specs.held.LeafEvents.{IsTokenOf};
 ghost use Rattle.mdinline.specs.held.PlainText.{is_bracket};
-ghost use Rattle.mdinline.specs.held.Recognised.{IsFound, made_events};
+ghost use Rattle.mdinline.specs.held.Recognised.{IsFound};
 
 use crate::character_references::reference;
 use crate::code_spans::Backticks;
 use crate::escapes::escape;
-use crate::inlines::Inline;
 use crate::line_breaks::line_break;
 use crate::raw_html::EndlessTags;
 use crate::texts::plain;
+use crate::tokens::Token;
 use mdtext::Entities;
 use std::alloc::{AllocError, Global};
 
-/// An inline that was read, how many spans lie in one another in it, and where it ends in the text.
-#[derive(Drop)]
-pub(crate) struct Found {
-    pub inline: Inline,
-    pub depth: usize,
+/// A leaf that was read, and where it ends in the text.
+#[derive(Clone, Copy, Drop)]
+pub(crate) struct Found<'a> {
+    pub token: Token<'a>,
     pub end: usize,
 }
 
-/// An inline in which no span lies.
-pub(crate) fn simple(inline: Inline, end: usize) -> Found
+pub(crate) fn leaf_of(token: Token<'_>, end: usize) -> Found<'_>
     ensures end { result.end ≡ end }
-    ensures inline { made_events result.inline ≡ made_events inline }
+    ensures token { result.token ≡ token.entry }
 {
-    Found {
-        inline,
-        depth: 0,
-        end,
-    }
+    Found { token, end }
 }
 
 /// What is known of a whole text, so that no part of it is searched again and again.
@@ -47,57 +42,58 @@ pub(crate) struct Scanner {
 }
 
 impl Scanner {
-    pub(crate) fn of(alloc: Global, text: &str) -> Result<Scanner, AllocError>
-        ensures { IfOk result (λ scanner. KnowsText text.now 0 scanner) }
+    pub(crate) fn new() -> Scanner
+        ensures { (text : List ℕ) (at : ℕ) → KnowsText text at result }
     {
-        Ok(Scanner {
-            backticks: Backticks::of(alloc, text.as_bytes())?,
+        Scanner {
+            backticks: Backticks::new(),
             endless_tags: EndlessTags::new(),
-        })
+        }
     }
 
-    /// The inline at a place; it is text where nothing else begins there.
-    pub(crate) fn inline(
+    /// The leaf at a place; it is text where nothing else begins there.
+    pub(crate) fn leaf<'a>(
         &mut self,
         alloc: Global,
         text: &str,
         at: usize,
-        entities: &Entities,
-    ) -> Result<Found, AllocError>
+        entities: &'a Entities,
+    ) -> Result<Found<'a>, AllocError>
         requires whole { IsCharBoundary text.now at }
         requires inside { at < length text.now }
         ensures end { IfOk result (λ found. IsEndAfter text.now at found.end) }
+        ensures token { IfOk result (λ found. IsTokenOf text.now found.token) }
         ensures value { run_at text.now at ≡ None → is_bracket (lex entities.now text.now at).kind ≡ false → KnowsText text.now at self.old
             → IfOk result (λ found. IsLeafAt entities.now text.now at found) }
         ensures knows { KnowsText text.now at self.old → KnowsText text.now at self.new }
     {
         match self.marked(alloc, text, at, entities)? {
             Some(found) => Ok(found),
-            None => plain(alloc, text, at),
+            None => Ok(plain(text, at)),
         }
     }
 
     /// The escape, reference, code span, autolink, raw HTML or line break at a place.
-    fn marked(
+    fn marked<'a>(
         &mut self,
         alloc: Global,
         text: &str,
         at: usize,
-        entities: &Entities,
-    ) -> Result<Option<Found>, AllocError>
+        entities: &'a Entities,
+    ) -> Result<Option<Found<'a>>, AllocError>
+        requires whole { IsCharBoundary text.now at }
         requires inside { at < length text.now }
         ensures end { IfOk result (λ found. IfSome found (λ found. IsEndAfter text.now at found.end)) }
+        ensures token { IfOk result (λ found. IfSome found (λ found. IsTokenOf text.now found.token)) }
         ensures value { run_at text.now at ≡ None → is_bracket (lex entities.now text.now at).kind ≡ false → KnowsText text.now at self.old
-            → IfOk result (λ found. IsFound text.now at (lex entities.now text.now at) found) }
+            → IfOk result (λ found. IsFound entities.now text.now at (lex entities.now text.now at) found) }
         ensures knows { KnowsText text.now at self.old → KnowsText text.now at self.new }
     {
         match text.as_bytes()[at] {
-            b'\\' => escape(alloc, text, at),
-            b'&' => reference(alloc, text, at, entities),
+            b'\\' => Ok(escape(text, at)),
+            b'&' => Ok(reference(text, at, entities)),
             b'`' => self.backticks.code_or_run(alloc, text, at),
-            b'<' => self
-                .endless_tags
-                .autolink_or_html(alloc, text, at, entities),
+            b'<' => Ok(self.endless_tags.autolink_or_html(text, at)),
             b' ' => Ok(line_break(text, at)),
             b'\n' => Ok(line_break(text, at)),
             _ => Ok(None),

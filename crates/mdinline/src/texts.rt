@@ -1,35 +1,63 @@
 //! Text: what begins nothing else (CommonMark 6.9).
 
-ghost use Rattle.std.specs.Prelude.{◌≡◌, ◌+◌, ◌-◌, ◌<◌, ◌≤◌, ◌==◌, true, IfOk, length, drop, slice_index};
+ghost use Rattle.std.specs.Prelude.{◌≡◌, ◌+◌, ◌-◌, ◌<◌, ◌≤◌, ◌==◌, ℕ, true, false, length, drop, slice_index, take};
 ghost use Rattle.std.specs.List.{position_or_len, prefix_len};
 ghost use Rattle.std.specs.Str.{IsCharBoundary};
+ghost use Rattle.mdtext.specs.EntityTable.{EntityTable};
 ghost use Rattle.mdscan.specs.Spans.{IsEndAfter, EndsAfterMark};
 ghost use Rattle.inlinespec.specs.InlineEvents.{written};
 ghost use Rattle.inlinespec.specs.Lexing.{as_written};
-ghost use Rattle.mdinline.specs.held.PlainText.{IsWritten, is_stop};
-ghost use Rattle.mdinline.specs.held.Recognised.{made_events, lexeme_of};
+ghost use Rattle.mdinline.specs.held.LeafEvents.{IsTokenOf, leaf_events};
+ghost use Rattle.mdinline.specs.held.PlainText.{IsWritten, is_escaped, is_stop};
+ghost use Rattle.mdinline.specs.held.Recognised.{lexeme_of};
 
-use crate::inlines::Inline;
-use crate::scanner::{Found, simple};
-use std::alloc::{AllocError, Global};
+use crate::scanner::{Found, leaf_of};
+use crate::tokens::Token;
+use mdscan::Span;
+use mdtext::{Class, first_special};
 
-/// A part of a text as it is written.
-pub(crate) fn text_of(alloc: Global, text: &str) -> Result<Inline, AllocError>
-    ensures { IfOk result (λ inline. made_events inline ≡ written text.now) }
-{
-    Ok(Inline::Text(String::from_str(alloc, text)?))
-}
-
-/// The text at a place: a character, and what follows it up to the next that may begin something else, without the spaces before a line ending.
-pub(crate) fn plain(alloc: Global, text: &str, at: usize) -> Result<Found, AllocError>
+/// One ASCII byte as text.
+pub(crate) fn byte_token(text: &str, at: usize) -> Token<'static>
     requires whole { IsCharBoundary text.now at }
     requires inside { at < length text.now }
-    ensures end { IfOk result (λ found. IsEndAfter text.now at found.end) }
-    ensures value { IfOk result (λ found. lexeme_of at found ≡ as_written (found.end - at) (drop at text.now)) }
-    ensures rest { IfOk result (λ found. IsWritten text.now (at + 1) found.end) }
+    requires mark { slice_index text.now at < 128 }
+    ensures token { IsTokenOf text.now result }
+    ensures value { (entities : EntityTable) → leaf_events entities text.now result ≡ written (take 1 (drop at text.now)) }
 {
-    let end = text_end(text.as_bytes(), at);
-    Ok(simple(text_of(alloc, &text[at..end])?, end))
+    let span = Span {
+        start: at,
+        end: at + 1,
+    };
+    if is_escaped(text.as_bytes()[at]) {
+        Token::Text(span)
+    } else {
+        Token::Plain(span)
+    }
+}
+
+/// Whether HTML writes a byte as a reference.
+fn is_escaped(byte: u8) -> bool
+    ensures { result ≡ is_escaped byte }
+{
+    matches!(byte, b'&' | b'<' | b'>' | b'"')
+}
+
+/// The text at a place: a byte that HTML escapes; or a character, and what follows it up to the next that may begin something else or is escaped, without
+/// the spaces before a line ending.
+pub(crate) fn plain(text: &str, at: usize) -> Found<'static>
+    requires whole { IsCharBoundary text.now at }
+    requires inside { at < length text.now }
+    ensures end { IsEndAfter text.now at result.end }
+    ensures token { IsTokenOf text.now result.token }
+    ensures value { (entities : EntityTable) → lexeme_of entities text.now at result ≡ as_written (result.end - at) (drop at text.now) }
+    ensures rest { IsWritten text.now (at + 1) result.end }
+{
+    let bytes = text.as_bytes();
+    if is_escaped(bytes[at]) {
+        return leaf_of(byte_token(text, at), at + 1);
+    }
+    let end = text_end(bytes, at);
+    leaf_of(Token::Plain(Span { start: at, end }), end)
 }
 
 fn text_end(text: &[u8], at: usize) -> usize
@@ -38,6 +66,7 @@ fn text_end(text: &[u8], at: usize) -> usize
     ensures within { result ≤ length text.now }
     ensures mark { result < length text.now → slice_index text.now result < 128 }
     ensures value { IsWritten text.now (at + 1) result }
+    ensures plain { (i : ℕ) → at + 1 ≤ i → i < result → is_stop (slice_index text.now i) ≡ false }
 {
     let first = at + 1;
     let stop = stop_from(text, first);
@@ -48,7 +77,7 @@ fn text_end(text: &[u8], at: usize) -> usize
     }
 }
 
-/// The first place from `start` on at which something may begin that is not text.
+/// The first place from `start` on at which something may begin that is not plain text.
 fn stop_from(text: &[u8], start: usize) -> usize
     requires { start ≤ length text.now }
     ensures from { start ≤ result }
@@ -59,7 +88,30 @@ fn stop_from(text: &[u8], start: usize) -> usize
     start + first_stop(&text[start..])
 }
 
+/// Whole blocks are searched by lanes, the rest byte by byte.
 fn first_stop(text: &[u8]) -> usize
+    ensures within { result ≤ length text.now }
+    ensures mark { result < length text.now → slice_index text.now result < 128 }
+    ensures value { result ≡ position_or_len is_stop text.now }
+{
+    let whole = text.len() - text.len() % 32;
+    let stop = stop_in_blocks(&text[..whole]);
+    if stop < whole {
+        return stop;
+    }
+    whole + stop_by_bytes(&text[whole..])
+}
+
+fn stop_in_blocks(text: &[u8]) -> usize
+    ensures { result ≡ position_or_len is_stop text.now }
+{
+    if text.is_empty() {
+        return 0;
+    }
+    first_special(text, &Class::of(b"\n!\"&*<>[\\]_`~"))
+}
+
+fn stop_by_bytes(text: &[u8]) -> usize
     ensures within { result ≤ length text.now }
     ensures mark { result < length text.now → slice_index text.now result < 128 }
     ensures value { result ≡ position_or_len is_stop text.now }
@@ -72,7 +124,7 @@ fn first_stop(text: &[u8]) -> usize
     text.len()
 }
 
-/// Whether something may begin at a byte that is not text; most bytes are small letters, which one test leaves.
+/// Whether something may begin at a byte that is not plain text; most bytes are small letters, which one test leaves.
 fn is_stop(byte: u8) -> bool
     ensures ascii { result ≡ true → byte < 128 }
     ensures value { result ≡ is_stop byte }
@@ -80,7 +132,19 @@ fn is_stop(byte: u8) -> bool
     !byte.is_ascii_lowercase()
         && matches!(
             byte,
-            b'\n' | b'!' | b'&' | b'*' | b'<' | b'[' | b'\\' | b']' | b'_' | b'`' | b'~'
+            b'\n'
+                | b'!'
+                | b'"'
+                | b'&'
+                | b'*'
+                | b'<'
+                | b'>'
+                | b'['
+                | b'\\'
+                | b']'
+                | b'_'
+                | b'`'
+                | b'~'
         )
 }
 

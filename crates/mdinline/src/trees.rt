@@ -1,123 +1,199 @@
 //! A tree of inlines that is built from left to right.
 
 ghost use Rattle.std.specs.Prelude.{◌≡◌, ◌+◌, ◌<◌, [], ◌∷◌, ◌++◌, IfOk, OnOk, length, string_bytes};
+ghost use Rattle.inlinespec.specs.CodeSpans.{as_one_line};
 ghost use Rattle.inlinespec.specs.InlineEvents.{Enter, Leave, within, written};
-ghost use Rattle.mdinline.specs.held.Recognised.{made_events};
+ghost use Rattle.inlinespec.specs.LabelMap.{target_of};
+ghost use Rattle.mdinline.specs.held.TreeBuilding.{TreeTakes, built, made_events, open_span, row_events};
 ghost use Rattle.mdinline.specs.SpanKinds.{span_of};
-ghost use Rattle.mdinline.specs.held.TreeBuilding.{built, row_events};
+ghost use Rattle.mdinline.specs.held.TreeTakings.{tree_takes_more, tree_takes_none};
 
-use crate::faults::InlineFault;
 use crate::inlines::Inline;
-use crate::sinks::SpanKind;
+use crate::sinks::{InlineSink, SpanKind};
+use mdtext::{NoMemory, Target};
 use std::alloc::{AllocError, Global};
 use std::mem;
+
+/// A span that is open.
+#[derive(Drop)]
+enum OpenSpan {
+    Kind(SpanKind),
+    Link(Target),
+    Image(Target),
+}
 
 /// A span that is open, and what stands before it beside it.
 #[derive(Drop)]
 struct Frame {
-    kind: SpanKind,
+    span: OpenSpan,
     before: Vec<Inline>,
 }
 
 /// A tree up to a place, with the spans that are open there.
 #[derive(Drop)]
 pub(crate) struct TreeBuilder {
+    alloc: Global,
     frames: Vec<Frame>,
     last: Vec<Inline>,
-    depth: usize,
-    /// How many spans may lie in one another.
-    limit: usize,
-}
-
-/// A tree, and how many spans lie in one another in it.
-#[derive(Drop)]
-pub(crate) struct Tree {
-    pub inlines: Vec<Inline>,
-    pub depth: usize,
+    /// The text behind what stands last, to which what comes next may be joined.
+    text: String,
 }
 
 impl TreeBuilder {
-    /// No inlines yet, with room for so many, of which no more than `limit` may lie in one another.
-    pub(crate) fn new(alloc: Global, room: usize, limit: usize) -> Result<TreeBuilder, AllocError>
-        ensures events { IfOk result (λ builder. built builder ≡ []) }
-        ensures frames { IfOk result (λ builder. builder.frames.items ≡ []) }
+    /// No inlines yet. Takes no memory.
+    pub(crate) fn new(alloc: Global) -> TreeBuilder
+        ensures events { built result ≡ [] }
+        ensures frames { result.frames.items ≡ [] }
     {
-        Ok(TreeBuilder {
+        TreeBuilder {
+            alloc,
             frames: Vec::new(alloc),
-            last: Vec::with_capacity(alloc, room)?,
-            depth: 0,
-            limit,
-        })
+            last: Vec::new(alloc),
+            text: String::new(alloc),
+        }
     }
 
-    /// Appends an inline in which `depth` spans lie in one another.
-    pub(crate) fn add(&mut self, inline: Inline, depth: usize) -> Result<(), InlineFault>
+    /// The tree, where no span is open.
+    pub(crate) fn finish(mut self) -> Result<Vec<Inline>, AllocError>
+        ensures { self.frames.items ≡ [] → IfOk result (λ inlines. row_events inlines.items ≡ built self) }
+    {
+        self.end_text()?;
+        Ok(self.last)
+    }
+
+    /// Appends the text behind what stands last, if there is any.
+    fn end_text(&mut self) -> Result<(), AllocError>
+        ensures events { OnOk result (built self.new ≡ built self.old) }
+        ensures frames { OnOk result (self.new.frames ≡ self.old.frames) }
+        ensures text { OnOk result (string_bytes self.new.text ≡ []) }
+    {
+        if self.text.is_empty() {
+            return Ok(());
+        }
+        let text = String::from_str(self.alloc, &self.text)?;
+        self.text.clear();
+        push_inline(&mut self.last, Inline::Text(text))?;
+        Ok(())
+    }
+
+    fn add_text(&mut self, text: &str) -> Result<(), AllocError>
+        ensures events { OnOk result (built self.new ≡ built self.old ++ written text.now) }
+        ensures frames { OnOk result (self.new.frames ≡ self.old.frames) }
+    {
+        self.text.push_str(text)?;
+        Ok(())
+    }
+
+    /// Appends an inline that is no text.
+    fn add(&mut self, inline: Inline) -> Result<(), AllocError>
         ensures events { OnOk result (built self.new ≡ built self.old ++ made_events inline) }
         ensures frames { OnOk result (self.new.frames ≡ self.old.frames) }
     {
-        self.reach(depth)?;
-        match inline {
-            Inline::Text(text) => self.add_text(text)?,
-            other => push_inline(&mut self.last, other)?,
-        }
+        self.end_text()?;
+        push_inline(&mut self.last, inline)?;
         Ok(())
     }
 
-    /// Appends a text to the text before it. An empty one is none.
-    pub(crate) fn add_text(&mut self, text: String) -> Result<(), AllocError>
-        ensures events { OnOk result (built self.new ≡ built self.old ++ written (string_bytes text)) }
-        ensures frames { OnOk result (self.new.frames ≡ self.old.frames) }
-    {
-        if text.is_empty() {
-            return Ok(());
-        }
-        push_text(&mut self.last, text)
-    }
-
-    /// Begins a span.
-    pub(crate) fn enter(&mut self, alloc: Global, kind: SpanKind) -> Result<(), InlineFault>
-        ensures events { OnOk result (built self.new ≡ built self.old ++ Enter (span_of kind) ∷ []) }
+    fn begin(&mut self, span: OpenSpan) -> Result<(), AllocError>
+        ensures events { OnOk result (built self.new ≡ built self.old ++ Enter (open_span span) ∷ []) }
         ensures frames { OnOk result (length self.new.frames.items ≡ length self.old.frames.items + 1) }
     {
-        self.reach(1)?;
-        let before = mem::replace(&mut self.last, Vec::new(alloc));
-        self.frames.push(Frame { kind, before })?;
+        self.end_text()?;
+        let before = mem::replace(&mut self.last, Vec::new(self.alloc));
+        self.frames.push(Frame { span, before })?;
         Ok(())
     }
 
-    /// Ends the span that began last.
-    pub(crate) fn leave(&mut self) -> Result<(), AllocError>
-        ensures events { 0 < length self.old.frames.items → OnOk result (built self.new ≡ built self.old ++ Leave ∷ []) }
-        ensures frames { 0 < length self.old.frames.items → OnOk result (length self.new.frames.items + 1 ≡ length self.old.frames.items) }
+    fn target(&self, url: &str, title: &str) -> Result<Target, AllocError>
+        ensures { IfOk result (λ target. target_of target ≡ record { url = url.now; title = title.now }) }
     {
+        Ok(Target {
+            url: String::from_str(self.alloc, url)?,
+            title: String::from_str(self.alloc, title)?,
+        })
+    }
+}
+
+impl InlineSink for TreeBuilder {
+    ghost takes = { TreeTakes };
+
+    ghost takes_none = { tree_takes_none };
+
+    ghost takes_more = { tree_takes_more };
+
+    fn plain(&mut self, text: &str) -> Result<(), NoMemory> {
+        self.add_text(text)?;
+        Ok(())
+    }
+
+    fn text(&mut self, text: &str) -> Result<(), NoMemory> {
+        self.add_text(text)?;
+        Ok(())
+    }
+
+    fn code_span(&mut self, content: &str) -> Result<(), NoMemory> {
+        let code = code_of(self.alloc, content)?;
+        self.add(Inline::Code(code))?;
+        Ok(())
+    }
+
+    fn raw_html(&mut self, html: &str) -> Result<(), NoMemory> {
+        let html = String::from_str(self.alloc, html)?;
+        self.add(Inline::Html(html))?;
+        Ok(())
+    }
+
+    fn soft_break(&mut self) -> Result<(), NoMemory> {
+        self.add(Inline::Soft)?;
+        Ok(())
+    }
+
+    fn hard_break(&mut self) -> Result<(), NoMemory> {
+        self.add(Inline::Hard)?;
+        Ok(())
+    }
+
+    fn enter(&mut self, kind: SpanKind) -> Result<(), NoMemory> {
+        self.begin(OpenSpan::Kind(kind))?;
+        Ok(())
+    }
+
+    fn enter_link(&mut self, url: &str, title: &str) -> Result<(), NoMemory> {
+        let target = self.target(url, title)?;
+        self.begin(OpenSpan::Link(target))?;
+        Ok(())
+    }
+
+    fn enter_image(&mut self, url: &str, title: &str) -> Result<(), NoMemory> {
+        let target = self.target(url, title)?;
+        self.begin(OpenSpan::Image(target))?;
+        Ok(())
+    }
+
+    fn leave(&mut self) -> Result<(), NoMemory> {
+        self.end_text()?;
         let Some(frame) = self.frames.pop() else {
             return Ok(());
         };
         let inside = mem::replace(&mut self.last, frame.before);
-        push_inline(&mut self.last, span_of(frame.kind, inside))
-    }
-
-    pub(crate) fn finish(self) -> Tree
-        ensures { result.inlines ≡ self.last }
-    {
-        Tree {
-            inlines: self.last,
-            depth: self.depth,
-        }
-    }
-
-    /// That so many spans more may lie in those that are open.
-    fn reach(&mut self, more: usize) -> Result<(), InlineFault>
-        ensures frames { self.new.frames ≡ self.old.frames }
-        ensures last { self.new.last ≡ self.old.last }
-    {
-        let depth = self.frames.len().saturating_add(more);
-        if depth > self.limit {
-            return Err(InlineFault::TooDeep);
-        }
-        self.depth = self.depth.max(depth);
+        push_inline(&mut self.last, span_of(frame.span, inside))?;
         Ok(())
     }
+}
+
+/// A text with a space for each line ending.
+fn code_of(alloc: Global, content: &str) -> Result<String, AllocError>
+    ensures { IfOk result (λ code. string_bytes code ≡ as_one_line content.now) }
+{
+    let mut code = String::with_capacity(alloc, content.len())?;
+    let mut rest = content;
+    while let Some((line, after)) = rest.split_once('\n') {
+        code.push_str(line)?;
+        code.push_str(" ")?;
+        rest = after;
+    }
+    code.push_str(rest)?;
+    Ok(code)
 }
 
 /// Appends an inline. Most spans hold one alone, so at first there is room for no more.
@@ -131,24 +207,17 @@ fn push_inline(inlines: &mut Vec<Inline>, inline: Inline) -> Result<(), AllocErr
     Ok(())
 }
 
-/// Appends a text to the inlines, and joins it to a text at their end.
-fn push_text(inlines: &mut Vec<Inline>, text: String) -> Result<(), AllocError>
-    ensures { OnOk result (row_events inlines.new.items ≡ row_events inlines.old.items ++ written (string_bytes text)) }
+fn span_of(span: OpenSpan, inside: Vec<Inline>) -> Inline
+    ensures { made_events result ≡ within (open_span span) (row_events inside.items) }
 {
-    match inlines.pop() {
-        Some(Inline::Text(mut before)) => {
-            before.push_str(text.as_str())?;
-            push_inline(inlines, Inline::Text(before))
-        }
-        Some(other) => {
-            push_inline(inlines, other)?;
-            push_inline(inlines, Inline::Text(text))
-        }
-        None => push_inline(inlines, Inline::Text(text)),
+    match span {
+        OpenSpan::Kind(kind) => kind_of(kind, inside),
+        OpenSpan::Link(target) => Inline::Link(target, inside),
+        OpenSpan::Image(target) => Inline::Image(target, inside),
     }
 }
 
-fn span_of(kind: SpanKind, inside: Vec<Inline>) -> Inline
+fn kind_of(kind: SpanKind, inside: Vec<Inline>) -> Inline
     ensures { made_events result ≡ within (span_of kind) (row_events inside.items) }
 {
     match kind {

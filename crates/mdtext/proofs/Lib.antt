@@ -1,3 +1,4 @@
+pub mod FoldedAscii
 pub mod BareBrackets
 pub mod EntityMembers
 pub mod FirstPlaces

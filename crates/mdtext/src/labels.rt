@@ -1,10 +1,11 @@
 //! Link labels, and what they lead to.
-ghost use Rattle.std.specs.Prelude.{◌≡◌, ◌++◌, ◌∷◌, false, Some, IfOk, OnOk, chars, fold, length, nat_eq, nat_le, not, refl, string_bytes};
+ghost use Rattle.std.specs.Prelude.{◌≡◌, ◌++◌, ◌∷◌, [], false, None, Some, IfOk, OnOk, chars, fold, length, nat_eq, nat_le, not};
+ghost use Rattle.std.specs.Prelude.{refl, string_bytes, if◌then◌else◌};
 ghost use Rattle.std.specs.Cmp.{partial_equiv_from_equiv};
 ghost use Rattle.std.specs.Cmp.Lexicographic.{pointwise, nat_list_eq_equiv, nat_list_cmp_total, slice_cmp, texts_po, texts_ties};
 ghost use Rattle.std.specs.List.{list_any};
 ghost use Rattle.std.specs.Ordering.{nat_cmp};
-ghost use Rattle.mdtext.specs.Labels.{add_word, collapsed, folded, space_between, has_bare_bracket, is_label, is_label_space, label_of, words};
+ghost use Rattle.mdtext.specs.Labels.{add_word, folded, space_between, has_bare_bracket, is_label, is_label_space, label_of, words};
 
 use crate::NoMemory;
 use crate::byte_class::Class;
@@ -30,6 +31,29 @@ impl Model for Label {
 }
 
 impl Label {
+    /// Room for a label. Takes no memory.
+    pub fn new(alloc: Global) -> Label
+        ensures { result ≡ [] }
+    {
+        Label {
+            folded: String::new(alloc),
+        }
+    }
+
+    /// Makes the value the label that stands in brackets, by what stands between them (CommonMark 4.7), and answers whether that is a label, as
+    /// [`fold_label`] does. If it is none, or after `NoMemory`, the value is of no use.
+    pub fn fold(&mut self, alloc: Global, inside: &str) -> Result<bool, NoMemory>
+        ensures { IfOk result (λ is_label. label_of inside.now ≡ (if is_label then Some self.new else None)) }
+    {
+        if !is_label(inside) {
+            return Ok(false);
+        }
+        self.folded.clear();
+        append_collapsed(inside, &mut self.folded)?;
+        fold_case(alloc, &mut self.folded)?;
+        Ok(true)
+    }
+
     /// The text by which labels are matched.
     pub fn as_str(&self) -> &str
         ensures { result.now ≡ self.now }
@@ -115,13 +139,12 @@ impl Target {
 pub fn fold_label(alloc: Global, inside: &str) -> Result<Option<Label>, NoMemory>
     ensures { IfOk result (λ label. label ≡ label_of inside.now) }
 {
-    if !is_label(inside) {
-        return Ok(None);
+    let mut label = Label::new(alloc);
+    if label.fold(alloc, inside)? {
+        Ok(Some(label))
+    } else {
+        Ok(None)
     }
-    let text = collapse(alloc, inside)?;
-    Ok(Some(Label {
-        folded: default_case_fold_str(alloc, text.as_str())?,
-    }))
 }
 
 // A bracket is looked for first, since the search ends there: texts in many brackets are read from each to the next one alone.
@@ -152,21 +175,33 @@ fn is_label_space(byte: u8) -> bool
     matches!(byte, b' ' | b'\t' | b'\n' | b'\r')
 }
 
-// The words of a label, with a space between them.
-fn collapse(alloc: Global, inside: &str) -> Result<String, NoMemory>
-    ensures { IfOk result (λ text. string_bytes text ≡ collapsed inside.now) }
+// Appends the words of a label, with a space between them.
+fn append_collapsed(inside: &str, text: &mut String) -> Result<(), NoMemory>
+    ensures { OnOk result (string_bytes text.new ≡ fold add_word (string_bytes text.old) (words inside.now)) }
 {
     let spaces = Class::of(b" \t\n\r");
-    let mut text = String::with_capacity(alloc, inside.len())?;
     let mut rest = inside;
     loop {
         let (word, space) = split_at_special(rest, &spaces);
-        push_word(word, &mut text)?;
+        push_word(word, text)?;
         let Some((_, after)) = space else {
-            return Ok(text);
+            return Ok(());
         };
         rest = after;
     }
+}
+
+// Most labels are ASCII, and are folded in place.
+fn fold_case(alloc: Global, text: &mut String) -> Result<(), NoMemory>
+    ensures { OnOk result (string_bytes text.new ≡ folded (string_bytes text.old)) }
+{
+    if text.is_ascii() {
+        text.make_ascii_lowercase();
+        return Ok(());
+    }
+    let folded = default_case_fold_str(alloc, text.as_str())?;
+    text.clear();
+    text.push_str(&folded)
 }
 
 // An empty word is none.

@@ -1,17 +1,11 @@
--- What the reader makes of a `]`, and the labels that it looks up for it (CommonMark 6.3, 6.4).
-use Rattle.std.specs.Prelude.{◌≡◌, ◌-◌, ℕ, List, Option, Some, None, fold}
-use Rattle.std.specs.BTreeSet.{insert_key}
-use Rattle.std.specs.Cmp.Lexicographic.{slice_cmp}
-use Rattle.std.specs.Ordering.{nat_cmp}
-use Rattle.inlinespec.specs.LabelMap.{target_of}
+-- What the reader makes of a `]` (CommonMark 6.3, 6.4).
+use Rattle.std.specs.Prelude.{◌≡◌, ◌-◌, ℕ, List, Option, Some, None}
+use Rattle.mdtext.specs.EntityTable.{EntityTable}
 use Rattle.inlinespec.specs.TextReading.{Item, Spends, Links}
 use Rattle.mdinline.specs.declared.links.FoundLink.{FoundLink}
+use Rattle.mdinline.specs.held.LeafEvents.{goal_target}
 
 -- the item of a `]` at a place, by the link or the image that was found there
-abbrev pub IsLinkOf : ℕ → Item → Option FoundLink → Type 0
-IsLinkOf at item None = (item.size ≡ 1) × (item.deed ≡ Spends)
-IsLinkOf at item (Some r) = (item.size ≡ r.end - at) × (item.deed ≡ Links (target_of r.target))
-
--- a set of labels with more of them
-abbrev pub with_asked : List (List ℕ) → List (List ℕ) → List (List ℕ)
-with_asked set labels = fold (insert_key (slice_cmp nat_cmp)) set labels
+abbrev pub IsLinkOf : EntityTable → List ℕ → ℕ → Item → Option FoundLink → Type 0
+IsLinkOf entities text at item None = (item.size ≡ 1) × (item.deed ≡ Spends)
+IsLinkOf entities text at item (Some r) = (item.size ≡ r.end - at) × (item.deed ≡ Links (goal_target entities text r.goal))

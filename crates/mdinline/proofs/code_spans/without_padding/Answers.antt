@@ -1,8 +1,8 @@
-use Rattle.std.proofs.Common.{refl, arith}
-use Rattle.mdinline.proofs.Marks.{behind}
+use Rattle.std.proofs.Common.{refl, sym, ◌∙◌}
+use Rattle.mdinline.proofs.PaddedCode.{padded_part}
 use Rattle.mdinline.proofs.code_spans.without_padding.Goals as goal
 
-pub range-requires-clause-start_boundary : goal.range-requires-clause-start_boundary
-range-requires-clause-start_boundary c =
-    let two = c.if-is_padded.ensures.two refl in
-    λ _. behind c.args.inside.now c.as_bytes.result.now 0 c.as_bytes.ensures.value c.utf8.inside (omega (arith, two)) (c.if-is_padded.ensures.first refl)
+pub returns-then-is_padded-clause-value : goal.returns-then-is_padded-clause-value
+returns-then-is_padded-clause-value c =
+    let h = c.is_padded.ensures in
+    padded_part c.args.text.now _ c.args.start c.args.end refl c.requires.inside (h.two c.if-is_padded.true) (sym h.value ∙ c.if-is_padded.true)

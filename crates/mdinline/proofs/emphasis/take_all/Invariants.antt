@@ -5,4 +5,5 @@ use Rattle.mdinline.specs.held.PairedRuns.{ArePaired}
 use Rattle.mdinline.proofs.emphasis.take_all.Given as goal
 
 abbrev pub invariant-loop-matched : goal.invariant-loop-matched
-invariant-loop-matched l = (rs : List DelimiterRun) → All (IsOrdered (length rs)) l.matches → ArePaired [] rs l.fn.runs.items → ArePaired (take l.matched-index l.matches) rs l.runs.items
+invariant-loop-matched l =
+    (rs : List DelimiterRun) → All (IsOrdered (length rs)) l.matches → ArePaired l.fn.begun.items [] rs l.fn.runs.items → ArePaired l.begun.items (take l.matched-index l.matches) rs l.runs.items

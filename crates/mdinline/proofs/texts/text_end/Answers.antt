@@ -1,5 +1,5 @@
 use Rattle.std.proofs.Common.{◌+◌, arith}
-use Rattle.mdinline.proofs.WrittenRuns.{written_to}
+use Rattle.mdinline.proofs.WrittenRuns.{before_stop, written_to}
 use Rattle.mdinline.proofs.texts.text_end.Goals.{else-stop-text-via-then-stop-text+else-text-stop-eq10, else-stop-text-via-else-stop-text}
 use Rattle.mdinline.proofs.texts.text_end.Goals as goal
 
@@ -16,3 +16,14 @@ returns-else-stop-text-clause-value c =
       | else-stop-text-via-then-stop-text+else-text-stop-eq10 w ↦ w.if-text-stop-eq10.false feed
       | else-stop-text-via-else-stop-text w ↦ omega (arith, there, w.if-stop-text.false)
     ])
+
+pub returns-then-text-stop-eq10-clause-plain : goal.returns-then-text-stop-eq10-clause-plain
+returns-then-text-stop-eq10-clause-plain c =
+    let within = c.without_spaces.ensures.within in
+    let stop = c.stop_from-stop.ensures.value in
+    λ i from lt. before_stop c.args.text.now (c.args.at + 1) i from (omega (arith, within, stop, lt))
+
+pub returns-else-stop-text-clause-plain : goal.returns-else-stop-text-clause-plain
+returns-else-stop-text-clause-plain c =
+    let stop = c.stop_from-stop.ensures.value in
+    λ i from lt. before_stop c.args.text.now (c.args.at + 1) i from (omega (arith, stop, lt))

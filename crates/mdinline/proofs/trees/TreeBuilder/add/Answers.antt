@@ -1,16 +1,15 @@
-use Rattle.std.proofs.Common.{◌++◌, Vec, Global, ap, ◌∙◌}
-use Rattle.mdinline.specs.held.Recognised.{made_events}
-use Rattle.mdinline.specs.held.TreeBuilding.{row_events, spread}
-use Rattle.mdinline.specs.declared.inlines.Inline.{Inline}
-use Rattle.mdinline.specs.declared.trees.Frame.{Frame}
+use Rattle.std.proofs.Common.{◌≡◌, [], ap, sym, ◌∙◌, ◌++◌}
+use Rattle.inlinespec.specs.InlineEvents.{written}
+use Rattle.mdinline.specs.held.TreeBuilding.{built, row_events, spread}
 use Rattle.mdinline.proofs.BuiltRows.{added}
 use Rattle.mdinline.proofs.trees.TreeBuilder.add.Goals as goal
 
-pub returns-in_ok-push_inline-in_default : goal.returns-in_ok-push_inline-in_default
-returns-in_ok-push_inline-in_default c =
-    record {
-      events = added (spread c.reach.new.self.frames.items) c.reach.new.self.last.items c.push_inline.new.inlines.items c.args.inline c.in_ok-push_inline-in_default.ensures
-          ∙ ap (λ (v : Vec Frame Global). (spread v.items ++ row_events c.reach.new.self.last.items) ++ made_events c.args.inline) c.in_ok-reach.ensures.frames
-          ∙ ap (λ (v : Vec Inline Global). (spread c.args.self.now.frames.items ++ row_events v.items) ++ made_events c.args.inline) c.in_ok-reach.ensures.last;
-      frames = c.in_ok-reach.ensures.frames;
-    }
+pub returns-clause-events : goal.returns-clause-events
+returns-clause-events c =
+    let s = c.end_text.new.self in
+    let all = built c.args.self.now in
+    let front = spread s.frames.items in
+    let text = c.in_ok-end_text.ensures.text in
+    let before : (front ++ row_events s.last.items) ++ written [] ≡ all = ap (λ t. (front ++ row_events s.last.items) ++ written t) (sym text) ∙ c.in_ok-end_text.ensures.events in
+    ap (λ t. (front ++ row_events c.push_inline.new.inlines.items) ++ written t) text
+    ∙ added front s.last.items c.push_inline.new.inlines.items c.args.inline all c.in_ok-push_inline.ensures before

@@ -1,0 +1,12 @@
+use Rattle.std.proofs.Common.{ap, ◌∙◌, ◌++◌, string_bytes}
+use Rattle.inlinespec.specs.InlineEvents.{written}
+use Rattle.mdinline.specs.held.TreeBuilding.{row_events, spread}
+use Rattle.mdinline.proofs.BuiltRows.{text_ended}
+use Rattle.mdinline.proofs.trees.TreeBuilder.end_text.Goals as goal
+
+pub returns-clause-events : goal.returns-clause-events
+returns-clause-events c =
+    let front = spread c.args.self.now.frames.items in
+    ap (λ t. (front ++ row_events c.push_inline.new.inlines.items) ++ written t) c.clear.ensures.bytes
+    ∙ text_ended front c.args.self.now.last.items c.push_inline.new.inlines.items c.in_ok-text.text (string_bytes c.args.self.now.text) c.in_ok-push_inline.ensures
+    (c.in_ok-text.ensures.ok ∙ c.deref.ensures)
