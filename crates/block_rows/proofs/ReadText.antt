@@ -39,7 +39,7 @@ use Rattle.blockspec.specs.BlockStart.{padding, start_near, start}
 use Rattle.blockspec.specs.BlockTree.{Block, blocks_of}
 use Rattle.blockspec.specs.BlockUnits.{container_part, groups_within, visible, visible_in, found_units, units}
 use Rattle.blockspec.specs.ContainerLines.{matches, opened, inside, is_bare}
-use Rattle.blockspec.specs.Indentation.{unindented}
+use Rattle.mdtext.specs.Columns.{unindented}
 use Rattle.blockspec.specs.Laziness.{continues_lazily}
 use Rattle.blockspec.specs.LeafContents.{leaves_of}
 use Rattle.blockspec.specs.LineSummary.{no_summary, summary_tip, last_tip, closed, last_groups, ended_last, new_last, begin_after, last_grown, leaf_after, container_after, last_after, line_added, is_apart_after}

@@ -11,7 +11,7 @@ use Rattle.blockspec.specs.BlockLine.{BlockLine, rest, is_blank_line, without_co
 use Rattle.blockspec.specs.BlockStart.{Free, Container, Quote, Item, Kind, Paragraph, SetextHeading, Table, AtxHeading, ThematicBreak, FencedCode, IndentedCode, HtmlBlock, Holds, padding, begun}
 use Rattle.blockspec.specs.BlockUnits.{visible, visible_in}
 use Rattle.blockspec.specs.ContainerLines.{matches, unquoted, opened, taken_off, inside_where, inside, inner}
-use Rattle.blockspec.specs.Indentation.{unindented}
+use Rattle.mdtext.specs.Columns.{unindented}
 use Rattle.blocklaws.proofs.StartKinds.{Kinds, begun_kinds}
 
 -- ---- what a container takes off a line

@@ -2,7 +2,7 @@
 use Rattle.std.specs.Prelude.{ℕ, ◌+◌, Bool, true, false, List, drop}
 use Rattle.mdtext.specs.Columns.{Line, indent, strip}
 use Rattle.mdscan.specs.Blanks.{is_blank_text}
-use Rattle.blockspec.specs.Indentation.{unindented}
+use Rattle.mdtext.specs.Columns.{unindented}
 
 -- What is left of a line where the markers and the indentation of the containers around it are taken off. It is lazy
 -- if it goes on with a paragraph in a container around it that it does not match (CommonMark 5.1): such a line is whole.

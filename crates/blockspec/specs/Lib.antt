@@ -4,7 +4,6 @@ pub mod BlockTree
 pub mod BlockUnits
 pub mod ContainerLines
 pub mod FirstDefinitions
-pub mod Indentation
 pub mod Laziness
 pub mod LeafContents
 pub mod LineSummary

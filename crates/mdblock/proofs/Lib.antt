@@ -3,6 +3,7 @@ pub mod CloseLaws
 pub mod CloseLeafLaws
 pub mod ClosingLaws
 pub mod HeldNodesLaws
+pub mod FirstBytes
 pub mod HtmlEnds
 pub mod LeafEndings
 pub mod LeafLaws

@@ -11,7 +11,7 @@ use Rattle.mdscan.specs.Blanks.{begins_with, ends_or_blank}
 use Rattle.mdscan.specs.BlockQuote.{is_quote_marker}
 use Rattle.mdscan.specs.ListMarker.{marker, ordered_marker, begins_bullet, begins_delimiter, bullet, ordered, is_ordered}
 use Rattle.mdscan.specs.declared.list_markers.Marker.{Marker}
-use Rattle.mdblock.proofs.Skips.{at_most_or_more}
+use Rattle.mdtext.proofs.Unindented.{at_most_or_more}
 
 abbrev pub IsMark : ℕ → Type 0
 IsMark b = (b < 128) × (is_space_or_tab b ≡ false)

@@ -4,15 +4,14 @@ ghost use Rattle.std.specs.Prelude.{◌≡◌, IfSome, drop, false, [], List};
 ghost use Rattle.std.specs.Option.{option_map};
 ghost use Rattle.mdscan.specs.Blanks.{is_blank_text};
 ghost use Rattle.blockspec.specs.BlockLine.{BlockLine, rest, behind_marker};
-ghost use Rattle.blockspec.specs.BlockStart.{is_free, is_inside, begins_html, begins_item, may_begin_item, start};
+ghost use Rattle.mdscan.specs.Blanks.{begins_with};
+ghost use Rattle.blockspec.specs.BlockStart.{is_free, is_inside, begins_atx, begins_fence, begins_html, begins_item, may_begin_item, start};
 ghost use Rattle.mdblock.specs.held.StartKind.{mode_view, kind_of_start};
 ghost use Rattle.mdblock.specs.held.StartSpans.{IsStartOf};
-ghost use Rattle.mdblock.specs.held.StartParts.{start_before_underline, start_after_underline, start_alone_near, start_alone};
+ghost use Rattle.mdblock.specs.held.StartParts.{begins_marker, start_before_underline, start_after_underline, start_alone_near, start_alone};
 
 use crate::lines::{Line, is_space_or_tab};
-use mdscan::{
-    AtxLine, FenceLine, Marker, atx, fence, html_start, list_marker, quote_marker, thematic,
-};
+use mdscan::{AtxLine, FenceLine, Marker, atx, fence, html_start, list_marker, thematic};
 
 /// What stands open where a line is tried.
 #[derive(Clone, Copy, Debug, PartialEq, Eq)]
@@ -82,23 +81,56 @@ fn at_margin(line: &Line, mode: Mode) -> Option<BlockStart>
     }
 }
 
-/// The constructs that are tried before the setext underline.
-#[tactic(auto, using(crate::proofs::Markers::quote_mark), unfolding(crate::specs::held::StartParts::start_before_underline))]
+/// The constructs that are tried before the setext underline. Each has marks of its own to begin with.
 pub(crate) fn before_underline(line: &Line, mode: Mode) -> Option<BlockStart>
     ensures parts { IfSome result (λ opening. IsStartOf (rest line.now) opening) }
     ensures kind { option_map (kind_of_start line.now) result ≡ start_before_underline (mode_view mode) line.now }
 {
     let text = line.text();
-    if quote_marker(text) {
+    if begins(text, b'>') {
         return Some(BlockStart::Quote);
     }
-    if let Some(heading) = atx(text) {
-        return Some(BlockStart::Heading(heading));
+    if begins(text, b'#') {
+        return heading(line);
     }
-    if let Some(fence) = fence(text) {
-        return Some(BlockStart::Fence(fence));
+    if begins(text, b'<') {
+        return html(line, mode);
     }
-    html(line, mode)
+    if begins(text, b'`') || begins(text, b'~') {
+        return fenced_code(line);
+    }
+    None
+}
+
+fn begins(text: &str, mark: u8) -> bool
+    ensures { result ≡ begins_with mark text.now }
+{
+    match text.as_bytes() {
+        [first, ..] => *first == mark,
+        [] => false,
+    }
+}
+
+/// An ATX heading (CommonMark 4.2).
+fn heading(line: &Line) -> Option<BlockStart>
+    ensures parts { IfSome result (λ opening. IsStartOf (rest line.now) opening) }
+    ensures kind { option_map (kind_of_start line.now) result ≡ begins_atx line.now }
+{
+    match atx(line.text()) {
+        Some(heading) => Some(BlockStart::Heading(heading)),
+        None => None,
+    }
+}
+
+/// Fenced code (CommonMark 4.5).
+fn fenced_code(line: &Line) -> Option<BlockStart>
+    ensures parts { IfSome result (λ opening. IsStartOf (rest line.now) opening) }
+    ensures kind { option_map (kind_of_start line.now) result ≡ begins_fence line.now }
+{
+    match fence(line.text()) {
+        Some(fence) => Some(BlockStart::Fence(fence)),
+        None => None,
+    }
 }
 
 /// An HTML block (CommonMark 4.6): the seventh kind begins only where no paragraph is open.
@@ -118,15 +150,28 @@ fn html(line: &Line, mode: Mode) -> Option<BlockStart>
 }
 
 /// The constructs that are tried after the setext underline.
-#[tactic(auto, unfolding(crate::specs::held::StartParts::start_after_underline))]
+#[tactic(auto, using(crate::proofs::FirstBytes::none_behind), unfolding(crate::specs::held::StartParts::start_after_underline))]
 pub(crate) fn after_underline(line: &Line, mode: Mode) -> Option<BlockStart>
     ensures parts { IfSome result (λ opening. IsStartOf (rest line.now) opening) }
     ensures kind { option_map (kind_of_start line.now) result ≡ start_after_underline (mode_view mode) line.now }
 {
+    if !begins_marker(line.text()) {
+        return None;
+    }
     if thematic(line.text()) {
         return Some(BlockStart::Break);
     }
     item(line, mode)
+}
+
+/// Whether a mark of a thematic break or of a list item stands first.
+fn begins_marker(text: &str) -> bool
+    ensures { result ≡ begins_marker text.now }
+{
+    match text.as_bytes() {
+        [first, ..] => matches!(*first, b'*' | b'-' | b'_' | b'+') || first.is_ascii_digit(),
+        [] => false,
+    }
 }
 
 /// An item of a list (CommonMark 5.2).

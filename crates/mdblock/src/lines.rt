@@ -2,11 +2,10 @@
 
 ghost use Rattle.std.specs.Prelude.{◌≡◌, ℕ, ◌+◌, ◌-◌, ◌*◌, ◌^◌, ◌<◌, ◌≤◌, ◌++◌, length, nat_le, replicate, string_bytes, true, OnOk};
 ghost use Rattle.std.specs.Str.{IsCharBoundary};
-ghost use Rattle.std.specs.List.{prefix_len, suffix_len};
+ghost use Rattle.std.specs.List.{suffix_len};
 ghost use Rattle.mdscan.specs.Blanks.{is_blank};
 ghost use Rattle.mdtext.specs.Columns.{AreMarks, is_space_or_tab};
 ghost use Rattle.blockspec.specs.BlockLine.{document_line, indentation, rest, is_blank_line, without_columns, as_lazy, behind_marker};
-ghost use Rattle.blockspec.specs.Indentation.{unindented};
 
 use mdtext::Cursor;
 use std::alloc::AllocError;
@@ -16,7 +15,6 @@ use std::marker::Model;
 #[derive(Debug, Drop)]
 pub(crate) struct Line<'a> {
     cursor: Cursor<'a>,
-    text: &'a str,
     lazy: bool,
 }
 
@@ -24,13 +22,12 @@ impl<'a> Model for Line<'a> {
     ghost use Rattle.std.specs.Prelude.{◌≡◌, ◌+◌, ◌*◌, ◌<◌, ◌^◌, length};
     ghost use Rattle.mdtext.specs.Columns.{line_at};
     ghost use Rattle.blockspec.specs.BlockLine.{BlockLine};
-    ghost use Rattle.blockspec.specs.Indentation.{unindented};
 
     ghost Value = { BlockLine };
 
     ghost view = { λ l. record { line = line_at l.cursor; lazy = l.lazy } };
 
-    ghost invariant = { λ l. (l.text.now ≡ unindented (line_at l.cursor).text) × (l.cursor.column + l.cursor.left + 4 * length l.cursor.rest + 3 < 2 ^ 64) };
+    ghost invariant = { λ l. l.cursor.column + l.cursor.left + 4 * length l.cursor.rest + 3 < 2 ^ 64 };
 }
 
 impl<'a> Line<'a> {
@@ -41,17 +38,16 @@ impl<'a> Line<'a> {
     {
         Line {
             cursor: Cursor::new(text),
-            text: without_indentation(text),
             lazy: false,
         }
     }
 
     /// Whether nothing but spaces and tabs stand there (CommonMark 2.1).
-    #[tactic(auto, using(crate::proofs::Skips::blank_text))]
+    #[tactic(auto, using(crate::proofs::Skips::blank_text, crate::proofs::Skips::unindented_line))]
     pub(crate) fn is_blank(&self) -> bool
         ensures { result ≡ is_blank_line self.now }
     {
-        self.text.is_empty()
+        self.cursor.text().is_empty()
     }
 
     /// The columns of spaces and tabs before the first other character (CommonMark 2.2).
@@ -70,10 +66,11 @@ impl<'a> Line<'a> {
     }
 
     /// The text without its indentation.
+    #[tactic(auto, using(crate::proofs::Skips::unindented_line))]
     pub(crate) fn text(&self) -> &'a str
         ensures { result.now ≡ rest self.now }
     {
-        self.text
+        self.cursor.text()
     }
 
     /// The text with its indentation, but for columns that are left of a tab.
@@ -105,14 +102,11 @@ impl<'a> Line<'a> {
     }
 
     /// Takes the indentation and a mark of `width` bytes off, which no lazy line has.
-    #[tactic(auto, using(crate::proofs::Skips::at_text))]
     pub(crate) fn take_mark(&mut self, width: usize)
         requires { AreMarks width (rest self.old) }
         ensures { self.new ≡ behind_marker self.old width }
     {
-        self.cursor.skip_columns(self.cursor.indent());
         self.cursor.skip_mark(width);
-        self.text = without_indentation(self.cursor.rest());
         self.lazy = false;
     }
 
@@ -132,23 +126,6 @@ fn push_spaces(out: &mut String, count: usize) -> Result<(), AllocError>
         out.push_str(" ")?;
     }
     Ok(())
-}
-
-/// A text without the spaces and tabs at its beginning.
-fn without_indentation(text: &str) -> &str
-    ensures { result.now ≡ unindented text.now }
-{
-    let blanks = leading_blanks(text.as_bytes());
-    &text[blanks..]
-}
-
-/// How many of the first bytes are spaces or tabs.
-fn leading_blanks(text: &[u8]) -> usize
-    ensures { result ≡ prefix_len is_space_or_tab text.now }
-{
-    text.iter()
-        .take_while(|byte| is_space_or_tab(**byte))
-        .count()
 }
 
 /// How many bytes a text has without the spaces and tabs at its end.

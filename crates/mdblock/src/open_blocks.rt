@@ -14,13 +14,14 @@ ghost use Rattle.mdblock.specs.Positions.{BlockIn, BlocksIn, ItemsIn};
 
 use crate::block_starts::{BlockStart, Mode, start};
 use crate::blocks::Block;
-use crate::closed_blocks::{push_found, with_found, with_item, with_list, with_quote};
+use crate::closed_blocks::{push_block, push_found, with_found, with_item, with_list, with_quote};
 use crate::container::block_quotes;
 use crate::container::list_items::{Entry, enter_item};
 use crate::container::lists::{self, OpenList};
 use crate::faults::BlockFault;
 use crate::gathering::Gathering;
-use crate::leaf::{Leaf, LeafAfter};
+use crate::leaf::paragraphs::Paragraph;
+use crate::leaf::{Leaf, LeafAfter, headings};
 use crate::lines::Line;
 use mdscan::Marker;
 use std::alloc::{AllocError, Global};
@@ -393,7 +394,7 @@ impl Level {
 
     /// Reads a line that no open block takes.
     #[tactic(auto, using(crate::proofs::Within::growing))]
-    fn begin(
+    pub(crate) fn begin(
         &mut self,
         line: &mut Line,
         room: usize,
@@ -426,6 +427,15 @@ impl Level {
                 let mut inner = Level::new(alloc, true);
                 inner.begin(line, deeper(room)?, gathering)?;
                 Ok(self.hold_list(alloc, inner, list)?)
+            }
+            Some(BlockStart::Heading(heading)) => {
+                let block = headings::atx_heading(heading, line, gathering)?;
+                Ok(push_block(&mut self.over, block)?)
+            }
+            None => {
+                let paragraph = Paragraph::new(line, gathering)?;
+                self.last = OpenBlock::Leaf(Leaf::Paragraph(paragraph));
+                Ok(())
             }
             opening => {
                 let step = Leaf::begin(opening, line, gathering)?;

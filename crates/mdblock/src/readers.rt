@@ -157,28 +157,49 @@ impl<'e> OpenUnit<'e> {
         ensures fault { IfErr result (λ fault. fault ≡ Failed → ⊥) }
     {
         let mut line = Line::new(text);
-        if line.is_blank() && self.level.is_shut() {
-            self.level.pass_blank();
-            return Ok(None);
+        if self.level.is_shut() {
+            if line.is_blank() {
+                self.level.pass_blank();
+                return Ok(None);
+            }
+            return self.begin_unit(&mut line, fed, limit);
         }
         if self.level.follow(&mut line, limit, &mut self.gathering)? {
             return Ok(None);
         }
         let continuation = self.level.continuation(&line);
-        let found = if continuation == Continuation::Outside && !line.is_blank() {
-            self.begin_unit(fed)?
-        } else {
-            None
-        };
+        if continuation == Continuation::Outside && !line.is_blank() {
+            return self.begin_unit(&mut line, fed, limit);
+        }
         self.level
             .add(&mut line, continuation, limit, &mut self.gathering)?;
+        Ok(None)
+    }
+
+    /// Reads the first line of the next unit, and takes out the one before it.
+    fn begin_unit(
+        &mut self,
+        line: &mut Line,
+        fed: usize,
+        limit: usize,
+    ) -> Result<Option<Found>, BlockFault>
+        requires { AreKept self.old }
+        ensures kept { OnOk result (AreKept self.new) }
+        ensures entities { OnOk result (self.new.gathering.entities.now ≡ self.old.gathering.entities.now) }
+        ensures fault { IfErr result (λ fault. fault ≡ Failed → ⊥) }
+    {
+        let found = self.take_unit(fed)?;
+        self.level.begin(line, limit, &mut self.gathering)?;
         Ok(found)
     }
 
     /// Takes the unit that is held; the next one begins after `fed` lines.
-    fn begin_unit(&mut self, fed: usize) -> Result<Option<Found>, AllocError>
+    fn take_unit(&mut self, fed: usize) -> Result<Option<Found>, AllocError>
         requires { AreKept self.old }
+        ensures given { IfOk result (λ found. GivesUnit self.old fed found) }
         ensures kept { OnOk result (AreKept self.new) }
+        ensures empty { OnOk result (HoldsSummary self.new no_summary) }
+        ensures begin { OnOk result (self.new.begin ≡ Some fed) }
         ensures entities { OnOk result (self.new.gathering.entities.now ≡ self.old.gathering.entities.now) }
     {
         let next = OpenUnit::new(self.gathering.alloc(), self.gathering.entities(), Some(fed));

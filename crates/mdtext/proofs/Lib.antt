@@ -11,4 +11,5 @@ pub mod PlainRuns
 pub mod Specials
 pub mod Strips
 pub mod Tables
+pub mod Unindented
 pub mod UrlBytes

@@ -1,5 +1,6 @@
 -- Columns and indentation (CommonMark 2.2).
-use Rattle.std.specs.Prelude.{◌≡◌, ℕ, ◌+◌, ◌-◌, ◌%◌, ◌<◌, ◌≤◌, Bool, false, List, [], ◌∷◌, ◌++◌, length, replicate, min, slice_index, nat_le, ◌==◌, ◌||◌, if◌then◌else◌}
+use Rattle.std.specs.Prelude.{◌≡◌, ℕ, ◌+◌, ◌-◌, ◌%◌, ◌<◌, ◌≤◌, Bool, false, List, [], ◌∷◌, ◌++◌, length, drop, replicate, min, slice_index, nat_le, ◌==◌, ◌||◌, if◌then◌else◌}
+use Rattle.std.specs.List.{prefix_len}
 
 -- a line, or what is left of one: the column at which it begins, and its text
 pub record Line : Type 0 where
@@ -12,6 +13,10 @@ is_space_or_tab b = b == 32 || b == 9
 -- how many columns a character takes that stands at a column: a tab reaches the next column that is a multiple of 4
 unfoldable pub width : ℕ → ℕ → ℕ
 width column b = if b == 9 then 4 - column % 4 else 1
+
+-- a text without the spaces and tabs at its beginning
+unfoldable pub unindented : List ℕ → List ℕ
+unindented text = drop (prefix_len is_space_or_tab text) text
 
 -- the columns of the spaces and tabs before the first other character
 unfoldable pub indent_at : ℕ → List ℕ → ℕ

@@ -1,6 +1,7 @@
 //! The place in a line up to which its containers have taken it.
 ghost use Rattle.std.specs.Prelude.{◌≡◌, ◌+◌, ◌*◌, ◌-◌, ◌<◌, ◌≤◌, ◌^◌, ◌%◌, [], length, drop};
-ghost use Rattle.mdtext.specs.Columns.{AreMarks, indent, indent_at, is_space_or_tab, line_at, skip, skip_from, strip, width};
+ghost use Rattle.std.specs.List.{prefix_len};
+ghost use Rattle.mdtext.specs.Columns.{AreMarks, indent, indent_at, is_space_or_tab, line_at, skip, skip_from, strip, unindented, width};
 
 use std::marker::Model;
 
@@ -11,18 +12,20 @@ pub struct Cursor<'a> {
     column: usize,
     left: usize,
     rest: &'a str,
+    text: &'a str,
     indent: usize,
 }
 
 impl<'a> Model for Cursor<'a> {
     ghost use Rattle.std.specs.Prelude.{◌≡◌, ◌+◌, ◌*◌, ◌<◌, ◌^◌, length};
-    ghost use Rattle.mdtext.specs.Columns.{Place, indent, indent_at, line_at};
+    ghost use Rattle.mdtext.specs.Columns.{Place, indent, indent_at, line_at, unindented};
 
     ghost Value = { Place };
 
     ghost view = { λ c. record { column = c.column; left = c.left; rest = c.rest.now } };
 
-    ghost invariant = { λ c. (c.indent ≡ c.left + indent_at (c.column + c.left) c.rest.now) × (c.column + c.left + 4 * length c.rest.now < 2 ^ 64) };
+    ghost invariant = { λ c. (c.indent ≡ c.left + indent_at (c.column + c.left) c.rest.now) × (c.column + c.left + 4 * length c.rest.now < 2 ^ 64)
+        × (c.text.now ≡ unindented c.rest.now) };
 }
 
 impl<'a> Cursor<'a> {
@@ -31,11 +34,13 @@ impl<'a> Cursor<'a> {
         requires { 4 * length line.now < 2 ^ 64 }
         ensures { result ≡ record { column = 0; left = 0; rest = line.now } }
     {
+        let front = front_of(0, line.as_bytes());
         Cursor {
             column: 0,
             left: 0,
             rest: line,
-            indent: indent_columns(0, line),
+            text: &line[front.bytes..],
+            indent: front.columns,
         }
     }
 
@@ -60,12 +65,22 @@ impl<'a> Cursor<'a> {
         self.rest
     }
 
+    /// The text after the spaces and tabs.
+    pub fn text(&self) -> &'a str
+        ensures { result.now ≡ unindented self.now.rest }
+    {
+        self.text
+    }
+
     /// Goes over columns of spaces and tabs. Of a tab only some columns may be taken.
     pub fn skip_columns(&mut self, columns: usize)
         requires { columns ≤ indent (line_at self.old) }
         ensures place { self.new ≡ skip self.old columns }
         ensures line { line_at self.new ≡ strip (line_at self.old) columns }
     {
+        if columns == 0 {
+            return;
+        }
         let mut rest = self.rest();
         let mut column = self.column;
         let mut left = self.left;
@@ -82,32 +97,49 @@ impl<'a> Cursor<'a> {
         self.indent -= columns;
     }
 
-    /// Goes over n bytes, each of which takes one column.
+    /// Goes over the spaces and tabs and n bytes behind them, each of which takes one column.
     pub fn skip_mark(&mut self, n: usize)
-        requires whole { self.old.left ≡ 0 }
-        requires marks { AreMarks n self.old.rest }
-        ensures { self.new ≡ record { column = self.old.column + n; left = 0; rest = drop n self.old.rest } }
+        requires { AreMarks n (unindented self.old.rest) }
+        ensures { self.new ≡ record { column = self.old.column + indent (line_at self.old) + n; left = 0; rest = drop n (unindented self.old.rest) } }
     {
-        let rest = &self.rest()[n..];
-        self.column += n;
+        let rest = &self.text()[n..];
+        let column = self.column + self.indent + n;
+        let front = front_of(column, rest.as_bytes());
+        self.column = column;
+        self.left = 0;
         self.rest = rest;
-        self.indent = indent_columns(self.column, rest);
+        self.text = &rest[front.bytes..];
+        self.indent = front.columns;
     }
 }
 
-// The columns of the spaces and tabs at the front of a text that begins at a column.
-fn indent_columns(column: usize, text: &str) -> usize
+/// The spaces and tabs at the front of a text: how many they are, and how many columns they take.
+#[derive(Clone, Copy)]
+struct Front {
+    bytes: usize,
+    columns: usize,
+}
+
+/// The spaces and tabs at the front of a text that begins at a column.
+fn front_of(column: usize, text: &[u8]) -> Front
     requires { column + 4 * length text.now < 2 ^ 64 }
-    ensures { result ≡ indent_at column text.now }
+    ensures bytes { result.bytes ≡ prefix_len is_space_or_tab text.now }
+    ensures columns { result.columns ≡ indent_at column text.now }
 {
     let mut end = column;
-    for byte in text.as_bytes() {
-        if !is_space_or_tab(*byte) {
-            return end - column;
+    for at in 0..text.len() {
+        if !is_space_or_tab(text[at]) {
+            return Front {
+                bytes: at,
+                columns: end - column,
+            };
         }
-        end += width(end, *byte);
+        end += width(end, text[at]);
     }
-    end - column
+    Front {
+        bytes: text.len(),
+        columns: end - column,
+    }
 }
 
 fn is_space_or_tab(byte: u8) -> bool

@@ -1,7 +1,10 @@
 -- What a line begins by itself, in two parts: a setext underline is tried between them, and a delimiter row after them
 -- (CommonMark 4, 5; GFM Tables (extension)).
-use Rattle.std.specs.Prelude.{Bool, true, false, nat_le, Option, None}
+use Rattle.std.specs.Prelude.{ℕ, Bool, true, false, ◌||◌, nat_le, List, Option, None}
+use Rattle.std.specs.Char.{is_ascii_digit}
 use Rattle.std.specs.Option.{option_or}
+use Rattle.mdscan.specs.Blanks.{begins_with}
+use Rattle.mdscan.specs.Tag.{first_is}
 use Rattle.blockspec.specs.BlockLine.{BlockLine, indentation, is_blank_line}
 use Rattle.blockspec.specs.BlockStart.{Mode, Kind, begins_quote, begins_atx, begins_fence, begins_html, begins_break, begins_item, start_far}
 
@@ -10,6 +13,10 @@ start_before_underline mode l = option_or (begins_quote l) (option_or (begins_at
 
 unfoldable pub start_after_underline : Mode → BlockLine → Option Kind
 start_after_underline mode l = option_or (begins_break l) (begins_item mode l)
+
+-- a mark of a list item or of a thematic break first
+abbrev pub begins_marker : List ℕ → Bool
+begins_marker text = begins_with 42 text || begins_with 45 text || begins_with 95 text || begins_with 43 text || first_is is_ascii_digit text
 
 -- with an indentation of at most three columns
 unfoldable pub start_alone_near : Mode → BlockLine → Option Kind

@@ -69,13 +69,20 @@ pub(crate) fn begin(line: &Line, gathering: &Gathering) -> Result<LeafAfter, All
     ensures within { (n : ℕ) → IfOk result (λ step. LeafAfterIn n step) }
     ensures step { IfOk result (λ step. IsGoing (IsParagraphLeaf (line.now ∷ [])) step) }
 {
-    Ok(going(Leaf::Paragraph(Paragraph {
-        text: String::from_str(gathering.alloc(), line.text())?,
-        last: 0,
-    })))
+    Ok(going(Leaf::Paragraph(Paragraph::new(line, gathering)?)))
 }
 
 impl Paragraph {
+    /// The paragraph of one line.
+    pub(crate) fn new(line: &Line, gathering: &Gathering) -> Result<Paragraph, AllocError>
+        ensures { IfOk result (HoldsLines (line.now ∷ [])) }
+    {
+        Ok(Paragraph {
+            text: String::from_str(gathering.alloc(), line.text())?,
+            last: 0,
+        })
+    }
+
     /// Whether the paragraph takes a line, as its text or as what turns it into another block.
     pub(crate) fn takes(&self, line: &Line) -> bool
         ensures { (lines : List BlockLine) → HoldsLines lines self.now

@@ -1,8 +1,9 @@
 use Rattle.std.proofs.Common.{◌≡◌, ◌+◌, arith, ap, ◌∙◌, sym, refl}
 use Rattle.std.proofs.lemmas.Str.{IsCharBoundary-after_ascii}
-use Rattle.mdtext.specs.Columns.{skip_from, indent_at, indent, line_at, skip}
+use Rattle.mdtext.specs.Columns.{Place, skip_from, indent_at, indent, line_at, skip, unindented}
 use Rattle.mdtext.proofs.Strips.{line_skip}
-use Rattle.mdtext.proofs.Indents.{steps, walks_on, indent_spaces, lands}
+use Rattle.mdtext.proofs.Indents.{steps, walks_on, walked, indent_spaces, lands}
+use Rattle.mdtext.proofs.Unindented.{skip_none, text_stays}
 use Rattle.mdtext.proofs.cursor.Cursor.skip_columns.Goals as goal
 
 pub loop-left-init : goal.loop-left-init
@@ -49,3 +50,23 @@ returns-clause-line c =
     ap line_at (sym (lands c.loop-left.column c.loop-left.left c.loop-left.wanted c.loop-left.rest.now c.loop-left-test.false) ∙ c.loop-left.invariant.walks.same
     ∙ ap (λ r. skip_from c.self.inside.column c.self.inside.left c.args.columns r) (c.rest-rest.ensures ∙ sym (ap (λ p. p.rest) c.self.view_is)) ∙ ap (λ p. skip p c.args.columns) c.self.view_is)
     ∙ line_skip c.args.self.now c.args.columns c.requires
+
+pub invariant_of-self : goal.invariant_of-self
+invariant_of-self c =
+    let all = sym (ap (λ p. indent (line_at p)) c.self.view_is) ∙ indent_spaces c.self.inside.column c.self.inside.left c.self.inside.rest.now in
+    let rest_is = c.rest-rest.ensures ∙ sym (ap (λ p. p.rest) c.self.view_is) in
+    let here : Place = record { column = c.self.inside.column; left = c.self.inside.left; rest = c.self.inside.rest.now } in
+    let there = sym (lands c.loop-left.column c.loop-left.left c.loop-left.wanted c.loop-left.rest.now c.loop-left-test.false) ∙ c.loop-left.invariant.walks.same
+    ∙ ap (λ r. skip_from c.self.inside.column c.self.inside.left c.args.columns r) rest_is in
+    let ends = walked _ _ _ _ _ _ _ c.loop-left.invariant.walks c.loop-left-test.false in
+    let total = ap (λ r. c.self.inside.left + indent_at (c.self.inside.column + c.self.inside.left) r) rest_is in (
+      omega (arith, ends.0, total, c.self.invariant.0),
+      ends.1,
+      c.self.invariant.2 ∙ sym (text_stays here c.args.columns (omega (arith, c.requires, ap (λ p. indent (line_at p)) c.self.view_is))) ∙ sym (ap (λ (p : Place). unindented p.rest) there),
+    )
+
+pub returns-then-columns-eq0-clause-place : goal.returns-then-columns-eq0-clause-place
+returns-then-columns-eq0-clause-place c = skip_none c.args.self.now c.args.columns (omega (arith, c.if-columns-eq0.true))
+
+pub returns-then-columns-eq0-clause-line : goal.returns-then-columns-eq0-clause-line
+returns-then-columns-eq0-clause-line c = ap line_at (skip_none c.args.self.now c.args.columns (omega (arith, c.if-columns-eq0.true))) ∙ line_skip c.args.self.now c.args.columns c.requires

@@ -1,6 +1,6 @@
 use Rattle.std.proofs.Common.{◌≡◌, ◌==◌, ◌<◌, ◌||◌, ℕ, false, get_or, length, drop}
 use Rattle.std.specs.List.{list_any}
-use Rattle.mdtool.proofs.marks.marks.Given as goal
+use Rattle.mdview.proofs.marks.marks.Given as goal
 
 -- those that are marked, and the rest, are all
 abbrev pub invariant-loop-number : goal.invariant-loop-number

@@ -5,11 +5,13 @@ ghost use Rattle.std.specs.List.{list_any};
 
 use std::alloc::{AllocError, Global};
 
-/// For each number below `len`, whether it is one of these.
+/// For each number below `len`, whether it is one of these. Of no numbers there are no marks, and no memory is taken.
 pub(crate) fn marks(alloc: Global, numbers: &[usize], len: usize) -> Result<Vec<bool>, AllocError>
-    ensures len { IfOk result (λ marks. length marks.items ≡ len) }
-    ensures marks { IfOk result (λ marks. (i : ℕ) → i < len → get_or marks.items i false ≡ list_any (λ k. k == i) numbers.now) }
+    ensures { IfOk result (λ marks. (i : ℕ) → i < len → get_or marks.items i false ≡ list_any (λ k. k == i) numbers.now) }
 {
+    if numbers.is_empty() {
+        return Ok(Vec::new(alloc));
+    }
     let mut marks = vec![in alloc; false; len]?;
     for number in numbers {
         mark(&mut marks, *number);
