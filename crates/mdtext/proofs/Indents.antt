@@ -111,6 +111,16 @@ walks_on column left columns total asked w rest after place v h e d n =
       same = ap (λ k. skip_from (column + left) k (columns - left) after) e ∙ ap (λ r. skip_from (column + left) (width (column + left) (get_or rest 0 0)) (columns - left) r) d ∙ sym s.place ∙ v.same;
     }
 
+sums : (column left columns : ℕ) → columns ≤ left → column + columns + (left - columns) ≡ column + left
+sums column left columns h = omega arith
+
+-- where the steps end
+pub walked : (column left columns total asked : ℕ) (rest : List ℕ) (place : Place) → Walks column left columns total asked rest place → columns ≤ left
+    → (total - asked ≡ (left - columns) + indent_at (column + columns + (left - columns)) rest) × (column + columns + (left - columns) + 4 * length rest < 2 ^ 64)
+walked column left columns total asked rest place v h =
+    let at_end : indent_at (column + columns + (left - columns)) rest ≡ indent_at (column + left) rest = ap (λ k. indent_at k rest) (sums column left columns h) in
+    (omega (arith, v.counted, at_end, h), omega (arith, v.room, h))
+
 -- a text of which the indentation is counted up to a byte
 pub record Counts (column end i : ℕ) (text : List ℕ) : Type 0 where
   pub from : column ≤ end
