@@ -111,7 +111,7 @@ unfolding leaf_from
 heading_push level f r l = ap (λ z. done_heading level (joined_lines (map rest z))) (drops_last (f ∷ r) l)
 
 -- the rows of a table that begins with the last line of a paragraph
-table_push : (f : BlockLine) (r : List BlockLine) (l : BlockLine) →
+pub table_push : (f : BlockLine) (r : List BlockLine) (l : BlockLine) →
     leaf_from (Table (length (f ∷ r))) f (r ++ l ∷ []) ≡ open_table (above_of f r) (row_aligns (rest l)) (row_texts (last_text (f ∷ r))) []
 unfolding leaf_from
 table_push f r l =
@@ -282,7 +282,7 @@ row_push above (a ∷ []) l w = absurd w
 row_push above (head ∷ delimiters ∷ rows) l w =
     ap (λ z. continues_as_if (is_row l) (open_table above (row_aligns delimiters) (row_texts head) z)) (map-append (row_of (row_aligns delimiters)) rows (rest l ∷ []))
 
-pushed_rows : (above : ℕ) (f : BlockLine) (r : List BlockLine) (l : BlockLine) → 1 ≤ above → above ≤ length r →
+pub pushed_rows : (above : ℕ) (f : BlockLine) (r : List BlockLine) (l : BlockLine) → 1 ≤ above → above ≤ length r →
     leaf_from (Table above) f (r ++ l ∷ []) ≡ table_from (joined_lines (take (above - 1) (map rest (f ∷ r)))) (drop (above - 1) (map rest (f ∷ r)) ++ rest l ∷ [])
 unfolding leaf_from
 pushed_rows above f r l p q =

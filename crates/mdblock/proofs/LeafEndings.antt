@@ -60,7 +60,7 @@ pub code_ended : (entities : EntityTable) (at_front : Bool) (x : code.IndentedCo
 code_ended entities at_front x IndentedCode first later old b e h = (ap (λ x. block x no_blocks) (e ∙ ap (code_block []) h.body), alone old)
 code_ended entities at_front x kind first later old b e h = absurd h
 
-table_block : (t : table.Table) (kept : OpenLeaf) (b : Block) → block_view b ≡ tree.table t.aligns.items t.head.items (held_rows t) → IsTableOf kept t → IsBlockOf kept (block (block_view b) no_blocks)
+table_block : (t : table.Table) (kept : OpenLeaf) (b : Block) → block_view b ≡ tree.table t.aligns.items t.head.items (held_rows t) → IsTableOf kept (leaf.Table t) → IsBlockOf kept (block (block_view b) no_blocks)
 table_block t (open_table above aligns head rows) b e h = record {
   head_cells = t.head.items;
   row_cells = held_rows t;
@@ -73,7 +73,7 @@ table_block t kept b e h = absurd h
 pub table_ended : (entities : EntityTable) (at_front : Bool) (t : table.Table) (kind : Kind) (first : BlockLine) (later : List BlockLine) (old : List (List ℕ)) (b : Block)
     → block_view b ≡ tree.table t.aligns.items t.head.items (held_rows t)
     → IsLeafOf entities (leaf.Table t) kind first later → IsEndOf entities at_front kind first later old old (Some b)
-table_ended entities at_front t (Table above) first later old b e h = (table_block t (leaf_from (Table above) first later) b e h, refl)
+table_ended entities at_front t (Table above) first later old b e h = (table_block t (leaf_from (Table above) first later) b e h.2, refl)
 table_ended entities at_front t kind first later old b e h = absurd h
 
 -- leaves that are no paragraph define nothing

@@ -1,5 +1,5 @@
 -- Autolinks (CommonMark 6.5). Each length is that of the whole run of fitting characters that a text begins with, where
--- this run is such a piece, and else 0.
+-- this run is such an element, and else 0.
 use Rattle.std.specs.Prelude.{ℕ, ◌+◌, ◌-◌, Bool, true, false, not, ◌||◌, ◌&&◌, ◌==◌, nat_lt, nat_le, List, drop, slice_index, codes, Option, Some, None, if◌then◌else◌}
 use Rattle.std.specs.Char.{is_ascii_alphabetic, is_ascii_alphanumeric, is_ascii_control}
 use Rattle.std.specs.List.{prefix_len, list_any}

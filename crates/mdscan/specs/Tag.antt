@@ -1,5 +1,5 @@
 -- Open and closing tags (CommonMark 6.6). Each length is that of the whole run of fitting characters that a text begins
--- with, where this run is such a piece, and else 0.
+-- with, where this run is such an element, and else 0.
 use Rattle.std.specs.Prelude.{ℕ, ◌+◌, Bool, false, not, ◌||◌, ◌&&◌, ◌==◌, nat_lt, List, [], ◌∷◌, length, drop, nat_eq, codes, Option, Some, None, if◌then◌else◌}
 use Rattle.std.specs.Char.{is_ascii_alphabetic, is_ascii_alphanumeric}
 use Rattle.std.specs.List.{prefix_len, starts_with}

@@ -1,4 +1,4 @@
-//! Open and closing tags. Lengths are of the longest piece of a kind that a text begins with, and 0 where
+//! Open and closing tags. Lengths are of the longest element of a kind that a text begins with, and 0 where
 //! there is none.
 
 ghost use Rattle.std.specs.Prelude.{◌≡◌, ◌<◌, ◌≤◌, ◌==◌, ◌-◌, not, IfSome, length, slice_index};

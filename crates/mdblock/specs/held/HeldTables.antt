@@ -22,10 +22,10 @@ abbrev pub held_rows : Table → List (List ℕ)
 held_rows t = map (λ row. row.items) t.rows.items
 
 -- as many columns and rows as is kept of the lines, and their alignments
-abbrev pub IsTableOf : OpenLeaf → Table → Type 0
-IsTableOf (open_table above aligns head rows) t =
+abbrev pub IsTableOf : OpenLeaf → Leaf → Type 0
+IsTableOf (open_table above aligns head rows) (leaf.Table t) =
     (t.aligns.items ≡ aligns) × (length t.head.items ≡ length head) × (map length (held_rows t) ≡ map length rows)
-IsTableOf kept t = ⊥
+IsTableOf kept held = ⊥
 
 -- The cells have been handed in, from a position on.
 abbrev pub CellsStand : (at : ℕ) → Leaf → OpenLeaf → Type 0

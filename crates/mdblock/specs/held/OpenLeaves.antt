@@ -1,5 +1,5 @@
 -- What an open leaf holds of its lines (CommonMark 4.4, 4.5, 4.6, 4.8; GFM Tables (extension)).
-use Rattle.std.specs.Prelude.{◌≡◌, ℕ, Bool, true, false, List, [], ◌∷◌, ◌++◌, length, map, None, string_bytes}
+use Rattle.std.specs.Prelude.{◌≡◌, ◌≤◌, ℕ, Bool, true, false, List, [], ◌∷◌, ◌++◌, length, map, None, string_bytes}
 use Rattle.std.specs.Option.{MatchOption}
 use Rattle.mdtext.specs.EntityTable.{EntityTable}
 use Rattle.mdleaf.specs.CodeLanguage.{code_language}
@@ -35,13 +35,17 @@ pub record IsCodeOf (lines : List BlockLine) (c : code.IndentedCode) : Type 0 wh
   pub body : string_bytes c.body ≡ code_text 4 (without_end_blank_lines lines)
   pub blanks : string_bytes c.blanks ≡ code_text 4 (end_blank_lines lines)
 
+-- a table of these lines, of which so many stand above its delimiter row
+abbrev pub IsTableIn : (above : ℕ) → (first : BlockLine) → (later : List BlockLine) → Leaf → Type 0
+IsTableIn above first later held = (1 ≤ above) × (above ≤ length later) × IsTableOf (leaf_from (Table above) first later) held
+
 -- A table's cells are handed in as they are read (`CellsStand`), so of one only its columns and rows are told here.
 abbrev pub IsLeafOf : EntityTable → Leaf → Kind → (first : BlockLine) → (later : List BlockLine) → Type 0
 IsLeafOf entities (leaf.Paragraph p) Paragraph first later = HoldsLines (first ∷ later) p
 IsLeafOf entities (leaf.Fence f) (FencedCode indentation mark length info closed) first later = IsFenceOf entities indentation mark length info later f
 IsLeafOf entities (leaf.Html h) (HtmlBlock kind) first later = IsHtmlOf kind (first ∷ later) h
 IsLeafOf entities (leaf.Code c) IndentedCode first later = IsCodeOf (first ∷ later) c
-IsLeafOf entities (leaf.Table t) (Table above) first later = IsTableOf (leaf_from (Table above) first later) t
+IsLeafOf entities (leaf.Table t) (Table above) first later = IsTableIn above first later (leaf.Table t)
 IsLeafOf entities leaf kind first later = ⊥
 
 -- a line leaves an open leaf, and nothing that is over
@@ -93,13 +97,14 @@ abbrev pub begun_texts : Kind → List (List ℕ)
 begun_texts (AtxHeading level content) = content ∷ []
 begun_texts kind = []
 
--- What a later line leaves of a leaf: a kind that takes it goes on, and one that it ends is over. Of headings and tables
--- nothing is said here, since texts are handed in with them: a row more is `IsRowIn`.
+-- What a later line leaves of a leaf: a kind that takes it goes on, and one that it ends is over. Of headings nothing is said
+-- here, since a text is handed in with them, and of tables not where their cells stand (`IsRowIn`, `IsTableBehind`).
 abbrev pub IsGrown : EntityTable → Kind → (first : BlockLine) → (later : List BlockLine) → LeafAfter → Type 0
 IsGrown entities Paragraph first later s = IsGoing (IsParagraphLeaf (first ∷ later)) s
 IsGrown entities (FencedCode indentation mark length info closed) first later s = IsGoing (IsFenceLeaf entities indentation mark length info later) s
 IsGrown entities IndentedCode first later s = IsGoing (IsCodeLeaf (first ∷ later)) s
 IsGrown entities (HtmlBlock kind) first later s = IsGoing (IsHtmlLeaf kind (first ∷ later)) s
+IsGrown entities (Table above) first later s = MatchOption s.going ⊥ (IsTableIn above first later)
 IsGrown entities kind first later s = Unit {0}
 
 abbrev pub IsEnded : EntityTable → Kind → (first : BlockLine) → (later : List BlockLine) → LeafAfter → Type 0

@@ -7,7 +7,7 @@ ghost use Rattle.mdleaf.specs.ParagraphText.{is_definitions_alone, behind_defini
 ghost use Rattle.mdleaf.specs.LeadingDefinitions.{leading_of};
 ghost use Rattle.mdleaf.specs.TableRows.{begins_table};
 ghost use Rattle.blockspec.specs.BlockLine.{BlockLine, rest, is_blank_line};
-ghost use Rattle.blockspec.specs.BlockStart.{Paragraph as ParagraphKind, Inside, SetextHeading, begins_underline, last_text, start, start_near};
+ghost use Rattle.blockspec.specs.BlockStart.{Paragraph as ParagraphKind, Table as TableKind, Inside, SetextHeading, begins_underline, last_text, start, start_near};
 ghost use Rattle.blockspec.specs.BlockTree.{heading as heading_block};
 ghost use Rattle.mdblock.specs.BlockView.{block_view};
 ghost use Rattle.mdblock.specs.held.HandedIn.{gathered_definitions, gathered_texts, taken, left_behind, IsHandedIn};
@@ -92,7 +92,8 @@ impl Paragraph {
     }
 
     fn step(&self, line: &Line) -> ParagraphStep
-        ensures { (lines : List BlockLine) → HoldsLines lines self.now
+        ensures row { result ≡ ParagraphStep.Delimits → begins_table (drop self.now.last self.now.text) (rest line.now) ≡ true }
+        ensures step { (lines : List BlockLine) → HoldsLines lines self.now
             → step_view (length lines) result ≡ paragraph_step line.now.lazy (is_blank_line line.now) (start Inside lines line.now) }
     {
         if line.is_lazy() {
@@ -108,7 +109,8 @@ impl Paragraph {
     }
 
     fn step_at_margin(&self, line: &Line) -> ParagraphStep
-        ensures { (lines : List BlockLine) → HoldsLines lines self.now → step_view (length lines) result ≡ interrupted (start_near Inside lines line.now) }
+        ensures row { result ≡ ParagraphStep.Delimits → begins_table (drop self.now.last self.now.text) (rest line.now) ≡ true }
+        ensures step { (lines : List BlockLine) → HoldsLines lines self.now → step_view (length lines) result ≡ interrupted (start_near Inside lines line.now) }
     {
         if before_underline(line, Mode::Inside).is_some() {
             return ParagraphStep::IsOverBefore;
@@ -150,7 +152,8 @@ impl Paragraph {
 
     /// Whether a line is a delimiter row that makes a table of the last line.
     fn is_delimited(&self, line: &Line) -> bool
-        ensures { (lines : List BlockLine) → HoldsLines lines self.now → result ≡ begins_table (last_text lines) (rest line.now) }
+        ensures row { result ≡ true → begins_table (drop self.now.last self.now.text) (rest line.now) ≡ true }
+        ensures lines { (lines : List BlockLine) → HoldsLines lines self.now → result ≡ begins_table (last_text lines) (rest line.now) }
     {
         may_delimit(line.text()) && begins_table(self.last_line(), line.text())
     }
@@ -205,6 +208,14 @@ impl Paragraph {
             → OnOk result ((gathered_texts gathering.new ≡ gathered_texts gathering.old ++ behind_definitions (without_end_blanks self.text) ∷ [])
             × (gathered_definitions gathering.new ≡ gathered_definitions gathering.old
             ++ leading_of gathering.old.entities.now (without_end_blanks self.text))) }
+        ensures delimited { (lines : List BlockLine) (above : ℕ) → HoldsLines lines self
+            → paragraph_step line.now.lazy (is_blank_line line.now) (start Inside lines line.now) ≡ Continues (TableKind above)
+            → IfOk result (IsTableBehind first (take (self.last - 1) self.text) (first_rows (last_text lines) (rest line.now))
+            (gathered_texts gathering.old) (gathered_texts gathering.new)) }
+        ensures delimited_found { (lines : List BlockLine) (above : ℕ) → HoldsLines lines self
+            → paragraph_step line.now.lazy (is_blank_line line.now) (start Inside lines line.now) ≡ Continues (TableKind above)
+            → OnOk result (gathered_definitions gathering.new ≡ gathered_definitions gathering.old
+            ++ leading_of gathering.old.entities.now (without_end_blanks (take (self.last - 1) self.text))) }
     {
         match self.step(line) {
             ParagraphStep::Underlines(level) => self.turn_into_heading(level, gathering),

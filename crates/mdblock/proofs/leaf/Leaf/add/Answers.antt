@@ -5,7 +5,7 @@ use Rattle.mdblock.proofs.leaf.Leaf.add.Goals as goal
 
 pub returns-in-Paragraph-clause-step : goal.returns-in-Paragraph-clause-step
 returns-in-Paragraph-clause-step c = λ entities kind begin later h tip.
-    paragraph_added entities c.in-Paragraph.paragraph kind begin later tip c.args.line.now c.add.result c.add.ensures.goes (subst (λ w. IsLeafOf entities w kind begin later) c.in-Paragraph.is h)
+    paragraph_added entities c.in-Paragraph.paragraph kind begin later tip c.args.line.now c.add.result _ _ _ _ c.add.ensures.goes c.add.ensures.delimited (subst (λ w. IsLeafOf entities w kind begin later) c.in-Paragraph.is h)
 
 pub returns-in-Fence-clause-step : goal.returns-in-Fence-clause-step
 returns-in-Fence-clause-step c = λ entities kind begin later h tip.
@@ -21,4 +21,4 @@ returns-in-Code-clause-step c = λ entities kind begin later h tip.
 
 pub returns-in-Table-clause-step : goal.returns-in-Table-clause-step
 returns-in-Table-clause-step c = λ entities kind begin later h tip.
-    table_added entities c.in-Table.table kind begin later tip c.args.line.now c.add-in-Table.result (subst (λ w. IsLeafOf entities w kind begin later) c.in-Table.is h)
+    table_added entities c.in-Table.table kind begin later tip c.args.line.now c.add-in-Table.result _ c.add-in-Table.ensures.row (subst (λ w. IsLeafOf entities w kind begin later) c.in-Table.is h)

@@ -1,4 +1,4 @@
-use Rattle.std.proofs.Common.{◌≡◌, ◌+◌, ◌*◌, ◌^◌, ◌<◌, ◌≤◌, length, drop, ap, arith, sym, subst, refl, ◌∙◌}
+use Rattle.std.proofs.Common.{◌≡◌, ◌+◌, ◌≤◌, length, drop, ap, arith, sym, subst, ◌∙◌}
 use Rattle.mdtext.specs.Columns.{AreMarks, indent_at, unindented}
 use Rattle.mdtext.proofs.Indents.{mark_ends}
 use Rattle.mdtext.proofs.Unindented.{indentation_ends, behind, mark_reaches, behind_mark, none_left}

@@ -1,5 +1,9 @@
-use Rattle.std.proofs.Common.{refl}
-use Rattle.mdblock.proofs.ParagraphLaws.{next_line}
+use Rattle.std.proofs.Common.{ℕ, List, IfOk, refl, ap, subst, ◌∙◌, ◌-◌, take, drop}
+use Rattle.mdleaf.specs.TableRows.{begins_table}
+use Rattle.blockspec.specs.BlockLine.{rest}
+use Rattle.mdblock.specs.held.HandedIn.{gathered_texts}
+use Rattle.mdblock.specs.held.HeldTables.{IsTableBehind, first_rows}
+use Rattle.mdblock.proofs.ParagraphLaws.{last_is, next_line}
 use Rattle.mdblock.proofs.leaf.paragraphs.Paragraph.add.Goals as goal
 
 pub returns-in_ok-with_line-in-IsOverBefore-clause-goes : goal.returns-in_ok-with_line-in-IsOverBefore-clause-goes
@@ -8,3 +12,13 @@ returns-in_ok-with_line-in-IsOverBefore-clause-goes c = λ begin later h e.
       nothing_over = refl;
       going = next_line begin later c.args.line.now c.args.self _ h c.in_ok-with_line-in-IsOverBefore.ensures.0 c.in_ok-with_line-in-IsOverBefore.ensures.1;
     })
+
+pub returns-in-Delimits-clause-delimited : goal.returns-in-Delimits-clause-delimited
+returns-in-Delimits-clause-delimited c = λ lines above h e.
+    let front = take (c.args.self.last - 1) c.args.self.text in
+    let last = drop c.args.self.last c.args.self.text in
+    let old = gathered_texts c.args.gathering.now in
+    let new = gathered_texts c.turn_into_table.new.gathering in
+    let table = c.turn_into_table.ensures.table (ap (begins_table last) c.text.ensures ∙ c.step.ensures.row c.in-Delimits.is) in
+    subst (λ (z : List ℕ). IfOk c.turn_into_table.result (IsTableBehind c.args.first front (first_rows z (rest c.args.line.now)) old new)) (last_is lines c.args.self h)
+    (subst (λ (z : List ℕ). IfOk c.turn_into_table.result (IsTableBehind c.args.first front (first_rows last z) old new)) c.text.ensures table)
