@@ -11,6 +11,7 @@ use mdtext::NoMemory;
 /// A node of a unit's tree.
 #[derive(Clone, Copy, Debug, Drop)]
 pub enum Node<'a> {
+    /// A block of any kind.
     Block(&'a Block),
     /// An item of a list.
     Item(&'a Item),
@@ -20,6 +21,7 @@ pub enum Node<'a> {
     Row(&'a [usize]),
     /// A cell, by its text's position.
     Cell(usize),
+    /// An inline of any kind.
     Inline(&'a Inline),
 }
 
