@@ -3,6 +3,9 @@ export RT ?= rt
 PROGRAMS := mdrender mdpreview
 # Set where bin/ has the programs of these sources, as behind the gate; then a comparison builds none.
 BUILT ?=
+# What `make run` shows: a text, and a script of edits.
+PAGE ?= examples/page.md
+EDITS ?= examples/writer.script
 # How many random texts and edit scripts a comparison with an oracle takes.
 TEXTS ?= 2000
 SCRIPTS ?= 600
@@ -20,7 +23,7 @@ INSTALL ?= install
 .PHONY: help run test build check fmt picture bench compare counts rows rows_inlines install uninstall
 
 help:
-	@echo "make run                 runs mdrender on a page and mdpreview on a writer's few edits, and shows what goes in and out (from the sources, unproved, where bin/ is empty)"
+	@echo "make run                 runs mdrender on a page and mdpreview on a writer's few edits, and shows what goes in and out (from the sources, unproved, where bin/ is empty); PAGE=FILE and EDITS=FILE show files of yours"
 	@echo "make build               proves every crate and builds the programs into bin/; a line a crate, the log in out/build.log"
 	@echo "make test                the gate: every proof from nothing, the tests and must-fail edits, the example files, endings and completions; the log in out/gate.log"
 	@echo "make check               a quick check of every crate, over what earlier checks kept"
@@ -35,7 +38,7 @@ help:
 	@echo "make rows_inlines ORACLE=DIR CORPUS=DIR   computes the definition of inlines at the examples of CORPUS, as DIR/oracle.py reads them"
 
 run:
-	@tools/show examples/page.md examples/writer.script
+	@tools/show $(PAGE) $(EDITS)
 
 build:
 	@tools/build $(PROGRAMS)

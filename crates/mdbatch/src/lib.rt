@@ -10,5 +10,5 @@ mod units;
 
 pub use batch::to_html;
 pub use mdhtml::{Breaks, Options};
-pub use mdtext::Entities;
+pub use mdtext::{Entities, TableFault};
 pub use mdview::EditFault;

@@ -5,6 +5,7 @@ ghost use Rattle.std.specs.Prelude.{◌≤◌};
 use crate::{Block, BlockFault, Found, Reader, Unit};
 use mdtext::{Entities, Tally};
 use std::alloc::{AllocError, Global};
+use std::error::Error;
 use std::process::Abort;
 use std::test::Fail;
 
@@ -344,5 +345,24 @@ fn units_say_where_they_begin(rt: HostRuntime) -> Result<(), Fail> {
         return Err("no unit".into());
     };
     assert!(rt; found.begin() == 3 && found.lines() == 1);
+    Ok(())
+}
+
+fn reason<E: Error>(alloc: Global, fault: &E) -> Result<String, AllocError> {
+    format!(in alloc; "{fault}")
+}
+
+#[test]
+fn a_fault_says_why(rt: HostRuntime) -> Result<(), Fail> {
+    for (fault, want) in [
+        (
+            BlockFault::NestedTooDeep,
+            "a container of the line lies in too many others",
+        ),
+        (BlockFault::NoMemory, "no memory"),
+        (BlockFault::Failed, "an earlier line was not read"),
+    ] {
+        assert_eq!(rt; reason(rt.alloc(), &fault)?.as_str(), want);
+    }
     Ok(())
 }

@@ -14,6 +14,7 @@ use self::rows::{read_text, read_within};
 use crate::{Inline, InlineFault, LabelTable, Labels, read};
 use mdtext::{Entities, Label, Tally, Target, fold_label};
 use std::alloc::{AllocError, Global};
+use std::error::Error;
 use std::test::Fail;
 
 fn target(alloc: Global, url: &str) -> Result<Target, AllocError> {
@@ -186,6 +187,24 @@ fn unclosed_runs_are_text(rt: HostRuntime) -> Result<(), Fail> {
         let text = nested(alloc, 500, mark, "", "")?;
         let parsed = read_text(alloc, text.as_str(), &[])?.map_err(|_| "refused")?;
         assert_eq!(rt; parsed.tree().len(), 1, "at {mark}");
+    }
+    Ok(())
+}
+
+fn reason<E: Error>(alloc: Global, fault: &E) -> Result<String, AllocError> {
+    format!(in alloc; "{fault}")
+}
+
+#[test]
+fn a_fault_says_why(rt: HostRuntime) -> Result<(), Fail> {
+    for (fault, want) in [
+        (
+            InlineFault::TooDeep,
+            "a span of the text lies in too many others",
+        ),
+        (InlineFault::NoMemory, "no memory"),
+    ] {
+        assert_eq!(rt; reason(rt.alloc(), &fault)?.as_str(), want);
     }
     Ok(())
 }

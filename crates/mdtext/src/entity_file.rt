@@ -12,6 +12,8 @@ use crate::references::{byte_at, name_len};
 use serde_json::Value;
 use std::alloc::{AllocFailed, Global};
 use std::collections::BTreeMap;
+use std::error::Error;
+use std::fmt;
 
 /// Why an entity file is refused.
 #[derive(Clone, Copy, Debug, PartialEq, Eq)]
@@ -23,6 +25,23 @@ pub enum TableFault {
     /// A growth was refused.
     NoMemory,
 }
+
+impl fmt::Display for TableFault {
+    fn fmt<W: fmt::Write>(&self, f: &mut fmt::Formatter<W>) -> fmt::Result {
+        match self {
+            TableFault::NotJson => write!(f, "the entity file is not a JSON object"),
+            TableFault::BadEntry => {
+                write!(
+                    f,
+                    "an entry of the entity file has a bad name or no characters"
+                )
+            }
+            TableFault::NoMemory => write!(f, "no memory"),
+        }
+    }
+}
+
+impl Error for TableFault {}
 
 impl From<NoMemory> for TableFault {
     ghost use Rattle.mdtext.specs.declared.entity_file.TableFault.TheVariants.{NoMemory};

@@ -5,6 +5,7 @@ use Rattle.blockspec.specs.UnitTree.{UnitTree, unit_code}
 use Rattle.mdinline.specs.ParsedText.{ParsedText, parsed_code}
 use Rattle.mdhtml.specs.declared.options.Options.{Options}
 use Rattle.mdhtml.specs.BlockHtml.{blocks_html, texts_html}
+use Rattle.mdwalk.specs.TreeEdges.{TreeEdge, blocks_edges}
 
 -- how many lines a unit has, the unit, and what each of its texts reads as
 pub record ReadUnit : Type 0 where
@@ -44,6 +45,10 @@ piece_of u = u.piece
 -- what is held as the piece of a unit is its HTML
 abbrev pub IsRendered : Options → HeldUnit → Type 0
 IsRendered options u = u.piece ≡ unit_piece options u.read
+
+-- the edges of a walk over a unit
+abbrev pub unit_edges : ReadUnit → List TreeEdge
+unit_edges u = blocks_edges u.readings u.unit.blocks
 
 -- how many inline texts a unit has
 abbrev pub texts_in : UnitTree → ℕ

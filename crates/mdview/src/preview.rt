@@ -6,8 +6,9 @@ ghost use Rattle.mdview.specs.Edit.{Call, call_of, due, put};
 ghost use Rattle.mdview.specs.Outcome.{outcome};
 ghost use Rattle.mdview.specs.Lists.{replaced};
 ghost use Rattle.mdview.specs.ReadingEnd.{OfReading, reading_of};
-ghost use Rattle.mdview.specs.HeldUnit.{ReadUnit, first_line, texts_of};
+ghost use Rattle.mdview.specs.HeldUnit.{ReadUnit, first_line, texts_of, unit_edges};
 ghost use Rattle.viewspec.specs.Patch.{Brings};
+ghost use Rattle.mdwalk.specs.EdgeView.{edges_left};
 ghost use Rattle.mdview.specs.Update.{IsFitFor};
 
 use crate::clean::clean_lines;
@@ -27,6 +28,7 @@ use mdblock::Unit;
 use mdhtml::Options;
 use mdinline::Parsed;
 use mdtext::{Count, Entities};
+use mdwalk::Walk;
 use std::alloc::{AllocError, Global};
 use std::marker::Model;
 
@@ -143,6 +145,16 @@ impl Preview {
         match self.units.get(i) {
             Some(unit) => Some(unit.inlines()),
             None => None,
+        }
+    }
+
+    /// A walk over the unit of this number, its blocks and inlines alike; nothing where the text has fewer units.
+    pub fn walk(&self, i: usize) -> Result<Option<Walk<'_>>, AllocError>
+        ensures { IfOk result (λ walk. option_map edges_left walk ≡ option_map unit_edges (slice_get self.now.units i)) }
+    {
+        match self.units.get(i) {
+            Some(unit) => Ok(Some(Walk::new(self.alloc, unit.unit().blocks(), unit.inlines())?)),
+            None => Ok(None),
         }
     }
 

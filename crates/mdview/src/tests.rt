@@ -122,6 +122,21 @@ fn lends_the_pieces_of_a_patch_in_order(rt: HostRuntime) -> Result<(), Fail> {
 }
 
 #[test]
+fn walks_over_its_units(rt: HostRuntime) -> Result<(), Fail> {
+    let alloc = rt.alloc();
+    let preview = preview_of(alloc, ["# a", "", "- b *c*"].as_slice())?;
+    let mut nodes = Vec::new(alloc);
+    for number in 0..3 {
+        if let Some(walk) = preview.walk(number)? {
+            nodes.push(walk.count() / 2)?;
+        }
+    }
+    // A heading with its text; a list, its item, the paragraph, its text, the emphasis and what lies in that.
+    assert_eq!(rt; nodes.as_slice(), [2, 6].as_slice());
+    Ok(())
+}
+
+#[test]
 fn an_edit_reads_its_stretch(rt: HostRuntime) -> Result<(), Fail> {
     let alloc = rt.alloc();
     let mut preview = preview_of(alloc, ["[foo]", "", "x", "", "[foo]: /a"].as_slice())?;

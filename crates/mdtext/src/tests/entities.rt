@@ -1,4 +1,6 @@
 use crate::{Entities, TableFault};
+use std::alloc::{AllocError, Global};
+use std::error::Error;
 use std::test::Fail;
 
 fn refusal(rt: &HostRuntime, bytes: &[u8]) -> Option<TableFault> {
@@ -78,4 +80,23 @@ fn files_that_are_refused(rt: HostRuntime) {
             "{bytes:?}"
         );
     }
+}
+
+fn reason<E: Error>(alloc: Global, fault: &E) -> Result<String, AllocError> {
+    format!(in alloc; "{fault}")
+}
+
+#[test]
+fn a_refused_file_says_why(rt: HostRuntime) -> Result<(), Fail> {
+    for (fault, want) in [
+        (TableFault::NotJson, "the entity file is not a JSON object"),
+        (
+            TableFault::BadEntry,
+            "an entry of the entity file has a bad name or no characters",
+        ),
+        (TableFault::NoMemory, "no memory"),
+    ] {
+        assert_eq!(rt; reason(rt.alloc(), &fault)?.as_str(), want);
+    }
+    Ok(())
 }

@@ -1,0 +1,2 @@
+pub mod EdgeView
+pub mod TreeEdges
