@@ -5,6 +5,7 @@ mod emphasis;
 mod links;
 mod nested_emphasis;
 mod others;
+mod readers;
 mod references;
 mod rows;
 

@@ -1,0 +1,38 @@
+//! A reader of texts that is used again.
+
+use crate::readers::TextReader;
+use crate::trees::TreeBuilder;
+use crate::{LabelTable, Unasked};
+use mdtext::Entities;
+use std::test::Fail;
+
+/// What one text leaves pending does not reach the next one.
+#[test]
+fn a_reader_is_used_again(rt: HostRuntime) -> Result<(), Fail> {
+    let alloc = rt.alloc();
+    let labels = LabelTable::new(alloc);
+    let entities = Entities::builtin(alloc)?;
+    let mut reader = TextReader::new(alloc, &entities, 64);
+    let rows = [
+        ("*a `b <!-- [c", "[Text(\"*a `b <!-- [c\")]"),
+        (
+            "d* `e` f](g)",
+            "[Text(\"d* \"), Code(\"e\"), Text(\" f](g)\")]",
+        ),
+        ("*h*", "[Emph([Text(\"h\")])]"),
+    ];
+    for (text, want) in rows {
+        let mut tree = TreeBuilder::new(alloc);
+        let mut asked = Unasked;
+        if reader
+            .read_into(text, &labels, &mut asked, &mut tree)
+            .is_err()
+        {
+            return Err(Fail::from("refused"));
+        }
+        let inlines = tree.finish()?;
+        let shown = format!(in alloc; "{inlines:?}")?;
+        assert_eq!(rt; shown.as_str(), want, "in {text:?}");
+    }
+    Ok(())
+}
