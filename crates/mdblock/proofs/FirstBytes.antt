@@ -29,7 +29,7 @@ unfolding opening_fence opening_backticks
 no_fence [] h g = refl
 no_fence (b ∷ bs) h g = rw (h, g) refl
 
-no_kind : (text : List ℕ) → begins_with 60 text ≡ false → html_kind text ≡ None
+pub no_kind : (text : List ℕ) → begins_with 60 text ≡ false → html_kind text ≡ None
 unfolding html_kind begins_raw begins_block begins_whole_tag open_tag closing_tag
 no_kind [] h = refl
 no_kind (b ∷ bs) h = let other : (60 == b) ≡ false = grind (arith, nat_tests, h) in rw (h, other) refl
