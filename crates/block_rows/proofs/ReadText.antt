@@ -16,7 +16,7 @@ use Rattle.mdscan.specs.BlockQuote.{is_quote_marker}
 use Rattle.mdscan.specs.CodeFence.{opening_backticks, opening_fence, is_closing_fence}
 use Rattle.mdscan.specs.DelimiterRow.{is_delimiter, delimiter_columns, delimiter_align}
 use Rattle.mdscan.specs.Escapes.{run_before}
-use Rattle.mdscan.specs.Gaps.{gap_length}
+use Rattle.mdscan.specs.Spacing.{spacing_length}
 use Rattle.mdscan.specs.HtmlBlock.{begins_one_of, raw_names, block_names, begins_raw, is_block_name, begins_block, begins_raw_end, ends_kind, holds_end, is_raw_tag, begins_whole_tag, html_kind}
 use Rattle.mdscan.specs.Tag.{tag_name_length, attribute_name_length, quoted_length, value_length, equals_length, value_part_length, attribute_length, open_end_length, open_tag, closing_tag}
 use Rattle.mdscan.specs.LinkDefinition.{line_end, titled_def, labelled_def, definition_of}
@@ -42,11 +42,11 @@ use Rattle.blockspec.specs.ContainerLines.{matches, opened, inside, is_bare}
 use Rattle.mdtext.specs.Columns.{unindented}
 use Rattle.blockspec.specs.Laziness.{continues_lazily}
 use Rattle.blockspec.specs.LeafContents.{leaves_of}
-use Rattle.blockspec.specs.LineSummary.{no_summary, summary_tip, last_tip, closed, last_groups, ended_last, new_last, begin_after, leaf_after, container_after, last_after, line_added, is_apart_after}
+use Rattle.blockspec.specs.LineSummary.{no_summary, summary_tip, last_tip, closed, last_groups, ended_last, new_last, begin_after, last_grown, leaf_after, container_after, last_after, line_added, is_apart_after}
 use Rattle.blockspec.specs.ListGroups.{grouped, nodes_of}
 use Rattle.blockspec.specs.Nesting.{first_deep, deep_within, first_too_deep}
 use Rattle.blockspec.specs.NodeTree.{texts_in, texts_in_items, definitions_in, definitions_in_items, placed, placed_items}
-use Rattle.blockspec.specs.OpenLeaf.{open_leaves, leaf_from, turn_at}
+use Rattle.blockspec.specs.OpenLeaf.{open_leaves, leaf_from, next_leaf}
 use Rattle.blockspec.specs.ParagraphEnd.{paragraph_end, heading_end, table_end}
 use Rattle.blockspec.specs.Stretches.{step, is_single, all_of, tip_of, begin_where, after_step, add_at, cut_from, tip_within}
 use Rattle.blockspec.specs.SummaryDepth.{sinks_first, sinks_later, sinks_at, sinks_by, sinks, lines_added, refused_line}
@@ -65,7 +65,7 @@ defines label url title = record { label = label; url = url; title = title }
 unfoldable pub units_read : List ℕ → List FoundUnit
 unfolding chars encode default_case_fold full_folding full_folding_rows value_in width indent_at strip_at words split_lines reference meaning unescaped_from
     content_length heading_content atx_heading is_quote_marker opening_backticks opening_fence is_closing_fence is_delimiter delimiter_columns
-    delimiter_align run_before gap_length begins_one_of raw_names block_names begins_raw is_block_name begins_block begins_raw_end ends_kind holds_end
+    delimiter_align run_before spacing_length begins_one_of raw_names block_names begins_raw is_block_name begins_block begins_raw_end ends_kind holds_end
     is_raw_tag begins_whole_tag html_kind tag_name_length attribute_name_length quoted_length value_length equals_length value_part_length
     attribute_length open_end_length open_tag closing_tag line_end titled_def labelled_def definition_of angle_destination bare_end destination_at
     label_at title_to title_at ordered_marker marker repeats is_run_of underline_level row_inside bars row_cells task_marker is_break_of is_thematic_break
@@ -82,8 +82,8 @@ deep_line limit text = first_too_deep limit (text_lines text)
 
 -- the same, as a reader finds it that keeps the summary of the lines so far
 unfoldable pub refused : (limit : ℕ) → List ℕ → Option ℕ
-unfolding units_read summary_tip last_tip closed last_groups ended_last new_last begin_after leaf_after container_after last_after line_added is_apart_after
-    open_leaves leaf_from turn_at sinks_first sinks_later sinks_at sinks_by sinks refused_line
+unfolding units_read summary_tip last_tip closed last_groups ended_last new_last begin_after last_grown leaf_after container_after last_after line_added is_apart_after
+    open_leaves leaf_from next_leaf sinks_first sinks_later sinks_at sinks_by sinks refused_line
 refused limit text = refused_line builtin_table limit no_summary 0 (map document_line (text_lines text))
 
 -- the units of a text as this reader finds them

@@ -19,7 +19,7 @@ use Rattle.blocklaws.proofs.VisibleLaws.{visible_append}
 use Rattle.blocklaws.proofs.DepthLaws.{groups_deep, begins_deep}
 use Rattle.blocklaws.proofs.DocumentLaws.{units_meet, map_length, document_units, document_meets}
 use Rattle.blocklaws.proofs.GroupLaws.{joins, grouped_first, joined_nil}
-use Rattle.blocklaws.proofs.UnitLaws.{Leads, first_leads, IsWhole, cut_whole, add_lines, cut_lines, joins_marks, mark_of_part, keeps, step_keeps}
+use Rattle.blocklaws.proofs.UnitLaws.{IsHeadedBy, first_headed, IsWhole, cut_whole, add_lines, cut_lines, joins_marks, mark_of_part, keeps, step_keeps}
 
 -- where a block begins, and whether it is an item of a list
 abbrev Mark : Type 0
@@ -355,7 +355,7 @@ record BeginsAt (n : ℕ) (ns : List ℕ) : Type 0 where
   rest : List ℕ
   is : ns ≡ n ∷ rest
 
-starts_first : (m : Option ListKind) (ss : List Stretch) → Leads m ss → BeginsAt 0 (starts None (outline ss))
+starts_first : (m : Option ListKind) (ss : List Stretch) → IsHeadedBy m ss → BeginsAt 0 (starts None (outline ss))
 unfolding starts
 starts_first m [] w = absurd (let e : None ≡ Some m = w.1 in let x : ⊥ = cc in x)
 starts_first m (s ∷ ss) w = record { rest = starts (list_mark s.kind) (outline ss); is = ap (λ z. z ∷ starts (list_mark s.kind) (outline ss)) w.0 }
@@ -367,7 +367,7 @@ units_first e l ys b =
     let all = l ∷ ys in
     let d = visible_in all in
     let T = tip_within d in
-    let f = starts_first (list_mark (begun l)) (stretches (cut_by T all)) (first_leads T l ys b) in
+    let f = starts_first (list_mark (begun l)) (stretches (cut_by T all)) (first_headed T l ys b) in
     record {
       rest = f.rest;
       is =
@@ -406,11 +406,6 @@ begins_there e xs l ys b =
     ∙ ap (λ z. begins_in (units_of e xs) ++ z) (shifted_begins n (units_of e (l ∷ ys)) ∙ ap (map (λ m. m + n)) f.is)
     ∙ ap (λ z. begins_in (units_of e xs) ++ z ∷ map (λ m. m + n) f.rest) zero_more in
     subst (λ z. Contains z n) (sym is) (behind_first (begins_in (units_of e xs)) (map (λ m. m + n) f.rest) n)
-
--- A beginning stays one whatever later lines do.
-pub beginning_stays : (e : EntityTable) (xs : List BlockLine) (l : BlockLine) (ys zs : List BlockLine) →
-    Contains (begins_in (units_of e (xs ++ l ∷ ys))) (length xs) → Contains (begins_in (units_of e (xs ++ l ∷ zs))) (length xs)
-beginning_stays e xs l ys zs w = begins_there e xs l zs (begins_only e xs l ys w)
 
 -- ---- line by line
 

@@ -1,6 +1,6 @@
 -- Groups before a line that begins a block, and from it on: only the last of the one and the first of the other may be
 -- items of one list.
-use Rattle.std.proofs.Common.{◌≡◌, ℕ, suc, ◌+◌, ◌<◌, Bool, true, false, not, ◌&&◌, List, [], ◌∷◌, ◌++◌, length, map, refl, sym, ◌∙◌, ap, arith, ◌==◌}
+use Rattle.std.proofs.Common.{◌≡◌, ℕ, suc, ◌<◌, Bool, true, false, not, ◌&&◌, List, [], ◌∷◌, ◌++◌, length, map, refl, sym, ◌∙◌, ap, arith, ◌==◌}
 use Rattle.std.proofs.lemmas.Bool.{eqb-true}
 use Rattle.std.proofs.lemmas.List.{map-append}
 use Rattle.mdtext.specs.EntityTable.{EntityTable}
@@ -10,14 +10,14 @@ use Rattle.blockspec.specs.BlockTree.{ListKind, bullet, ordered}
 use Rattle.blockspec.specs.BlockUnits.{group_of, groups_within, groups, visible_in, depth_of}
 use Rattle.blockspec.specs.ListGroups.{Part, Leaves, Quoted, Listed, Group, is_same_list, items_before, joined_where, joined_list, joined, grouped, merged}
 use Rattle.blockspec.specs.NodeTree.{ItemNodes, no_item_nodes, item_node}
-use Rattle.blockspec.specs.Stretches.{Cut, no_lines, stretches, gap_behind, cut_by, cut_within, tip_within}
+use Rattle.blockspec.specs.Stretches.{Cut, stretches, gap_behind, cut_by, cut_within, tip_within}
 use Rattle.blockspec.specs.Meetings.{shift_groups, joins_behind, joins_list, gap_after}
 use Rattle.blockspec.specs.UnitBegin.{is_apart, list_mark, same_mark, tail_mark}
-use Rattle.blocklaws.proofs.CutLaws.{cut_from_append, all_of_prepend, shift_all, moved, stretches_moved, meets}
+use Rattle.blocklaws.proofs.CutLaws.{shift_all}
 use Rattle.blocklaws.proofs.VisibleLaws.{visible_append}
 use Rattle.blocklaws.proofs.DepthLaws.{groups_deep, apart_deep, gap_deep}
 use Rattle.blocklaws.proofs.GroupLaws.{joins, HasFirst, list_first, joined_nil, joined_apart, grouped_shift}
-use Rattle.blocklaws.proofs.UnitLaws.{cut_lines, group_shift}
+use Rattle.blocklaws.proofs.UnitLaws.{stretches_meet, group_shift}
 
 abbrev of_part : ℕ → Bool → Part → Group
 of_part b gap p = record { begin = b; gap = gap; part = p }
@@ -213,13 +213,7 @@ groups_split e d xs l ys a b =
     let c : Cut = cut_by T xs in
     let c' : Cut = cut_by T (l ∷ ys) in
     let gap = gap_behind T c in
-    let n : c.lines ≡ length xs = cut_lines T no_lines xs ∙ (let z : 0 + length xs ≡ length xs = omega arith in z) in
-    let cut_is : stretches (cut_by T (xs ++ l ∷ ys)) ≡ stretches c ++ shift_all gap c.lines (stretches c') =
-    ap (λ (z : Cut). stretches z) (cut_from_append T no_lines xs (l ∷ ys) ∙ meets T c l ys a b)
-    ∙ all_of_prepend (stretches c) (moved gap c.lines c').before (moved gap c.lines c').tail
-    ∙ ap (λ z. stretches c ++ z) (stretches_moved gap c.lines c'.before c'.tail c'.blank c'.lines) in
-    ap (λ z. grouped (map G z)) cut_is
-    ∙ ap (λ z. grouped (map G (stretches c ++ shift_all gap z (stretches c')))) n
+    ap (λ z. grouped (map G z)) (stretches_meet T xs l ys a b)
     ∙ ap grouped (map-append G (stretches c) (shift_all gap (length xs) (stretches c')))
     ∙ grouped_merged (map G (stretches c)) (map G (shift_all gap (length xs) (stretches c')))
     ∙ ap (λ z. merged (grouped (map G (stretches c))) z)

@@ -133,8 +133,8 @@ paragraph_made later false true k w = tt
 paragraph_made later false false k w = interrupted_made later k w
 
 -- a block that begins behind a paragraph, or where none is open
-turns_made : (f : BlockLine) (r : List BlockLine) (l : BlockLine) → Kinds (λ z. IsMade z (r ++ l ∷ [])) Inside (f ∷ r) l
-turns_made f r l = record {
+next_made : (f : BlockLine) (r : List BlockLine) (l : BlockLine) → Kinds (λ z. IsMade z (r ++ l ∷ [])) Inside (f ∷ r) l
+next_made f r l = record {
   quote = tt;
   atx = λ level content. tt;
   fence = λ i m n info. refl;
@@ -168,7 +168,7 @@ step_made T (Holds container) f r l w = takes_made (r ++ l ∷ []) (goes_on cont
 step_made T (FencedCode i m n info c) f r l w = fence_made (r ++ l ∷ []) (closes m n l) i m n info
 step_made T (HtmlBlock kind) f r l w = html_made (r ++ l ∷ []) (is_blank_line l) (ends_html kind l) kind
 step_made T Paragraph f r l w =
-    paragraph_made (r ++ l ∷ []) l.lazy (is_blank_line l) (start Inside (f ∷ r) l) (start_kinds (λ z. IsMade z (r ++ l ∷ [])) Inside (f ∷ r) l (turns_made f r l))
+    paragraph_made (r ++ l ∷ []) l.lazy (is_blank_line l) (start Inside (f ∷ r) l) (start_kinds (λ z. IsMade z (r ++ l ∷ [])) Inside (f ∷ r) l (next_made f r l))
 step_made T (Table above) f r l w = takes_made (r ++ l ∷ []) (is_row l) (Table above) (w.0, let p = length-append r (l ∷ []) in omega (arith, p, w.1))
 step_made T IndentedCode f r l w = takes_made (r ++ l ∷ []) (is_code l) IndentedCode tt
 step_made T (SetextHeading level) f r l w = tt

@@ -8,10 +8,10 @@ use Rattle.blockspec.specs.BlockLine.{BlockLine, document_line, is_blank_line}
 use Rattle.blockspec.specs.BlockStart.{Container, Kind, Holds, begun}
 use Rattle.blockspec.specs.BlockUnits.{visible_in, depth_of, groups_within, found_units, units}
 use Rattle.blockspec.specs.ContainerLines.{opened, inside, inner}
-use Rattle.blockspec.specs.LineSummary.{Summary, summary, Last, nothing_yet, ended_block, open_leaf, open_container, no_summary, summary_tip, closed, last_groups, new_last, summary_gap, begin_after, leaf_after, container_after, last_after, line_added, last_at, last_of, summary_within, summary_of, is_apart_after}
+use Rattle.blockspec.specs.LineSummary.{Summary, summary, Last, nothing_yet, ended_block, open_leaf, open_container, no_summary, summary_tip, closed, last_groups, new_last, summary_gap, begin_after, last_grown, leaf_after, container_after, last_after, line_added, last_at, last_of, summary_within, summary_of, is_apart_after}
 use Rattle.blockspec.specs.ListGroups.{Group, merged}
 use Rattle.blockspec.specs.Nesting.{deep_at, first_deep, deep_within, first_too_deep}
-use Rattle.blockspec.specs.OpenLeaf.{OpenLeaf, Turn, ContinuesAs, EndsAs, EndedBefore, turn_at, is_parted}
+use Rattle.blockspec.specs.OpenLeaf.{OpenLeaf, NextLeaf, ContinuesAs, EndsAs, EndedBefore, next_leaf, is_parted}
 use Rattle.blockspec.specs.Stretches.{Stretch, goes_on, is_single, Tail, Empty, Going, Over, Cut, all_of, cut_from, cut_by, tip_within}
 use Rattle.blockspec.specs.SummaryDepth.{sinks_first, sinks_later, sinks_at, sinks_by, sinks, lines_added, refused_line}
 use Rattle.blocklaws.proofs.LeafSteps.{Sort, is_container, is_leaf, sort_of}
@@ -111,16 +111,16 @@ new_shallow {more = more} {other = other} h e b n g k f r (is_leaf u) w = new_le
 
 begin_shallow : {more other : Summary → BlockLine → Summary} {Held : Summary → Type 0} {later : Summary → BlockLine → Bool} {first : BlockLine → Bool} (h : Shallow more other Held later first)
     (e : EntityTable) (blank : Bool) (before : List Group) (last : Last) (b : Bool) (m : ℕ) (l : BlockLine) → sinks_first first (begun l) l ≡ false →
-    begin_after e more blank before last b m l ≡ begin_after e other blank before last b m l
+    begin_after e more blank (summary before last b m) l ≡ begin_after e other blank (summary before last b m) l
 unfolding begin_after
 begin_shallow h e true before last b m l w = refl
 begin_shallow h e false before last b m l w =
     ap (λ z. summary (merged before (last_groups e last)) z false (suc m)) (new_shallow h e (is_single (begun l) l) m (summary_gap last b) (begun l) l [] (sort_of (begun l)) w)
 
 leaf_shallow : {more other : Summary → BlockLine → Summary} {Held : Summary → Type 0} {later : Summary → BlockLine → Bool} {first : BlockLine → Bool} (h : Shallow more other Held later first)
-    (e : EntityTable) (before : List Group) (n : ℕ) (g : Bool) (leaf : OpenLeaf) (b : Bool) (m : ℕ) (l : BlockLine) (t : Turn) → sinks_at later first (is_parted t) (open_leaf n g leaf) l ≡ false →
-    leaf_after e more before n g leaf b m l t ≡ leaf_after e other before n g leaf b m l t
-unfolding leaf_after sinks_at
+    (e : EntityTable) (before : List Group) (n : ℕ) (g : Bool) (leaf : OpenLeaf) (b : Bool) (m : ℕ) (l : BlockLine) (t : NextLeaf) → sinks_at later first (is_parted t) (open_leaf n g leaf) l ≡ false →
+    leaf_after e more n g t (summary before (open_leaf n g leaf) b m) l ≡ leaf_after e other n g t (summary before (open_leaf n g leaf) b m) l
+unfolding leaf_after last_grown sinks_at
 leaf_shallow h e before n g leaf b m l (ContinuesAs next) w = refl
 leaf_shallow h e before n g leaf b m l (EndsAs next) w = refl
 leaf_shallow h e before n g leaf b m l EndedBefore w = begin_shallow h e (is_blank_line l) before (open_leaf n g leaf) b m l w
@@ -128,19 +128,19 @@ leaf_shallow h e before n g leaf b m l EndedBefore w = begin_shallow h e (is_bla
 container_shallow : {more other : Summary → BlockLine → Summary} {Held : Summary → Type 0} {later : Summary → BlockLine → Bool} {first : BlockLine → Bool} (h : Shallow more other Held later first)
     (e : EntityTable) (takes : Bool) (before : List Group) (n : ℕ) (g bare : Bool) (c : Container) (inner : Summary) (b : Bool) (m : ℕ) (l : BlockLine) →
     Held inner → sinks_at later first (not takes) (open_container n g bare c inner) l ≡ false →
-    container_after e more takes before n g bare c inner b m l ≡ container_after e other takes before n g bare c inner b m l
-unfolding container_after sinks_at sinks_later
+    container_after e more takes n g c inner (summary before (open_container n g bare c inner) b m) l ≡ container_after e other takes n g c inner (summary before (open_container n g bare c inner) b m) l
+unfolding container_after last_grown sinks_at sinks_later
 container_shallow h e true before n g bare c inner b m l f w = ap (λ z. summary before (open_container n g false c z) (is_blank_line l) (suc m)) (h.laters inner (inside c l) f w)
 container_shallow h e false before n g bare c inner b m l f w = begin_shallow h e (is_blank_line l) before (open_container n g bare c inner) b m l w
 
 last_shallow : {more other : Summary → BlockLine → Summary} {Held : Summary → Type 0} {later : Summary → BlockLine → Bool} {first : BlockLine → Bool} (h : Shallow more other Held later first)
     (e : EntityTable) (before : List Group) (last : Last) (b : Bool) (m : ℕ) (l : BlockLine) →
     LastFits Held last → sinks_at later first (is_apart_after last l) last l ≡ false →
-    last_after e more before last b m l ≡ last_after e other before last b m l
+    last_after e more last (summary before last b m) l ≡ last_after e other last (summary before last b m) l
 unfolding last_after sinks_at is_apart_after
 last_shallow h e before nothing_yet b m l f w = begin_shallow h e (is_blank_line l) before nothing_yet b m l w
 last_shallow h e before (ended_block g) b m l f w = begin_shallow h e (is_blank_line l) before (ended_block g) b m l w
-last_shallow h e before (open_leaf n g leaf) b m l f w = leaf_shallow h e before n g leaf b m l (turn_at leaf l) w
+last_shallow h e before (open_leaf n g leaf) b m l f w = leaf_shallow h e before n g leaf b m l (next_leaf leaf l) w
 last_shallow h e before (open_container n g bare c inner) b m l f w =
     container_shallow h e (goes_on c bare (summary_tip inner) l) before n g bare c inner b m l f w
 

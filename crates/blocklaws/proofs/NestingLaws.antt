@@ -346,18 +346,5 @@ deep_stays limit ls (l ∷ more) n e =
     deep_next [] limit d ls l (omega arith) ∙ ap (λ z. option_or z (line_if (sinks limit (summary_within [] d ls) l) (length ls))) e in
     ap (deep_within limit) (sym (append_assoc ls (l ∷ []) more)) ∙ deep_stays limit (ls ++ l ∷ []) more n here
 
--- The same of a document: behind lines with no container too many, the next line is the first with one exactly if it sinks.
-pub too_deep_next : (e : EntityTable) (limit d : ℕ) (lines : List (List ℕ)) (line : List ℕ) → visible_in (map document_line (lines ++ line ∷ [])) < d →
-    first_too_deep limit lines ≡ None →
-    first_too_deep limit (lines ++ line ∷ []) ≡ (if sinks limit (summary_within e d (map document_line lines)) (document_line line) then Some (length lines) else None)
-too_deep_next e limit d lines line v n =
-    let xs = map document_line lines in
-    let l = document_line line in
-    let both : map document_line (lines ++ line ∷ []) ≡ xs ++ l ∷ [] = map-append document_line lines (line ∷ []) in
-    ap (deep_within limit) both
-    ∙ deep_next e limit d xs l (subst (λ z. visible_in z < d) both v)
-    ∙ ap (λ z. option_or z (line_if (sinks limit (summary_within e d xs) l) (length xs))) n
-    ∙ ap (λ z. line_if (sinks limit (summary_within e d xs) l) z) (length-map lines document_line)
-
 pub too_deep_stays : (limit : ℕ) (lines more : List (List ℕ)) (n : ℕ) → first_too_deep limit lines ≡ Some n → first_too_deep limit (lines ++ more) ≡ Some n
 too_deep_stays limit lines more n e = ap (deep_within limit) (map-append document_line lines more) ∙ deep_stays limit (map document_line lines) (map document_line more) n e

@@ -5,12 +5,12 @@ use Rattle.blockspec.specs.BlockLine.{BlockLine, is_blank_line}
 use Rattle.blockspec.specs.BlockStart.{begun}
 use Rattle.blockspec.specs.BlockUnits.{visible_in}
 use Rattle.blockspec.specs.Nesting.{deep_at, first_deep, deep_within}
-use Rattle.blockspec.specs.Stretches.{Stretch, Cut, no_lines, stretches, gap_behind, cut_by, tip_within}
+use Rattle.blockspec.specs.Stretches.{Stretch, Cut, stretches, gap_behind, cut_by, tip_within}
 use Rattle.blockspec.specs.UnitBegin.{is_apart, list_mark, same_mark, tail_mark, begins_behind, begins_unit}
-use Rattle.blocklaws.proofs.CutLaws.{cut_from_append, all_of_prepend, shift, shift_all, moved, stretches_moved, meets}
+use Rattle.blocklaws.proofs.CutLaws.{shift, shift_all}
 use Rattle.blocklaws.proofs.DepthLaws.{begins_deep}
 use Rattle.blocklaws.proofs.NestingLaws.{or_associates, moved_on, or_moved, stretch_deep, deep_in, deep_to, deep_agrees}
-use Rattle.blocklaws.proofs.UnitLaws.{cut_lines, three_facts}
+use Rattle.blocklaws.proofs.UnitLaws.{stretches_meet, three_facts}
 use Rattle.blocklaws.proofs.VisibleLaws.{visible_append}
 
 pub moved_twice : (a k : ℕ) (o : Option ℕ) → moved_on (a + k) o ≡ moved_on k (moved_on a o)
@@ -46,15 +46,9 @@ in_meets D d xs l ys a b =
     let c : Cut = cut_by T xs in
     let c' : Cut = cut_by T (l ∷ ys) in
     let gap = gap_behind T c in
-    let n : c.lines ≡ length xs = cut_lines T no_lines xs ∙ (let z : 0 + length xs ≡ length xs = omega arith in z) in
-    let cut_is : stretches (cut_by T (xs ++ l ∷ ys)) ≡ stretches c ++ shift_all gap c.lines (stretches c') =
-    ap (λ (z : Cut). stretches z) (cut_from_append T no_lines xs (l ∷ ys) ∙ meets T c l ys a b)
-    ∙ all_of_prepend (stretches c) (moved gap c.lines c').before (moved gap c.lines c').tail
-    ∙ ap (λ z. stretches c ++ z) (stretches_moved gap c.lines c'.before c'.tail c'.blank c'.lines) in
-    ap (first_deep D) cut_is
-    ∙ both_deep D (stretches c) (shift_all gap c.lines (stretches c'))
-    ∙ ap (λ z. option_or (first_deep D (stretches c)) z) (all_deep D gap c.lines (stretches c'))
-    ∙ ap (λ z. option_or (first_deep D (stretches c)) (moved_on z (first_deep D (stretches c')))) n
+    ap (first_deep D) (stretches_meet T xs l ys a b)
+    ∙ both_deep D (stretches c) (shift_all gap (length xs) (stretches c'))
+    ∙ ap (λ z. option_or (first_deep D (stretches c)) z) (all_deep D gap (length xs) (stretches c'))
 
 to_meets : (d limit : ℕ) (xs : List BlockLine) (l : BlockLine) (ys : List BlockLine) →
     is_apart (tip_within d) (cut_by (tip_within d) xs).tail l ≡ true → is_blank_line l ≡ false →

@@ -9,7 +9,7 @@ use Rattle.std.specs.Option.{option_or, option_map}
 use Rattle.std.specs.Prelude.{cond, nat_le}
 use Rattle.mdtext.specs.EntityTable.{EntityTable}
 use Rattle.mdscan.specs.declared.atx_headings.AtxLine.{AtxLine}
-use Rattle.mdscan.specs.declared.fences.FenceLine.{FenceLine}
+use Rattle.mdscan.specs.declared.code_fences.FenceLine.{FenceLine}
 use Rattle.mdscan.specs.declared.list_markers.Marker.{Marker}
 use Rattle.mdscan.specs.AtxHeading.{atx_heading}
 use Rattle.mdscan.specs.BlockQuote.{is_quote_marker}
@@ -27,7 +27,7 @@ use Rattle.blockspec.specs.BlockUnits.{part_at}
 use Rattle.blockspec.specs.Laziness.{Tip, Closed}
 use Rattle.blockspec.specs.LeafContents.{without_last, code_text, fenced_lines, without_end_blank_lines, leaves_of}
 use Rattle.blockspec.specs.ListGroups.{Leaves, Group}
-use Rattle.blockspec.specs.OpenLeaf.{open_text, open_table, open_fence, open_code, open_html, done_heading, open_tip, text_leaves, open_leaves, row_of, table_from, end_blank_lines, leaf_from, Turn, ContinuesAs, EndsAs, EndedBefore, continues_as_if, text_more, level_under, near_turn, text_turn, html_turn, code_line, code_more, fence_turn, turn_at, is_parted}
+use Rattle.blockspec.specs.OpenLeaf.{open_text, open_table, open_fence, open_code, open_html, done_heading, open_tip, text_leaves, open_leaves, row_of, table_from, end_blank_lines, leaf_from, NextLeaf, ContinuesAs, EndsAs, EndedBefore, continues_as_if, text_more, level_under, next_near, next_text, next_html, code_line, code_more, next_fence, next_leaf, is_parted}
 use Rattle.blockspec.specs.ParagraphEnd.{paragraph_end, heading_end, rows_end, table_end}
 use Rattle.blockspec.specs.Stretches.{Step, Continues, IsLastLine, IsOverBefore, continues_if, closes, ends_html, fence_step, html_step, interrupted, paragraph_step, is_row, is_code, step, tip_at}
 use Rattle.blockspec.specs.UnitBegin.{is_stop}
@@ -172,10 +172,10 @@ code_law false ls l e = visible_push ls l e
 -- ---- the steps
 
 -- what a step of the definitions is to what is kept
-abbrev pub turned : (first : BlockLine) → (lines : List BlockLine) → Step → Turn
-turned f r (Continues kind) = ContinuesAs (leaf_from kind f r)
-turned f r (IsLastLine kind) = EndsAs (leaf_from kind f r)
-turned f r IsOverBefore = EndedBefore
+abbrev pub next_by : (first : BlockLine) → (lines : List BlockLine) → Step → NextLeaf
+next_by f r (Continues kind) = ContinuesAs (leaf_from kind f r)
+next_by f r (IsLastLine kind) = EndsAs (leaf_from kind f r)
+next_by f r IsOverBefore = EndedBefore
 
 -- Where a block begins in a paragraph, the paragraph is over, but for an underline and a delimiter row.
 abbrev Halts : Option Kind → Type 0
@@ -204,25 +204,25 @@ level_kind false o = refl
 
 near_law : (f : BlockLine) (r : List BlockLine) (l : BlockLine) (q a h w : Option Kind) (level : Option ℕ) (b i : Option Kind) (D : Bool) →
     Halts q → Halts a → Halts h → Halts w → Halts b → Halts i →
-    turned f (r ++ l ∷ []) (interrupted (option_or q (option_or a (option_or h (option_or w (option_or (option_map SetextHeading level) (option_or b (option_or i (cond D (Some (Table (length (f ∷ r)))) None)))))))))
-    ≡ near_turn (text_of f r) (last_text (f ∷ r)) (above_of f r) (option_or q (option_or a (option_or h w))) level (option_or b i) D l
-near_law f r l (Some k) a h w level b i D s1 s2 s3 s4 s5 s6 = ap (turned f (r ++ l ∷ [])) s1
-near_law f r l None (Some k) h w level b i D s1 s2 s3 s4 s5 s6 = ap (turned f (r ++ l ∷ [])) s2
-near_law f r l None None (Some k) w level b i D s1 s2 s3 s4 s5 s6 = ap (turned f (r ++ l ∷ [])) s3
-near_law f r l None None None (Some k) level b i D s1 s2 s3 s4 s5 s6 = ap (turned f (r ++ l ∷ [])) s4
+    next_by f (r ++ l ∷ []) (interrupted (option_or q (option_or a (option_or h (option_or w (option_or (option_map SetextHeading level) (option_or b (option_or i (cond D (Some (Table (length (f ∷ r)))) None)))))))))
+    ≡ next_near (text_of f r) (last_text (f ∷ r)) (above_of f r) (option_or q (option_or a (option_or h w))) level (option_or b i) D l
+near_law f r l (Some k) a h w level b i D s1 s2 s3 s4 s5 s6 = ap (next_by f (r ++ l ∷ [])) s1
+near_law f r l None (Some k) h w level b i D s1 s2 s3 s4 s5 s6 = ap (next_by f (r ++ l ∷ [])) s2
+near_law f r l None None (Some k) w level b i D s1 s2 s3 s4 s5 s6 = ap (next_by f (r ++ l ∷ [])) s3
+near_law f r l None None None (Some k) level b i D s1 s2 s3 s4 s5 s6 = ap (next_by f (r ++ l ∷ [])) s4
 near_law f r l None None None None (Some level) b i D s1 s2 s3 s4 s5 s6 = ap EndsAs (heading_push level f r l)
-near_law f r l None None None None None (Some k) i D s1 s2 s3 s4 s5 s6 = ap (turned f (r ++ l ∷ [])) s5
-near_law f r l None None None None None None (Some k) D s1 s2 s3 s4 s5 s6 = ap (turned f (r ++ l ∷ [])) s6
+near_law f r l None None None None None (Some k) i D s1 s2 s3 s4 s5 s6 = ap (next_by f (r ++ l ∷ [])) s5
+near_law f r l None None None None None None (Some k) D s1 s2 s3 s4 s5 s6 = ap (next_by f (r ++ l ∷ [])) s6
 near_law f r l None None None None None None None true s1 s2 s3 s4 s5 s6 = ap ContinuesAs (table_push f r l)
 near_law f r l None None None None None None None false s1 s2 s3 s4 s5 s6 = ap ContinuesAs (text_push f r l)
 
 at_law : (f : BlockLine) (r : List BlockLine) (l : BlockLine) (near : Bool) →
-    turned f (r ++ l ∷ []) (interrupted (start_at near Inside (f ∷ r) l)) ≡ text_turn (text_of f r) (last_text (f ∷ r)) (above_of f r) false false near l
+    next_by f (r ++ l ∷ []) (interrupted (start_at near Inside (f ∷ r) l)) ≡ next_text (text_of f r) (last_text (f ∷ r)) (above_of f r) false false near l
 unfolding start_near
 at_law f r l false = ap ContinuesAs (text_push f r l)
 at_law f r l true =
     let D = begins_table (last_text (f ∷ r)) (rest l) in
-    ap (λ z. turned f (r ++ l ∷ []) (interrupted (option_or (begins_quote l) (option_or (begins_atx l) (option_or (begins_fence l) (option_or (begins_html Inside l) (option_or z (option_or (begins_break l) (option_or (begins_item Inside l) (cond D (Some (Table (length (f ∷ r)))) None))))))))))
+    ap (λ z. next_by f (r ++ l ∷ []) (interrupted (option_or (begins_quote l) (option_or (begins_atx l) (option_or (begins_fence l) (option_or (begins_html Inside l) (option_or z (option_or (begins_break l) (option_or (begins_item Inside l) (cond D (Some (Table (length (f ∷ r)))) None))))))))))
     (level_kind (underlines Inside (f ∷ r)) (underline_level (rest l)))
     ∙ near_law f r l (begins_quote l) (begins_atx l) (begins_fence l) (begins_html Inside l) (level_under (text_of f r) l) (begins_break l) (begins_item Inside l) D
     (if_halts (is_quote_marker (rest l)) (Holds Quote) refl)
@@ -233,8 +233,8 @@ at_law f r l true =
     (item_halts Inside l (marker (rest l)))
 
 text_law : (f : BlockLine) (r : List BlockLine) (l : BlockLine) (lazy blank : Bool) →
-    turned f (r ++ l ∷ []) (paragraph_step lazy blank (start_where blank Inside (f ∷ r) l))
-    ≡ text_turn (text_of f r) (last_text (f ∷ r)) (above_of f r) lazy blank (nat_le (indentation l) 3) l
+    next_by f (r ++ l ∷ []) (paragraph_step lazy blank (start_where blank Inside (f ∷ r) l))
+    ≡ next_text (text_of f r) (last_text (f ∷ r)) (above_of f r) lazy blank (nat_le (indentation l) 3) l
 text_law f r l true blank = ap ContinuesAs (text_push f r l)
 text_law f r l false true = refl
 text_law f r l false false = at_law f r l (nat_le (indentation l) 3)
@@ -275,8 +275,8 @@ leaf_tip T IndentedCode f r w v = refl
 leaf_tip T (HtmlBlock kind) f r w v = refl
 
 row_push : (above : List ℕ) (rows : List (List ℕ)) (l : BlockLine) → HasTwo rows →
-    continues_as_if (is_row l) (table_from above (rows ++ rest l ∷ [])) ≡ turn_at (table_from above rows) l
-unfolding turn_at
+    continues_as_if (is_row l) (table_from above (rows ++ rest l ∷ [])) ≡ next_leaf (table_from above rows) l
+unfolding next_leaf
 row_push above [] l w = absurd w
 row_push above (a ∷ []) l w = absurd w
 row_push above (head ∷ delimiters ∷ rows) l w =
@@ -293,12 +293,12 @@ pushed_rows above f r l p q =
     ∙ ap (λ z. table_from (joined_lines z) (drop n (map rest (f ∷ r) ++ rest l ∷ []))) (take-append-le n (map rest (f ∷ r)) (rest l ∷ []) k)
     ∙ ap (λ z. table_from (joined_lines (take n (map rest (f ∷ r)))) z) (drop-append-le n (map rest (f ∷ r)) (rest l ∷ []) k)
 
-if_turned : (f : BlockLine) (r : List BlockLine) (b : Bool) (k : Kind) → turned f r (continues_if b k) ≡ continues_as_if b (leaf_from k f r)
-if_turned f r true k = refl
-if_turned f r false k = refl
+if_next : (f : BlockLine) (r : List BlockLine) (b : Bool) (k : Kind) → next_by f r (continues_if b k) ≡ continues_as_if b (leaf_from k f r)
+if_next f r true k = refl
+if_next f r false k = refl
 
 fence_law : (f : BlockLine) (r : List BlockLine) (l : BlockLine) (i m n : ℕ) (info : List ℕ) (closed : Bool) →
-    turned f (r ++ l ∷ []) (fence_step closed (FencedCode i m n info)) ≡ fence_turn closed i m n info (code_text i r) (code_line i l)
+    next_by f (r ++ l ∷ []) (fence_step closed (FencedCode i m n info)) ≡ next_fence closed i m n info (code_text i r) (code_line i l)
 unfolding leaf_from
 fence_law f r l i m n info true = ap (λ z. EndsAs (open_fence i m n info (code_text i z))) (drops_last r l)
 fence_law f r l i m n info false = ap (λ z. ContinuesAs (open_fence i m n info z)) (code_push i r l)
@@ -311,32 +311,32 @@ html_push kind f r l =
     ap (λ z. open_html kind (joined_lines (f.line.text ∷ z))) (map-append text r (l ∷ [])) ∙ ap (open_html kind) (joined_next f.line.text (map text r) l.line.text)
 
 html_law : (f : BlockLine) (r : List BlockLine) (l : BlockLine) (blank ends : Bool) (kind : ℕ) →
-    turned f (r ++ l ∷ []) (html_step blank ends kind) ≡ html_turn blank ends kind (joined_lines (map (λ (x : BlockLine). x.line.text) (f ∷ r)) ++ 10 ∷ l.line.text)
-html_law f r l true ends kind = if_turned f (r ++ l ∷ []) (nat_lt kind 6) (HtmlBlock kind) ∙ ap (continues_as_if (nat_lt kind 6)) (html_push kind f r l)
+    next_by f (r ++ l ∷ []) (html_step blank ends kind) ≡ next_html blank ends kind (joined_lines (map (λ (x : BlockLine). x.line.text) (f ∷ r)) ++ 10 ∷ l.line.text)
+html_law f r l true ends kind = if_next f (r ++ l ∷ []) (nat_lt kind 6) (HtmlBlock kind) ∙ ap (continues_as_if (nat_lt kind 6)) (html_push kind f r l)
 html_law f r l false true kind = ap EndsAs (html_push kind f r l)
 html_law f r l false false kind = ap ContinuesAs (html_push kind f r l)
 
 -- What one line more makes of a leaf follows from what is kept of its lines.
-pub leaf_turn : (T : List BlockLine → Tip) (k : Kind) (f : BlockLine) (r : List BlockLine) (l : BlockLine) → IsLeaf k → IsMade k r →
-    turned f (r ++ l ∷ []) (step T k f r l) ≡ turn_at (leaf_from k f r) l
-unfolding step leaf_from turn_at start
-leaf_turn T (Holds container) f r l w v = absurd w
-leaf_turn T Paragraph f r l w v = text_law f r l l.lazy (is_blank_line l)
-leaf_turn T (SetextHeading level) f r l w v = refl
-leaf_turn T (Table above) f r l w v =
-    if_turned f (r ++ l ∷ []) (is_row l) (Table above)
+pub leaf_next : (T : List BlockLine → Tip) (k : Kind) (f : BlockLine) (r : List BlockLine) (l : BlockLine) → IsLeaf k → IsMade k r →
+    next_by f (r ++ l ∷ []) (step T k f r l) ≡ next_leaf (leaf_from k f r) l
+unfolding step leaf_from next_leaf start
+leaf_next T (Holds container) f r l w v = absurd w
+leaf_next T Paragraph f r l w v = text_law f r l l.lazy (is_blank_line l)
+leaf_next T (SetextHeading level) f r l w v = refl
+leaf_next T (Table above) f r l w v =
+    if_next f (r ++ l ∷ []) (is_row l) (Table above)
     ∙ ap (continues_as_if (is_row l)) (pushed_rows above f r l v.0 v.1)
     ∙ row_push (joined_lines (take (above - 1) (map rest (f ∷ r)))) (drop (above - 1) (map rest (f ∷ r))) l (two_rows above f r v)
-leaf_turn T (AtxHeading level content) f r l w v = refl
-leaf_turn T ThematicBreak f r l w v = refl
-leaf_turn T (FencedCode i m n info closed) f r l w v =
-    fence_law f r l i m n info (closes m n l) ∙ ap (λ z. fence_turn (closes m n l) i m n info (code_text i (fenced_lines z r)) (code_line i l)) (sym v)
-leaf_turn T IndentedCode f r l w v =
-    if_turned f (r ++ l ∷ []) (is_code l) IndentedCode ∙ ap (continues_as_if (is_code l)) (code_law (is_blank_line l) (f ∷ r) l refl)
-leaf_turn T (HtmlBlock kind) f r l w v = html_law f r l (is_blank_line l) (ends_html kind l) kind
+leaf_next T (AtxHeading level content) f r l w v = refl
+leaf_next T ThematicBreak f r l w v = refl
+leaf_next T (FencedCode i m n info closed) f r l w v =
+    fence_law f r l i m n info (closes m n l) ∙ ap (λ z. next_fence (closes m n l) i m n info (code_text i (fenced_lines z r)) (code_line i l)) (sym v)
+leaf_next T IndentedCode f r l w v =
+    if_next f (r ++ l ∷ []) (is_code l) IndentedCode ∙ ap (continues_as_if (is_code l)) (code_law (is_blank_line l) (f ∷ r) l refl)
+leaf_next T (HtmlBlock kind) f r l w v = html_law f r l (is_blank_line l) (ends_html kind l) kind
 
 -- whether the leaf is over before the line
-pub turned_parts : (f : BlockLine) (r : List BlockLine) (st : Step) → is_stop st ≡ is_parted (turned f r st)
-turned_parts f r (Continues kind) = refl
-turned_parts f r (IsLastLine kind) = refl
-turned_parts f r IsOverBefore = refl
+pub next_parts : (f : BlockLine) (r : List BlockLine) (st : Step) → is_stop st ≡ is_parted (next_by f r st)
+next_parts f r (Continues kind) = refl
+next_parts f r (IsLastLine kind) = refl
+next_parts f r IsOverBefore = refl

@@ -3,7 +3,7 @@ use Rattle.std.proofs.Common.{◌≡◌, ℕ, Bool, true, false, ◌&&◌, ◌||
 use Rattle.std.specs.Option.{option_or, option_map}
 use Rattle.std.specs.Prelude.{unwrap_or, nat_lt, nat_le, cond}
 use Rattle.mdscan.specs.declared.atx_headings.AtxLine.{AtxLine}
-use Rattle.mdscan.specs.declared.fences.FenceLine.{FenceLine}
+use Rattle.mdscan.specs.declared.code_fences.FenceLine.{FenceLine}
 use Rattle.mdscan.specs.declared.list_markers.Marker.{Marker}
 use Rattle.mdscan.specs.AtxHeading.{atx_heading}
 use Rattle.mdscan.specs.BlockQuote.{is_quote_marker}

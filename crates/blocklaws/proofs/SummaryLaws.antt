@@ -7,7 +7,7 @@ use Rattle.blockspec.specs.BlockStart.{Container, Kind, Paragraph, SetextHeading
 use Rattle.blockspec.specs.BlockUnits.{group_of, groups_within}
 use Rattle.blockspec.specs.ContainerLines.{opened, inside, inner, is_bare}
 use Rattle.blockspec.specs.Laziness.{is_verbatim}
-use Rattle.blockspec.specs.LineSummary.{Summary, summary, Last, ended_block, open_leaf, open_container, no_summary, summary_tip, last_tip, leaf_group, container_group, closed, last_groups, ended_last, new_last, summary_gap, begin_after, leaf_after, container_after, last_after, line_added, last_at, last_of, summary_by, summary_within, is_apart_after, mark_of, begins_after}
+use Rattle.blockspec.specs.LineSummary.{Summary, summary, Last, ended_block, open_leaf, open_container, no_summary, summary_tip, last_tip, leaf_group, container_group, closed, last_groups, ended_last, new_last, summary_gap, begin_after, last_grown, leaf_after, container_after, last_after, line_added, last_at, last_of, summary_by, summary_within, is_apart_after, mark_of, begins_after}
 use Rattle.blockspec.specs.ListGroups.{Part, Group, grouped, merged}
 use Rattle.blockspec.specs.OpenLeaf.{OpenLeaf, leaf_from, is_parted}
 use Rattle.blockspec.specs.Stretches.{Stretch, Step, Continues, IsLastLine, IsOverBefore, continues_if, goes_on, step, is_single, Tail, Empty, Going, Over, Cut, no_lines, all_of, ended, tip_at, tip_of, gap_behind, first_of, tail_of, begin_where, grown, after_step, add_at, cut_from, cut_by, tip_within}
@@ -16,7 +16,7 @@ use Rattle.blocklaws.proofs.CutLaws.{cut_from_append}
 use Rattle.blocklaws.proofs.GroupLaws.{one_group}
 use Rattle.blocklaws.proofs.ItemLaws.{merged_nil, grouped_merged}
 use Rattle.blocklaws.proofs.LeafSteps.{IsLeaf, Sort, is_container, is_leaf, sort_of, LeafStep, step_leaf, IsMade, TailMade, cut_made}
-use Rattle.blocklaws.proofs.OpenLeafLaws.{leaf_tip, leaf_part, turned, leaf_turn, turned_parts}
+use Rattle.blocklaws.proofs.OpenLeafLaws.{leaf_tip, leaf_part, next_by, leaf_next, next_parts}
 use Rattle.blocklaws.proofs.UnitLaws.{mark_of_part}
 
 -- what is known of one depth
@@ -142,7 +142,7 @@ first_last {e = e} {d = d} h b g k f (is_leaf w) = leaf_first e d (is_single k f
 
 begin_law : {e : EntityTable} {d : ℕ} (h : Laws e d) (c : Cut) (l : BlockLine) (blank : Bool) → TailMade c.tail →
     summary_by e (groups_within e d) (summary_within e d) (begin_where blank (tip_within d) c l)
-    ≡ begin_after e (line_added e d) blank (over e d c.before) (last_of e (groups_within e d) (summary_within e d) c.tail) c.blank c.lines l
+    ≡ begin_after e (line_added e d) blank (summary (over e d c.before) (last_of e (groups_within e d) (summary_within e d) c.tail) c.blank c.lines) l
 unfolding begin_where begin_after
 begin_law {e = e} {d = d} h c l true v = ap (λ z. summary (over e d c.before) z true (suc c.lines)) (of_ended h c.tail)
 begin_law {e = e} {d = d} h c l false v =
@@ -157,8 +157,8 @@ cut_of before t b m = record { before = before; tail = t; blank = b; lines = m }
 
 leaf_law : {e : EntityTable} {d : ℕ} (h : Laws e d) (before : List Stretch) (s : Stretch) (b : Bool) (m : ℕ) (l : BlockLine) (st : Step) → IsLeaf s.kind → IsMade s.kind s.later → LeafStep st →
     summary_by e (groups_within e d) (summary_within e d) (after_step (tip_within d) (cut_of before (Going s) b m) s l st)
-    ≡ leaf_after e (line_added e d) (over e d before) s.begin s.gap (leaf_from s.kind s.first s.later) b m l (turned s.first (s.later ++ l ∷ []) st)
-unfolding after_step leaf_after last_of
+    ≡ leaf_after e (line_added e d) s.begin s.gap (next_by s.first (s.later ++ l ∷ []) st) (summary (over e d before) (open_leaf s.begin s.gap (leaf_from s.kind s.first s.later)) b m) l
+unfolding after_step leaf_after last_grown last_of
 leaf_law {e = e} {d = d} h before s b m l (Continues kind) w u v =
     ap (λ z. summary (over e d before) z (is_blank_line l) (suc m)) (leaf_last (summary_within e d) kind (grown s kind l) v)
 leaf_law {e = e} {d = d} h before s b m l (IsLastLine kind) w u v =
@@ -166,7 +166,7 @@ leaf_law {e = e} {d = d} h before s b m l (IsLastLine kind) w u v =
     (leaf_part e (groups_within e d) kind s.first (s.later ++ l ∷ []) v)
 leaf_law {e = e} {d = d} h before s b m l IsOverBefore w u v =
     begin_law h (cut_of before (Going s) b m) l (is_blank_line l) u
-    ∙ ap (λ z. begin_after e (line_added e d) (is_blank_line l) (over e d before) z b m l) (leaf_last (summary_within e d) s.kind s w)
+    ∙ ap (λ z. begin_after e (line_added e d) (is_blank_line l) (summary (over e d before) z b m) l) (leaf_last (summary_within e d) s.kind s w)
 
 -- ---- containers
 
@@ -180,8 +180,8 @@ inner_push c f r l = ap (λ z. opened c f ∷ z) (map-append (inside c) r (l ∷
 
 container_law : {e : EntityTable} {d : ℕ} (h : Laws e d) (before : List Stretch) (n : ℕ) (g : Bool) (c : Container) (f : BlockLine) (r : List BlockLine) (b : Bool) (m : ℕ) (l : BlockLine) (takes : Bool) →
     summary_by e (groups_within e d) (summary_within e d) (after_step (tip_within d) (cut_of before (Going (of_kind n g (Holds c) f r)) b m) (of_kind n g (Holds c) f r) l (continues_if takes (Holds c)))
-    ≡ container_after e (line_added e d) takes (over e d before) n g (is_bare c f r) c (summary_within e d (inner c f r)) b m l
-unfolding after_step container_after last_of last_at
+    ≡ container_after e (line_added e d) takes n g c (summary_within e d (inner c f r)) (summary (over e d before) (open_container n g (is_bare c f r) c (summary_within e d (inner c f r))) b m) l
+unfolding after_step container_after last_grown last_of last_at
 container_law {e = e} {d = d} h before n g c f r b m l true =
     let G = over e d before in
     ap (λ z. summary G (open_container n g z c (summary_within e d (inner c f (r ++ l ∷ [])))) (is_blank_line l) (suc m)) (bare_push c f r l)
@@ -192,21 +192,21 @@ container_law h before n g c f r b m l false = begin_law h (cut_of before (Going
 
 open_law : {e : EntityTable} {d : ℕ} (h : Laws e d) (before : List Stretch) (n : ℕ) (g : Bool) (k : Kind) (f : BlockLine) (r : List BlockLine) (b : Bool) (m : ℕ) (l : BlockLine) → Sort k → IsMade k r →
     summary_by e (groups_within e d) (summary_within e d) (after_step (tip_within d) (cut_of before (Going (of_kind n g k f r)) b m) (of_kind n g k f r) l (step (tip_within d) k f r l))
-    ≡ last_after e (line_added e d) (over e d before) (last_at (summary_within e d) k (of_kind n g k f r)) b m l
+    ≡ last_after e (line_added e d) (last_at (summary_within e d) k (of_kind n g k f r)) (summary (over e d before) (last_at (summary_within e d) k (of_kind n g k f r)) b m) l
 unfolding last_after last_at step
 open_law {e = e} {d = d} h before n g (Holds c) f r b m l is_container v =
     container_law h before n g c f r b m l (goes_on c (is_bare c f r) (tip_within d (inner c f r)) l)
-    ∙ ap (λ z. container_after e (line_added e d) (goes_on c (is_bare c f r) z l) (over e d before) n g (is_bare c f r) c (summary_within e d (inner c f r)) b m l) (h.tips (inner c f r))
+    ∙ ap (λ z. container_after e (line_added e d) (goes_on c (is_bare c f r) z l) n g c (summary_within e d (inner c f r)) (summary (over e d before) (last_at (summary_within e d) (Holds c) (of_kind n g (Holds c) f r)) b m) l) (h.tips (inner c f r))
 open_law {e = e} {d = d} h before n g k f r b m l (is_leaf w) v =
     let G = over e d before in
     let s = of_kind n g k f r in
     leaf_law h before s b m l (step (tip_within d) k f r l) w v (step_leaf (tip_within d) k f r l w)
-    ∙ ap (λ z. leaf_after e (line_added e d) G n g (leaf_from k f r) b m l z) (leaf_turn (tip_within d) k f r l w v)
-    ∙ ap (λ z. last_after e (line_added e d) G z b m l) (sym (leaf_last (summary_within e d) k s w))
+    ∙ ap (λ z. leaf_after e (line_added e d) n g z (summary G (open_leaf n g (leaf_from k f r)) b m) l) (leaf_next (tip_within d) k f r l w v)
+    ∙ ap (λ z. last_after e (line_added e d) z (summary G z b m) l) (sym (leaf_last (summary_within e d) k s w))
 
 at_law : {e : EntityTable} {d : ℕ} (h : Laws e d) (before : List Stretch) (t : Tail) (b : Bool) (m : ℕ) (l : BlockLine) → TailMade t →
     summary_by e (groups_within e d) (summary_within e d) (add_at (tip_within d) (cut_of before t b m) l t)
-    ≡ last_after e (line_added e d) (over e d before) (last_of e (groups_within e d) (summary_within e d) t) b m l
+    ≡ last_after e (line_added e d) (last_of e (groups_within e d) (summary_within e d) t) (summary (over e d before) (last_of e (groups_within e d) (summary_within e d) t) b m) l
 unfolding add_at last_after last_of
 at_law h before Empty b m l v = begin_law h (cut_of before Empty b m) l (is_blank_line l) v
 at_law h before (Over s) b m l v = begin_law h (cut_of before (Over s) b m) l (is_blank_line l) v
@@ -245,8 +245,8 @@ at_apart {d = d} h n g (Holds c) f r l is_container v =
     not_takes (goes_on c (is_bare c f r) (tip_within d (inner c f r)) l) (Holds c)
     ∙ ap (λ z. not (goes_on c (is_bare c f r) z l)) (h.tips (inner c f r))
 at_apart {e = e} {d = d} h n g k f r l (is_leaf w) v =
-    turned_parts f (r ++ l ∷ []) (step (tip_within d) k f r l)
-    ∙ ap is_parted (leaf_turn (tip_within d) k f r l w v)
+    next_parts f (r ++ l ∷ []) (step (tip_within d) k f r l)
+    ∙ ap is_parted (leaf_next (tip_within d) k f r l w v)
     ∙ ap (λ z. is_apart_after z l) (sym (leaf_last (summary_within e d) k (of_kind n g k f r) w))
 
 pub of_apart : {e : EntityTable} {d : ℕ} (h : Laws e d) (t : Tail) (l : BlockLine) → TailMade t →

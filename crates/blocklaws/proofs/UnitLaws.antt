@@ -96,66 +96,66 @@ head_mark [] = None
 head_mark (s ∷ ss) = Some (list_mark s.kind)
 
 -- a first block that begins with the first line, and is an item of this list or none
-abbrev pub Leads : Option ListKind → List Stretch → Type 0
-Leads m ss = (head_begin ss ≡ 0) × (head_mark ss ≡ Some m)
+abbrev pub IsHeadedBy : Option ListKind → List Stretch → Type 0
+IsHeadedBy m ss = (head_begin ss ≡ 0) × (head_mark ss ≡ Some m)
 
-leads_push : (m : Option ListKind) (ss xs : List Stretch) → Leads m ss → Leads m (ss ++ xs)
-leads_push m [] xs w = absurd (let e : None ≡ Some m = w.1 in let x : ⊥ = cc in x)
-leads_push m (s ∷ ss) xs w = w
+headed_push : (m : Option ListKind) (ss xs : List Stretch) → IsHeadedBy m ss → IsHeadedBy m (ss ++ xs)
+headed_push m [] xs w = absurd (let e : None ≡ Some m = w.1 in let x : ⊥ = cc in x)
+headed_push m (s ∷ ss) xs w = w
 
-ended_leads : (m : Option ListKind) (before : List Stretch) (t : Tail) → Leads m (all_of before t) → Leads m (all_of before (ended t))
+ended_headed : (m : Option ListKind) (before : List Stretch) (t : Tail) → IsHeadedBy m (all_of before t) → IsHeadedBy m (all_of before (ended t))
 unfolding all_of
-ended_leads m before Empty w = w
-ended_leads m before (Going s) w = w
-ended_leads m before (Over s) w = w
+ended_headed m before Empty w = w
+ended_headed m before (Going s) w = w
+ended_headed m before (Over s) w = w
 
-tail_leads : (m : Option ListKind) (before : List Stretch) (b : Bool) (s : Stretch) → Leads m before → Leads m (all_of before (tail_of b s))
+tail_headed : (m : Option ListKind) (before : List Stretch) (b : Bool) (s : Stretch) → IsHeadedBy m before → IsHeadedBy m (all_of before (tail_of b s))
 unfolding all_of
-tail_leads m before true s w = leads_push m before (s ∷ []) w
-tail_leads m before false s w = leads_push m before (s ∷ []) w
+tail_headed m before true s w = headed_push m before (s ∷ []) w
+tail_headed m before false s w = headed_push m before (s ∷ []) w
 
-begin_leads : (T : List BlockLine → Tip) (m : Option ListKind) (c : Cut) (l : BlockLine) (blank : Bool) → Leads m (stretches c) → Leads m (stretches (begin_where blank T c l))
+begin_headed : (T : List BlockLine → Tip) (m : Option ListKind) (c : Cut) (l : BlockLine) (blank : Bool) → IsHeadedBy m (stretches c) → IsHeadedBy m (stretches (begin_where blank T c l))
 unfolding begin_where
-begin_leads T m c l true w = ended_leads m c.before c.tail w
-begin_leads T m c l false w = tail_leads m (stretches c) _ _ w
+begin_headed T m c l true w = ended_headed m c.before c.tail w
+begin_headed T m c l false w = tail_headed m (stretches c) _ _ w
 
-grown_leads : (m : Option ListKind) (before : List Stretch) (s : Stretch) (k : Kind) (l : BlockLine) → list_mark k ≡ list_mark s.kind →
-    Leads m (before ++ s ∷ []) → Leads m (before ++ grown s k l ∷ [])
-grown_leads m [] s k l e w = (w.0, ap (λ (z : Option ListKind). Some z) e ∙ w.1)
-grown_leads m (o ∷ os) s k l e w = w
+grown_headed : (m : Option ListKind) (before : List Stretch) (s : Stretch) (k : Kind) (l : BlockLine) → list_mark k ≡ list_mark s.kind →
+    IsHeadedBy m (before ++ s ∷ []) → IsHeadedBy m (before ++ grown s k l ∷ [])
+grown_headed m [] s k l e w = (w.0, ap (λ (z : Option ListKind). Some z) e ∙ w.1)
+grown_headed m (o ∷ os) s k l e w = w
 
-step_leads : (T : List BlockLine → Tip) (m : Option ListKind) (c : Cut) (s : Stretch) (l : BlockLine) (st : Step) → keeps (list_mark s.kind) st →
-    Leads m (c.before ++ s ∷ []) → Leads m (stretches c) → Leads m (stretches (after_step T c s l st))
+step_headed : (T : List BlockLine → Tip) (m : Option ListKind) (c : Cut) (s : Stretch) (l : BlockLine) (st : Step) → keeps (list_mark s.kind) st →
+    IsHeadedBy m (c.before ++ s ∷ []) → IsHeadedBy m (stretches c) → IsHeadedBy m (stretches (after_step T c s l st))
 unfolding after_step all_of
-step_leads T m c s l (Continues kind) k w w' = grown_leads m c.before s kind l k w
-step_leads T m c s l (IsLastLine kind) k w w' = grown_leads m c.before s kind l k w
-step_leads T m c s l IsOverBefore k w w' = begin_leads T m c l (is_blank_line l) w'
+step_headed T m c s l (Continues kind) k w w' = grown_headed m c.before s kind l k w
+step_headed T m c s l (IsLastLine kind) k w w' = grown_headed m c.before s kind l k w
+step_headed T m c s l IsOverBefore k w w' = begin_headed T m c l (is_blank_line l) w'
 
-add_leads : (T : List BlockLine → Tip) (m : Option ListKind) (before : List Stretch) (t : Tail) (b : Bool) (n : ℕ) (l : BlockLine) → Leads m (all_of before t) →
-    Leads m (stretches (add_at T (record { before = before; tail = t; blank = b; lines = n }) l t))
+add_headed : (T : List BlockLine → Tip) (m : Option ListKind) (before : List Stretch) (t : Tail) (b : Bool) (n : ℕ) (l : BlockLine) → IsHeadedBy m (all_of before t) →
+    IsHeadedBy m (stretches (add_at T (record { before = before; tail = t; blank = b; lines = n }) l t))
 unfolding add_at all_of
-add_leads T m before Empty b n l w = begin_leads T m (record { before = before; tail = Empty; blank = b; lines = n }) l (is_blank_line l) w
-add_leads T m before (Over s) b n l w = begin_leads T m (record { before = before; tail = Over s; blank = b; lines = n }) l (is_blank_line l) w
-add_leads T m before (Going s) b n l w =
-    step_leads T m (record { before = before; tail = Going s; blank = b; lines = n }) s l (step T s.kind s.first s.later l) (step_keeps T s.kind s.first s.later l) w w
+add_headed T m before Empty b n l w = begin_headed T m (record { before = before; tail = Empty; blank = b; lines = n }) l (is_blank_line l) w
+add_headed T m before (Over s) b n l w = begin_headed T m (record { before = before; tail = Over s; blank = b; lines = n }) l (is_blank_line l) w
+add_headed T m before (Going s) b n l w =
+    step_headed T m (record { before = before; tail = Going s; blank = b; lines = n }) s l (step T s.kind s.first s.later l) (step_keeps T s.kind s.first s.later l) w w
 
-cut_leads : (T : List BlockLine → Tip) (m : Option ListKind) (c : Cut) (xs : List BlockLine) → Leads m (stretches c) → Leads m (stretches (cut_from T c xs))
+cut_headed : (T : List BlockLine → Tip) (m : Option ListKind) (c : Cut) (xs : List BlockLine) → IsHeadedBy m (stretches c) → IsHeadedBy m (stretches (cut_from T c xs))
 unfolding cut_from
-cut_leads T m c [] w = w
-cut_leads T m c (x ∷ xs) w = cut_leads T m (add T c x) xs (add_leads T m c.before c.tail c.blank c.lines x w)
+cut_headed T m c [] w = w
+cut_headed T m c (x ∷ xs) w = cut_headed T m (add T c x) xs (add_headed T m c.before c.tail c.blank c.lines x w)
 
-one_leads : (b : Bool) (l : BlockLine) → Leads (list_mark (begun l)) (all_of [] (tail_of b (first_of 0 false l)))
+one_headed : (b : Bool) (l : BlockLine) → IsHeadedBy (list_mark (begun l)) (all_of [] (tail_of b (first_of 0 false l)))
 unfolding all_of
-one_leads true l = (refl, refl)
-one_leads false l = (refl, refl)
+one_headed true l = (refl, refl)
+one_headed false l = (refl, refl)
 
 -- the first of some lines that begins a block
-pub first_leads : (T : List BlockLine → Tip) (l : BlockLine) (xs : List BlockLine) → is_blank_line l ≡ false → Leads (list_mark (begun l)) (stretches (cut_by T (l ∷ xs)))
+pub first_headed : (T : List BlockLine → Tip) (l : BlockLine) (xs : List BlockLine) → is_blank_line l ≡ false → IsHeadedBy (list_mark (begun l)) (stretches (cut_by T (l ∷ xs)))
 unfolding cut_from add_at begin_where all_of
-first_leads T l xs e =
+first_headed T l xs e =
     let f : add T no_lines l ≡ record { before = []; tail = tail_of (is_single (begun l) l) (first_of 0 false l); blank = false; lines = 1 } =
     ap (λ z. begin_where z T no_lines l) e in
-    cut_leads T (list_mark (begun l)) (add T no_lines l) xs (rw f (one_leads (is_single (begun l) l) l))
+    cut_headed T (list_mark (begun l)) (add T no_lines l) xs (rw f (one_headed (is_single (begun l) l) l))
 
 -- ---- what a cut is
 
@@ -272,7 +272,7 @@ marks_apart e R s r m f g =
 
 -- a last block, and the blocks behind it
 behind_last : (e : EntityTable) (R : List BlockLine → List Group) (before : List Stretch) (s : Stretch) (ss : List Stretch) (m : Option ListKind) (gap : Bool) (n M total : ℕ) →
-    Leads m ss → same_mark (list_mark s.kind) m ≡ false → total ≡ M + n →
+    IsHeadedBy m ss → same_mark (list_mark s.kind) m ≡ false → total ≡ M + n →
     found_units (grouped (map (group_of e R) ((before ++ s ∷ []) ++ shift_all gap n ss))) total
     ≡ found_units (grouped (map (group_of e R) (before ++ s ∷ []))) n ++ map (shift_found n) (found_units (grouped (map (group_of e R) ss)) M)
 behind_last e R before s [] m gap n M total w f t = absurd (let q : None ≡ Some m = w.1 in let x : ⊥ = cc in x)
@@ -301,7 +301,7 @@ behind_none e R before ss gap n M total w t =
     ∙ ap (λ z. found_units (grouped (map G z)) n ++ map (shift_found n) (found_units (grouped (map G ss)) M)) (sym w)
 
 behind : (e : EntityTable) (R : List BlockLine → List Group) (before : List Stretch) (t : Tail) (ss : List Stretch) (m : Option ListKind) (gap : Bool) (n M total : ℕ) →
-    IsWhole before t → Leads m ss → same_mark (tail_mark t) m ≡ false → total ≡ M + n →
+    IsWhole before t → IsHeadedBy m ss → same_mark (tail_mark t) m ≡ false → total ≡ M + n →
     found_units (grouped (map (group_of e R) (all_of before t ++ shift_all gap n ss))) total
     ≡ found_units (grouped (map (group_of e R) (all_of before t))) n ++ map (shift_found n) (found_units (grouped (map (group_of e R) ss)) M)
 unfolding all_of
@@ -322,6 +322,19 @@ three_facts true false true e = absurd (let x : ⊥ = cc in x)
 three_facts true true c e = absurd (let x : ⊥ = cc in x)
 three_facts false b c e = absurd (let x : ⊥ = cc in x)
 
+-- Where a line goes on with no block, the stretches from it on are those of the lines from it on alone, so many lines further on.
+pub stretches_meet : (T : List BlockLine → Tip) (xs : List BlockLine) (l : BlockLine) (ys : List BlockLine) → is_apart T (cut_by T xs).tail l ≡ true → is_blank_line l ≡ false →
+    stretches (cut_by T (xs ++ l ∷ ys)) ≡ stretches (cut_by T xs) ++ shift_all (gap_behind T (cut_by T xs)) (length xs) (stretches (cut_by T (l ∷ ys)))
+stretches_meet T xs l ys a b =
+    let c : Cut = cut_by T xs in
+    let c' : Cut = cut_by T (l ∷ ys) in
+    let gap = gap_behind T c in
+    let n : c.lines ≡ length xs = cut_lines T no_lines xs ∙ (let z : 0 + length xs ≡ length xs = omega arith in z) in
+    ap (λ (z : Cut). stretches z) (cut_from_append T no_lines xs (l ∷ ys) ∙ meets T c l ys a b)
+    ∙ all_of_prepend (stretches c) (moved gap c.lines c').before (moved gap c.lines c').tail
+    ∙ ap (λ z. stretches c ++ z) (stretches_moved gap c.lines c'.before c'.tail c'.blank c'.lines)
+    ∙ ap (λ k. stretches c ++ shift_all gap k (stretches c')) n
+
 -- Where a line begins a unit, the units before it are those of the lines before it alone, and from it on they are those
 -- of the lines from it on alone, so many lines further on.
 pub units_split : (e : EntityTable) (d : ℕ) (xs : List BlockLine) (l : BlockLine) (ys : List BlockLine) →
@@ -336,12 +349,6 @@ units_split e d xs l ys b =
     let c' : Cut = cut_by T (l ∷ ys) in
     let gap = gap_behind T c in
     let total = length (xs ++ l ∷ ys) in
-    let n : c.lines ≡ length xs = cut_lines T no_lines xs ∙ (let z : 0 + length xs ≡ length xs = omega arith in z) in
-    let cut_is : stretches (cut_by T (xs ++ l ∷ ys)) ≡ stretches c ++ shift_all gap c.lines (stretches c') =
-    ap (λ (z : Cut). stretches z) (cut_from_append T no_lines xs (l ∷ ys) ∙ meets T c l ys w.0 w.1)
-    ∙ all_of_prepend (stretches c) (moved gap c.lines c').before (moved gap c.lines c').tail
-    ∙ ap (λ z. stretches c ++ z) (stretches_moved gap c.lines c'.before c'.tail c'.blank c'.lines) in
-    ap (λ z. found_units (grouped (map G z)) total) cut_is
-    ∙ ap (λ z. found_units (grouped (map G (stretches c ++ shift_all gap z (stretches c')))) total) n
+    ap (λ z. found_units (grouped (map G z)) total) (stretches_meet T xs l ys w.0 w.1)
     ∙ behind e (groups_within e d) c.before c.tail (stretches c') (list_mark (begun l)) gap (length xs) (length (l ∷ ys)) total
-    (cut_whole T no_lines xs refl) (first_leads T l ys w.1) w.2 (both_lengths xs (l ∷ ys))
+    (cut_whole T no_lines xs refl) (first_headed T l ys w.1) w.2 (both_lengths xs (l ∷ ys))

@@ -117,11 +117,15 @@ abbrev pub begins_rows : Mode → List BlockLine → BlockLine → Option Kind
 begins_rows mode paragraph l =
     if is_inside mode && begins_table (last_text paragraph) (rest l) then Some (Table (length paragraph)) else None
 
+abbrev pub first_that_fits : Option Kind → List (Option Kind) → Option Kind
+first_that_fits one [] = one
+first_that_fits one (other ∷ rest) = option_or one (first_that_fits other rest)
+
 -- a line with an indentation of at most three columns
 unfoldable pub start_near : Mode → (paragraph : List BlockLine) → BlockLine → Option Kind
 start_near mode paragraph l =
-    option_or (begins_quote l) (option_or (begins_atx l) (option_or (begins_fence l) (option_or (begins_html mode l)
-    (option_or (begins_underline mode paragraph l) (option_or (begins_break l) (option_or (begins_item mode l) (begins_rows mode paragraph l)))))))
+    first_that_fits (begins_quote l) (begins_atx l ∷ begins_fence l ∷ begins_html mode l ∷ begins_underline mode paragraph l
+    ∷ begins_break l ∷ begins_item mode l ∷ begins_rows mode paragraph l ∷ [])
 
 -- Indented code (CommonMark 4.4) can't interrupt a paragraph.
 abbrev pub start_far : Mode → Option Kind

@@ -9,7 +9,7 @@ use Rattle.blockspec.specs.ContainerLines.{opened, inside, inner, is_bare}
 use Rattle.blockspec.specs.Laziness.{Tip, Closed, is_verbatim}
 use Rattle.blockspec.specs.BlockTree.{ListKind}
 use Rattle.blockspec.specs.ListGroups.{Part, Leaves, Quoted, Listed, Group, grouped, merged}
-use Rattle.blockspec.specs.OpenLeaf.{OpenLeaf, open_tip, open_leaves, leaf_from, Turn, ContinuesAs, EndsAs, EndedBefore, turn_at, is_parted}
+use Rattle.blockspec.specs.OpenLeaf.{OpenLeaf, open_tip, open_leaves, leaf_from, NextLeaf, ContinuesAs, EndsAs, EndedBefore, next_leaf, is_parted}
 use Rattle.blockspec.specs.UnitBegin.{list_mark, same_mark}
 use Rattle.blockspec.specs.Stretches.{Stretch, goes_on, is_single, Tail, Empty, Going, Over, Cut, first_of, cut_within}
 
@@ -25,6 +25,9 @@ mutual
 
 abbrev pub no_summary : Summary
 no_summary = summary [] nothing_yet false 0
+
+abbrev pub last_in : Summary → Last
+last_in (summary before last blank lines) = last
 
 -- what is open at the end of the lines
 unfoldable mutual
@@ -71,33 +74,36 @@ abbrev pub summary_gap : Last → (blank : Bool) → Bool
 summary_gap last blank = blank && not (is_verbatim (last_tip last))
 
 -- a line that goes on with no block
-unfoldable pub begin_after : EntityTable → (more : Summary → BlockLine → Summary) → (blank_line : Bool) → List Group → Last → (blank : Bool) → (lines : ℕ) → BlockLine → Summary
-begin_after entities more true before last blank lines l = summary before (ended_last entities last) true (suc lines)
-begin_after entities more false before last blank lines l =
+unfoldable pub begin_after : EntityTable → (more : Summary → BlockLine → Summary) → (blank_line : Bool) → Summary → BlockLine → Summary
+begin_after entities more true (summary before last blank lines) l = summary before (ended_last entities last) true (suc lines)
+begin_after entities more false (summary before last blank lines) l =
     summary (merged before (last_groups entities last)) (new_last entities more (is_single (begun l) l) (begun l) (first_of lines (summary_gap last blank) l)) false (suc lines)
 
-unfoldable pub leaf_after : EntityTable → (more : Summary → BlockLine → Summary) → List Group → (begin : ℕ) → (gap : Bool) → OpenLeaf → (blank : Bool) → (lines : ℕ) → BlockLine → Turn → Summary
-leaf_after entities more before begin gap leaf blank lines l (ContinuesAs next) = summary before (open_leaf begin gap next) (is_blank_line l) (suc lines)
-leaf_after entities more before begin gap leaf blank lines l (EndsAs next) = summary before (ended_block (leaf_group entities begin gap next)) (is_blank_line l) (suc lines)
-leaf_after entities more before begin gap leaf blank lines l EndedBefore = begin_after entities more (is_blank_line l) before (open_leaf begin gap leaf) blank lines l
+-- a line of the last block, which it makes this
+unfoldable pub last_grown : Summary → Last → BlockLine → Summary
+last_grown (summary before last blank lines) grown l = summary before grown (is_blank_line l) (suc lines)
 
-unfoldable pub container_after : EntityTable → (more : Summary → BlockLine → Summary) → (takes : Bool) → List Group → (begin : ℕ) → (gap bare : Bool) → Container → Summary → (blank : Bool) → (lines : ℕ) → BlockLine → Summary
-container_after entities more true before begin gap bare container inner blank lines l =
-    summary before (open_container begin gap false container (more inner (inside container l))) (is_blank_line l) (suc lines)
-container_after entities more false before begin gap bare container inner blank lines l =
-    begin_after entities more (is_blank_line l) before (open_container begin gap bare container inner) blank lines l
+unfoldable pub leaf_after : EntityTable → (more : Summary → BlockLine → Summary) → (begin : ℕ) → (gap : Bool) → NextLeaf → Summary → BlockLine → Summary
+leaf_after entities more begin gap (ContinuesAs next) s l = last_grown s (open_leaf begin gap next) l
+leaf_after entities more begin gap (EndsAs next) s l = last_grown s (ended_block (leaf_group entities begin gap next)) l
+leaf_after entities more begin gap EndedBefore s l = begin_after entities more (is_blank_line l) s l
 
-unfoldable pub last_after : EntityTable → (more : Summary → BlockLine → Summary) → List Group → Last → (blank : Bool) → (lines : ℕ) → BlockLine → Summary
-last_after entities more before nothing_yet blank lines l = begin_after entities more (is_blank_line l) before nothing_yet blank lines l
-last_after entities more before (ended_block g) blank lines l = begin_after entities more (is_blank_line l) before (ended_block g) blank lines l
-last_after entities more before (open_leaf begin gap leaf) blank lines l = leaf_after entities more before begin gap leaf blank lines l (turn_at leaf l)
-last_after entities more before (open_container begin gap bare container inner) blank lines l =
-    container_after entities more (goes_on container bare (summary_tip inner) l) before begin gap bare container inner blank lines l
+unfoldable pub container_after : EntityTable → (more : Summary → BlockLine → Summary) → (takes : Bool) → (begin : ℕ) → (gap : Bool) → Container → (inner s : Summary) → BlockLine → Summary
+container_after entities more true begin gap container inner s l = last_grown s (open_container begin gap false container (more inner (inside container l))) l
+container_after entities more false begin gap container inner s l = begin_after entities more (is_blank_line l) s l
+
+-- a line behind this last block
+unfoldable pub last_after : EntityTable → (more : Summary → BlockLine → Summary) → Last → Summary → BlockLine → Summary
+last_after entities more nothing_yet s l = begin_after entities more (is_blank_line l) s l
+last_after entities more (ended_block g) s l = begin_after entities more (is_blank_line l) s l
+last_after entities more (open_leaf begin gap leaf) s l = leaf_after entities more begin gap (next_leaf leaf l) s l
+last_after entities more (open_container begin gap bare container inner) s l =
+    container_after entities more (goes_on container bare (summary_tip inner) l) begin gap container inner s l
 
 -- one line more, in containers that lie in one another at most so deep
 unfoldable pub line_added : EntityTable → (depth : ℕ) → Summary → BlockLine → Summary
 line_added entities zero s l = no_summary
-line_added entities (suc depth) (summary before last blank lines) l = last_after entities (line_added entities depth) before last blank lines l
+line_added entities (suc depth) s l = last_after entities (line_added entities depth) (last_in s) s l
 
 -- the summary of some lines
 unfoldable pub last_at : (below : List BlockLine → Summary) → Kind → Stretch → Last
@@ -125,7 +131,7 @@ summary_of entities ls = summary_within entities (depth_of ls) ls
 unfoldable pub is_apart_after : Last → BlockLine → Bool
 is_apart_after nothing_yet l = true
 is_apart_after (ended_block g) l = true
-is_apart_after (open_leaf begin gap leaf) l = is_parted (turn_at leaf l)
+is_apart_after (open_leaf begin gap leaf) l = is_parted (next_leaf leaf l)
 is_apart_after (open_container begin gap bare container inner) l = not (goes_on container bare (summary_tip inner) l)
 
 abbrev pub part_mark : Part → Option ListKind

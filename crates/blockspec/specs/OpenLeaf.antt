@@ -88,12 +88,12 @@ leaf_from (Holds container) first later = done_leaf []
 -- ---- one line more
 
 -- The line is one of the leaf's lines; its last one; the leaf is over before it.
-pub data Turn : Type 0 where
-  ContinuesAs : OpenLeaf → Turn
-  EndsAs : OpenLeaf → Turn
-  EndedBefore : Turn
+pub data NextLeaf : Type 0 where
+  ContinuesAs : OpenLeaf → NextLeaf
+  EndsAs : OpenLeaf → NextLeaf
+  EndedBefore : NextLeaf
 
-abbrev pub continues_as_if : Bool → OpenLeaf → Turn
+abbrev pub continues_as_if : Bool → OpenLeaf → NextLeaf
 continues_as_if true leaf = ContinuesAs leaf
 continues_as_if false leaf = EndedBefore
 
@@ -114,26 +114,26 @@ level_under text l = if not (is_definitions_alone (without_end_blanks text)) the
 -- A line behind a paragraph with an indentation of at most three columns, by the first start that fits: an underline makes a
 -- heading of it (CommonMark 4.3), a delimiter row a table of its last line (GFM Tables (extension)), any other ends it, and with none it
 -- goes on (CommonMark 4.8).
-abbrev pub near_turn : (text last above : List ℕ) → (before : Option Kind) → (level : Option ℕ) → (after : Option Kind) → (delimits : Bool) → BlockLine → Turn
-near_turn text last above (Some kind) level after delimits l = EndedBefore
-near_turn text last above None (Some level) after delimits l = EndsAs (done_heading level text)
-near_turn text last above None None (Some kind) delimits l = EndedBefore
-near_turn text last above None None None true l = ContinuesAs (open_table above (row_aligns (rest l)) (row_texts last) [])
-near_turn text last above None None None false l = ContinuesAs (text_more text l)
+abbrev pub next_near : (text last above : List ℕ) → (before : Option Kind) → (level : Option ℕ) → (after : Option Kind) → (delimits : Bool) → BlockLine → NextLeaf
+next_near text last above (Some kind) level after delimits l = EndedBefore
+next_near text last above None (Some level) after delimits l = EndsAs (done_heading level text)
+next_near text last above None None (Some kind) delimits l = EndedBefore
+next_near text last above None None None true l = ContinuesAs (open_table above (row_aligns (rest l)) (row_texts last) [])
+next_near text last above None None None false l = ContinuesAs (text_more text l)
 
 -- a line behind a paragraph, lazy or blank or with an indentation of at most three columns or none of these
-abbrev pub text_turn : (text last above : List ℕ) → (lazy blank near : Bool) → BlockLine → Turn
-text_turn text last above true blank near l = ContinuesAs (text_more text l)
-text_turn text last above false true near l = EndedBefore
-text_turn text last above false false true l =
-    near_turn text last above (before_underline l) (level_under text l) (after_underline l) (begins_table last (rest l)) l
-text_turn text last above false false false l = ContinuesAs (text_more text l)
+abbrev pub next_text : (text last above : List ℕ) → (lazy blank near : Bool) → BlockLine → NextLeaf
+next_text text last above true blank near l = ContinuesAs (text_more text l)
+next_text text last above false true near l = EndedBefore
+next_text text last above false false true l =
+    next_near text last above (before_underline l) (level_under text l) (after_underline l) (begins_table last (rest l)) l
+next_text text last above false false false l = ContinuesAs (text_more text l)
 
 -- HTML block (CommonMark 4.6)
-abbrev pub html_turn : (blank ends : Bool) → (kind : ℕ) → (text : List ℕ) → Turn
-html_turn true ends kind text = continues_as_if (nat_lt kind 6) (open_html kind text)
-html_turn false true kind text = EndsAs (open_html kind text)
-html_turn false false kind text = ContinuesAs (open_html kind text)
+abbrev pub next_html : (blank ends : Bool) → (kind : ℕ) → (text : List ℕ) → NextLeaf
+next_html true ends kind text = continues_as_if (nat_lt kind 6) (open_html kind text)
+next_html false true kind text = EndsAs (open_html kind text)
+next_html false false kind text = ContinuesAs (open_html kind text)
 
 abbrev pub code_line : (columns : ℕ) → BlockLine → List ℕ
 code_line columns l = (without_columns l columns).line.text ++ 10 ∷ []
@@ -144,22 +144,22 @@ code_more true body blanks line = open_code body (blanks ++ line)
 code_more false body blanks line = open_code (body ++ blanks ++ line) []
 
 -- Fenced code (CommonMark 4.5)
-abbrev pub fence_turn : (closed : Bool) → (indentation mark length : ℕ) → (info body line : List ℕ) → Turn
-fence_turn true indentation mark length info body line = EndsAs (open_fence indentation mark length info body)
-fence_turn false indentation mark length info body line = ContinuesAs (open_fence indentation mark length info (body ++ line))
+abbrev pub next_fence : (closed : Bool) → (indentation mark length : ℕ) → (info body line : List ℕ) → NextLeaf
+next_fence true indentation mark length info body line = EndsAs (open_fence indentation mark length info body)
+next_fence false indentation mark length info body line = ContinuesAs (open_fence indentation mark length info (body ++ line))
 
 -- what one line more makes of an open leaf
-unfoldable pub turn_at : OpenLeaf → BlockLine → Turn
-turn_at (open_text text last above) l = text_turn text last above l.lazy (is_blank_line l) (nat_le (indentation l) 3) l
-turn_at (open_table above aligns head rows) l = continues_as_if (is_row l) (open_table above aligns head (rows ++ row_of aligns (rest l) ∷ []))
-turn_at (open_fence indentation mark length info body) l = fence_turn (closes mark length l) indentation mark length info body (code_line indentation l)
-turn_at (open_code body blanks) l = continues_as_if (is_code l) (code_more (is_blank_line l) body blanks (code_line 4 l))
-turn_at (open_html kind text) l = html_turn (is_blank_line l) (ends_html kind l) kind (text ++ 10 ∷ l.line.text)
-turn_at (done_heading level text) l = EndedBefore
-turn_at (done_leaf leaves) l = EndedBefore
+unfoldable pub next_leaf : OpenLeaf → BlockLine → NextLeaf
+next_leaf (open_text text last above) l = next_text text last above l.lazy (is_blank_line l) (nat_le (indentation l) 3) l
+next_leaf (open_table above aligns head rows) l = continues_as_if (is_row l) (open_table above aligns head (rows ++ row_of aligns (rest l) ∷ []))
+next_leaf (open_fence indentation mark length info body) l = next_fence (closes mark length l) indentation mark length info body (code_line indentation l)
+next_leaf (open_code body blanks) l = continues_as_if (is_code l) (code_more (is_blank_line l) body blanks (code_line 4 l))
+next_leaf (open_html kind text) l = next_html (is_blank_line l) (ends_html kind l) kind (text ++ 10 ∷ l.line.text)
+next_leaf (done_heading level text) l = EndedBefore
+next_leaf (done_leaf leaves) l = EndedBefore
 
 -- the leaf is over before the line
-abbrev pub is_parted : Turn → Bool
+abbrev pub is_parted : NextLeaf → Bool
 is_parted (ContinuesAs leaf) = false
 is_parted (EndsAs leaf) = false
 is_parted EndedBefore = true

@@ -1,7 +1,7 @@
 -- Task list items (GFM Task list items (extension)): an item whose first block is a paragraph that begins with a task marker. Here
 -- definitions before the paragraph don't hinder.
 use Rattle.std.specs.Prelude.{ℕ, List, drop, Option, Some, None}
-use Rattle.mdscan.specs.declared.tasks.TaskMark.{TaskMark}
+use Rattle.mdscan.specs.declared.task_list_items.TaskMark.{TaskMark}
 use Rattle.mdscan.specs.TaskMarker.{task_marker}
 use Rattle.blockspec.specs.NodeTree.{Leaf, definition_leaf, paragraph_leaf, Nodes, no_nodes, leaf_node, quote_node, list_node}
 

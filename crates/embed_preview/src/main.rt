@@ -36,10 +36,8 @@ fn tell(rt: &impl Print, preview: &mut Preview, at: usize, del: usize, add: &[&s
         "from piece {} on {} went and {} came",
         patch.first, patch.removed, patch.added
     )?;
-    for number in 0..preview.units() {
-        if let Some(html) = patch.text(preview, number) {
-            println!(rt; "piece {number}:\n{html}")?;
-        }
+    for (number, html) in patch.pieces(preview)? {
+        println!(rt; "piece {number}:\n{html}")?;
     }
     Ok(())
 }

@@ -11,7 +11,7 @@ use Rattle.mdtext.specs.Labels.{words, has_bare_bracket}
 use Rattle.mdtext.specs.References.{reference, meaning, unescaped_from}
 use Rattle.mdscan.specs.AutoLink.{scheme_length, uri_end, mail_marks, domain_label_length, dotted_label_length, mail_end, autolink_at}
 use Rattle.mdscan.specs.Escapes.{run_before}
-use Rattle.mdscan.specs.Gaps.{gap_length}
+use Rattle.mdscan.specs.Spacing.{spacing_length}
 use Rattle.mdscan.specs.Tag.{tag_name_length, attribute_name_length, quoted_length, value_length, equals_length, value_part_length, attribute_length, open_end_length, open_tag, closing_tag}
 use Rattle.mdscan.specs.InlineTail.{tail_to, titled_tail, tail_inside, inline_tail_at}
 use Rattle.mdscan.specs.LinkDestination.{angle_destination, bare_end, destination_at}
@@ -33,5 +33,5 @@ use Rattle.inlinespec.specs.TextReading.{item_at, items_from, pieces_after, asks
 use Rattle.inlinespec.specs.TextTree.{inl, asked}
 
 unfoldable pub inline_words : Unit {0}
-unfolding chars encode_utf8 default_case_fold full_folding full_folding_rows general_category general_category_rows value_in words has_bare_bracket reference meaning unescaped_from scheme_length uri_end mail_marks domain_label_length dotted_label_length mail_end autolink_at run_before gap_length tag_name_length attribute_name_length quoted_length value_length equals_length value_part_length attribute_length open_end_length open_tag closing_tag tail_to titled_tail tail_inside inline_tail_at angle_destination bare_end destination_at label_at title_to title_at place_of delimited comment declaration raw_html repeats left_flanking right_flanking opens_between closes_between run_at matches_in matches without_references code_content code_inside rows_of escape_lexeme lex spaced_break backslash_break link_tail_at nest settled item_at items_from pieces_after asks_of inl asked
+unfolding chars encode_utf8 default_case_fold full_folding full_folding_rows general_category general_category_rows value_in words has_bare_bracket reference meaning unescaped_from scheme_length uri_end mail_marks domain_label_length dotted_label_length mail_end autolink_at run_before spacing_length tag_name_length attribute_name_length quoted_length value_length equals_length value_part_length attribute_length open_end_length open_tag closing_tag tail_to titled_tail tail_inside inline_tail_at angle_destination bare_end destination_at label_at title_to title_at place_of delimited comment declaration raw_html repeats left_flanking right_flanking opens_between closes_between run_at matches_in matches without_references code_content code_inside rows_of escape_lexeme lex spaced_break backslash_break link_tail_at nest settled item_at items_from pieces_after asks_of inl asked
 inline_words = tt

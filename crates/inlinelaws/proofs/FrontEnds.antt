@@ -12,7 +12,7 @@ use Rattle.mdtext.specs.EntityTable.{EntityTable, entity_text}
 use Rattle.mdtext.specs.References.{Meaning, numeric, named, reference}
 use Rattle.mdscan.specs.declared.autolinks.Auto.{Auto}
 use Rattle.mdscan.specs.AutoLink.{scheme_length, in_uri, in_mail_name, domain_label_length, dotted_label_length, uri_end, mail_end, auto_of, or_auto, autolink_at}
-use Rattle.mdscan.specs.Gaps.{gap_length}
+use Rattle.mdscan.specs.Spacing.{spacing_length}
 use Rattle.mdscan.specs.Repeats.{repeats}
 use Rattle.mdscan.specs.Blanks.{begins_with}
 use Rattle.mdscan.specs.Tag.{first_is, tag_name_length, attribute_length, open_end_length, open_tag, closing_tag}
@@ -103,14 +103,14 @@ autolink_ends text at = by (begins_with 60 (drop at text))
 
 open_end_within : (text : List ℕ) → open_end_length text ≤ length text
 unfolding open_end_length
-open_end_within text = by (begins_with 62 (drop gap text)) (starts_with nat_eq (drop gap text) (codes "/>")) (begins_below 62 gap text) (starts_within (drop gap text) (codes "/>"))
+open_end_within text = by (begins_with 62 (drop spacing text)) (starts_with nat_eq (drop spacing text) (codes "/>")) (begins_below 62 spacing text) (starts_within (drop spacing text) (codes "/>"))
   where
-    gap : ℕ
-    gap = gap_length text
+    spacing : ℕ
+    spacing = spacing_length text
 
-    by : (s t : Bool) → (s ≡ true → gap < length text) → (t ≡ true → 2 ≤ length (drop gap text)) → (if s then gap + 1 else (if t then gap + 2 else 0)) ≤ length text
+    by : (s t : Bool) → (s ≡ true → spacing < length text) → (t ≡ true → 2 ≤ length (drop spacing text)) → (if s then spacing + 1 else (if t then spacing + 2 else 0)) ≤ length text
     by true t h k = let one = h refl in omega arith
-    by false true h k = behind text gap 2 (omega arith) (k refl)
+    by false true h k = behind text spacing 2 (omega arith) (k refl)
     by false false h k = omega arith
 
 open_tag_size : (text : List ℕ) → IfSome (open_tag text) (IsSizeIn text)
@@ -128,8 +128,8 @@ closing_tag_size : (text : List ℕ) → IfSome (closing_tag text) (IsSizeIn tex
 unfolding closing_tag
 closing_tag_size text =
     let name = tag_name_length (drop 2 text) in
-    let gap = gap_length (drop (2 + name) text) in
-    let k : ℕ = 2 + name + gap in
+    let spacing = spacing_length (drop (2 + name) text) in
+    let k : ℕ = 2 + name + spacing in
     when_marked _ 62 k text _ (IsSizeIn text) (λ below. (omega arith, omega arith))
 
 place_within : (at : ℕ) (needle text : List ℕ) → IfSome (place_from at needle text) (λ n. n + length needle ≤ at + length text)

@@ -4,11 +4,11 @@ use Rattle.std.specs.Prelude.{if◌then◌else◌, nat_lt}
 use Rattle.std.proofs.lemmas.Bool.Decides.{nat_tests}
 use Rattle.std.proofs.lemmas.Bool.{and_parts}
 use Rattle.mdscan.specs.declared.spans.Span.{Span}
-use Rattle.mdscan.specs.declared.links.Dest.{Dest}
+use Rattle.mdscan.specs.declared.link_destinations.Dest.{Dest}
 use Rattle.mdscan.specs.declared.inline_tails.Tail.{Tail}
 use Rattle.mdscan.specs.Blanks.{begins_with}
 use Rattle.mdscan.specs.Escapes.{run_before}
-use Rattle.mdscan.specs.Gaps.{past_gap}
+use Rattle.mdscan.specs.Spacing.{past_spacing}
 use Rattle.mdscan.specs.InlineTail.{tail_to, tail_titled, titled_tail, tail_from, tail_inside, inline_tail_at}
 use Rattle.mdscan.specs.LinkDestination.{angle_destination, bare_end, bare_dest, destination_at}
 use Rattle.mdscan.specs.LinkLabel.{label_at}
@@ -62,14 +62,14 @@ destination_ends text at = by (begins_with 60 (drop at text))
 tail_titled_ends : (text : List ℕ) (from next : ℕ) (dest : Dest) (r : Option Dest) → from ≤ next → IfSome r (λ t. next < t.end) →
     IfSome (tail_titled text dest r) (λ tail. IsEndIn text from tail.end)
 tail_titled_ends text from next dest None le h = tt
-tail_titled_ends text from next dest (Some title) le h = tail_to_ends text from (past_gap text title.end) (Some dest.span) (Some title.span) (omega arith)
+tail_titled_ends text from next dest (Some title) le h = tail_to_ends text from (past_spacing text title.end) (Some dest.span) (Some title.span) (omega arith)
 
 titled_tail_ends : (text : List ℕ) (from : ℕ) (dest : Dest) → from ≤ dest.end → IfSome (titled_tail text dest) (λ tail. IsEndIn text from tail.end)
 unfolding titled_tail
 titled_tail_ends text from dest le = by (nat_lt dest.end next)
   where
     next : ℕ
-    next = past_gap text dest.end
+    next = past_spacing text dest.end
 
     by : (t : Bool) → IfSome (if t then tail_titled text dest (title_at text next) else None) (λ tail. IsEndIn text from tail.end)
     by true = tail_titled_ends text from next dest (title_at text next) (omega arith) (title_ends text next)
@@ -79,7 +79,7 @@ tail_from_ends : (text : List ℕ) (from : ℕ) (r : Option Dest) → IfSome r (
 tail_from_ends text from None h = tt
 tail_from_ends text from (Some dest) h =
     either_some _ _ (λ tail. IsEndIn text from tail.end) (titled_tail_ends text from dest h)
-    (tail_to_ends text from (past_gap text dest.end) (Some dest.span) None (omega arith))
+    (tail_to_ends text from (past_spacing text dest.end) (Some dest.span) None (omega arith))
 
 tail_inside_ends : (text : List ℕ) (at : ℕ) → IfSome (tail_inside text at) (λ tail. IsEndIn text at tail.end)
 unfolding tail_inside
@@ -98,7 +98,7 @@ unfolding inline_tail_at
 inline_tail_ends text at = by (begins_with 40 (drop at text))
   where
     from : ℕ
-    from = past_gap text (at + 1)
+    from = past_spacing text (at + 1)
 
     by : (t : Bool) → IfSome (if t then tail_inside text from else None) (λ tail. IsEndIn text at tail.end)
     by true = later text at from (tail_inside text from) (omega arith) (tail_inside_ends text from)

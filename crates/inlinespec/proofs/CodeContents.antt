@@ -12,7 +12,7 @@ IsOneLine text = (i : ℕ) → i < length text → get_or text i 0 ≢ 10
 other : (b : ℕ) (rest : List ℕ) → b ≢ 10 → as_one_line (b ∷ rest) ≡ b ∷ as_one_line rest
 other b rest h = let no : eqb b 10 ≡ false = grind (arith, nat_tests, h) in rw no refl
 
-stays : (line rest : List ℕ) → IsOneLine line → as_one_line (line ++ rest) ≡ line ++ as_one_line rest
+pub stays : (line rest : List ℕ) → IsOneLine line → as_one_line (line ++ rest) ≡ line ++ as_one_line rest
 stays [] rest h = refl
 stays (b ∷ line) rest h = other b (line ++ rest) (h 0 (omega arith)) ∙ ap (λ l. b ∷ l) (stays line rest (λ i lt. h (suc i) (omega (arith, lt))))
 

@@ -10,5 +10,6 @@ pub mod LineBreaks
 pub mod LinkTails
 pub mod Nesting
 pub mod Settled
+pub mod SpanEnds
 pub mod TextReading
 pub mod TextTree

@@ -1,7 +1,6 @@
 -- When a text has too many lines or bytes.
 use Rattle.std.proofs.Common.{◌≡◌, ℕ, ◌+◌, ◌-◌, ◌^◌, ◌≤◌, ◌<◌, Bool, true, false, List, [], length, map, min, refl, sym, ap, ◌∙◌, subst, arith, Some, None, cond, nat_lt}
 use Rattle.std.proofs.lemmas.Bool.Decides.{nat_tests}
-use Rattle.mdview.specs.declared.fault.EditFault.{EditFault}
 use Rattle.mdview.specs.declared.fault.EditFault.TheVariants.{TooManyLines, TooLarge}
 use Rattle.mdtext.specs.Lines.{split_lines, without_nul}
 use Rattle.mdbatch.proofs.SplitText.{lines_of_clean}

@@ -1,3 +1,4 @@
 pub mod DueRefusals
 pub mod SplitText
+pub mod UnitsGathered
 pub mod UnitsWritten

@@ -1,7 +1,7 @@
 -- Units that are written one after the other.
 use Rattle.std.proofs.Common.{◌≡◌, ℕ, List, [], ◌∷◌, ◌++◌, map, refl, ap, sym, ◌∙◌, arith, append_assoc, append-nil}
 use Rattle.std.proofs.lemmas.List.{map-append}
-use Rattle.std.proofs.lemmas.List.Elements.{All-push}
+use Rattle.std.proofs.lemmas.List.Elements.{All-append, All-push}
 use Rattle.std.proofs.lemmas.List.Folds.{concat-append}
 use Rattle.std.specs.List.{concat}
 use Rattle.blockspec.specs.UnitTree.{FoundUnit}
@@ -32,6 +32,22 @@ one_more options found next old mid new before last =
       are = map-append read_part before.units (unit ∷ []) ∙ ap (λ l. l ++ found_part next ∷ []) before.are ∙ sym (map-append found_part found (next ∷ []));
       all = All-push IsRead before.units unit before.all last.all;
       written = last.written ∙ ap (λ l. l ++ piece) before.written ∙ append_assoc old (concat pieces) piece ∙ ap (λ l. old ++ l) (sym joined);
+    }
+
+-- some units are written behind others
+pub written_behind : (options : Options) (front kept : List FoundUnit) (old mid new : List ℕ) → AppendsUnits options front old mid → AppendsUnits options kept mid new
+    → AppendsUnits options (front ++ kept) old new
+written_behind options front kept old mid new before after =
+    let piece : ReadUnit → List ℕ = unit_piece options in
+    let joined : concat (map piece (before.units ++ after.units)) ≡ concat (map piece before.units) ++ concat (map piece after.units) =
+    ap concat (map-append piece before.units after.units) ∙ concat-append (map piece before.units) (map piece after.units) in
+    record {
+      units = before.units ++ after.units;
+      are = map-append read_part before.units after.units ∙ ap (λ l. l ++ map read_part after.units) before.are ∙ ap (λ l. map found_part front ++ l) after.are
+          ∙ sym (map-append found_part front kept);
+      all = All-append IsRead before.units after.units before.all after.all;
+      written = after.written ∙ ap (λ l. l ++ concat (map piece after.units)) before.written ∙ append_assoc old (concat (map piece before.units)) (concat (map piece after.units))
+          ∙ ap (λ l. old ++ l) (sym joined);
     }
 
 -- what stands behind the empty text is the HTML of the units

@@ -10,6 +10,7 @@ use Rattle.mdview.specs.declared.fault.EditFault.{EditFault}
 use Rattle.mdview.specs.declared.fault.EditFault.TheVariants.{OutOfRange, BreakInLine, TooManyLines, TooLarge, NestedTooDeep, InlineTooDeep, NoMemory}
 use Rattle.mdview.specs.Edit.{refusal}
 use Rattle.mdview.specs.HeldUnit.{ReadUnit, html_of, unit_piece}
+use Rattle.mdbatch.specs.TextLabels.{with_units}
 
 -- each text of the unit was read
 abbrev pub IsRead : ReadUnit → Type 0
@@ -34,6 +35,17 @@ pub record AppendsUnits (options : Options) (found : List FoundUnit) (old new : 
   pub are : map read_part units ≡ map found_part found
   pub all : All IsRead units
   pub written : new ≡ old ++ concat (map (unit_piece options) units)
+
+-- the unit has no text that waits for a label, and defines none
+abbrev pub OwesNothing : UnitTree → Type 0
+OwesNothing unit = (unit.texts ≡ []) × (unit.definitions ≡ [])
+
+-- of all units the first ones are written, the others are kept, and the labels that all define are those of the kept ones
+pub record Gathers (options : Options) (all : List FoundUnit) (html : List ℕ) (kept : List FoundUnit) : Type 0 where
+  pub front : List FoundUnit
+  pub order : all ≡ front ++ kept
+  pub written : AppendsUnits options front [] html
+  pub labels : with_units [] all ≡ with_units [] kept
 
 -- the pieces of some units that were read, one after the other
 pub record UnitsHtml (options : Options) (html : List ℕ) : Type 0 where

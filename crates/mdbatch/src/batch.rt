@@ -1,15 +1,16 @@
 //! From a whole text to its HTML.
-ghost use Rattle.std.specs.Prelude.{◌≡◌, ◌++◌, ◌≤◌, true, IfErr, IfOk, OnOk, length, string_bytes};
+ghost use Rattle.std.specs.Prelude.{List, [], ◌≡◌, ◌++◌, ◌≤◌, true, IfErr, IfOk, OnOk, length, string_bytes};
+ghost use Rattle.blockspec.specs.UnitTree.{FoundUnit};
 ghost use Rattle.mdtext.specs.Lines.{split_lines};
 ghost use Rattle.mdhtml.specs.Limits.{HasLimits};
 ghost use Rattle.mdhtml.specs.BlockHtml.{ends_line};
 ghost use Rattle.mdview.specs.Document.{size_of};
 ghost use Rattle.mdview.specs.ReadingEnd.{OfReading};
-ghost use Rattle.mdbatch.specs.BatchHtml.{AppendsUnit, AppendsUnits, TextHtml, UnitsHtml};
+ghost use Rattle.mdbatch.specs.BatchHtml.{AppendsUnit, AppendsUnits, Gathers, TextHtml, UnitsHtml};
 
 use crate::labels::labels_of;
 use crate::limits::within_limits;
-use crate::units::units_of;
+use crate::units::{Gathered, gathered_units};
 use mdblock::{Found, Unit};
 use mdhtml::{Options, append_unit_html};
 use mdinline::{InlineFault, LabelTable, Parsed, read};
@@ -52,16 +53,32 @@ fn clean_html(
     ensures html { IfOk result (λ html. UnitsHtml options.now (string_bytes html)) }
     ensures fault { IfErr result OfReading }
 {
-    let units = units_of(alloc, text, entities, options.max_containers)?;
+    let gathered = gathered_units(alloc, text, entities, options)?;
+    whole_html(alloc, gathered, entities, options)
+}
+
+/// Writes the units that are kept behind the HTML of those that are written.
+fn whole_html(
+    alloc: Global,
+    gathered: Gathered,
+    entities: &Entities,
+    options: &Options,
+) -> Result<String, EditFault>
+    requires limits { HasLimits options.now }
+    requires ends_line { ends_line (string_bytes gathered.html) ≡ true }
+    ensures html { (all : List FoundUnit) → Gathers options.now all (string_bytes gathered.html) gathered.units.items
+        → IfOk result (λ html. AppendsUnits options.now all [] (string_bytes html)) }
+    ensures fault { IfErr result OfReading }
+{
+    let Gathered { mut html, units } = gathered;
     let writer = TextWriter {
         alloc,
         entities,
         options,
         labels: labels_of(alloc, &units)?,
     };
-    let mut out = String::with_capacity(alloc, text.len())?;
-    writer.append_units(units, &mut out)?;
-    Ok(out)
+    writer.append_units(units, &mut html)?;
+    Ok(html)
 }
 
 /// Reads inline texts under the labels of a text, and writes HTML.

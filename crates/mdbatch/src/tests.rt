@@ -123,6 +123,25 @@ static PARTS: &[&str] = &[
     "x  ",
 ];
 
+/// Units without a text, and definitions: what may stand before the first unit that waits for the label table.
+static TEXTLESS: &[&str] = &[
+    "***\n",
+    "---\n",
+    "```\ncode\n```\n",
+    "~~~ x\n<b>\n\n&amp;\n~~~\n",
+    "    indented\n\n",
+    "<div>\n*a*\n\n",
+    "<!-- a\n\n-->\n",
+    "> ---\n\n",
+    ">\n\n",
+    "- ```\n  a\n  ```\n\n\n",
+    "1. ***\n\n\n",
+    "-\n\n\n",
+    "\n\n",
+    "[foo]: /early\n\n",
+    "> [bar]: /quoted\n\n",
+];
+
 /// Texts whose spans or containers lie deep in one another, by what is repeated before and behind their middle.
 static DEEP: &[(&str, &str)] = &[
     ("*a ", " b*"),
@@ -171,6 +190,9 @@ impl Draws {
         let mut text = String::new(alloc);
         if self.below(12) == 0 {
             text.push_str("\u{FEFF}")?;
+        }
+        for _ in 0..self.below(8) {
+            push_at(TEXTLESS, self.below(TEXTLESS.len()), &mut text)?;
         }
         for _ in 0..self.below(40).saturating_add(1) {
             if self.below(60) == 0 {
@@ -285,6 +307,8 @@ static WORKED: &[&str] = &[
     "\u{0}",
     "\u{0}\u{FEFF}# a\r\n\u{0}\r",
     "[foo]\n\n[foo]: /a\n[foo]: /b\n",
+    "---\n    code\n\n<b>\n\n> ***\n\n[foo]: /a\n\n---\n[foo]\n\n***\n",
+    "***\n[foo]: /a\n===\n***\n[foo]\n",
 ];
 
 #[test]

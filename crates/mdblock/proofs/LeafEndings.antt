@@ -1,5 +1,5 @@
 -- What an open leaf hands in at its end is what its lines give.
-use Rattle.std.proofs.Common.{◌≡◌, ℕ, Bool, List, [], ◌++◌, Option, Some, Result, IfOk, ap, sym, ◌∙◌, subst, string_bytes}
+use Rattle.std.proofs.Common.{◌≡◌, ℕ, Bool, List, [], ◌++◌, Option, Some, Result, IfOk, refl, ap, sym, ◌∙◌, subst, string_bytes}
 use Rattle.std.proofs.lemmas.List.{append-nil}
 use Rattle.mdtext.specs.EntityTable.{EntityTable}
 use Rattle.mdleaf.specs.CodeLanguage.{code_language}
@@ -9,13 +9,16 @@ use Rattle.mdleaf.specs.ParagraphText.{without_end_blanks, behind_definitions}
 use Rattle.blockspec.specs.BlockLine.{BlockLine}
 use Rattle.blockspec.specs.BlockStart.{Kind, Paragraph, FencedCode, IndentedCode, HtmlBlock, Table}
 use Rattle.blockspec.specs.BlockTree.{no_blocks, block, code_block, html_block}
+use Rattle.blockspec.specs.BlockTree as tree
+use Rattle.blockspec.specs.OpenLeaf.{OpenLeaf, open_table, leaf_from}
 use Rattle.mdblock.specs.BlockView.{block_view}
 use Rattle.mdblock.specs.held.HandedIn.{left_behind, IsHandedIn}
+use Rattle.mdblock.specs.held.HeldTables.{held_rows, IsTableOf, IsBlockOf}
 use Rattle.mdblock.specs.held.LeafEnds.{IsEndOf, end_definitions}
 use Rattle.mdblock.specs.held.OpenLeaves.{IsLeafOf}
 use Rattle.mdblock.specs.held.ParagraphLines.{HeldText}
 use Rattle.mdblock.specs.declared.blocks.Block.{Block}
-use Rattle.mdblock.specs.declared.leaf.fences.Fence.{Fence}
+use Rattle.mdblock.specs.declared.leaf.fenced_code.Fence.{Fence}
 use Rattle.mdblock.specs.declared.leaf.html_blocks.HtmlBlock as html
 use Rattle.mdblock.specs.declared.leaf.indented_code.IndentedCode as code
 use Rattle.mdblock.specs.declared.leaf.tables.Table as table
@@ -57,10 +60,21 @@ pub code_ended : (entities : EntityTable) (at_front : Bool) (x : code.IndentedCo
 code_ended entities at_front x IndentedCode first later old b e h = (ap (λ x. block x no_blocks) (e ∙ ap (code_block []) h.body), alone old)
 code_ended entities at_front x kind first later old b e h = absurd h
 
-pub table_ended : (entities : EntityTable) (at_front : Bool) (t : table.Table) (kind : Kind) (first : BlockLine) (later : List BlockLine) (old new : List (List ℕ)) (found : Option Block)
-    → IsLeafOf entities (leaf.Table t) kind first later → IsEndOf entities at_front kind first later old new found
-table_ended entities at_front t (Table above) first later old new found h = tt
-table_ended entities at_front t kind first later old new found h = absurd h
+table_block : (t : table.Table) (kept : OpenLeaf) (b : Block) → block_view b ≡ tree.table t.aligns.items t.head.items (held_rows t) → IsTableOf kept t → IsBlockOf kept (block (block_view b) no_blocks)
+table_block t (open_table above aligns head rows) b e h = record {
+  head_cells = t.head.items;
+  row_cells = held_rows t;
+  found_is = ap (λ x. block x no_blocks) (e ∙ ap (λ bs. tree.table bs t.head.items (held_rows t)) h.0);
+  columns = h.1;
+  rows_are = h.2;
+}
+table_block t kept b e h = absurd h
+
+pub table_ended : (entities : EntityTable) (at_front : Bool) (t : table.Table) (kind : Kind) (first : BlockLine) (later : List BlockLine) (old : List (List ℕ)) (b : Block)
+    → block_view b ≡ tree.table t.aligns.items t.head.items (held_rows t)
+    → IsLeafOf entities (leaf.Table t) kind first later → IsEndOf entities at_front kind first later old old (Some b)
+table_ended entities at_front t (Table above) first later old b e h = (table_block t (leaf_from (Table above) first later) b e h, refl)
+table_ended entities at_front t kind first later old b e h = absurd h
 
 -- leaves that are no paragraph define nothing
 pub fence_defined : (entities : EntityTable) (f : Fence) (kind : Kind) (first : BlockLine) (later : List BlockLine) (old : List LinkDefinition) → IsLeafOf entities (leaf.Fence f) kind first later → old ≡ old ++ end_definitions entities kind first later

@@ -8,7 +8,7 @@ use Rattle.mdblock.specs.held.OpenLeaves.{IsLeafOf}
 use Rattle.mdblock.specs.held.ParagraphLines.{HeldText, HoldsLines}
 use Rattle.blockspec.specs.Stretches.{continues_if, fence_step, closes, html_step, ends_html, is_code, is_row, paragraph_step, step}
 use Rattle.blockspec.specs.UnitBegin.{is_stop}
-use Rattle.mdblock.specs.declared.leaf.fences.Fence.{Fence}
+use Rattle.mdblock.specs.declared.leaf.fenced_code.Fence.{Fence}
 use Rattle.mdblock.specs.declared.leaf.html_blocks.HtmlBlock as html
 use Rattle.mdblock.specs.declared.leaf.indented_code.IndentedCode as code
 use Rattle.mdblock.specs.declared.leaf.tables.Table as table

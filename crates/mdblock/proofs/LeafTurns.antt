@@ -11,7 +11,7 @@ use Rattle.blockspec.specs.LeafContents.{code_text, without_last}
 use Rattle.mdblock.specs.held.OpenLeaves.{IsFenceOf, IsHtmlOf, IsCodeOf, IsLeafOf, IsGoing, IsOver, IsHtmlLeaf, IsHtmlStep, IsCodeLeaf, IsFenceStep, IsParagraphLeaf, IsLeft}
 use Rattle.mdblock.specs.held.ParagraphLines.{HeldText, HoldsLines}
 use Rattle.blockspec.specs.Stretches.{Continues, continues_if, fence_step, closes, html_step, ends_html, is_code, is_row, paragraph_step, step}
-use Rattle.mdblock.specs.declared.leaf.fences.Fence.{Fence}
+use Rattle.mdblock.specs.declared.leaf.fenced_code.Fence.{Fence}
 use Rattle.mdblock.specs.declared.leaf.html_blocks.HtmlBlock as html
 use Rattle.mdblock.specs.declared.leaf.indented_code.IndentedCode as code
 use Rattle.mdblock.specs.declared.leaf.tables.Table as table

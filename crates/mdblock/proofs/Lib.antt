@@ -17,6 +17,7 @@ pub mod ReadsLaws
 pub mod RowStarts
 pub mod Skips
 pub mod StartLaws
+pub mod TableLaws
 pub mod TipLaws
 pub mod Views
 pub mod Within

@@ -3,7 +3,7 @@
 use Rattle.std.proofs.Common.{◌≡◌, ℕ, ◌+◌, true, false, List, [], ◌∷◌, ◌++◌, length, refl, sym, ◌∙◌, ap, arith, Option, Some, None}
 use Rattle.std.proofs.lemmas.List.{append_assoc, length-append}
 use Rattle.mdscan.specs.TaskMarker.{task_marker}
-use Rattle.mdscan.specs.declared.tasks.TaskMark.{TaskMark}
+use Rattle.mdscan.specs.declared.task_list_items.TaskMark.{TaskMark}
 use Rattle.blockspec.specs.BlockTree.{block_quote, list, Blocks, no_blocks, block, item}
 use Rattle.blockspec.specs.ListGroups.{Part, Leaves, Quoted, Listed, items_before, leaves_before, part_before}
 use Rattle.blockspec.specs.NodeTree.{Leaf, definition_leaf, paragraph_leaf, heading_leaf, break_leaf, code_leaf, html_leaf, table_leaf, Nodes, no_nodes, leaf_node, quote_node, list_node, ItemNodes, no_item_nodes, item_node, leaf_texts, leaf_definitions, texts_in, texts_in_items, definitions_in, definitions_in_items, leaf_block, placed, placed_items}

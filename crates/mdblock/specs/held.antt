@@ -4,6 +4,7 @@ pub mod Continuations
 pub mod HandedIn
 pub mod HeldLevel
 pub mod HeldNodes
+pub mod HeldTables
 pub mod LeafEnds
 pub mod OpenLeaves
 pub mod OpenPositions

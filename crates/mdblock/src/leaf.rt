@@ -9,7 +9,7 @@ ghost use Rattle.mdblock.specs.held.Continuations.{IsContinuationOf, ContinuesLe
 ghost use Rattle.mdblock.specs.held.HandedIn.{gathered_texts, gathered_definitions};
 ghost use Rattle.blockspec.specs.Laziness.{Tip};
 ghost use Rattle.mdblock.specs.held.LeafEnds.{IsEndOf, IsTableEnd, is_paragraph, end_definitions};
-ghost use Rattle.mdblock.specs.held.OpenLeaves.{IsBegun, begun_texts, IsLeafOf, IsLeft, IsOver};
+ghost use Rattle.mdblock.specs.held.OpenLeaves.{IsBegun, begun_texts, IsLeafOf, IsLeft, IsOver, IsRowIn};
 ghost use Rattle.mdblock.specs.held.StartKind.{opened_kind};
 ghost use Rattle.mdblock.specs.Positions.{BlockIn};
 ghost use Rattle.blockspec.specs.Stretches.{step};
@@ -17,7 +17,7 @@ ghost use Rattle.blockspec.specs.UnitBegin.{is_stop};
 ghost use Rattle.mdblock.specs.held.OpenPositions.{LeafIn, LeafAfterIn};
 ghost use Rattle.mdblock.specs.held.StartSpans.{IsStartOf};
 
-pub(crate) mod fences;
+pub(crate) mod fenced_code;
 pub(crate) mod headings;
 pub(crate) mod html_blocks;
 pub(crate) mod indented_code;
@@ -30,7 +30,7 @@ use crate::blocks::Block;
 use crate::gathering::Gathering;
 use crate::lines::Line;
 use crate::open_blocks::Continuation;
-use fences::Fence;
+use fenced_code::Fence;
 use html_blocks::HtmlBlock;
 use indented_code::IndentedCode;
 use paragraphs::Paragraph;
@@ -72,7 +72,7 @@ impl Leaf {
     {
         match opening {
             Some(BlockStart::Heading(heading)) => headings::begin(heading, line, gathering),
-            Some(BlockStart::Fence(fence)) => fences::begin(fence, line, gathering),
+            Some(BlockStart::Fence(fence)) => fenced_code::begin(fence, line, gathering),
             Some(BlockStart::Html(kind)) => html_blocks::begin(kind, line, gathering),
             Some(BlockStart::Break) => Ok(thematic_breaks::begin()),
             Some(BlockStart::Code) => indented_code::begin(line, gathering),
@@ -123,6 +123,7 @@ impl Leaf {
         ensures entities { gathering.new.entities.now ≡ gathering.old.entities.now }
         ensures step { (entities : EntityTable) (kind : Kind) (begin : BlockLine) (later : List BlockLine) → IsLeafOf entities self kind begin later
             → (tip : List BlockLine → Tip) → IfOk result (IsLeft entities (step tip kind begin later line.old) begin (later ++ line.old ∷ [])) }
+        ensures row { IfOk result (IsRowIn self (rest line.old) (gathered_texts gathering.old) (gathered_texts gathering.new)) }
     {
         match self {
             Leaf::Paragraph(paragraph) => paragraph.add(continuation, line, first, gathering),

@@ -16,9 +16,9 @@ ghost use Rattle.mdblock.specs.Positions.{BlockIn, BlocksIn, ItemsIn};
 use crate::block_starts::{BlockStart, beginning, continues_lazily};
 use crate::blocks::Block;
 use crate::closed_blocks::{push_block, push_found, with_found, with_item, with_list, with_quote};
-use crate::container::items::{Entry, enter_item};
+use crate::container::block_quotes;
+use crate::container::list_items::{Entry, enter_item};
 use crate::container::lists::{self, OpenList};
-use crate::container::quotes;
 use crate::faults::BlockFault;
 use crate::gathering::Gathering;
 use crate::leaf::paragraphs::Paragraph;
@@ -280,10 +280,10 @@ impl Level {
         match &mut self.last {
             OpenBlock::Shut | OpenBlock::Leaf(_) => return Ok(false),
             OpenBlock::Quote(inner) => {
-                if !quotes::matches(line) {
+                if !block_quotes::matches(line) {
                     return Ok(false);
                 }
-                quotes::take_marker(line);
+                block_quotes::take_marker(line);
                 inner.read(line, deeper(room)?, gathering)?;
             }
             OpenBlock::List(inner, list) => {
@@ -460,7 +460,7 @@ impl Level {
         let alloc = gathering.alloc();
         match opening {
             Some(BlockStart::Quote) => {
-                quotes::take_marker(line);
+                block_quotes::take_marker(line);
                 let mut inner = Level::new(alloc, false);
                 inner.begin(line, beginning(line), deeper(room)?, gathering)?;
                 Ok(self.hold_quote(alloc, inner)?)

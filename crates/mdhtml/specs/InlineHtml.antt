@@ -21,9 +21,15 @@ raw_html o s = if o.unsafe_html then s else codes "<!-- raw HTML omitted -->"
 abbrev pub link_open : Options → (url title : List ℕ) → List ℕ
 link_open o url title = codes "<a href=\"" ++ destination_html o url ++ codes "\"" ++ title_html title ++ codes ">"
 
+abbrev pub image_begins : Options → (url : List ℕ) → List ℕ
+image_begins o url = codes "<img src=\"" ++ destination_html o url ++ codes "\" alt=\""
+
+-- what stands behind the alternative text
+abbrev pub image_ends : (title : List ℕ) → List ℕ
+image_ends title = codes "\"" ++ title_html title ++ codes " />"
+
 abbrev pub image_html : Options → (url title alternative : List ℕ) → List ℕ
-image_html o url title alternative =
-    codes "<img src=\"" ++ destination_html o url ++ codes "\" alt=\"" ++ escaped alternative ++ codes "\"" ++ title_html title ++ codes " />"
+image_html o url title alternative = image_begins o url ++ escaped alternative ++ image_ends title
 
 -- the alternative text of an image: texts, code and raw HTML as written, a space for each break, and the insides of spans
 abbrev mutual

@@ -1,19 +1,20 @@
-//! HTML of blocks and containers.
+//! HTML of blocks, one behind the other.
 
-ghost use Rattle.std.specs.Prelude.{◌≡◌, ◌++◌, ◌<◌, OnOk, false, codes, length, string_bytes};
-ghost use Rattle.mdblock.specs.BlockView.{kind_view, block_view, blocks_view, items_view};
-ghost use Rattle.blockspec.specs.BlockTree.{block_quote, list};
-ghost use Rattle.mdblock.specs.Positions.{BlockIn, BlocksIn, ItemsIn};
-ghost use Rattle.mdhtml.specs.BlockHtml.{fresh, trees_of, block_html, blocks_html, items_html};
+ghost use Rattle.std.specs.Prelude.{◌≡◌, ◌<◌, OnOk, length, string_bytes};
+ghost use Rattle.mdblock.specs.BlockView.{block_view, blocks_view};
+ghost use Rattle.mdblock.specs.Positions.{BlockIn, BlocksIn};
+ghost use Rattle.mdhtml.specs.BlockHtml.{trees_of, block_html, blocks_html};
 
-use crate::code::{write_code, write_html};
+use crate::block_quotes::write_quote;
+use crate::code_blocks::write_code;
 use crate::headings::write_heading;
-use crate::lists::{close_list, open_list};
+use crate::html_blocks::write_html;
+use crate::lists::write_list;
 use crate::options::Options;
 use crate::paragraphs::write_paragraph;
-use crate::pieces::write_fresh;
 use crate::tables::write_table;
-use mdblock::{Block, Item, ListKind};
+use crate::thematic_breaks::write_thematic_break;
+use mdblock::Block;
 use mdinline::Parsed;
 use mdtext::NoMemory;
 
@@ -64,73 +65,4 @@ fn write_block(
             write_table(aligns, head, rows, texts, options, out)
         }
     }
-}
-
-fn write_thematic_break(out: &mut String) -> Result<(), NoMemory>
-    ensures { OnOk result (string_bytes out.new
-        ≡ fresh (string_bytes out.old) ++ codes "<hr />\n") }
-{
-    write_fresh(out)?;
-    out.push_str("<hr />\n")?;
-    Ok(())
-}
-
-#[cycle(block)]
-fn write_quote(
-    inner: &[Block],
-    texts: &[Parsed],
-    options: &Options,
-    out: &mut String,
-) -> Result<(), NoMemory>
-    requires { BlocksIn (length texts.now) (blocks_view inner.now) }
-    ensures { OnOk result (string_bytes out.new ≡ block_html options.now
-        (trees_of texts.now) false (block_quote (blocks_view inner.now)) (string_bytes out.old)) }
-{
-    write_fresh(out)?;
-    out.push_str("<blockquote>\n")?;
-    write_blocks(inner, false, texts, options, out)?;
-    write_fresh(out)?;
-    out.push_str("</blockquote>\n")?;
-    Ok(())
-}
-
-#[cycle(block)]
-fn write_list(
-    kind: ListKind,
-    tight: bool,
-    items: &[Item],
-    texts: &[Parsed],
-    options: &Options,
-    out: &mut String,
-) -> Result<(), NoMemory>
-    requires { ItemsIn (length texts.now) (items_view items.now) }
-    ensures { OnOk result (string_bytes out.new ≡ block_html options.now
-        (trees_of texts.now) false (list (kind_view kind) tight (items_view items.now))
-        (string_bytes out.old)) }
-{
-    write_fresh(out)?;
-    open_list(kind, out)?;
-    write_items(items, tight, texts, options, out)?;
-    close_list(kind, out)
-}
-
-#[cycle(block)]
-fn write_items(
-    items: &[Item],
-    tight: bool,
-    texts: &[Parsed],
-    options: &Options,
-    out: &mut String,
-) -> Result<(), NoMemory>
-    requires { ItemsIn (length texts.now) (items_view items.now) }
-    ensures { OnOk result (string_bytes out.new ≡ items_html options.now
-        (trees_of texts.now) tight (items_view items.now) (string_bytes out.old)) }
-{
-    for item in items {
-        write_fresh(out)?;
-        out.push_str("<li>")?;
-        write_blocks(&item.blocks, tight, texts, options, out)?;
-        out.push_str("</li>\n")?;
-    }
-    Ok(())
 }

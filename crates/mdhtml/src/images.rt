@@ -3,7 +3,7 @@
 ghost use Rattle.std.specs.Prelude.{◌≡◌, ◌++◌, OnOk, codes, string_bytes};
 ghost use Rattle.mdtext.specs.Escaped.{escaped};
 ghost use Rattle.mdinline.specs.TreeView.{inline_view, inlines_view};
-ghost use Rattle.mdhtml.specs.InlineHtml.{alt, alts, image_html};
+ghost use Rattle.mdhtml.specs.InlineHtml.{alt, alts, image_begins, image_ends, image_html};
 
 use crate::destinations::{write_destination, write_title};
 use crate::options::Options;
@@ -20,12 +20,27 @@ pub(crate) fn write_image(
     ensures { OnOk result (string_bytes out.new ≡ string_bytes out.old ++ image_html options.now
         (string_bytes target.now.url) (string_bytes target.now.title) (alts (inlines_view inner.now))) }
 {
-    out.push_str("<img src=\"")?;
-    write_destination(&target.url, options, out)?;
-    out.push_str("\" alt=\"")?;
+    begin_image(&target.url, options, out)?;
     write_alts(inner, out)?;
+    end_image(&target.title, out)
+}
+
+/// Appends what stands before an image's alternative text.
+pub(crate) fn begin_image(url: &str, options: &Options, out: &mut String) -> Result<(), NoMemory>
+    ensures { OnOk result (string_bytes out.new ≡ string_bytes out.old ++ image_begins options.now url.now) }
+{
+    out.push_str("<img src=\"")?;
+    write_destination(url, options, out)?;
+    out.push_str("\" alt=\"")?;
+    Ok(())
+}
+
+/// Appends what stands behind an image's alternative text.
+pub(crate) fn end_image(title: &str, out: &mut String) -> Result<(), NoMemory>
+    ensures { OnOk result (string_bytes out.new ≡ string_bytes out.old ++ image_ends title.now) }
+{
     out.push_str("\"")?;
-    write_title(&target.title, out)?;
+    write_title(title, out)?;
     out.push_str(" />")?;
     Ok(())
 }

@@ -1,15 +1,18 @@
-//! HTML of inlines.
+//! HTML of inlines, one behind the other.
 
-ghost use Rattle.std.specs.Prelude.{◌≡◌, ◌++◌, OnOk, codes, string_bytes};
-ghost use Rattle.mdtext.specs.Escaped.{escaped};
+ghost use Rattle.std.specs.Prelude.{◌≡◌, ◌++◌, OnOk, string_bytes};
 ghost use Rattle.mdinline.specs.TreeView.{inline_view, inlines_view};
-ghost use Rattle.mdhtml.specs.InlineHtml.{wrapped, break_html, raw_html, inline_html, inlines_html, link_open};
+ghost use Rattle.mdhtml.specs.InlineHtml.{inline_html, inlines_html};
 
-use crate::destinations::{write_destination, write_title};
+use crate::code_spans::write_code_span;
+use crate::emphasis::write_wrapped;
 use crate::images::write_image;
-use crate::options::{Breaks, Options};
+use crate::line_breaks::{write_hard, write_soft};
+use crate::links::write_link;
+use crate::options::Options;
+use crate::raw_html::write_raw;
 use mdinline::Inline;
-use mdtext::{NoMemory, Target, escape_text};
+use mdtext::{NoMemory, escape_text};
 
 #[cycle(inline)]
 pub(crate) fn write_inlines(
@@ -37,89 +40,10 @@ fn write_inline(inline: &Inline, options: &Options, out: &mut String) -> Result<
         Inline::Html(text) => write_raw(text, options, out),
         Inline::Soft => write_soft(options, out),
         Inline::Hard => write_hard(out),
-        Inline::Emph(inner) => write_span("em", inner, options, out),
-        Inline::Strong(inner) => write_span("strong", inner, options, out),
-        Inline::Strike(inner) => write_span("del", inner, options, out),
-        Inline::Link(target, inner) => {
-            open_link(target, options, out)?;
-            write_inlines(inner, options, out)?;
-            out.push_str("</a>")?;
-            Ok(())
-        }
+        Inline::Emph(inner) => write_wrapped("em", inner, options, out),
+        Inline::Strong(inner) => write_wrapped("strong", inner, options, out),
+        Inline::Strike(inner) => write_wrapped("del", inner, options, out),
+        Inline::Link(target, inner) => write_link(target, inner, options, out),
         Inline::Image(target, inner) => write_image(target, inner, options, out),
     }
-}
-
-#[cycle(inline)]
-fn write_span(
-    tag: &str,
-    inner: &[Inline],
-    options: &Options,
-    out: &mut String,
-) -> Result<(), NoMemory>
-    ensures { OnOk result (string_bytes out.new
-        ≡ string_bytes out.old ++ wrapped tag.now (inlines_html options.now (inlines_view inner.now))) }
-{
-    out.push_str("<")?;
-    out.push_str(tag)?;
-    out.push_str(">")?;
-    write_inlines(inner, options, out)?;
-    out.push_str("</")?;
-    out.push_str(tag)?;
-    out.push_str(">")?;
-    Ok(())
-}
-
-fn write_code_span(text: &str, out: &mut String) -> Result<(), NoMemory>
-    ensures { OnOk result (string_bytes out.new
-        ≡ string_bytes out.old ++ wrapped (codes "code") (escaped text.now)) }
-{
-    out.push_str("<code>")?;
-    escape_text(text, out)?;
-    out.push_str("</code>")?;
-    Ok(())
-}
-
-fn write_raw(text: &str, options: &Options, out: &mut String) -> Result<(), NoMemory>
-    ensures { OnOk result (string_bytes out.new
-        ≡ string_bytes out.old ++ raw_html options.now text.now) }
-{
-    let shown = if options.unsafe_html {
-        text
-    } else {
-        "<!-- raw HTML omitted -->"
-    };
-    out.push_str(shown)?;
-    Ok(())
-}
-
-fn write_soft(options: &Options, out: &mut String) -> Result<(), NoMemory>
-    ensures { OnOk result (string_bytes out.new
-        ≡ string_bytes out.old ++ break_html options.now.breaks) }
-{
-    match options.breaks {
-        Breaks::Soft => out.push_str("\n")?,
-        Breaks::Hard => write_hard(out)?,
-        Breaks::Space => out.push_str(" ")?,
-    }
-    Ok(())
-}
-
-fn write_hard(out: &mut String) -> Result<(), NoMemory>
-    ensures { OnOk result (string_bytes out.new ≡ string_bytes out.old ++ codes "<br />\n") }
-{
-    out.push_str("<br />\n")?;
-    Ok(())
-}
-
-fn open_link(target: &Target, options: &Options, out: &mut String) -> Result<(), NoMemory>
-    ensures { OnOk result (string_bytes out.new ≡ string_bytes out.old ++ link_open options.now
-        (string_bytes target.now.url) (string_bytes target.now.title)) }
-{
-    out.push_str("<a href=\"")?;
-    write_destination(&target.url, options, out)?;
-    out.push_str("\"")?;
-    write_title(&target.title, out)?;
-    out.push_str(">")?;
-    Ok(())
 }

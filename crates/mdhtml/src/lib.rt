@@ -1,17 +1,27 @@
 //! The HTML of a unit: blocks and inlines written as the two standards' examples write them.
 #![tactic(auto)]
 
+mod block_quotes;
 mod blocks;
-mod code;
+mod code_blocks;
+mod code_spans;
 mod destinations;
+mod emphasis;
 mod headings;
+mod html_blocks;
 mod images;
+mod inline_writer;
 mod inlines;
+mod line_breaks;
+mod links;
+mod list_items;
 mod lists;
 mod options;
 mod paragraphs;
 mod pieces;
+mod raw_html;
 mod tables;
+mod thematic_breaks;
 
 pub use options::{Breaks, Options};
 pub use pieces::{append_unit_html, unit_html};

@@ -1,13 +1,39 @@
-//! The tags of a list.
+//! HTML of lists.
 
-ghost use Rattle.std.specs.Prelude.{◌≡◌, ◌++◌, OnOk, string_bytes};
-ghost use Rattle.mdblock.specs.BlockView.{kind_view};
-ghost use Rattle.mdhtml.specs.BlockHtml.{list_open, list_close, numbered_open};
+ghost use Rattle.std.specs.Prelude.{◌≡◌, ◌++◌, ◌<◌, OnOk, false, length, string_bytes};
+ghost use Rattle.mdblock.specs.BlockView.{kind_view, items_view};
+ghost use Rattle.blockspec.specs.BlockTree.{list};
+ghost use Rattle.mdblock.specs.Positions.{ItemsIn};
+ghost use Rattle.mdhtml.specs.BlockHtml.{trees_of, block_html, list_open, list_close, numbered_open};
 
-use mdblock::ListKind;
+use crate::list_items::write_items;
+use crate::options::Options;
+use crate::pieces::write_fresh;
+use mdblock::{Item, ListKind};
+use mdinline::Parsed;
 use mdtext::NoMemory;
 
-pub(crate) fn open_list(kind: ListKind, out: &mut String) -> Result<(), NoMemory>
+#[cycle(block)]
+pub(crate) fn write_list(
+    kind: ListKind,
+    tight: bool,
+    items: &[Item],
+    texts: &[Parsed],
+    options: &Options,
+    out: &mut String,
+) -> Result<(), NoMemory>
+    requires { ItemsIn (length texts.now) (items_view items.now) }
+    ensures { OnOk result (string_bytes out.new ≡ block_html options.now
+        (trees_of texts.now) false (list (kind_view kind) tight (items_view items.now))
+        (string_bytes out.old)) }
+{
+    write_fresh(out)?;
+    open_list(kind, out)?;
+    write_items(items, tight, texts, options, out)?;
+    close_list(kind, out)
+}
+
+fn open_list(kind: ListKind, out: &mut String) -> Result<(), NoMemory>
     ensures { OnOk result (string_bytes out.new
         ≡ string_bytes out.old ++ list_open (kind_view kind)) }
 {
@@ -29,7 +55,7 @@ fn open_numbered(start: u32, out: &mut String) -> Result<(), NoMemory>
     Ok(())
 }
 
-pub(crate) fn close_list(kind: ListKind, out: &mut String) -> Result<(), NoMemory>
+fn close_list(kind: ListKind, out: &mut String) -> Result<(), NoMemory>
     ensures { OnOk result (string_bytes out.new
         ≡ string_bytes out.old ++ list_close (kind_view kind)) }
 {

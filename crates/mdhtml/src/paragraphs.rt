@@ -1,8 +1,9 @@
-//! HTML of paragraphs and of a task item's box.
+//! HTML of paragraphs.
 
 ghost use Rattle.std.specs.Prelude.{◌≡◌, ◌++◌, ◌<◌, OnOk, length, string_bytes};
 ghost use Rattle.mdhtml.specs.BlockHtml.{paragraph_html, text_html, trees_of, task_box};
 
+use crate::list_items::write_box;
 use crate::options::Options;
 use crate::pieces::{write_fresh, write_text};
 use mdinline::Parsed;
@@ -30,16 +31,5 @@ pub(crate) fn write_paragraph(
     write_box(task, out)?;
     write_text(text, texts, options, out)?;
     out.push_str("</p>\n")?;
-    Ok(())
-}
-
-fn write_box(task: Option<bool>, out: &mut String) -> Result<(), NoMemory>
-    ensures { OnOk result (string_bytes out.new ≡ string_bytes out.old ++ task_box task) }
-{
-    match task {
-        None => {}
-        Some(false) => out.push_str("<input disabled=\"\" type=\"checkbox\"> ")?,
-        Some(true) => out.push_str("<input checked=\"\" disabled=\"\" type=\"checkbox\"> ")?,
-    }
     Ok(())
 }

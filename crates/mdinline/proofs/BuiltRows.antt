@@ -3,7 +3,8 @@ use Rattle.std.proofs.Common.{◌≡◌, ℕ, List, [], ◌∷◌, ◌++◌, Str
 use Rattle.std.proofs.lemmas.List.{map-append}
 use Rattle.inlinespec.specs.InlineEvents.{Event, Byte, Enter, Leave, within, written}
 use Rattle.mdinline.specs.held.Recognised.{made_events}
-use Rattle.mdinline.specs.held.TreeBuilding.{row_events, span_of, spread}
+use Rattle.mdinline.specs.SpanKinds.{span_of}
+use Rattle.mdinline.specs.held.TreeBuilding.{row_events, spread}
 use Rattle.mdinline.specs.declared.inlines.Inline.{Inline}
 use Rattle.mdinline.specs.declared.inlines.Inline.TheBlock as made
 use Rattle.mdinline.specs.declared.trees.Frame.{Frame}

@@ -7,9 +7,9 @@ use Rattle.mdpair.specs.declared.runs.DelimiterRun.{DelimiterRun}
 use Rattle.inlinespec.specs.InlineEvents.{InlineSpan, Event, Enter, Leave, written}
 use Rattle.mdinline.specs.held.PairedRuns.{IsPaired, entered, opened_spans, paired_events}
 use Rattle.inlinespec.specs.Settled.{begins, ends, run_events, span_by, taken}
-use Rattle.mdinline.specs.held.TreeBuilding.{span_of}
+use Rattle.mdinline.specs.SpanKinds.{span_of}
 use Rattle.mdinline.specs.declared.emphasis.PairedRun.{PairedRun}
-use Rattle.mdinline.specs.declared.trees.SpanKind.{SpanKind}
+use Rattle.mdinline.specs.declared.sinks.SpanKind.{SpanKind}
 
 all_leave : (n : ℕ) (ts : List Match) → replicate (length (ends n ts)) Leave ≡ ends n ts
 all_leave n [] = refl

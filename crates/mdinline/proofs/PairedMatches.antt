@@ -10,8 +10,8 @@ use Rattle.mdpair.specs.declared.runs.DelimiterRun.{DelimiterRun}
 use Rattle.inlinespec.specs.InlineEvents.{Leave}
 use Rattle.mdinline.specs.held.PairedRuns.{IsPaired, ArePaired, opened_spans}
 use Rattle.inlinespec.specs.Settled.{ends, span_by, taken}
-use Rattle.mdinline.specs.held.TreeBuilding.{span_of}
-use Rattle.mdinline.specs.declared.trees.SpanKind.{SpanKind}
+use Rattle.mdinline.specs.SpanKinds.{span_of}
+use Rattle.mdinline.specs.declared.sinks.SpanKind.{SpanKind}
 use Rattle.mdinline.specs.declared.emphasis.PairedRun.{PairedRun}
 
 taken_more : (n : ℕ) (ts : List Match) (t : Match) → taken n (ts ++ t ∷ []) ≡ taken n ts + (if (t.opener == n) || (t.closer == n) then t.width else 0)

@@ -1,3 +1,4 @@
 pub mod ParsedText
+pub mod SpanKinds
 pub mod TreeView
 pub mod held

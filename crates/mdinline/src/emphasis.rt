@@ -6,11 +6,13 @@ ghost use Rattle.inlinespec.specs.InlineEvents.{Leave, written};
 ghost use Rattle.mdpair.specs.Matches.{IsOrdered, matches};
 ghost use Rattle.mdinline.specs.held.PairedRuns.{ArePaired, IsPaired, entered, paired_events, piece_of, pieces_of};
 ghost use Rattle.inlinespec.specs.Settled.{bracket_text, run_events, runs_of, span_by};
-ghost use Rattle.mdinline.specs.held.TreeBuilding.{built, span_of};
+ghost use Rattle.mdinline.specs.SpanKinds.{span_of};
+ghost use Rattle.mdinline.specs.held.TreeBuilding.{built};
 
 use crate::faults::InlineFault;
 use crate::pieces::Piece;
-use crate::trees::{SpanKind, Tree, TreeBuilder};
+use crate::sinks::SpanKind;
+use crate::trees::{Tree, TreeBuilder};
 use mdpair::{DelimiterChar, DelimiterRun, Match, pair};
 use std::alloc::{AllocError, Global};
 

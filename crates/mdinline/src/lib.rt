@@ -19,6 +19,7 @@ mod pieces;
 mod raw_html;
 mod reading;
 mod scanner;
+mod sinks;
 mod texts;
 mod trees;
 
@@ -28,6 +29,7 @@ pub use inlines::Inline;
 pub use labels::{LabelTable, Labels};
 pub use parsed::Parsed;
 pub use reading::read;
+pub use sinks::{InlineSink, SpanKind};
 
 #[cfg(test)]
 mod tests;

@@ -3,20 +3,14 @@
 ghost use Rattle.std.specs.Prelude.{◌≡◌, ◌+◌, ◌<◌, [], ◌∷◌, ◌++◌, IfOk, OnOk, length, string_bytes};
 ghost use Rattle.inlinespec.specs.InlineEvents.{Enter, Leave, within, written};
 ghost use Rattle.mdinline.specs.held.Recognised.{made_events};
-ghost use Rattle.mdinline.specs.held.TreeBuilding.{built, row_events, span_of};
+ghost use Rattle.mdinline.specs.SpanKinds.{span_of};
+ghost use Rattle.mdinline.specs.held.TreeBuilding.{built, row_events};
 
 use crate::faults::InlineFault;
 use crate::inlines::Inline;
+use crate::sinks::SpanKind;
 use std::alloc::{AllocError, Global};
 use std::mem;
-
-/// A span that delimiter runs make.
-#[derive(Clone, Copy, Debug, Drop)]
-pub(crate) enum SpanKind {
-    Emph,
-    Strong,
-    Strike,
-}
 
 /// A span that is open, and what stands before it beside it.
 #[derive(Drop)]

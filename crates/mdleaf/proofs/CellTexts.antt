@@ -131,7 +131,7 @@ after_bar text before after e u =
     let rest : IsUtf8 (drop (n + 1) all) = IsUtf8-drop all (n + 1) utf8 (IsCharBoundary-after_ascii all n utf8 inside ascii) in
     subst IsUtf8 (sym (drop-drop 1 n all) ∙ ap (λ (t : List ℕ). drop 1 t) (drop-append_seam before (124 ∷ after))) rest
 
-length_filled : (n : ℕ) (texts : List (List ℕ)) → length (filled n texts) ≡ n
+pub length_filled : (n : ℕ) (texts : List (List ℕ)) → length (filled n texts) ≡ n
 length_filled zero texts = refl
 length_filled (suc n) [] = let rest = length_filled n [] in omega arith
 length_filled (suc n) (text ∷ texts) = let rest = length_filled n texts in omega arith

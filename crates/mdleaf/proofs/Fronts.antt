@@ -6,7 +6,7 @@ use Rattle.std.proofs.lemmas.Str.{IsCharBoundary-from_rest}
 use Rattle.std.proofs.lemmas.List.{drop-drop}
 use Rattle.std.proofs.lemmas.List.Sums.{sum_by-cons}
 use Rattle.mdtext.specs.EntityTable.{EntityTable}
-use Rattle.mdscan.specs.declared.definitions.Def.{Def}
+use Rattle.mdscan.specs.declared.link_definitions.Def.{Def}
 use Rattle.mdscan.specs.LinkDefinition.{definition_of}
 use Rattle.mdleaf.specs.LinkDefinition.{LinkDefinition}
 use Rattle.mdleaf.specs.LeadingDefinitions.{Front, fronts_after, fronts, front_then, defined, leading_of, leading_end}

@@ -6,6 +6,7 @@ use Rattle.std.specs.Char.{is_ascii_punctuation}
 use Rattle.std.proofs.lemmas.Bool.Decides.{nat_tests}
 use Rattle.std.proofs.lemmas.Str.{IsUtf8-between}
 use Rattle.mdtext.specs.Labels.{has_bare_bracket, is_label, is_label_space}
+use Rattle.mdtext.proofs.BareBrackets.{bare_from, backslash_step, no_bracket, plain_step}
 use Rattle.mdscan.specs.declared.spans.Span.{Span}
 use Rattle.mdscan.specs.Blanks.{begins_with}
 use Rattle.mdscan.specs.Escapes.{begins_escape, is_one_of, run_after, run_before}
@@ -15,32 +16,6 @@ use Rattle.mdleaf.proofs.Characters.{characters}
 
 abbrev brackets : List ℕ
 brackets = 91 ∷ 93 ∷ []
-
--- whether a bare bracket stands in the text, whose first byte is escaped or not
-abbrev bare_from : Bool → List ℕ → Bool
-bare_from false text = has_bare_bracket text
-bare_from true [] = false
-bare_from true (b ∷ rest) = has_bare_bracket rest
-
-nothing : (escaped : Bool) → bare_from escaped [] ≡ false
-unfolding has_bare_bracket
-nothing true = refl
-nothing false = refl
-
-after_backslash : (rest : List ℕ) → has_bare_bracket (92 ∷ rest) ≡ bare_from true rest
-unfolding has_bare_bracket
-after_backslash [] = refl
-after_backslash (c ∷ rest) = refl
-
--- what stands behind a byte that is no backslash
-otherwise : (t x y : Bool) → t ≡ false → elim t [ true ↦ x | false ↦ y ] ≡ y
-otherwise true x y e = cc
-otherwise false x y e = refl
-
-after_plain : (b : ℕ) (rest : List ℕ) → eqb b 92 ≡ false → eqb b 91 ≡ false → eqb b 93 ≡ false → has_bare_bracket (b ∷ rest) ≡ has_bare_bracket rest
-unfolding has_bare_bracket
-after_plain b [] e f g = rw (f, g) refl
-after_plain b (c ∷ rest) e f g = otherwise (eqb b 92) (has_bare_bracket rest) (eqb b 91 || eqb b 93 || has_bare_bracket (c ∷ rest)) e ∙ rw (f, g) refl
 
 -- a backslash that escapes nothing
 no_escape : (c : ℕ) → is_ascii_punctuation c ≡ false → (eqb c 92 ≡ false) × ((eqb c 91 ≡ false) × (eqb c 93 ≡ false))
@@ -58,32 +33,32 @@ unescaped_backslash : (rest : List ℕ) (k : ℕ) → begins_escape (92 ∷ rest
 unescaped_backslash [] zero h e = refl
 unescaped_backslash [] (suc k) h e = refl
 unescaped_backslash (c ∷ rest) zero h e = refl
-unescaped_backslash (c ∷ rest) (suc k) h e = let n = no_escape c h in sym (after_plain c (take k rest) n.0 n.1.0 n.1.1) ∙ e
+unescaped_backslash (c ∷ rest) (suc k) h e = let n = no_escape c h in sym (plain_step c (take k rest) n.0 n.1.0 n.1.1) ∙ e
 
 -- up to the first bracket that is not escaped there is none
 none_bare : (escaped : Bool) (text : List ℕ) → bare_from escaped (take (run_after escaped brackets text) text) ≡ false
-none_bare escaped [] = nothing escaped
+none_bare escaped [] = no_bracket escaped
 none_bare true (b ∷ rest) = ap (bare_from true) (take_more (run_after false brackets rest) b rest) ∙ none_bare false rest
 none_bare false (b ∷ rest) = by (begins_escape (b ∷ rest)) (is_one_of brackets b) (eqb b 92) refl refl refl (λ escaped. none_bare escaped rest)
   where
     by : (x y z : Bool) → begins_escape (b ∷ rest) ≡ x → is_one_of brackets b ≡ y → eqb b 92 ≡ z
         → ((escaped : Bool) → bare_from escaped (take (run_after escaped brackets rest) rest) ≡ false)
-        → has_bare_bracket (take (elim x [ true ↦ 1 + run_after true brackets rest | false ↦ elim y [ true ↦ 0 | false ↦ 1 + run_after false brackets rest ] ]) (b ∷ rest)) ≡ false
-    by true y z e f g next =
+        → has_bare_bracket (take (elim y [ true ↦ 0 | false ↦ 1 + run_after x brackets rest ]) (b ∷ rest)) ≡ false
+    by x true z e f g next = no_bracket false
+    by true false z e f g next =
         let k = run_after true brackets rest in
         let backslash : b ≡ 92 = grind (arith, nat_tests, escapes b rest e) in
-        ap has_bare_bracket (take_more k b rest) ∙ ap (λ (c : ℕ). has_bare_bracket (c ∷ take k rest)) backslash ∙ after_backslash (take k rest) ∙ next true
-    by false true z e f g next = nothing false
+        ap has_bare_bracket (take_more k b rest) ∙ ap (λ (c : ℕ). has_bare_bracket (c ∷ take k rest)) backslash ∙ backslash_step (take k rest) ∙ next true
     by false false true e f g next =
         let k = run_after false brackets rest in
         let backslash : b ≡ 92 = grind (arith, nat_tests) in
         let no : begins_escape (92 ∷ rest) ≡ false = ap (λ (c : ℕ). begins_escape (c ∷ rest)) (sym backslash) ∙ e in
-        ap has_bare_bracket (take_more k b rest) ∙ ap (λ (c : ℕ). has_bare_bracket (c ∷ take k rest)) backslash ∙ after_backslash (take k rest) ∙ unescaped_backslash rest k no (next false)
+        ap has_bare_bracket (take_more k b rest) ∙ ap (λ (c : ℕ). has_bare_bracket (c ∷ take k rest)) backslash ∙ backslash_step (take k rest) ∙ unescaped_backslash rest k no (next false)
     by false false false e f g next =
         let k = run_after false brackets rest in
         let opening : eqb b 91 ≡ false = grind (arith, nat_tests) in
         let closing : eqb b 93 ≡ false = grind (arith, nat_tests) in
-        ap has_bare_bracket (take_more k b rest) ∙ after_plain b (take k rest) g opening closing ∙ next false
+        ap has_bare_bracket (take_more k b rest) ∙ plain_step b (take k rest) g opening closing ∙ next false
 
 same_visible : (b : ℕ) → is_visible b ≡ not (is_label_space b)
 same_visible b = by (eqb b 32) (eqb b 9) (eqb b 10) (eqb b 13)

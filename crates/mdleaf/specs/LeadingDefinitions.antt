@@ -5,7 +5,7 @@ use Rattle.std.specs.List.{sum_by}
 use Rattle.mdtext.specs.EntityTable.{EntityTable}
 use Rattle.mdtext.specs.Labels.{collapsed, folded}
 use Rattle.mdtext.specs.References.{unescaped}
-use Rattle.mdscan.specs.declared.definitions.Def.{Def}
+use Rattle.mdscan.specs.declared.link_definitions.Def.{Def}
 use Rattle.mdscan.specs.declared.spans.Span.{Span}
 use Rattle.mdscan.specs.LinkDefinition.{definition_of}
 use Rattle.mdscan.specs.Spans.{part}

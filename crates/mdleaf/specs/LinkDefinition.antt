@@ -1,7 +1,7 @@
 -- Link reference definitions (CommonMark 4.7).
 use Rattle.std.specs.Prelude.{ℕ, List, string_bytes, refl}
 use Rattle.std.specs.Coded.{Coded, code_by, coded×, coded_ℕ, coded_list}
-use Rattle.mdleaf.specs.declared.definitions.Definition.{Definition}
+use Rattle.mdleaf.specs.declared.link_definitions.Definition.{Definition}
 
 -- a folded label, and the destination and the title of its links
 pub record LinkDefinition : Type 0 where

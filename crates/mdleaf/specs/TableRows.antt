@@ -6,7 +6,7 @@ use Rattle.mdscan.specs.Blanks.{begins_with}
 use Rattle.mdscan.specs.DelimiterRow.{delimiter_align, delimiter_columns}
 use Rattle.mdscan.specs.Spans.{part}
 use Rattle.mdscan.specs.TableRow.{row_cells}
-use Rattle.mdleaf.specs.declared.rows.Header.{Header}
+use Rattle.mdleaf.specs.declared.table_rows.Header.{Header}
 
 -- a text without each backslash that stands directly before a bar
 abbrev pub cell_text : List ℕ → List ℕ

@@ -2,16 +2,14 @@
 //! marker of a task list item.
 #![tactic(auto)]
 
-mod definitions;
-mod leading;
+mod link_definitions;
 mod parts;
-mod rows;
-mod task_marks;
+mod table_rows;
+mod task_list_items;
 
-pub use definitions::Definition;
-pub use leading::{Leading, is_only_definitions, leading_definitions};
-pub use rows::{Header, begins_table, data_row, table_header};
-pub use task_marks::task_mark;
+pub use link_definitions::{Definition, Leading, is_only_definitions, leading_definitions};
+pub use table_rows::{Header, begins_table, data_row, table_header};
+pub use task_list_items::task_mark;
 
 #[cfg(test)]
 mod tests;

@@ -10,7 +10,7 @@ use Rattle.mdpair.specs.declared.emphasis.Remaining.{Remaining}
 use Rattle.mdpair.specs.DelimiterRun.{same_delimiter, can_both, lengths_fit, lengths_match, is_admissible}
 use Rattle.mdpair.specs.Matches.{nearest, without, left_of, stack, IsBelow}
 use Rattle.mdpair.specs.declared.searches.Bottom.{Bottom}
-use Rattle.mdpair.proofs.Sweep.{nearest-keeps, stack_at}
+use Rattle.mdpair.proofs.Sweep.{nearest_keeps, stack_at}
 use Rattle.mdpair.specs.OpenersBottom.{IsSameKind, IsBottom, IsBottomUpTo, Descends}
 
 lengths_same : (o c d : DelimiterRun) → c.length % 3 ≡ d.length % 3 → can_both c ≡ can_both d → lengths_fit o c ≡ lengths_fit o d
@@ -61,32 +61,32 @@ pub none_at_bottom : (bottom : ℕ) (c : DelimiterRun) (l : Remaining) (ls : Lis
 none_at_bottom bottom c l ls lt falls sound =
     ap (λ b. cond b (Some (l, ls)) (nearest c ls)) (sound.0 lt) ∙ none_below bottom l.place c ls (omega arith) falls.0 sound.1
 
-pub nearest-falls : (c : DelimiterRun) (passed : List Remaining) (o : Remaining) (below : List Remaining) → nearest c passed ≡ Some (o, below) → Descends passed → Descends (o ∷ below)
-nearest-falls = nearest-keeps Descends (λ p ps q. q.1)
+pub nearest_descends : (c : DelimiterRun) (passed : List Remaining) (o : Remaining) (below : List Remaining) → nearest c passed ≡ Some (o, below) → Descends passed → Descends (o ∷ below)
+nearest_descends = nearest_keeps Descends (λ p ps q. q.1)
 
-pub nearest-bottom : (bottom : ℕ) (d c : DelimiterRun) (passed : List Remaining) (o : Remaining) (below : List Remaining) → nearest c passed ≡ Some (o, below) → IsBottom bottom d passed →
+pub nearest_bottom : (bottom : ℕ) (d c : DelimiterRun) (passed : List Remaining) (o : Remaining) (below : List Remaining) → nearest c passed ≡ Some (o, below) → IsBottom bottom d passed →
     IsBottom bottom d (o ∷ below)
-nearest-bottom bottom d = nearest-keeps (IsBottom bottom d) (λ p ps q. q.1)
+nearest_bottom bottom d = nearest_keeps (IsBottom bottom d) (λ p ps q. q.1)
 
-pub left_of-falls : (n : ℕ) (run : DelimiterRun) (o : Remaining) (below : List Remaining) → Descends (o ∷ below) → Descends (left_of o.place n run ++ below)
-left_of-falls n run o below falls = at (eqb n 0)
+pub left_of_descends : (n : ℕ) (run : DelimiterRun) (o : Remaining) (below : List Remaining) → Descends (o ∷ below) → Descends (left_of o.place n run ++ below)
+left_of_descends n run o below falls = at (eqb n 0)
   where
     at : (b : Bool) → Descends (cond b [] (record { place = o.place; left = n; run = run } ∷ []) ++ below)
     at true = falls.1
     at false = falls
 
 -- what is left of a run goes onto the stack
-pub pushed-bottom : (bottom : ℕ) (c : DelimiterRun) (place n : ℕ) (run : DelimiterRun) (ls : List Remaining) → bottom ≤ place → IsBottom bottom c ls → IsBottom bottom c (left_of place n run ++ ls)
-pushed-bottom bottom c place n run ls le sound = at (eqb n 0)
+pub pushed_bottom : (bottom : ℕ) (c : DelimiterRun) (place n : ℕ) (run : DelimiterRun) (ls : List Remaining) → bottom ≤ place → IsBottom bottom c ls → IsBottom bottom c (left_of place n run ++ ls)
+pushed_bottom bottom c place n run ls le sound = at (eqb n 0)
   where
     at : (b : Bool) → IsBottom bottom c (cond b [] (record { place = place; left = n; run = run } ∷ []) ++ ls)
     at true = sound
     at false = put_on bottom c (record { place = place; left = n; run = run }) ls le sound
 
-pub pushed-bottoms : (place n : ℕ) (run : DelimiterRun) (ls new : List Remaining) (bs : List Bottom) → new ≡ left_of place n run ++ ls → All (IsBottomUpTo place ls) bs → All (IsBottomUpTo (place + 1) new) bs
-pushed-bottoms place n run ls new bs e h =
+pub pushed_bottoms : (place n : ℕ) (run : DelimiterRun) (ls new : List Remaining) (bs : List Bottom) → new ≡ left_of place n run ++ ls → All (IsBottomUpTo place ls) bs → All (IsBottomUpTo (place + 1) new) bs
+pushed_bottoms place n run ls new bs e h =
     All-weaker (IsBottomUpTo place ls) (IsBottomUpTo (place + 1) new)
-    (λ b s. (omega (arith, s.0), subst (IsBottom b.place b.closer) (sym e) (pushed-bottom b.place b.closer place n run ls s.0 s.1))) bs h
+    (λ b s. (omega (arith, s.0), subst (IsBottom b.place b.closer) (sym e) (pushed_bottom b.place b.closer place n run ls s.0 s.1))) bs h
 
 -- a bottom is one for each closer of the kind
 pub bottom_same : (p : ℕ) (c d : DelimiterRun) (ls : List Remaining) → IsSameKind c d → IsBottom p c ls → IsBottom p d ls

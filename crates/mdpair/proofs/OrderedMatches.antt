@@ -1,10 +1,11 @@
 -- Of each match the opener stands before the closer, and the closer is one of the runs.
 use Rattle.std.proofs.Common.{◌≡◌, ℕ, zero, suc, ◌+◌, ◌-◌, ◌<◌, ◌≤◌, Bool, true, false, cond, eqb, List, [], ◌∷◌, ◌++◌, length, Option, Some, None, IfSome, subst, arith}
+use Rattle.std.specs.Option.{option_or}
 use Rattle.mdpair.specs.declared.runs.DelimiterRun.{DelimiterRun}
 use Rattle.mdpair.specs.declared.emphasis.Match.{Match}
 use Rattle.mdpair.specs.declared.emphasis.Remaining.{Remaining}
 use Rattle.mdpair.specs.DelimiterRun.{is_admissible}
-use Rattle.mdpair.specs.Matches.{nearest, left_of, without, onto, taken_of, match_with, turn, and_on, matches_in, whole, left_in, matches}
+use Rattle.mdpair.specs.Matches.{nearest, left_of, without, onto, taken_of, match_with, match_at, first_match, and_on, matches_in, whole, left_in, matches}
 
 -- places rise from one number on, and stay below another
 Rises : ℕ → ℕ → List Remaining → Type 0
@@ -69,30 +70,34 @@ nearest_falls k c (o ∷ below) h = by (is_admissible o.run c) (found_below k o.
     by true f = (h.0, h.1)
     by false f = f
 
-IsTurn : ℕ → Match × List Remaining → Type 0
-IsTurn m p = (p.0.opener < p.0.closer) × (p.0.closer < m) × Rises m 0 p.1
+IsOrderedMatch : ℕ → Match × List Remaining → Type 0
+IsOrderedMatch m p = (p.0.opener < p.0.closer) × (p.0.closer < m) × Rises m 0 p.1
 
-taken_turn : (m k : ℕ) (c : Remaining) (rest : List Remaining) (r : Option (Remaining × List Remaining)) (later : Option (Match × List Remaining)) →
-    k ≤ c.place → Rises m (c.place + 1) rest → IfSome r (IsFound k) → IfSome later (IsTurn m) → IfSome (match_with c rest r later) (IsTurn m)
-unfolding IsTurn IsFound
-taken_turn m k c rest None later le h f g = g
-taken_turn m k c rest (Some (o, below)) later le h f g =
+taken_ordered : (m k : ℕ) (c : Remaining) (rest : List Remaining) (r : Option (Remaining × List Remaining)) →
+    k ≤ c.place → Rises m (c.place + 1) rest → IfSome r (IsFound k) → IfSome (match_with c rest r) (IsOrderedMatch m)
+unfolding IsOrderedMatch IsFound
+taken_ordered m k c rest None le h f = tt
+taken_ordered m k c rest (Some (o, below)) le h f =
     let n = taken_of o c in
     let bound = rises_below m (c.place + 1) rest h in
     let front = left_falls (o.place + 1) o.place (o.left - n) o.run below (omega arith) f.1 in
     let back = left_rises m (o.place + 1) c.place (c.left - n) c.run rest (omega arith) h in
     (omega arith, omega arith, onto_rises m (o.place + 1) (without n o ++ below) (without n c ++ rest) front back)
 
-turn_rises : (m k : ℕ) (passed rest : List Remaining) → Falls k passed → Rises m k rest → IfSome (turn passed rest) (IsTurn m)
+either : (m : ℕ) (here later : Option (Match × List Remaining)) → IfSome here (IsOrderedMatch m) → IfSome later (IsOrderedMatch m) → IfSome (option_or here later) (IsOrderedMatch m)
+either m None later f g = g
+either m (Some p) later f g = f
+
+match_rises : (m k : ℕ) (passed rest : List Remaining) → Falls k passed → Rises m k rest → IfSome (first_match passed rest) (IsOrderedMatch m)
 unfolding Rises Falls
-turn_rises m k passed [] h r = tt
-turn_rises m k passed (c ∷ rest) h r =
-    by c.run.can_close (turn_rises m (c.place + 1) (c ∷ passed) rest (omega arith, falls_from k c.place passed r.0 h) r.1)
+match_rises m k passed [] h r = tt
+match_rises m k passed (c ∷ rest) h r =
+    either m (match_at passed c rest) (first_match (c ∷ passed) rest) (by c.run.can_close)
+    (match_rises m (c.place + 1) (c ∷ passed) rest (omega arith, falls_from k c.place passed r.0 h) r.1)
   where
-    by : (t : Bool) → IfSome (turn (c ∷ passed) rest) (IsTurn m) →
-        IfSome (cond t (match_with c rest (nearest c.run passed) (turn (c ∷ passed) rest)) (turn (c ∷ passed) rest)) (IsTurn m)
-    by true f = taken_turn m k c rest (nearest c.run passed) (turn (c ∷ passed) rest) r.0 r.1 (nearest_falls k c.run passed h) f
-    by false f = f
+    by : (t : Bool) → IfSome (cond t (match_with c rest (nearest c.run passed)) None) (IsOrderedMatch m)
+    by true = taken_ordered m k c rest (nearest c.run passed) r.0 r.1 (nearest_falls k c.run passed h)
+    by false = tt
 
 unfoldable pub AreOrdered : ℕ → List Match → Type 0
 AreOrdered m [] = Unit {0}
@@ -102,15 +107,15 @@ no_falls : (k : ℕ) → Falls k []
 unfolding Falls
 no_falls k = tt
 
-ordered_on : (n m : ℕ) (r : Option (Match × List Remaining)) → IfSome r (IsTurn m) → ((next : List Remaining) → Rises m 0 next → AreOrdered m (matches_in n next)) → AreOrdered m (and_on r (matches_in n))
-unfolding AreOrdered IsTurn
+ordered_on : (n m : ℕ) (r : Option (Match × List Remaining)) → IfSome r (IsOrderedMatch m) → ((next : List Remaining) → Rises m 0 next → AreOrdered m (matches_in n next)) → AreOrdered m (and_on r (matches_in n))
+unfolding AreOrdered IsOrderedMatch
 ordered_on n m None f go = tt
 ordered_on n m (Some (t, next)) f go = (f.0, f.1, go next f.2)
 
 ordered_in : (n m : ℕ) (ls : List Remaining) → Rises m 0 ls → AreOrdered m (matches_in n ls)
 unfolding matches_in AreOrdered
 ordered_in zero m ls h = tt
-ordered_in (suc n) m ls h = ordered_on n m (turn [] ls) (turn_rises m 0 [] ls (no_falls 0) h) (λ next r. ordered_in n m next r)
+ordered_in (suc n) m ls h = ordered_on n m (first_match [] ls) (match_rises m 0 [] ls (no_falls 0) h) (λ next r. ordered_in n m next r)
 
 whole_rises : (n : ℕ) (runs : List DelimiterRun) → Rises (n + length runs) n (whole n runs)
 unfolding Rises

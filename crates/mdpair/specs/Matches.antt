@@ -1,5 +1,6 @@
 -- Which delimiter runs make emphasis together (CommonMark 6.2 rules 9 to 17; GFM Strikethrough (extension)), by rewriting the list of what is left of the runs.
 use Rattle.std.specs.Prelude.{◌≡◌, ℕ, zero, suc, ◌+◌, ◌-◌, ◌<◌, true, ◌&&◌, eqb, nat_lt, cond, List, [], ◌∷◌, ◌++◌, Option, Some, None}
+use Rattle.std.specs.Option.{option_or}
 use Rattle.mdpair.specs.declared.runs.DelimiterChar.{DelimiterChar}
 use Rattle.mdpair.specs.declared.runs.DelimiterChar.TheVariants.{Tilde}
 use Rattle.mdpair.specs.declared.runs.DelimiterRun.{DelimiterRun}
@@ -43,16 +44,18 @@ matched o c = record { opener = o.place; closer = c.place; width = taken_of o c 
 abbrev pub after_match : ℕ → Remaining → List Remaining → Remaining → List Remaining → List Remaining
 after_match n o below c rest = onto (without n o ++ below) (without n c ++ rest)
 
-abbrev pub match_with : Remaining → List Remaining → Option (Remaining × List Remaining) → Option (Match × List Remaining) → Option (Match × List Remaining)
-match_with c rest None other = other
-match_with c rest (Some (o, below)) other = Some (matched o c, after_match (taken_of o c) o below c rest)
+abbrev pub match_with : Remaining → List Remaining → Option (Remaining × List Remaining) → Option (Match × List Remaining)
+match_with c rest None = None
+match_with c rest (Some (o, below)) = Some (matched o c, after_match (taken_of o c) o below c rest)
 
--- One match: the leftmost closer that has an admissible opener takes the nearest. Those passed are read backwards.
-abbrev pub turn : List Remaining → List Remaining → Option (Match × List Remaining)
-turn passed [] = None
-turn passed (c ∷ rest) =
-    let later = turn (c ∷ passed) rest in
-    cond c.run.can_close (match_with c rest (nearest c.run passed) later) later
+-- what a run takes as a closer, and what it leaves; the runs before it are read backwards
+abbrev pub match_at : List Remaining → Remaining → List Remaining → Option (Match × List Remaining)
+match_at passed c rest = cond c.run.can_close (match_with c rest (nearest c.run passed)) None
+
+-- The first match is that of the leftmost closer which has an admissible opener before it.
+abbrev pub first_match : List Remaining → List Remaining → Option (Match × List Remaining)
+first_match passed [] = None
+first_match passed (c ∷ rest) = option_or (match_at passed c rest) (first_match (c ∷ passed) rest)
 
 abbrev pub and_on : Option (Match × List Remaining) → (List Remaining → List Match) → List Match
 and_on None go = []
@@ -61,7 +64,7 @@ and_on (Some (t, ls)) go = t ∷ go ls
 -- at most n matches, one after the other
 unfoldable pub matches_in : ℕ → List Remaining → List Match
 matches_in zero ls = []
-matches_in (suc n) ls = and_on (turn [] ls) (matches_in n)
+matches_in (suc n) ls = and_on (first_match [] ls) (matches_in n)
 
 -- the runs from place n on, with all their characters
 abbrev pub whole : ℕ → List DelimiterRun → List Remaining
@@ -77,10 +80,10 @@ left_in (l ∷ ls) = l.left + left_in ls
 unfoldable pub matches : List DelimiterRun → List Match
 matches runs = matches_in (left_in (whole 0 runs)) (whole 0 runs)
 
--- taking these matches, one after the other, leads from the one list to the other
-abbrev pub Leads : List Remaining → List Match → List Remaining → Type 0
-Leads ls [] end = ls ≡ end
-Leads ls (t ∷ ts) end = (next : List Remaining) × (turn [] ls ≡ Some (t, next)) × Leads next ts end
+-- these matches, each the first of what the one before it leaves, make the one list of the other
+abbrev pub Rewrites : List Remaining → List Match → List Remaining → Type 0
+Rewrites ls [] end = ls ≡ end
+Rewrites ls (t ∷ ts) end = (next : List Remaining) × (first_match [] ls ≡ Some (t, next)) × Rewrites next ts end
 
 -- no closer among those passed has an admissible opener before it
 abbrev pub IsClear : List Remaining → Type 0
@@ -98,8 +101,8 @@ IsBelow k l = l.place < k
 abbrev pub IsOrdered : ℕ → Match → Type 0
 IsOrdered k t = (t.opener < t.closer) × (t.closer < k) × (0 < t.width)
 
--- taking these in turn leads to where no closer has an admissible opener any more
+-- these matches leave a list in which no closer has an admissible opener before it
 pub record IsProcessed (runs : List DelimiterRun) (ts : List Match) : Type 0 where
   pub end : List Remaining
-  pub leads : Leads (whole 0 runs) ts end
-  pub done : turn [] end ≡ None
+  pub rewrites : Rewrites (whole 0 runs) ts end
+  pub done : first_match [] end ≡ None

@@ -6,7 +6,7 @@ ghost use Rattle.mdpair.specs.declared.emphasis.Remaining.{Remaining as Left};
 ghost use Rattle.mdpair.specs.DelimiterRun.{is_admissible};
 ghost use Rattle.mdpair.specs.declared.runs.DelimiterRun.{DelimiterRun};
 ghost use Rattle.mdpair.specs.OpenersBottom.{IsBottom, IsBottomUpTo, Descends};
-ghost use Rattle.mdpair.specs.Matches.{nearest, onto, stack, width_of, left_of, Leads, IsClear, IsLeft, IsOrdered, IsBelow, IsProcessed, matches};
+ghost use Rattle.mdpair.specs.Matches.{nearest, onto, stack, width_of, left_of, Rewrites, IsClear, IsLeft, IsOrdered, IsBelow, IsProcessed, matches};
 
 use crate::runs::{DelimiterChar, DelimiterRun};
 use crate::searches::{Bottom, bottom_for, keep_bottom};
@@ -62,9 +62,9 @@ fn pass(
     requires bottoms { All (IsBottomUpTo place (stack passed.old.items)) bottoms.old.items }
     requires each { AllByRecursion IsLeft (stack passed.old.items) }
     requires low { AllByRecursion (IsBelow place) (stack passed.old.items) }
-    ensures leads { IfOk result (λ _. (start rest : List Left)
-        → Leads start matches.old.items (onto (stack passed.old.items) (left_of place run.length run ++ rest))
-        → Leads start matches.new.items (onto (stack passed.new.items) rest)) }
+    ensures rewrites { IfOk result (λ _. (start rest : List Left)
+        → Rewrites start matches.old.items (onto (stack passed.old.items) (left_of place run.length run ++ rest))
+        → Rewrites start matches.new.items (onto (stack passed.new.items) rest)) }
     ensures clear { IfOk result (λ _. IsClear (stack passed.new.items)) }
     ensures each { IfOk result (λ _. AllByRecursion IsLeft (stack passed.new.items)) }
     ensures low { IfOk result (λ _. AllByRecursion (IsBelow (place + 1)) (stack passed.new.items)) }
@@ -99,8 +99,8 @@ fn close(
     requires clear { IsClear (stack passed.old.items) }
     requires each { AllByRecursion IsLeft (stack passed.old.items) }
     requires low { AllByRecursion (IsBelow closer.place) (stack passed.old.items) }
-    ensures leads { IfOk result (λ left. (start rest : List Left) → Leads start matches.old.items (onto (stack passed.old.items) (closer ∷ rest))
-        → Leads start matches.new.items (onto (stack passed.new.items) (left_of closer.place left closer.run ++ rest))) }
+    ensures rewrites { IfOk result (λ left. (start rest : List Left) → Rewrites start matches.old.items (onto (stack passed.old.items) (closer ∷ rest))
+        → Rewrites start matches.new.items (onto (stack passed.new.items) (left_of closer.place left closer.run ++ rest))) }
     ensures done { IfOk result (λ left. 0 < left → nearest closer.run (stack passed.new.items) ≡ None) }
     ensures left { IfOk result (λ left. closer.run.delimiter ≡ DelimiterChar.Tilde → 0 < left → left ≡ closer.run.length) }
     ensures clear { IfOk result (λ _. IsClear (stack passed.new.items)) }

@@ -8,7 +8,7 @@ use Rattle.std.proofs.lemmas.List.Sums.{prefix_len-le-length, prefix_len_passes,
 use Rattle.std.proofs.Math.Nat.{eq-or-lt_of_le}
 use Rattle.std.proofs.lemmas.Bool.Decides.{nat_tests}
 use Rattle.mdscan.specs.Blanks.{begins_with, is_blank}
-use Rattle.mdscan.specs.Gaps.{gap_length, past_gap}
+use Rattle.mdscan.specs.Spacing.{spacing_length, past_spacing}
 use Rattle.mdscan.specs.Spans.{IsSpanOf, part, trimmed_from}
 use Rattle.mdscan.specs.AtxHeading.{before_hashes, is_closed, content_length, heading_content}
 
@@ -77,8 +77,8 @@ trimmed_is_span text at u b =
     }
 
 -- after spaces and tabs, one at least, that stand at a place
-pub gap_boundary : (text line : List ℕ) (at n : ℕ) → line ≡ text → IsUtf8 text → n ≡ prefix_len is_blank (drop at line) → 0 < n → IsCharBoundary text (at + n)
-gap_boundary text line at n same u e some =
+pub after_blanks_boundary : (text line : List ℕ) (at n : ℕ) → line ≡ text → IsUtf8 text → n ≡ prefix_len is_blank (drop at line) → 0 < n → IsCharBoundary text (at + n)
+after_blanks_boundary text line at n same u e some =
     let f = subst (λ (t : List ℕ). n ≡ prefix_len is_blank (drop at t)) same e in
     let most = prefix_len-le-length is_blank (drop at text) in
     let k : ℕ = n - 1 in
@@ -136,9 +136,9 @@ first_byte [] (suc n) h = cc
 first_byte (b ∷ bs) zero h = (omega arith, grind (arith, nat_tests))
 first_byte (b ∷ bs) (suc n) h = let f = first_byte bs n h in (omega (arith, f.0), f.1)
 
-gap_end : (rest : List ℕ) → IsUtf8 rest → IsCharBoundary rest (gap_length rest)
-unfolding gap_length
-gap_end rest u =
+spacing_end : (rest : List ℕ) → IsUtf8 rest → IsCharBoundary rest (spacing_length rest)
+unfolding spacing_length
+spacing_end rest u =
     let first = run_boundary is_blank rest ascii_blank u in
     by (prefix_len is_blank rest) (begins_with 10 (drop (prefix_len is_blank rest) rest)) refl first
   where
@@ -149,9 +149,9 @@ gap_end rest u =
         IsCharBoundary-from_rest rest (n + 1) (prefix_len is_blank (drop (n + 1) rest)) next.0 (run_boundary is_blank (drop (n + 1) rest) ascii_blank (IsUtf8-drop rest (n + 1) u next))
     by n false h first = first
 
--- after a gap
-pub past_gap_boundary : (text : List ℕ) (at : ℕ) → IsUtf8 text → IsCharBoundary text at → IsCharBoundary text (past_gap text at)
-past_gap_boundary text at u b = IsCharBoundary-from_rest text at (gap_length (drop at text)) b.0 (gap_end (drop at text) (IsUtf8-drop text at u b))
+-- after spacing
+pub past_spacing_boundary : (text : List ℕ) (at : ℕ) → IsUtf8 text → IsCharBoundary text at → IsCharBoundary text (past_spacing text at)
+past_spacing_boundary text at u b = IsCharBoundary-from_rest text at (spacing_length (drop at text)) b.0 (spacing_end (drop at text) (IsUtf8-drop text at u b))
 
 -- after spaces and tabs
 pub blanks_boundary : (text : List ℕ) (at n : ℕ) → n ≡ prefix_len is_blank (take (length text - at) (drop at text)) → IsUtf8 text → IsCharBoundary text at → IsCharBoundary text (at + n)

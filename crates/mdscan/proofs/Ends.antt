@@ -4,8 +4,8 @@ use Rattle.std.specs.Str.{IsUtf8, IsCharBoundary}
 use Rattle.std.proofs.lemmas.Str.{IsCharBoundary-before_ascii, IsCharBoundary-after_ascii}
 use Rattle.std.specs.Option.{option_or}
 use Rattle.mdscan.specs.LinkDefinition.{AreDefSpans}
-use Rattle.mdscan.specs.declared.definitions.Def.{Def}
-use Rattle.mdscan.specs.declared.links.Dest.{Dest}
+use Rattle.mdscan.specs.declared.link_definitions.Def.{Def}
+use Rattle.mdscan.specs.declared.link_destinations.Dest.{Dest}
 use Rattle.mdscan.specs.declared.spans.Span.{Span}
 use Rattle.mdscan.specs.Spans.{IsSpanOf, IsEndAfter, EndsAfterMark, IsEnclosed}
 

@@ -1,7 +1,7 @@
 -- Code fences (CommonMark 4.5).
 use Rattle.std.specs.Prelude.{ℕ, Bool, not, ◌&&◌, ◌==◌, nat_le, List, drop, Option, Some, None, if◌then◌else◌}
 use Rattle.std.specs.List.{prefix_len, list_any}
-use Rattle.mdscan.specs.declared.fences.FenceLine.{FenceLine}
+use Rattle.mdscan.specs.declared.code_fences.FenceLine.{FenceLine}
 use Rattle.mdscan.specs.Blanks.{is_blank_text}
 use Rattle.mdscan.specs.Spans.{trimmed_from}
 

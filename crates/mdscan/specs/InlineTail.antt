@@ -1,12 +1,12 @@
--- What follows an inline link's text (CommonMark 6.3): `(`, a gap or none, perhaps a destination and, after a
--- gap, perhaps a title, a gap or none, and `)`.
+-- What follows an inline link's text (CommonMark 6.3): `(`, spacing or none, perhaps a destination and, after
+-- spacing, perhaps a title, spacing or none, and `)`.
 use Rattle.std.specs.Prelude.{ℕ, ◌+◌, nat_lt, List, drop, Option, Some, None, IfSome, if◌then◌else◌}
 use Rattle.std.specs.Option.{option_or}
 use Rattle.mdscan.specs.declared.spans.Span.{Span}
-use Rattle.mdscan.specs.declared.links.Dest.{Dest}
+use Rattle.mdscan.specs.declared.link_destinations.Dest.{Dest}
 use Rattle.mdscan.specs.declared.inline_tails.Tail.{Tail}
 use Rattle.mdscan.specs.Blanks.{begins_with}
-use Rattle.mdscan.specs.Gaps.{past_gap}
+use Rattle.mdscan.specs.Spacing.{past_spacing}
 use Rattle.mdscan.specs.Spans.{IsSpanOf}
 use Rattle.mdscan.specs.LinkDestination.{destination_at}
 use Rattle.mdscan.specs.LinkTitle.{title_at}
@@ -23,21 +23,21 @@ tail_to text at destination title =
 
 abbrev pub tail_titled : List ℕ → Dest → Option Dest → Option Tail
 tail_titled text dest None = None
-tail_titled text dest (Some title) = tail_to text (past_gap text title.end) (Some dest.span) (Some title.span)
+tail_titled text dest (Some title) = tail_to text (past_spacing text title.end) (Some dest.span) (Some title.span)
 
--- a title after a gap, if there are both
+-- a title after spacing, if there are both
 unfoldable pub titled_tail : List ℕ → Dest → Option Tail
 titled_tail text dest =
-    let next = past_gap text dest.end in
+    let next = past_spacing text dest.end in
     if nat_lt dest.end next then tail_titled text dest (title_at text next) else None
 
 abbrev pub tail_from : List ℕ → Option Dest → Option Tail
 tail_from text None = None
-tail_from text (Some dest) = option_or (titled_tail text dest) (tail_to text (past_gap text dest.end) (Some dest.span) None)
+tail_from text (Some dest) = option_or (titled_tail text dest) (tail_to text (past_spacing text dest.end) (Some dest.span) None)
 
 -- what follows `(`, from a place on
 unfoldable pub tail_inside : List ℕ → ℕ → Option Tail
 tail_inside text at = if begins_with 41 (drop at text) then tail_to text at None None else tail_from text (destination_at text at)
 
 unfoldable pub inline_tail_at : List ℕ → ℕ → Option Tail
-inline_tail_at text at = if begins_with 40 (drop at text) then tail_inside text (past_gap text (at + 1)) else None
+inline_tail_at text at = if begins_with 40 (drop at text) then tail_inside text (past_spacing text (at + 1)) else None

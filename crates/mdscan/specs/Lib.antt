@@ -10,7 +10,7 @@ pub mod TaskMarker
 pub mod HtmlBlock
 pub mod TableRow
 pub mod DelimiterRow
-pub mod Gaps
+pub mod Spacing
 pub mod Repeats
 pub mod Tag
 pub mod RawHtml

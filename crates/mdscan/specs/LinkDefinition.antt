@@ -1,14 +1,14 @@
--- Link reference definition (CommonMark 4.7): a label, `:`, a gap or none, a destination, and perhaps a title
--- after a gap. Only spaces and tabs follow on the line. Where something else follows the title, and the title
+-- Link reference definition (CommonMark 4.7): a label, `:`, spacing or none, a destination, and perhaps a title
+-- after spacing. Only spaces and tabs follow on the line. Where something else follows the title, and the title
 -- stands on a line of its own, the definition has none.
 use Rattle.std.specs.Prelude.{ℕ, ◌+◌, ◌==◌, nat_lt, List, length, drop, Option, Some, None, IfSome, if◌then◌else◌}
 use Rattle.std.specs.List.{prefix_len}
 use Rattle.std.specs.Option.{option_or}
 use Rattle.mdscan.specs.declared.spans.Span.{Span}
-use Rattle.mdscan.specs.declared.links.Dest.{Dest}
-use Rattle.mdscan.specs.declared.definitions.Def.{Def}
+use Rattle.mdscan.specs.declared.link_destinations.Dest.{Dest}
+use Rattle.mdscan.specs.declared.link_definitions.Def.{Def}
 use Rattle.mdscan.specs.Blanks.{is_blank, begins_with}
-use Rattle.mdscan.specs.Gaps.{past_gap}
+use Rattle.mdscan.specs.Spacing.{past_spacing}
 use Rattle.std.specs.Str.{IsCharBoundary}
 use Rattle.mdscan.specs.Spans.{IsSpanOf}
 use Rattle.mdscan.specs.LinkDestination.{destination_at}
@@ -36,10 +36,10 @@ abbrev pub def_titled : List ℕ → Span → Dest → Option Dest → Option De
 def_titled text label dest None = None
 def_titled text label dest (Some title) = def_to label dest (Some title.span) (line_end text title.end)
 
--- a title after a gap, if there are both
+-- a title after spacing, if there are both
 unfoldable pub titled_def : List ℕ → Span → Dest → Option Def
 titled_def text label dest =
-    let next = past_gap text dest.end in
+    let next = past_spacing text dest.end in
     if nat_lt dest.end next then def_titled text label dest (title_at text next) else None
 
 abbrev pub def_from : List ℕ → Span → Option Dest → Option Def
@@ -49,7 +49,7 @@ def_from text label (Some dest) = option_or (titled_def text label dest) (def_to
 -- what follows a label
 unfoldable pub labelled_def : List ℕ → Span → Option Def
 labelled_def text label =
-    if begins_with 58 (drop (label.end + 1) text) then def_from text label (destination_at text (past_gap text (label.end + 2))) else None
+    if begins_with 58 (drop (label.end + 1) text) then def_from text label (destination_at text (past_spacing text (label.end + 2))) else None
 
 abbrev pub def_of : List ℕ → Option Span → Option Def
 def_of text None = None

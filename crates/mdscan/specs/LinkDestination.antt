@@ -1,7 +1,7 @@
 -- Link destinations (CommonMark 6.3).
 use Rattle.std.specs.Prelude.{ℕ, ◌+◌, ◌-◌, Bool, true, false, ◌||◌, ◌==◌, nat_lt, List, [], ◌∷◌, drop, Option, Some, None, if◌then◌else◌}
 use Rattle.std.specs.Char.{is_ascii_control}
-use Rattle.mdscan.specs.declared.links.Dest.{Dest}
+use Rattle.mdscan.specs.declared.link_destinations.Dest.{Dest}
 use Rattle.mdscan.specs.Blanks.{begins_with}
 use Rattle.mdscan.specs.Escapes.{begins_escape, run_before}
 

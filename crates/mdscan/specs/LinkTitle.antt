@@ -1,7 +1,7 @@
 -- Link titles (CommonMark 6.3).
 use Rattle.std.specs.Prelude.{ℕ, ◌+◌, Bool, false, not, ◌||◌, ◌&&◌, List, [], ◌∷◌, take, drop, Option, Some, None, if◌then◌else◌}
 use Rattle.std.specs.List.{prefix_len}
-use Rattle.mdscan.specs.declared.links.Dest.{Dest}
+use Rattle.mdscan.specs.declared.link_destinations.Dest.{Dest}
 use Rattle.mdscan.specs.Blanks.{is_blank, begins_with}
 use Rattle.mdscan.specs.Escapes.{run_before}
 

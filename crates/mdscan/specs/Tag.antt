@@ -4,7 +4,7 @@ use Rattle.std.specs.Prelude.{ℕ, ◌+◌, Bool, false, not, ◌||◌, ◌&&◌
 use Rattle.std.specs.Char.{is_ascii_alphabetic, is_ascii_alphanumeric}
 use Rattle.std.specs.List.{prefix_len, starts_with}
 use Rattle.mdscan.specs.Blanks.{begins_with}
-use Rattle.mdscan.specs.Gaps.{gap_length}
+use Rattle.mdscan.specs.Spacing.{spacing_length}
 use Rattle.mdscan.specs.Repeats.{repeats}
 
 -- whether the first byte passes the test
@@ -45,11 +45,11 @@ value_length text =
     if begins_with 34 text then quoted_length 34 text
     else (if begins_with 39 text then quoted_length 39 text else prefix_len in_unquoted_value text)
 
--- what stands before a value: a gap or none, `=`, and a gap or none
+-- what stands before a value: spacing or none, `=`, and spacing or none
 unfoldable pub equals_length : List ℕ → ℕ
 equals_length text =
-    let before = gap_length text in
-    if begins_with 61 (drop before text) then before + 1 + gap_length (drop (before + 1) text) else 0
+    let before = spacing_length text in
+    if begins_with 61 (drop before text) then before + 1 + spacing_length (drop (before + 1) text) else 0
 
 -- an attribute's value with what stands before it
 unfoldable pub value_part_length : List ℕ → ℕ
@@ -58,23 +58,23 @@ value_part_length text =
     let value = value_length (drop before text) in
     if nat_lt 0 before && nat_lt 0 value then before + value else 0
 
--- An attribute is a gap, a name, and perhaps a value.
+-- An attribute is spacing, a name, and perhaps a value.
 unfoldable pub attribute_length : List ℕ → ℕ
 attribute_length text =
-    let gap = gap_length text in
-    let name = attribute_name_length (drop gap text) in
-    if nat_lt 0 gap && nat_lt 0 name then gap + name + value_part_length (drop (gap + name) text) else 0
+    let spacing = spacing_length text in
+    let name = attribute_name_length (drop spacing text) in
+    if nat_lt 0 spacing && nat_lt 0 name then spacing + name + value_part_length (drop (spacing + name) text) else 0
 
 -- attributes one after the other
 abbrev pub attributes_length : List ℕ → ℕ
 attributes_length text = repeats attribute_length text
 
--- the end of an open tag: a gap or none, `/` or none, and `>`
+-- the end of an open tag: spacing or none, `/` or none, and `>`
 unfoldable pub open_end_length : List ℕ → ℕ
 open_end_length text =
-    let gap = gap_length text in
-    if begins_with 62 (drop gap text) then gap + 1
-    else (if starts_with nat_eq (drop gap text) (codes "/>") then gap + 2 else 0)
+    let spacing = spacing_length text in
+    if begins_with 62 (drop spacing text) then spacing + 1
+    else (if starts_with nat_eq (drop spacing text) (codes "/>") then spacing + 2 else 0)
 
 -- `<`, a name, attributes, and the end
 unfoldable pub open_tag : List ℕ → Option ℕ
@@ -84,10 +84,10 @@ open_tag text =
     let end = open_end_length (drop (1 + name + attributes) text) in
     if begins_with 60 text && nat_lt 0 name && nat_lt 0 end then Some (1 + name + attributes + end) else None
 
--- `</`, a name, a gap or none, and `>`
+-- `</`, a name, spacing or none, and `>`
 unfoldable pub closing_tag : List ℕ → Option ℕ
 closing_tag text =
     let name = tag_name_length (drop 2 text) in
-    let gap = gap_length (drop (2 + name) text) in
-    if starts_with nat_eq text (codes "</") && nat_lt 0 name && begins_with 62 (drop (2 + name + gap) text)
-    then Some (2 + name + gap + 1) else None
+    let spacing = spacing_length (drop (2 + name) text) in
+    if starts_with nat_eq text (codes "</") && nat_lt 0 name && begins_with 62 (drop (2 + name + spacing) text)
+    then Some (2 + name + spacing + 1) else None

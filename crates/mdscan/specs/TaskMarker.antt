@@ -2,7 +2,7 @@
 -- on the same line something else.
 use Rattle.std.specs.Prelude.{ℕ, ◌+◌, Bool, false, not, ◌||◌, ◌&&◌, ◌==◌, nat_lt, List, [], ◌∷◌, drop, slice_index, Option, Some, None, if◌then◌else◌}
 use Rattle.std.specs.List.{prefix_len}
-use Rattle.mdscan.specs.declared.tasks.TaskMark.{TaskMark}
+use Rattle.mdscan.specs.declared.task_list_items.TaskMark.{TaskMark}
 use Rattle.mdscan.specs.Blanks.{is_blank}
 
 -- `x` in either case
@@ -22,6 +22,6 @@ begins_text (b ∷ _) = not (b == 10)
 -- The text goes on after the box and the spaces and tabs behind it.
 unfoldable pub task_marker : List ℕ → Option TaskMark
 task_marker text =
-    let gap = prefix_len is_blank (drop 3 text) in
-    if begins_box text && nat_lt 0 gap && begins_text (drop (3 + gap) text)
-    then Some (record { ticked = is_tick (slice_index text 1); after = 3 + gap }) else None
+    let blanks = prefix_len is_blank (drop 3 text) in
+    if begins_box text && nat_lt 0 blanks && begins_text (drop (3 + blanks) text)
+    then Some (record { ticked = is_tick (slice_index text 1); after = 3 + blanks }) else None

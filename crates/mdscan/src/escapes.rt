@@ -1,7 +1,7 @@
 //! Backslash escapes, and the bytes up to a stop.
 
-ghost use Rattle.std.specs.Prelude.{◌≡◌, ◌≤◌, length};
-ghost use Rattle.mdscan.specs.Escapes.{begins_escape, run_before};
+ghost use Rattle.std.specs.Prelude.{◌≡◌, ◌≤◌, ◌&&◌, not, length};
+ghost use Rattle.mdscan.specs.Escapes.{begins_escape, is_one_of, run_before};
 
 use crate::runs::holds;
 
@@ -15,6 +15,20 @@ pub(crate) fn escape(text: &[u8]) -> bool
     }
 }
 
+/// Whether a byte is one of the stops, and not escaped.
+fn stops_here(escaped: bool, stops: &[u8], byte: u8) -> bool
+    ensures { result ≡ (not escaped && is_one_of stops.now byte) }
+{
+    !escaped && holds(stops, byte)
+}
+
+/// Whether the first byte of a text escapes the next; an escaped one does not.
+fn escapes_next(escaped: bool, text: &[u8]) -> bool
+    ensures { result ≡ (not escaped && begins_escape text.now) }
+{
+    !escaped && escape(text)
+}
+
 /// How many bytes stand before the first of the stops that is not escaped, or in all.
 #[tactic(auto, unfolding(crate::specs::Escapes::run_before))]
 pub(crate) fn before(text: &[u8], stops: &[u8]) -> usize
@@ -23,13 +37,10 @@ pub(crate) fn before(text: &[u8], stops: &[u8]) -> usize
 {
     let mut escaped = false;
     for at in 0..text.len() {
-        if escaped {
-            escaped = false;
-        } else if escape(&text[at..]) {
-            escaped = true;
-        } else if holds(stops, text[at]) {
+        if stops_here(escaped, stops, text[at]) {
             return at;
         }
+        escaped = escapes_next(escaped, &text[at..]);
     }
     text.len()
 }

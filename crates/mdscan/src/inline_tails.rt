@@ -3,12 +3,13 @@
 ghost use Rattle.std.specs.Prelude.{◌≡◌, ◌≤◌, Some, None, IfSome, length};
 ghost use Rattle.std.specs.Str.{IsUtf8, IsCharBoundary};
 ghost use Rattle.mdscan.specs.Spans.{IsEndAfter, IsSpanOf, EndsAfterMark};
-ghost use Rattle.mdscan.specs.Gaps.{past_gap};
+ghost use Rattle.mdscan.specs.Spacing.{past_spacing};
 ghost use Rattle.mdscan.specs.InlineTail.{AreTailSpans, inline_tail_at, tail_inside, tail_to, titled_tail};
 
-use crate::gaps::gap;
-use crate::links::{Dest, quoted, target};
+use crate::link_destinations::{Dest, target};
+use crate::link_titles::quoted;
 use crate::runs::begins;
+use crate::spacing::spacing;
 use crate::spans::Span;
 
 /// What follows an inline link's text: its destination and its title, where it has them, and the end, after
@@ -40,24 +41,24 @@ fn parentheses(text: &[u8], at: usize) -> Option<Tail>
     ensures spans { IsUtf8 text.now → IfSome result (λ tail. AreTailSpans text.now tail) }
 {
     if begins(&text[at..], b'(') {
-        inside(text, after_gap(text, at + 1))
+        inside(text, after_spacing(text, at + 1))
     } else {
         None
     }
 }
 
-/// The place after the gap that stands at a place.
-pub(crate) fn after_gap(text: &[u8], at: usize) -> usize
+/// The place after the spacing that stands at a place.
+pub(crate) fn after_spacing(text: &[u8], at: usize) -> usize
     requires { at ≤ length text.now }
-    ensures value { result ≡ past_gap text.now at }
+    ensures value { result ≡ past_spacing text.now at }
     ensures from { at ≤ result }
     ensures within { result ≤ length text.now }
     ensures boundary { IsUtf8 text.now → IsCharBoundary text.now at → IsCharBoundary text.now result }
 {
-    at + gap(&text[at..])
+    at + spacing(&text[at..])
 }
 
-/// The tail whose opening parenthesis, with the gap behind it, stands before a place.
+/// The tail whose opening parenthesis, with the spacing behind it, stands before a place.
 #[tactic(auto, unfolding(crate::specs::InlineTail::tail_inside))]
 fn inside(text: &[u8], at: usize) -> Option<Tail>
     requires { at ≤ length text.now }
@@ -76,14 +77,14 @@ fn inside(text: &[u8], at: usize) -> Option<Tail>
 
 fn without_title(text: &[u8], dest: Dest) -> Option<Tail>
     requires { dest.end ≤ length text.now }
-    ensures value { result ≡ tail_to text.now (past_gap text.now dest.end) (Some dest.span) None }
+    ensures value { result ≡ tail_to text.now (past_spacing text.now dest.end) (Some dest.span) None }
     ensures end { IfSome result (λ tail. EndsAfterMark text.now dest.end tail.end) }
     ensures spans { IsSpanOf text.now dest.span → IfSome result (λ tail. AreTailSpans text.now tail) }
 {
-    close(text, after_gap(text, dest.end), Some(dest.span), None)
+    close(text, after_spacing(text, dest.end), Some(dest.span), None)
 }
 
-/// The tail with a title, which a gap parts from the destination.
+/// The tail with a title, which spacing parts from the destination.
 #[tactic(auto, unfolding(crate::specs::InlineTail::titled_tail))]
 fn with_title(text: &[u8], dest: Dest) -> Option<Tail>
     requires { dest.end ≤ length text.now }
@@ -91,14 +92,14 @@ fn with_title(text: &[u8], dest: Dest) -> Option<Tail>
     ensures end { IfSome result (λ tail. EndsAfterMark text.now dest.end tail.end) }
     ensures spans { IsUtf8 text.now → IsSpanOf text.now dest.span → IfSome result (λ tail. AreTailSpans text.now tail) }
 {
-    let next = after_gap(text, dest.end);
+    let next = after_spacing(text, dest.end);
     if next <= dest.end {
         return None;
     }
     match quoted(text, next) {
         Some(title) => close(
             text,
-            after_gap(text, title.end),
+            after_spacing(text, title.end),
             Some(dest.span),
             Some(title.span),
         ),

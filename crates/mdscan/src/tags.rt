@@ -8,8 +8,8 @@ ghost use Rattle.mdscan.specs.Tag.{in_tag_name, in_attribute_name, in_unquoted_v
 ghost use Rattle.mdscan.specs.Tag.{quoted_length, value_length, equals_length, value_part_length, attribute_length, attributes_length};
 ghost use Rattle.mdscan.specs.Tag.{open_end_length, open_tag, closing_tag};
 
-use crate::gaps::gap;
 use crate::runs::begins;
+use crate::spacing::spacing;
 
 /// The length of the open tag that a text begins with (CommonMark 6.6).
 #[tactic(auto, unfolding(crate::specs::Tag::open_tag))]
@@ -40,9 +40,9 @@ pub(crate) fn closing(text: &[u8]) -> Option<usize>
         return None;
     }
     let name = tag_name(&text[2..]);
-    let gap = gap(&text[2 + name..]);
-    if name > 0 && begins(&text[2 + name + gap..], b'>') {
-        Some(2 + name + gap + 1)
+    let spacing = spacing(&text[2 + name..]);
+    if name > 0 && begins(&text[2 + name + spacing..], b'>') {
+        Some(2 + name + spacing + 1)
     } else {
         None
     }
@@ -83,16 +83,16 @@ fn attributes(text: &[u8]) -> usize
     at
 }
 
-/// An attribute: a gap, a name, and perhaps a value.
+/// An attribute: spacing, a name, and perhaps a value.
 #[tactic(auto, unfolding(crate::specs::Tag::attribute_length))]
 fn attribute(text: &[u8]) -> usize
     ensures value { result ≡ attribute_length text.now }
     ensures within { result ≤ length text.now }
 {
-    let gap = gap(text);
-    let name = attribute_name(&text[gap..]);
-    if gap > 0 && name > 0 {
-        gap + name + value_part(&text[gap + name..])
+    let spacing = spacing(text);
+    let name = attribute_name(&text[spacing..]);
+    if spacing > 0 && name > 0 {
+        spacing + name + value_part(&text[spacing + name..])
     } else {
         0
     }
@@ -129,7 +129,7 @@ fn name_goes_on(byte: u8) -> bool
     byte.is_ascii_alphanumeric() || matches!(byte, b'_' | b'.' | b':' | b'-')
 }
 
-/// An attribute's value, with the `=` and the gaps before it.
+/// An attribute's value, with the `=` and the spacing before it.
 #[tactic(auto, unfolding(crate::specs::Tag::value_part_length))]
 fn value_part(text: &[u8]) -> usize
     ensures value { result ≡ value_part_length text.now }
@@ -144,15 +144,15 @@ fn value_part(text: &[u8]) -> usize
     }
 }
 
-/// A gap or none, `=`, and a gap or none.
+/// Spacing or none, `=`, and spacing or none.
 #[tactic(auto, unfolding(crate::specs::Tag::equals_length))]
 fn equals(text: &[u8]) -> usize
     ensures value { result ≡ equals_length text.now }
     ensures within { result ≤ length text.now }
 {
-    let before = gap(text);
+    let before = spacing(text);
     if begins(&text[before..], b'=') {
-        before + 1 + gap(&text[before + 1..])
+        before + 1 + spacing(&text[before + 1..])
     } else {
         0
     }
@@ -212,19 +212,19 @@ fn value_goes_on(byte: u8) -> bool
     )
 }
 
-/// The end of an open tag: a gap or none, `/` or none, and `>`.
+/// The end of an open tag: spacing or none, `/` or none, and `>`.
 #[tactic(auto, unfolding(crate::specs::Tag::open_end_length))]
 fn open_end(text: &[u8]) -> usize
     ensures value { result ≡ open_end_length text.now }
     ensures within { result ≤ length text.now }
     ensures mark { 0 < result → slice_index text.now (result - 1) ≡ 62 }
 {
-    let gap = gap(text);
-    let rest = &text[gap..];
+    let spacing = spacing(text);
+    let rest = &text[spacing..];
     if begins(rest, b'>') {
-        gap + 1
+        spacing + 1
     } else if rest.starts_with(b"/>") {
-        gap + 2
+        spacing + 2
     } else {
         0
     }

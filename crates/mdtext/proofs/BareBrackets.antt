@@ -9,10 +9,7 @@ bare_from false text = has_bare_bracket text
 bare_from true [] = false
 bare_from true (b ∷ rest) = has_bare_bracket rest
 
-escaped_step : (b : ℕ) (rest : List ℕ) → bare_from true (b ∷ rest) ≡ bare_from false rest
-escaped_step b rest = refl
-
-backslash_step : (rest : List ℕ) → bare_from false (92 ∷ rest) ≡ bare_from true rest
+pub backslash_step : (rest : List ℕ) → bare_from false (92 ∷ rest) ≡ bare_from true rest
 unfolding has_bare_bracket
 backslash_step [] = refl
 backslash_step (c ∷ rest) = refl
@@ -22,7 +19,7 @@ otherwise : (t x y : Bool) → t ≡ false → elim t [ true ↦ x | false ↦ y
 otherwise true x y e = cc
 otherwise false x y e = refl
 
-plain_step : (b : ℕ) (rest : List ℕ) → eqb b 92 ≡ false → eqb b 91 ≡ false → eqb b 93 ≡ false → bare_from false (b ∷ rest) ≡ bare_from false rest
+pub plain_step : (b : ℕ) (rest : List ℕ) → eqb b 92 ≡ false → eqb b 91 ≡ false → eqb b 93 ≡ false → bare_from false (b ∷ rest) ≡ bare_from false rest
 unfolding has_bare_bracket
 plain_step b [] e f g = rw (f, g) refl
 plain_step b (c ∷ rest) e f g = otherwise (eqb b 92) (has_bare_bracket rest) (eqb b 91 || eqb b 93 || has_bare_bracket (c ∷ rest)) e ∙ rw (f, g) refl
@@ -32,9 +29,10 @@ unfolding has_bare_bracket
 bracket_step b [] e f = f
 bracket_step b (c ∷ rest) e f = otherwise (eqb b 92) (has_bare_bracket rest) (eqb b 91 || eqb b 93 || has_bare_bracket (c ∷ rest)) e ∙ rw f refl
 
-no_bracket : has_bare_bracket [] ≡ false
+pub no_bracket : (escaped : Bool) → bare_from escaped [] ≡ false
 unfolding has_bare_bracket
-no_bracket = refl
+no_bracket true = refl
+no_bracket false = refl
 
 -- the text from a byte on
 at : (escaped : Bool) (text : List ℕ) (i : ℕ) → i < length text → bare_from escaped (drop i text) ≡ bare_from escaped (get_or text i 0 ∷ drop (i + 1) text)
@@ -53,7 +51,4 @@ pub at_bracket : (text : List ℕ) (i : ℕ) (all : Bool) → i < length text �
 at_bracket text i all h e f w = sym (bracket_step (get_or text i 0) (drop (i + 1) text) (grind (arith, e)) (grind (arith, f))) ∙ sym (at false text i h) ∙ w
 
 pub at_end : (escaped : Bool) (text : List ℕ) (i : ℕ) (all : Bool) → length text ≤ i → bare_from escaped (drop i text) ≡ all → false ≡ all
-at_end escaped text i all h w = sym (nothing escaped) ∙ ap (bare_from escaped) (sym (drop_all i text h)) ∙ w where
-  nothing : (escaped : Bool) → bare_from escaped [] ≡ false
-  nothing true = refl
-  nothing false = no_bracket
+at_end escaped text i all h w = sym (no_bracket escaped) ∙ ap (bare_from escaped) (sym (drop_all i text h)) ∙ w

@@ -9,7 +9,7 @@ use Rattle.std.specs.String.{string_cmp}
 use Rattle.serde_json.specs.Data.{Data}
 use Rattle.mdtext.specs.EntityFile.{counts, name_of, characters_of, with_member}
 use Rattle.mdtext.specs.EntityTable.{EntityTable, shown}
-use Rattle.mdtext.proofs.Tables.{shown-insert_entry}
+use Rattle.mdtext.proofs.Tables.{shown_insert}
 
 by_parts : (table : EntityTable) (counted : Bool) (found given : Option (List ℕ)) (name text : List ℕ) → counted ≡ true → found ≡ Some name → given ≡ Some text
     → (if counted then option_and_then (λ n. option_map (insert_entry (slice_cmp nat_cmp) table n) given) found else Some table) ≡ Some (insert_entry (slice_cmp nat_cmp) table name text)
@@ -24,4 +24,4 @@ pub member_put : (key name text : List ℕ) (value : Data) (old new : List (Stri
 member_put key name text value old new n t c f g h i e =
     by_parts (shown old) (counts key) (name_of key) (characters_of value) name text (sym c) (sym f) (sym g)
     ∙ ap (λ x. Some (insert_entry (slice_cmp nat_cmp) (shown old) x text)) (sym h) ∙ ap (λ x. Some (insert_entry (slice_cmp nat_cmp) (shown old) (string_bytes n) x)) (sym i)
-    ∙ ap Some (sym (shown-insert_entry old n t)) ∙ ap (λ m. Some (shown m)) (sym e)
+    ∙ ap Some (sym (shown_insert old n t)) ∙ ap (λ m. Some (shown m)) (sym e)

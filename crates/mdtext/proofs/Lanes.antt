@@ -45,22 +45,22 @@ block bytes at w = take w (drop at bytes)
 pub block_is : (bytes : List ℕ) (at w : ℕ) → slice_range bytes at (at + w) ≡ block bytes at w
 block_is bytes at w = ap (λ n. take n (drop at bytes)) (omega arith)
 
-pub length-block : (bytes : List ℕ) (at w : ℕ) → at + w ≤ length bytes → length (block bytes at w) ≡ w
-length-block bytes at w h = length-take-le w (drop at bytes) (omega (arith, length-drop at bytes))
+pub length_block : (bytes : List ℕ) (at w : ℕ) → at + w ≤ length bytes → length (block bytes at w) ≡ w
+length_block bytes at w h = length-take-le w (drop at bytes) (omega (arith, length-drop at bytes))
 
 cut : (p : ℕ → Bool) (bytes : List ℕ) (at w n : ℕ) → at + w ≤ length bytes → n ≡ position_or_len p (slice_range bytes at (at + w))
     → position_or_len p (drop at bytes) ≡ cond (eqb n w) (w + position_or_len p (drop (at + w) bytes)) n
 cut p bytes at w n h e =
     let here : position_or_len p (block bytes at w) ≡ n = ap (position_or_len p) (sym (block_is bytes at w)) ∙ sym e in
     ap (position_or_len p) (sym (take-append-drop w (drop at bytes))) ∙ prefix_len-append (λ x. not (p x)) (block bytes at w) (drop w (drop at bytes))
-    ∙ rw (here, length-block bytes at w h, drop-drop w at bytes) refl
+    ∙ rw (here, length_block bytes at w h, drop-drop w at bytes) refl
 
 pub found_here : (p : ℕ → Bool) (bytes : List ℕ) (at w n : ℕ) → at + w ≤ length bytes → n ≡ position_or_len p (slice_range bytes at (at + w)) → n < w → at + position_or_len p (drop at bytes) ≡ at + n
 found_here p bytes at w n h e small = ap (λ k. at + k) (cut p bytes at w n h e ∙ grind (arith, small))
 
 pub not_here : (p : ℕ → Bool) (bytes : List ℕ) (at w n : ℕ) → at + w ≤ length bytes → n ≡ position_or_len p (slice_range bytes at (at + w)) → w ≤ n → at + position_or_len p (drop at bytes) ≡ at + w + position_or_len p (drop (at + w) bytes)
 not_here p bytes at w n h e large =
-    let within : n ≤ w = omega (arith, e, ap (position_or_len p) (block_is bytes at w), prefix_len-le-length (λ x. not (p x)) (block bytes at w), length-block bytes at w h) in
+    let within : n ≤ w = omega (arith, e, ap (position_or_len p) (block_is bytes at w), prefix_len-le-length (λ x. not (p x)) (block bytes at w), length_block bytes at w h) in
     let all : position_or_len p (drop at bytes) ≡ w + position_or_len p (drop (at + w) bytes) = cut p bytes at w n h e ∙ grind (arith, within, large) in
     omega (arith, all)
 

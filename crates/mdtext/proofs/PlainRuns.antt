@@ -1,7 +1,6 @@
 -- A text up to its first special byte, and past it.
-use Rattle.std.proofs.Common.{◌≡◌, ℕ, ◌+◌, ◌<◌, ◌≤◌, Bool, true, false, List, [], ◌∷◌, ◌++◌, length, take, drop, get_or, refl, ap, sym, ◌∙◌, arith, subst, cond, not, ◌||◌}
-use Rattle.std.proofs.lemmas.List.{drop_more, take-append-drop, append_assoc, append-nil}
-use Rattle.std.proofs.Math.Seq.{take-length}
+use Rattle.std.proofs.Common.{◌≡◌, ℕ, ◌+◌, ◌<◌, ◌≤◌, Bool, true, false, List, [], ◌∷◌, ◌++◌, length, take, get_or, refl, ap, sym, ◌∙◌, arith, subst, cond, not, ◌||◌}
+use Rattle.std.proofs.lemmas.List.{append_assoc, append-nil}
 use Rattle.std.specs.List.{slice_range, position_or_len, flat_map, list_any}
 use Rattle.std.proofs.lemmas.List.Sums.{prefix_len_stops, prefix_len-le-length}
 use Rattle.mdtext.specs.ByteClass.{in_class}
@@ -31,15 +30,6 @@ stops p q bs view n e h g =
 
 front : (bs : List ℕ) (n : ℕ) → slice_range bs 0 n ≡ take n bs
 front bs n = grind arith
-
--- the text is the run alone
-pub run_alone : (p : ℕ → Bool) (bs run : List ℕ) (n : ℕ) → Stops p bs n → run ≡ slice_range bs 0 n → n ≡ length bs → bs ≡ run
-run_alone p bs run n s e h = sym (e ∙ front bs n ∙ ap (λ k. take k bs) h ∙ take-length bs)
-
--- the text is the run, the special byte and the rest
-pub run_then : (p : ℕ → Bool) (bs run rest : List ℕ) (n : ℕ) → Stops p bs n → run ≡ slice_range bs 0 n → rest ≡ drop (n + 1) bs → n < length bs → bs ≡ run ++ get_or bs n 0 ∷ rest
-run_then p bs run rest n s e g h =
-    sym (ap (λ r. r ++ get_or bs n 0 ∷ rest) (e ∙ front bs n) ∙ ap (λ r. take n bs ++ get_or bs n 0 ∷ r) g ∙ ap (λ r. take n bs ++ r) (sym (drop_more bs n 0 h)) ∙ take-append-drop n bs)
 
 pub run_plain : (p : ℕ → Bool) (bs run : List ℕ) (n : ℕ) → Stops p bs n → run ≡ slice_range bs 0 n → list_any p run ≡ false
 run_plain p bs run n s e = ap (list_any p) (e ∙ front bs n) ∙ s.plain

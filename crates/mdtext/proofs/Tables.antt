@@ -5,6 +5,7 @@ use Rattle.std.specs.Map.{lookup}
 use Rattle.std.specs.Ordering.{nat_cmp, match_ordering}
 use Rattle.std.specs.String.{string_cmp}
 use Rattle.std.specs.BTreeMap.{is_at, insert_entry}
+use Rattle.std.specs.Str.{bytes_eq}
 use Rattle.std.specs.Cmp.Lexicographic.{slice_cmp}
 use Rattle.std.proofs.lemmas.Map.Text.{is_eq-slice_cmp}
 use Rattle.mdtext.specs.EntityTable.{EntityTable, entity_text, put_all, shown}
@@ -13,33 +14,46 @@ use Rattle.mdtext.specs.EntityTable.{EntityTable, entity_text, put_all, shown}
 abbrev pub told : List (Bor (List ℕ) × Bor (List ℕ)) → List (List ℕ × List ℕ)
 told pairs = map (λ p. (p.0.now, p.1.now)) pairs
 
-at_head : (b : Bool) (v : String Global) (w : Option (String Global)) (u : Option (List ℕ)) → option_map string_bytes w ≡ u → option_map string_bytes (cond b (Some v) w) ≡ cond b (Some (string_bytes v)) u
-at_head true v w u h = refl
-at_head false v w u h = h
+-- ---- entries of any kind, seen as pairs of bytes and values
+
+module _ {K V W : Type 0} (key : K → List ℕ) (view : V → W) where
+  at_head : (b : Bool) (v : V) (w : Option V) (u : Option W) → option_map view w ≡ u → option_map view (cond b (Some v) w) ≡ cond b (Some (view v)) u
+  at_head true v w u h = refl
+  at_head false v w u h = h
+
+  pub looked_up : (name : List ℕ) (entries : List (K × V)) → option_map view (lookup (is_at (λ k. slice_cmp nat_cmp name (key k))) entries) ≡ lookup (bytes_eq name) (map (λ e. (key e.0, view e.1)) entries)
+  looked_up name [] = refl
+  looked_up name (e ∷ entries) =
+      at_head _ e.1 _ _ (looked_up name entries)
+      ∙ ap (λ b. cond b (Some (view e.1)) (lookup (bytes_eq name) (map (λ e. (key e.0, view e.1)) entries))) (is_eq-slice_cmp name (key e.0))
+
+  by_order : (o : Ordering) (a b c : List (K × V)) (d : List (List ℕ × W)) → map (λ e. (key e.0, view e.1)) c ≡ d →
+      map (λ e. (key e.0, view e.1)) (match_ordering o a b c) ≡ match_ordering o (map (λ e. (key e.0, view e.1)) a) (map (λ e. (key e.0, view e.1)) b) d
+  by_order Less a b c d h = refl
+  by_order Equal a b c d h = refl
+  by_order Greater a b c d h = h
+
+  pub inserted : (entries : List (K × V)) (k : K) (v : V) → map (λ e. (key e.0, view e.1)) (insert_entry (λ a b. slice_cmp nat_cmp (key a) (key b)) entries k v)
+      ≡ insert_entry (slice_cmp nat_cmp) (map (λ e. (key e.0, view e.1)) entries) (key k) (view v)
+  inserted [] k v = refl
+  inserted (e ∷ entries) k v = by_order _ _ _ _ _ (ap (λ t. (key e.0, view e.1) ∷ t) (inserted entries k v))
+
+-- ---- entities
 
 -- the map finds what its table holds
-pub lookup-shown : (name : List ℕ) (entries : List (String Global × String Global)) → option_map string_bytes (lookup (is_at (λ k. slice_cmp nat_cmp name (string_bytes k))) entries) ≡ entity_text (shown entries) name
-lookup-shown name [] = refl
-lookup-shown name (e ∷ entries) =
-    at_head _ e.1 _ _ (lookup-shown name entries)
-    ∙ ap (λ b. cond b (Some (string_bytes e.1)) (entity_text (shown entries) name)) (is_eq-slice_cmp name (string_bytes e.0))
-
-by_order : (o : Ordering) (a b c : List (String Global × String Global)) (d : EntityTable) → shown c ≡ d → shown (match_ordering o a b c) ≡ match_ordering o (shown a) (shown b) d
-by_order Less a b c d h = refl
-by_order Equal a b c d h = refl
-by_order Greater a b c d h = h
+pub lookup_shown : (name : List ℕ) (entries : List (String Global × String Global)) → option_map string_bytes (lookup (is_at (λ k. slice_cmp nat_cmp name (string_bytes k))) entries) ≡ entity_text (shown entries) name
+lookup_shown name entries = looked_up string_bytes string_bytes name entries
 
 -- an insertion into the map is one into its table
-pub shown-insert_entry : (entries : List (String Global × String Global)) (name text : String Global) → shown (insert_entry string_cmp entries name text) ≡ insert_entry (slice_cmp nat_cmp) (shown entries) (string_bytes name) (string_bytes text)
-shown-insert_entry [] name text = refl
-shown-insert_entry (e ∷ entries) name text = by_order _ _ _ _ _ (ap (λ t. (string_bytes e.0, string_bytes e.1) ∷ t) (shown-insert_entry entries name text))
+pub shown_insert : (entries : List (String Global × String Global)) (name text : String Global) → shown (insert_entry string_cmp entries name text) ≡ insert_entry (slice_cmp nat_cmp) (shown entries) (string_bytes name) (string_bytes text)
+shown_insert entries name text = inserted string_bytes string_bytes entries name text
 
 -- one more of the pairs
 pub one_put : (pairs : List (Bor (List ℕ) × Bor (List ℕ))) (i : ℕ) (d : Bor (List ℕ) × Bor (List ℕ)) (old new : List (String Global × String Global)) (name text : String Global) (all : EntityTable)
     → i < length pairs → string_bytes name ≡ (get_or pairs i d).0.now → string_bytes text ≡ (get_or pairs i d).1.now → new ≡ insert_entry string_cmp old name text
     → put_all (told (drop i pairs)) (shown old) ≡ all → put_all (told (drop (i + 1) pairs)) (shown new) ≡ all
 one_put pairs i d old new name text all h n t e w =
-    ap (λ m. put_all (told (drop (i + 1) pairs)) (shown m)) e ∙ ap (put_all (told (drop (i + 1) pairs))) (shown-insert_entry old name text)
+    ap (λ m. put_all (told (drop (i + 1) pairs)) (shown m)) e ∙ ap (put_all (told (drop (i + 1) pairs))) (shown_insert old name text)
     ∙ ap (λ x. put_all (told (drop (i + 1) pairs)) (insert_entry (slice_cmp nat_cmp) (shown old) x (string_bytes text))) n
     ∙ ap (λ x. put_all (told (drop (i + 1) pairs)) (insert_entry (slice_cmp nat_cmp) (shown old) (get_or pairs i d).0.now x)) t
     ∙ ap (λ ps. put_all (told ps) (shown old)) (sym (drop_more pairs i d h)) ∙ w

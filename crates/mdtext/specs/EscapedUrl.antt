@@ -1,5 +1,5 @@
 -- Destinations as HTML writes them: percent-encoded where a byte may not stand in one (CommonMark 6.3 leaves this open).
-use Rattle.std.specs.Prelude.{ℕ, Bool, List, ◌∷◌, [], codes, if◌then◌else◌, ◌==◌, ◌||◌, ◌&&◌, nat_lt, suc}
+use Rattle.std.specs.Prelude.{ℕ, Bool, List, ◌∷◌, [], codes, if◌then◌else◌, ◌==◌, ◌||◌}
 use Rattle.std.specs.Char.{is_ascii_alphanumeric}
 use Rattle.std.specs.List.{flat_map, list_any}
 use Rattle.percent_encoding.specs.Percent.{percent_encode_byte}

@@ -23,12 +23,12 @@ words [] = []
 words (b ∷ bs) = let rest = words bs in if is_label_space b then rest else at_front_of_word b (ends_word bs) rest
 
 -- what stands between a text and the next word: nothing before the first
-abbrev pub gap : List ℕ → List ℕ
-gap [] = []
-gap (b ∷ bs) = 32 ∷ []
+abbrev pub space_between : List ℕ → List ℕ
+space_between [] = []
+space_between (b ∷ bs) = 32 ∷ []
 
 abbrev pub add_word : List ℕ → List ℕ → List ℕ
-add_word text word = text ++ gap text ++ word
+add_word text word = text ++ space_between text ++ word
 
 -- spaces, tabs and line endings are dropped at both ends, and a run of them inside is one space
 abbrev pub collapsed : List ℕ → List ℕ

@@ -4,7 +4,7 @@ ghost use Rattle.std.specs.Cmp.{partial_equiv_from_equiv};
 ghost use Rattle.std.specs.Cmp.Lexicographic.{pointwise, nat_list_eq_equiv, nat_list_cmp_total, slice_cmp, texts_po, texts_ties};
 ghost use Rattle.std.specs.List.{list_any};
 ghost use Rattle.std.specs.Ordering.{nat_cmp};
-ghost use Rattle.mdtext.specs.Labels.{add_word, collapsed, folded, gap, has_bare_bracket, is_label, is_label_space, label_of, words};
+ghost use Rattle.mdtext.specs.Labels.{add_word, collapsed, folded, space_between, has_bare_bracket, is_label, is_label_space, label_of, words};
 
 use crate::NoMemory;
 use crate::byte_class::Class;
@@ -177,13 +177,13 @@ fn push_word(word: &str, text: &mut String) -> Result<(), NoMemory>
     if word.is_empty() {
         return Ok(());
     }
-    text.push_str(gap(text.as_str()))?;
+    text.push_str(space_between(text.as_str()))?;
     text.push_str(word)?;
     Ok(())
 }
 
-fn gap(text: &str) -> &'static str
-    ensures { result.now ≡ gap text.now }
+fn space_between(text: &str) -> &'static str
+    ensures { result.now ≡ space_between text.now }
 {
     if text.is_empty() { "" } else { " " }
 }

@@ -11,7 +11,7 @@ pub use self::escapes::escape_text;
 pub use self::labels::{Label, Target, fold_label};
 pub use self::lines::{after_mark, clean_len, clean_line, is_clean, lines_of, split_line};
 pub use self::references::{Reference, Referent, read_reference};
-pub use self::unescapes::unescape;
+pub use self::unescapes::{push_reference, unescape};
 pub use self::urls::escape_url;
 use std::alloc::AllocError;
 

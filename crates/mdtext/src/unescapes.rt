@@ -75,7 +75,9 @@ fn push_escape(after: &str, out: &mut String) -> Result<usize, NoMemory>
     Ok(0)
 }
 
-fn push_reference(after: &str, entities: &Entities, out: &mut String) -> Result<usize, NoMemory>
+/// Appends what a `&` stands for with what follows it (CommonMark 2.5), and answers how much of that goes with it. After `NoMemory`
+/// nothing is appended.
+pub fn push_reference(after: &str, entities: &Entities, out: &mut String) -> Result<usize, NoMemory>
     ensures ok { IfOk result (λ taken. (taken, string_bytes out.new) ≡ added (string_bytes out.old) (reference_or 38 (reference entities.now after.now))) }
     ensures cut { IfOk result (λ taken. IsCharBoundary after.now taken) }
     ensures err { OnErr result (string_bytes out.new ≡ string_bytes out.old) }

@@ -1,17 +1,15 @@
 -- The edit that brings a whole text is refused where the text is.
-use Rattle.std.proofs.Common.{◌≡◌, ℕ, ◌+◌, Bool, true, false, List, [], ◌∷◌, ◌++◌, Option, Some, None, Result, Ok, Err, map, refl, ap, sym, ◌∙◌, arith, cond, ◌&&◌, ◌||◌, eqb, eqb-true, append-nil, subst, string_bytes, String, length}
-use Rattle.std.specs.Global.{Global}
-use Rattle.std.specs.List.{list_any, concat}
+use Rattle.std.proofs.Common.{◌≡◌, ℕ, ◌+◌, Bool, true, false, List, [], ◌∷◌, ◌++◌, Option, Some, None, Err, map, refl, ap, ◌∙◌, cond, ◌&&◌, ◌||◌, eqb, eqb-true, append-nil, length}
+use Rattle.std.specs.List.{list_any}
 use Rattle.mdtext.specs.Lines.{clean_byte, without_nul, without_mark, begins_with_lf, at_front, split_lines, text_lines}
 use Rattle.mdhtml.specs.declared.options.Options.{Options}
 use Rattle.mdview.specs.declared.fault.EditFault.{EditFault}
 use Rattle.mdview.specs.declared.fault.EditFault.TheVariants.{OutOfRange, BreakInLine, TooManyLines, TooLarge, NestedTooDeep, InlineTooDeep, NoMemory}
-use Rattle.mdtool.specs.declared.fault.ToolFault.{ToolFault}
 use Rattle.mdtool.specs.declared.fault.ToolFault.TheVariants.{Refused}
 use Rattle.mdview.specs.Document.{Document, document}
 use Rattle.mdview.specs.Edit.{due, due_of_text, refusal, put, has_line_ending, first_with_ending}
 use Rattle.mdview.specs.HeldUnit.{ReadUnit, unit_piece}
-use Rattle.mdview.specs.Outcome.{outcome, outcome_due}
+use Rattle.mdview.specs.Outcome.{outcome_due}
 use Rattle.mdview.specs.ReadingEnd.{ReadingEnd, read, nested, too_deep, starved}
 use Rattle.viewspec.specs.ChangedPieces.{ChangedPieces}
 use Rattle.mdbatch.specs.BatchHtml.{TextHtml, UnitsHtml}

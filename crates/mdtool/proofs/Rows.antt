@@ -1,5 +1,5 @@
 -- The definitions at worked texts, by computation.
-use Rattle.std.proofs.Common.{◌≡◌, ℕ, List, [], ◌∷◌, Some, None, refl, codes, false}
+use Rattle.std.proofs.Common.{◌≡◌, ℕ, List, [], ◌∷◌, Some, None, refl, codes}
 use Rattle.std.specs.Fmt.{digits}
 use Rattle.mdtext.specs.Escaped.{escaped_byte}
 use Rattle.inlinespec.specs.InlineTree.{Inlines, no_inlines, inline, text, hard}

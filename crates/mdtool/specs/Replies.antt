@@ -1,10 +1,10 @@
 -- The replies to the commands of a script.
-use Rattle.std.specs.Prelude.{ℕ, ◌+◌, List, [], ◌∷◌, ◌++◌, length, codes, decimal, Result, Ok, Err, if◌then◌else◌}
+use Rattle.std.specs.Prelude.{ℕ, List, [], ◌∷◌, ◌++◌, length, codes, decimal, Result, Ok, Err}
 use Rattle.std.specs.List.{concat}
 use Rattle.mdview.specs.declared.fault.EditFault.{EditFault}
 use Rattle.mdtool.specs.RefusalText.{refused_text}
 use Rattle.viewspec.specs.ChangedPieces.{ChangedPieces}
-use Rattle.viewspec.specs.Patch.{brings}
+use Rattle.viewspec.specs.Patch.{brought}
 use Rattle.mdview.specs.Document.{Document}
 use Rattle.mdview.specs.Outcome.{outcome}
 use Rattle.mdview.specs.ReadingEnd.{ReadingEnd}
@@ -14,10 +14,10 @@ use Rattle.mdtool.specs.Commands.{Command, Html, Edit}
 abbrev pub piece_reply : ℕ → List ℕ → List ℕ
 piece_reply number piece = codes "piece " ++ decimal number ++ 32 ∷ decimal (length piece) ++ 10 ∷ piece
 
--- those of the pieces, numbered from i, that the patch brings
-abbrev pub brought : ChangedPieces → ℕ → List (List ℕ) → List ℕ
-brought patch i [] = []
-brought patch i (piece ∷ pieces) = (if brings patch i then piece_reply i piece else []) ++ brought patch (i + 1) pieces
+-- pieces, each with its number
+abbrev pub pieces_reply : List (ℕ × List ℕ) → List ℕ
+pieces_reply [] = []
+pieces_reply (piece ∷ pieces) = piece_reply piece.0 piece.1 ++ pieces_reply pieces
 
 abbrev pub patch_line : ChangedPieces → List ℕ
 patch_line patch = codes "ok " ++ decimal patch.first ++ 32 ∷ decimal patch.removed ++ 32 ∷ decimal patch.added ++ 32 ∷ decimal (length patch.again) ++ 10 ∷ []
@@ -27,7 +27,7 @@ refused_reply fault = refused_text fault ++ 10 ∷ []
 
 -- the reply to an edit that left these pieces
 abbrev pub edit_reply : Result ChangedPieces EditFault → List (List ℕ) → List ℕ
-edit_reply (Ok patch) pieces = patch_line patch ++ brought patch 0 pieces
+edit_reply (Ok patch) pieces = patch_line patch ++ pieces_reply (brought patch 0 pieces)
 edit_reply (Err fault) pieces = refused_reply fault
 
 -- the reply to `html`

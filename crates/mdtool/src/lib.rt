@@ -12,7 +12,6 @@ mod entity_tables;
 mod fault;
 mod header;
 mod io_devices;
-mod marks;
 mod memory_devices;
 mod programs;
 mod replies;

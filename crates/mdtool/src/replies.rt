@@ -1,10 +1,9 @@
 //! What the script's commands are answered.
-ghost use Rattle.std.specs.Prelude.{◌≡◌, ◌==◌, ◌<◌, ◌++◌, [], false, get_or, if◌then◌else◌, length, string_bytes, IfOk, OnOk};
-ghost use Rattle.std.specs.List.{concat, list_any};
-ghost use Rattle.viewspec.specs.Patch.{brings};
-ghost use Rattle.mdtool.specs.Replies.{html_reply, edit_reply, refused_reply, piece_reply, patch_line, brought};
+ghost use Rattle.std.specs.Prelude.{◌≡◌, ◌++◌, string_bytes, IfOk, OnOk};
+ghost use Rattle.std.specs.List.{concat};
+ghost use Rattle.viewspec.specs.Patch.{brought};
+ghost use Rattle.mdtool.specs.Replies.{html_reply, edit_reply, refused_reply, piece_reply, pieces_reply, patch_line};
 
-use crate::marks::marks;
 use mdview::{EditFault, Patch, Preview};
 use std::alloc::{AllocError, Global};
 
@@ -53,35 +52,13 @@ fn refused_reply(alloc: Global, fault: &EditFault) -> Result<String, AllocError>
 
 /// The reply to an accepted edit: the patch, and each piece that it brings with its number and its bytes.
 fn accepted_reply(alloc: Global, preview: &Preview, patch: &Patch) -> Result<String, AllocError>
-    ensures { IfOk result (λ reply. string_bytes reply ≡ patch_line patch.now ++ brought patch.now 0 preview.now.pieces) }
+    ensures { IfOk result (λ reply. string_bytes reply ≡ patch_line patch.now ++ pieces_reply (brought patch.now 0 preview.now.pieces)) }
 {
     let mut reply = patch_reply(alloc, patch)?;
-    let units = preview.units();
-    let again = marks(alloc, &patch.again, units)?;
-    let mut number = 0;
-    for piece in preview.pieces() {
-        push_if(is_brought(patch, &again, number), number, piece, &mut reply)?;
-        number += 1;
+    for (number, html) in patch.pieces(preview)? {
+        push_piece(number, html, &mut reply)?;
     }
     Ok(reply)
-}
-
-/// Whether a patch brings the piece of this number, where the marks are those of the pieces that were made again.
-fn is_brought(patch: &Patch, again: &[bool], number: usize) -> bool
-    requires within { number < length again.now }
-    requires marks { get_or again.now number false ≡ list_any (λ k. k == number) patch.now.again }
-    ensures { result ≡ brings patch.now number }
-{
-    patch.adds(number) || again[number]
-}
-
-fn push_if(brings: bool, number: usize, text: &str, reply: &mut String) -> Result<(), AllocError>
-    ensures { OnOk result (string_bytes reply.new ≡ string_bytes reply.old ++ (if brings then piece_reply number text.now else [])) }
-{
-    if brings {
-        push_piece(number, text, reply)?;
-    }
-    Ok(())
 }
 
 fn patch_reply(alloc: Global, patch: &Patch) -> Result<String, AllocError>

@@ -10,3 +10,4 @@ pub mod Texts
 pub mod Splices
 pub mod Committed
 pub mod LineEndings
+pub mod MarkedLaws

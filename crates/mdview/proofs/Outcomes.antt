@@ -1,12 +1,11 @@
 -- What an accepted edit leaves is its outcome, and so is a refusal.
-use Rattle.std.proofs.Common.{◌≡◌, ℕ, List, Option, None, Result, Ok, Err, refl}
+use Rattle.std.proofs.Common.{◌≡◌, ℕ, List, Option, None, Result, Ok, refl}
 use Rattle.mdview.specs.declared.fault.EditFault.{EditFault}
-use Rattle.mdview.specs.declared.fault.EditFault.TheVariants.{OutOfRange, BreakInLine, TooManyLines, TooLarge, NestedTooDeep, InlineTooDeep, NoMemory}
 use Rattle.viewspec.specs.ChangedPieces.{ChangedPieces}
 use Rattle.mdview.specs.Document.{Document}
 use Rattle.mdview.specs.Edit.{Call, due}
 use Rattle.mdview.specs.Outcome.{outcome, outcome_due, edited}
-use Rattle.mdview.specs.ReadingEnd.{read, reading_of, OfReading}
+use Rattle.mdview.specs.ReadingEnd.{read}
 use Rattle.mdview.specs.HeldUnit.{ReadUnit}
 
 accepted : (due' : Option EditFault) (old : Document) (call : Call) (patch : ChangedPieces) (head : ℕ) (units : List ReadUnit) → due' ≡ None

@@ -1,8 +1,8 @@
 -- Lengths and sizes of lines where some are replaced.
-use Rattle.std.proofs.Common.{◌≡◌, ℕ, ◌+◌, ◌≤◌, ◌<◌, List, [], ◌∷◌, ◌++◌, Bor, get_or, zero, suc, length, take, drop, map, refl, ap, arith, length-append, length-drop}
+use Rattle.std.proofs.Common.{◌≡◌, ℕ, ◌+◌, ◌≤◌, List, ◌++◌, length, take, drop, map, refl, ap, arith, length-append, length-drop}
 use Rattle.std.proofs.lemmas.List.{drop-drop, length-take-le, map-append}
 use Rattle.std.specs.List.{take-map, drop-map}
-use Rattle.std.proofs.lemmas.List.Sums.{sum_by-cons, sum_by-append, sum_by-take-drop}
+use Rattle.std.proofs.lemmas.List.Sums.{sum_by-append, sum_by-take-drop}
 use Rattle.mdview.specs.Lists.{replaced}
 use Rattle.mdview.specs.Document.{size_of}
 

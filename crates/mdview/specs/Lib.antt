@@ -9,3 +9,4 @@ pub mod FaultNames
 pub mod NewText
 pub mod LabelTargets
 pub mod Update
+pub mod MarkedPieces

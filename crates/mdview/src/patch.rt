@@ -1,8 +1,10 @@
-ghost use Rattle.std.specs.Prelude.{◌≡◌, [], None, option_map, slice_get, if◌then◌else◌, not, nat_lt, ◌+◌, ◌&&◌};
-ghost use Rattle.viewspec.specs.Patch.{brings};
+ghost use Rattle.std.specs.Prelude.{◌≡◌, [], None, IfOk, option_map, slice_get, if◌then◌else◌, not, nat_lt, ◌+◌, ◌&&◌};
+ghost use Rattle.viewspec.specs.Patch.{brings, brought};
 
+use crate::marks::marks;
+use crate::patch_pieces::{PatchPieces, is_within};
 use crate::preview::Preview;
-use std::alloc::Global;
+use std::alloc::{AllocError, Global};
 use std::marker::Model;
 
 /// Which pieces an edit changed: `removed` pieces at `first` gave way to `added` new ones, and those of `again` were
@@ -24,6 +26,14 @@ impl Model for Patch {
 }
 
 impl Patch {
+    /// The pieces that the patch brings, in order, each with its number, lent without copying. Takes memory where pieces were made again.
+    pub fn pieces<'a>(&self, preview: &'a Preview) -> Result<PatchPieces<'a>, AllocError>
+        ensures { IfOk result (λ pieces. pieces ≡ brought self.now 0 preview.now.pieces) }
+    {
+        let again = marks(preview.alloc(), &self.again, preview.units())?;
+        Ok(PatchPieces::new(self.first, self.added, again, preview.pieces()))
+    }
+
     /// The preview's piece `i`, where the patch brings it.
     pub fn text<'a>(&self, preview: &'a Preview, i: usize) -> Option<&'a str>
         ensures { option_map (λ text. text.now) result ≡ (if brings self.now i then slice_get preview.now.pieces i else None) }
@@ -45,6 +55,6 @@ impl Patch {
     pub fn adds(&self, i: usize) -> bool
         ensures { result ≡ (not (nat_lt i self.now.first) && nat_lt i (self.now.first + self.now.added)) }
     {
-        i >= self.first && i - self.first < self.added
+        is_within(self.first, self.added, i)
     }
 }

@@ -91,6 +91,10 @@ impl Preview {
         }
     }
 
+    pub(crate) fn alloc(&self) -> Global {
+        self.alloc
+    }
+
     /// How many lines the text has.
     pub fn len(&self) -> usize
         ensures { result ≡ length self.now.lines }

@@ -91,6 +91,36 @@ fn preview_of(alloc: Global, lines: &[&str]) -> Result<Preview, Fail> {
     Ok(preview)
 }
 
+/// The pieces that a patch brings, each behind its number.
+fn brought(alloc: Global, patch: &Patch, preview: &Preview) -> Result<String, Fail> {
+    let mut shown = String::new(alloc);
+    for (number, html) in patch.pieces(preview)? {
+        write!(&mut shown, "{number} {html}")?;
+    }
+    Ok(shown)
+}
+
+#[test]
+fn lends_the_pieces_of_a_patch_in_order(rt: HostRuntime) -> Result<(), Fail> {
+    let alloc = rt.alloc();
+    let mut preview = preview_of(
+        alloc,
+        ["[a]", "", "b", "", "c", "", "d [a]", "", "e"].as_slice(),
+    )?;
+    let patch = preview.edit(4, 1, ["f", "", "g"].as_slice(), &mut Tally::new())?;
+    let shown = brought(alloc, &patch, &preview)?;
+    assert_eq!(rt; shown.as_str(), "1 <p>b</p>\n2 <p>f</p>\n3 <p>g</p>\n");
+    let patch = preview.edit(4, 1, ["# f", "[a]: /b"].as_slice(), &mut Tally::new())?;
+    let shown = brought(alloc, &patch, &preview)?;
+    assert_eq!(rt;
+        shown.as_str(),
+        "0 <p><a href=\"/b\">a</a></p>\n1 <p>b</p>\n2 <h1>f</h1>\n3 5 <p>d <a href=\"/b\">a</a></p>\n"
+    );
+    let patch = preview.edit(0, 2, [].as_slice(), &mut Tally::new())?;
+    assert_eq!(rt; brought(alloc, &patch, &preview)?.as_str(), "");
+    Ok(())
+}
+
 #[test]
 fn an_edit_reads_its_stretch(rt: HostRuntime) -> Result<(), Fail> {
     let alloc = rt.alloc();

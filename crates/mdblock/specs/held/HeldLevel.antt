@@ -1,7 +1,6 @@
 -- How the blocks that a reader holds stand for the summary of the lines that it read: they name inline texts by position,
 -- and the summary has the texts in place.
 use Rattle.std.specs.Prelude.{◌≡◌, ℕ, zero, suc, ◌+◌, ◌<◌, Bool, true, false, not, ◌&&◌, List, [], ◌∷◌, ◌++◌, length, map, string_bytes, Option, option_map, ◌-◌}
-use Rattle.std.specs.List.{range_with_len}
 use Rattle.mdtext.specs.EntityTable.{EntityTable}
 use Rattle.mdleaf.specs.LinkDefinition.{LinkDefinition, definition_of}
 use Rattle.blockspec.specs.BlockLine.{BlockLine, is_blank_line}
@@ -11,9 +10,10 @@ use Rattle.mdblock.specs.BlockView.{kind_view, blocks_view, items_view}
 use Rattle.mdblock.specs.held.HeldNodes.{ListSoFar, list_of, over_nodes, handed_nodes, closed_nodes, tasked}
 use Rattle.blockspec.specs.LineSummary.{Summary, summary, Last, nothing_yet, ended_block, open_leaf, open_container, closed, summary_gap, summary_tip}
 use Rattle.blockspec.specs.ListGroups.{Part, Leaves, Quoted, Listed, Group, kind_of, items_before, is_tight_inside}
-use Rattle.blockspec.specs.NodeTree.{Nodes, texts_in, texts_in_items, definitions_in, row_positions, placed, placed_items, unit_of}
+use Rattle.blockspec.specs.NodeTree.{Nodes, texts_in, texts_in_items, definitions_in, placed, placed_items, unit_of}
 use Rattle.blockspec.specs.UnitTree.{FoundUnit}
-use Rattle.blockspec.specs.OpenLeaf.{OpenLeaf, open_table, leaf_from}
+use Rattle.blockspec.specs.OpenLeaf.{OpenLeaf, leaf_from}
+pub use Rattle.mdblock.specs.held.HeldTables.{CellsStand}
 use Rattle.mdblock.specs.held.OpenLeaves.{IsLeafOf}
 use Rattle.mdblock.specs.declared.blocks.Block.{Block}
 use Rattle.mdblock.specs.declared.container.lists.OpenList.{OpenList}
@@ -27,22 +27,15 @@ use Rattle.mdblock.specs.declared.readers.OpenUnit.{OpenUnit}
 
 -- ---- leaves
 
--- a paragraph's text, by its last line and what stands above that
-abbrev pub behind_line : (above last : List ℕ) → List ℕ
-behind_line [] last = last
-behind_line (b ∷ above) last = b ∷ above ++ 10 ∷ last
-
 -- a kind whose leaf has not ended by itself
 abbrev pub IsOpenKind : Kind → Type 0
 IsOpenKind (FencedCode indentation mark size info closed) = closed ≡ false
 IsOpenKind kind = Unit {0}
 
--- A table's cells have been handed in, from a position on.
-abbrev pub CellsStand : (at : ℕ) → Leaf → OpenLeaf → Type 0
-CellsStand at (leaf.Table t) (open_table above aligns head rows) =
-    (t.aligns.items ≡ aligns) × (t.head.items ≡ range_with_len at (length head)) × (map (λ row. row.items) t.rows.items ≡ row_positions (at + length head) rows)
-CellsStand at (leaf.Table t) kept = ⊥
-CellsStand at held kept = Unit {0}
+-- The first line of a paragraph is not blank, so an open one has a text.
+abbrev pub HasText : Leaf → Type 0
+HasText (leaf.Paragraph p) = 0 < length p.text
+HasText held = Unit {0}
 
 -- an open leaf of these lines, where the next text to be handed in behind what is over has a position
 pub record StandsForLeaf (entities : EntityTable) (at : ℕ) (held : Leaf) (kept : OpenLeaf) : Type 0 where
@@ -53,6 +46,7 @@ pub record StandsForLeaf (entities : EntityTable) (at : ℕ) (held : Leaf) (kept
   pub kept_is : kept ≡ leaf_from kind first later
   pub held_is : IsLeafOf entities held kind first later
   pub cells : CellsStand at held kept
+  pub has_text : HasText held
 
 -- ---- lists
 
@@ -145,7 +139,7 @@ StandsFor entities at in_item level (summary before last blank lines) =
     StandsForOver entities at in_item level.over.items level.in_item level.begun level.blank level.spaced (summary before last blank lines)
     × StandsForLast entities (behind_over entities at in_item before last) level.last before last
 
--- ---- premises of a line
+-- ---- premises of a line, which keep what the blocks stand for
 
 -- A lazy line is not blank, and continues the paragraph that is open at the end.
 abbrev pub IsLazyRight : Summary → BlockLine → Type 0

@@ -1,5 +1,5 @@
 -- What an open leaf holds of its lines (CommonMark 4.4, 4.5, 4.6, 4.8; GFM Tables (extension)).
-use Rattle.std.specs.Prelude.{◌≡◌, ℕ, Bool, true, false, List, [], ◌∷◌, ◌++◌, map, None, string_bytes}
+use Rattle.std.specs.Prelude.{◌≡◌, ℕ, Bool, true, false, List, [], ◌∷◌, ◌++◌, length, map, None, string_bytes}
 use Rattle.std.specs.Option.{MatchOption}
 use Rattle.mdtext.specs.EntityTable.{EntityTable}
 use Rattle.mdleaf.specs.CodeLanguage.{code_language}
@@ -9,10 +9,11 @@ use Rattle.blockspec.specs.BlockStart.{Kind, Paragraph, AtxHeading, ThematicBrea
 use Rattle.blockspec.specs.BlockTree.{Block, heading, thematic_break, code_block, html_block}
 use Rattle.mdblock.specs.BlockView.{block_view}
 use Rattle.blockspec.specs.LeafContents.{code_text, without_last, without_end_blank_lines}
-use Rattle.blockspec.specs.OpenLeaf.{end_blank_lines}
+use Rattle.blockspec.specs.OpenLeaf.{end_blank_lines, leaf_from, row_of}
+use Rattle.mdblock.specs.held.HeldTables.{IsTableOf, IsRowMore}
 use Rattle.mdblock.specs.held.ParagraphLines.{HoldsLines}
 use Rattle.blockspec.specs.Stretches.{Step as LineStep, Continues, IsLastLine, IsOverBefore, ends_html}
-use Rattle.mdblock.specs.declared.leaf.fences.Fence.{Fence}
+use Rattle.mdblock.specs.declared.leaf.fenced_code.Fence.{Fence}
 use Rattle.mdblock.specs.declared.leaf.html_blocks.HtmlBlock as html
 use Rattle.mdblock.specs.declared.leaf.indented_code.IndentedCode as code
 use Rattle.mdblock.specs.declared.leaf.Leaf.{Leaf}
@@ -34,13 +35,13 @@ pub record IsCodeOf (lines : List BlockLine) (c : code.IndentedCode) : Type 0 wh
   pub body : string_bytes c.body ≡ code_text 4 (without_end_blank_lines lines)
   pub blanks : string_bytes c.blanks ≡ code_text 4 (end_blank_lines lines)
 
--- A table's cells are handed in as they are read, so of one nothing is said here.
+-- A table's cells are handed in as they are read (`CellsStand`), so of one only its columns and rows are told here.
 abbrev pub IsLeafOf : EntityTable → Leaf → Kind → (first : BlockLine) → (later : List BlockLine) → Type 0
 IsLeafOf entities (leaf.Paragraph p) Paragraph first later = HoldsLines (first ∷ later) p
 IsLeafOf entities (leaf.Fence f) (FencedCode indentation mark length info closed) first later = IsFenceOf entities indentation mark length info later f
 IsLeafOf entities (leaf.Html h) (HtmlBlock kind) first later = IsHtmlOf kind (first ∷ later) h
 IsLeafOf entities (leaf.Code c) IndentedCode first later = IsCodeOf (first ∷ later) c
-IsLeafOf entities (leaf.Table t) (Table above) first later = Unit {0}
+IsLeafOf entities (leaf.Table t) (Table above) first later = IsTableOf (leaf_from (Table above) first later) t
 IsLeafOf entities leaf kind first later = ⊥
 
 -- a line leaves an open leaf, and nothing that is over
@@ -93,7 +94,7 @@ begun_texts (AtxHeading level content) = content ∷ []
 begun_texts kind = []
 
 -- What a later line leaves of a leaf: a kind that takes it goes on, and one that it ends is over. Of headings and tables
--- nothing is said here, since texts are handed in with them.
+-- nothing is said here, since texts are handed in with them: a row more is `IsRowIn`.
 abbrev pub IsGrown : EntityTable → Kind → (first : BlockLine) → (later : List BlockLine) → LeafAfter → Type 0
 IsGrown entities Paragraph first later s = IsGoing (IsParagraphLeaf (first ∷ later)) s
 IsGrown entities (FencedCode indentation mark length info closed) first later s = IsGoing (IsFenceLeaf entities indentation mark length info later) s
@@ -111,3 +112,8 @@ abbrev pub IsLeft : EntityTable → LineStep → (first : BlockLine) → (later 
 IsLeft entities (Continues kind) first later s = IsGrown entities kind first later s
 IsLeft entities (IsLastLine kind) first later s = IsEnded entities kind first later s
 IsLeft entities IsOverBefore first later s = Unit {0}
+
+-- what a data row leaves of a table, and the texts of its cells, which are handed in
+abbrev pub IsRowIn : Leaf → (row : List ℕ) → (old new : List (List ℕ)) → LeafAfter → Type 0
+IsRowIn (leaf.Table t) row old new s = IsGoing (IsRowMore (length old) t) s × (new ≡ old ++ row_of t.aligns.items row)
+IsRowIn held row old new s = Unit {0}

@@ -1,6 +1,6 @@
 //! Paragraphs (CommonMark 4.8), and what becomes of their lines.
 
-ghost use Rattle.std.specs.Prelude.{◌≡◌, ◌+◌, ◌≤◌, ℕ, true, false, nat_le, List, [], ◌∷◌, ◌++◌, IfOk, IfSome, OnOk, length, drop, string_bytes};
+ghost use Rattle.std.specs.Prelude.{◌≡◌, ◌+◌, ◌-◌, ◌≤◌, ℕ, true, false, nat_le, List, [], ◌∷◌, ◌++◌, IfOk, IfSome, OnOk, length, take, drop, string_bytes};
 ghost use Rattle.std.specs.Option.{option_map};
 ghost use Rattle.std.specs.Str.{IsCharBoundary};
 ghost use Rattle.mdleaf.specs.ParagraphText.{is_definitions_alone, behind_definitions, without_end_blanks};
@@ -13,6 +13,7 @@ ghost use Rattle.mdblock.specs.BlockView.{block_view};
 ghost use Rattle.mdblock.specs.held.HandedIn.{gathered_definitions, gathered_texts, taken, left_behind, IsHandedIn};
 ghost use Rattle.blockspec.specs.NodeTree.{paragraph_leaf};
 ghost use Rattle.mdblock.specs.Positions.{BlockIn};
+ghost use Rattle.mdblock.specs.held.HeldTables.{IsTableBehind, first_rows};
 ghost use Rattle.mdblock.specs.held.OpenLeaves.{IsGoing, IsOver, IsParagraphLeaf};
 ghost use Rattle.mdblock.specs.held.OpenPositions.{LeafAfterIn};
 ghost use Rattle.mdblock.specs.held.Continuations.{IsContinuationOf, step_view};
@@ -229,6 +230,12 @@ impl Paragraph {
         ensures within { IfOk result (λ step. LeafAfterIn (length gathering.new.texts.items) step) }
         ensures grows { length gathering.old.texts.items ≤ length gathering.new.texts.items }
         ensures entities { gathering.new.entities.now ≡ gathering.old.entities.now }
+        ensures table { begins_table (drop self.last self.text) delimiters.now ≡ true
+            → IfOk result (IsTableBehind first (take (self.last - 1) self.text) (first_rows (drop self.last self.text) delimiters.now)
+            (gathered_texts gathering.old) (gathered_texts gathering.new)) }
+        ensures found { begins_table (drop self.last self.text) delimiters.now ≡ true
+            → OnOk result (gathered_definitions gathering.new ≡ gathered_definitions gathering.old
+            ++ leading_of gathering.old.entities.now (without_end_blanks (take (self.last - 1) self.text))) }
     {
         let Some(header) = table_header(gathering.alloc(), self.last_line(), delimiters)? else {
             return Ok(going(Leaf::Paragraph(self)));
@@ -239,7 +246,9 @@ impl Paragraph {
     }
 
     /// The text of the lines but the last one.
-    fn without_last(self) -> Paragraph {
+    fn without_last(self) -> Paragraph
+        ensures { result.text ≡ take (self.last - 1) self.text }
+    {
         let mut text = self.text;
         text.truncate(self.last.saturating_sub(1));
         Paragraph { text, last: 0 }

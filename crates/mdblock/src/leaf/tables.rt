@@ -1,8 +1,14 @@
 //! Tables (GFM Tables (extension)).
 
-ghost use Rattle.std.specs.Prelude.{◌≡◌, ◌≤◌, ℕ, IfOk, IfSome, OnOk, length, map};
+ghost use Rattle.std.specs.Prelude.{◌≡◌, ◌≤◌, ℕ, [], ◌∷◌, ◌++◌, IfOk, IfSome, OnOk, Some, length};
+ghost use Rattle.blockspec.specs.BlockLine.{rest};
 ghost use Rattle.blockspec.specs.BlockTree.{table};
+ghost use Rattle.blockspec.specs.OpenLeaf.{row_of};
+ghost use Rattle.mdleaf.specs.TableRows.{header_of};
 ghost use Rattle.mdblock.specs.BlockView.{block_view};
+ghost use Rattle.mdblock.specs.held.HandedIn.{gathered_texts};
+ghost use Rattle.mdblock.specs.held.HeldTables.{IsHeaderRow, IsRowMore, held_rows};
+ghost use Rattle.mdblock.specs.held.OpenLeaves.{IsGoing};
 ghost use Rattle.mdblock.specs.held.OpenPositions.{LeafAfterIn, TableIn};
 ghost use Rattle.mdblock.specs.Positions.{BlockIn, CellsIn};
 ghost use Rattle.blockspec.specs.Stretches.{is_row};
@@ -38,6 +44,9 @@ impl Table {
         ensures within { IfOk result (λ table. TableIn (length gathering.new.texts.items) table) }
         ensures grows { length gathering.old.texts.items ≤ length gathering.new.texts.items }
         ensures entities { gathering.new.entities.now ≡ gathering.old.entities.now }
+        ensures header { IfOk result (IsHeaderRow (length gathering.old.texts.items) (header_of header)) }
+        ensures texts { OnOk result (gathered_texts gathering.new ≡ gathered_texts gathering.old ++ (header_of header).cells) }
+        ensures definitions { gathering.new.definitions ≡ gathering.old.definitions }
     {
         Ok(Table {
             aligns: header.aligns,
@@ -56,6 +65,10 @@ impl Table {
         ensures within { IfOk result (λ step. LeafAfterIn (length gathering.new.texts.items) step) }
         ensures grows { length gathering.old.texts.items ≤ length gathering.new.texts.items }
         ensures entities { gathering.new.entities.now ≡ gathering.old.entities.now }
+        ensures row { IfOk result (λ step. IsGoing (IsRowMore (length gathering.old.texts.items) self) step) }
+        ensures texts { OnOk result (gathered_texts gathering.new
+            ≡ gathered_texts gathering.old ++ row_of self.aligns.items (rest line.now)) }
+        ensures definitions { gathering.new.definitions ≡ gathering.old.definitions }
     {
         let cells = data_row(gathering.alloc(), line.text(), self.aligns.len())?;
         let row = gathering.row(cells)?;
@@ -64,7 +77,10 @@ impl Table {
     }
 
     fn push(&mut self, row: Vec<usize>) -> Result<(), AllocError>
-        ensures { OnOk result ((n : ℕ) → TableIn n self.old → CellsIn n row.items → TableIn n self.new) }
+        ensures within { OnOk result ((n : ℕ) → TableIn n self.old → CellsIn n row.items → TableIn n self.new) }
+        ensures aligns { self.new.aligns ≡ self.old.aligns }
+        ensures head { self.new.head ≡ self.old.head }
+        ensures rows { OnOk result (held_rows self.new ≡ held_rows self.old ++ row.items ∷ []) }
     {
         self.rows.push(row)?;
         Ok(())
@@ -72,7 +88,8 @@ impl Table {
 
     /// The open table behind a paragraph that is over.
     pub(crate) fn behind(self, over: Option<Block>) -> LeafAfter
-        ensures { (n : ℕ) → IfSome over (λ block. BlockIn n (block_view block)) → TableIn n self → LeafAfterIn n result }
+        ensures value { result ≡ record { over = over; going = Some (Leaf.Table self) } }
+        ensures within { (n : ℕ) → IfSome over (λ block. BlockIn n (block_view block)) → TableIn n self → LeafAfterIn n result }
     {
         LeafAfter {
             over,
@@ -82,7 +99,7 @@ impl Table {
 
     /// What the table is at its end.
     pub(crate) fn end(self) -> Block
-        ensures value { block_view result ≡ table self.aligns.items self.head.items (map (λ row. row.items) self.rows.items) }
+        ensures value { block_view result ≡ table self.aligns.items self.head.items (held_rows self) }
         ensures within { (n : ℕ) → TableIn n self → BlockIn n (block_view result) }
     {
         Block::Table {

@@ -8,11 +8,11 @@ use Rattle.inlinespec.specs.InlineEvents.{InlineSpan, Event, Enter, Leave, writt
 use Rattle.mdinline.specs.held.Recognised.{made_events}
 use Rattle.inlinespec.specs.Settled.{span_by}
 use Rattle.inlinespec.specs.Settled as settled
-use Rattle.mdinline.specs.held.TreeBuilding.{span_of}
+use Rattle.mdinline.specs.SpanKinds.{span_of}
 use Rattle.mdinline.specs.declared.pieces.Piece.{Piece}
 use Rattle.mdinline.specs.declared.pieces.Piece.TheVariants.{Made, Run, Bracket}
 use Rattle.mdinline.specs.declared.emphasis.PairedRun.{PairedRun}
-use Rattle.mdinline.specs.declared.trees.SpanKind.{SpanKind}
+use Rattle.mdinline.specs.declared.sinks.SpanKind.{SpanKind}
 
 -- Of a bracket it does not matter here where the text behind it begins.
 abbrev pub piece_of : Piece → settled.Piece

@@ -1,17 +1,11 @@
 -- A tree that is built from left to right, as the events so far (CommonMark 6).
 use Rattle.std.specs.Prelude.{List, [], ◌∷◌, ◌++◌}
-use Rattle.inlinespec.specs.InlineEvents.{InlineSpan, Emphasis, StrongEmphasis, Strikethrough, Event, Enter, tree_events}
+use Rattle.inlinespec.specs.InlineEvents.{Event, Enter, tree_events}
+use Rattle.mdinline.specs.SpanKinds.{span_of}
 use Rattle.mdinline.specs.TreeView.{inlines_view}
 use Rattle.mdinline.specs.declared.inlines.Inline.{Inline}
 use Rattle.mdinline.specs.declared.trees.Frame.{Frame}
-use Rattle.mdinline.specs.declared.trees.SpanKind.{SpanKind}
-use Rattle.mdinline.specs.declared.trees.SpanKind.TheVariants.{Emph, Strong, Strike}
 use Rattle.mdinline.specs.declared.trees.TreeBuilder.{TreeBuilder}
-
-abbrev pub span_of : SpanKind → InlineSpan
-span_of Emph = Emphasis
-span_of Strong = StrongEmphasis
-span_of Strike = Strikethrough
 
 abbrev pub row_events : List Inline → List Event
 row_events is = tree_events (inlines_view is)

@@ -1,5 +1,5 @@
 //! Each place of a destination in the standard's examples of links, images and definitions (CommonMark 4.7, 6.3, 6.4): after
-//! a `](` or a `]:` and the gap behind it. What is wanted is from another program.
+//! a `](` or a `]:` and the spacing behind it. What is wanted is from another program.
 
 use crate::*;
 use std::process::Abort;

@@ -270,7 +270,7 @@ static INLINE_TAILS: [(&str, Option<(Pair, Pair, usize)>); 21] = [
     ("(/u (t))", Some((Some((1, 3)), Some((5, 6)), 8))),
 ];
 
-/// With and without destination and title, and a gap that is missing.
+/// With and without destination and title, and spacing that is missing.
 #[test]
 fn inline_tails(rt: HostRuntime) {
     for &(text, want) in &INLINE_TAILS {

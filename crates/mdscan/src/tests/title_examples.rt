@@ -1,5 +1,5 @@
 //! Each place of a title in the standard's examples of links, images and definitions (CommonMark 4.7, 6.3, 6.4): after
-//! a destination and the gap behind it. What is wanted is from another program.
+//! a destination and the spacing behind it. What is wanted is from another program.
 
 use crate::*;
 use std::process::Abort;

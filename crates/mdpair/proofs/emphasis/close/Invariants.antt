@@ -3,14 +3,14 @@ use Rattle.std.specs.List.{AllByRecursion}
 use Rattle.mdpair.specs.declared.emphasis.Remaining.{Remaining}
 use Rattle.mdpair.specs.declared.runs.DelimiterRun.{DelimiterRun}
 use Rattle.mdpair.specs.OpenersBottom.{IsBottom, Descends}
-use Rattle.mdpair.specs.Matches.{onto, stack, left_of, Leads, IsClear, IsLeft, IsBelow, IsOrdered}
+use Rattle.mdpair.specs.Matches.{onto, stack, left_of, Rewrites, IsClear, IsLeft, IsBelow, IsOrdered}
 use Rattle.mdpair.specs.declared.runs.DelimiterChar.TheVariants.{Tilde}
 use Rattle.mdpair.proofs.emphasis.close.Given as goal
 
 abbrev pub invariant-loop-left : goal.invariant-loop-left
 invariant-loop-left l = record {
-  leads : (start rest : List Remaining) → Leads start l.fn.matches.items (onto (stack l.fn.passed.items) (l.fn.closer ∷ rest)) →
-      Leads start l.matches.items (onto (stack l.passed.items) (left_of l.fn.closer.place l.left l.fn.closer.run ++ rest));
+  rewrites : (start rest : List Remaining) → Rewrites start l.fn.matches.items (onto (stack l.fn.passed.items) (l.fn.closer ∷ rest)) →
+      Rewrites start l.matches.items (onto (stack l.passed.items) (left_of l.fn.closer.place l.left l.fn.closer.run ++ rest));
   left : l.fn.closer.run.delimiter ≡ Tilde → 0 < l.left → l.left ≡ l.fn.closer.run.length;
   clear : IsClear (stack l.passed.items);
   each : AllByRecursion IsLeft (stack l.passed.items);

@@ -3,7 +3,7 @@ use Rattle.std.proofs.lemmas.Result.{IfOk-weaker}
 use Rattle.std.proofs.lemmas.List.Elements.{All-weaker}
 use Rattle.mdpair.specs.Matches.{stack, left_of}
 use Rattle.mdpair.specs.OpenersBottom.{IsBottomUpTo}
-use Rattle.mdpair.proofs.BottomKept.{missed_here, pushed-bottoms}
+use Rattle.mdpair.proofs.BottomKept.{missed_here, pushed_bottoms}
 use Rattle.mdpair.proofs.emphasis.pass.Goals as goal
 
 pub close-requires-clause-bottom : goal.close-requires-clause-bottom
@@ -19,5 +19,5 @@ returns-clause-bottoms c =
     let kept = c.in_ok-keep_bottom.ensures c.args.place closed (λ some. missed_here c.args.place c.args.run closed (c.in_ok-left.ensures.done some)) before in
     IfOk-weaker c.push_left-2.result (λ _. stack c.push_left-2.new.passed.items ≡ left_of c.args.place c.in_ok-left.left c.args.run ++ closed)
     (λ _. All (IsBottomUpTo (c.args.place + 1) (stack c.push_left-2.new.passed.items)) c.keep_bottom.new.bottoms.items)
-    (λ _ e. pushed-bottoms c.args.place c.in_ok-left.left c.args.run closed (stack c.push_left-2.new.passed.items) c.keep_bottom.new.bottoms.items e kept)
+    (λ _ e. pushed_bottoms c.args.place c.in_ok-left.left c.args.run closed (stack c.push_left-2.new.passed.items) c.keep_bottom.new.bottoms.items e kept)
     c.push_left-2.ensures

@@ -9,4 +9,4 @@ returns-then-begins-clause-spans c utf8 =
     let at = c.args.at in
     let inside : at < length text = grind (arith, common_steps) in
     let ascii : get_or text at 0 < 128 = grind (arith, common_steps) in
-    c.inside.ensures.spans utf8 (c.after_gap.ensures.boundary utf8 (IsCharBoundary-after_ascii text at utf8 inside ascii))
+    c.inside.ensures.spans utf8 (c.after_spacing.ensures.boundary utf8 (IsCharBoundary-after_ascii text at utf8 inside ascii))

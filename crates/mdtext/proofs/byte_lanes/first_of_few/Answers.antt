@@ -1,4 +1,4 @@
-use Rattle.std.proofs.Common.{◌≡◌, ℕ, ◌≤◌, List, ◌++◌, ◌∙◌, ap, arith, length, length-append, length-drop, drop, take, replicate}
+use Rattle.std.proofs.Common.{◌≡◌, ℕ, ◌≤◌, List, ◌++◌, ◌∙◌, ap, arith, length, length-append, length-drop, drop, replicate}
 use Rattle.std.proofs.lemmas.List.{take_all}
 use Rattle.std.specs.List.{slice_range}
 use Rattle.mdtext.specs.ByteClass.{in_class}

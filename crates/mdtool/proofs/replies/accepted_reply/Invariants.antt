@@ -1,10 +1,9 @@
-use Rattle.std.proofs.Common.{◌≡◌, ◌+◌, ◌++◌, length, string_bytes}
-use Rattle.mdtool.specs.Replies.{patch_line, brought}
+use Rattle.std.proofs.Common.{◌≡◌, ◌++◌, string_bytes}
+use Rattle.viewspec.specs.Patch.{brought}
+use Rattle.mdtool.specs.Replies.{patch_line, pieces_reply}
 use Rattle.mdtool.proofs.replies.accepted_reply.Given as goal
 
--- the pieces up to this one are told, and as many are left as there are units
-abbrev pub invariant-loop-piece : goal.invariant-loop-piece
-invariant-loop-piece l = record {
-  text : string_bytes l.reply ++ brought l.patch l.number l.piece-iterator ≡ patch_line l.patch ++ brought l.patch 0 l.preview.pieces;
-  rest : l.number + length l.piece-iterator ≡ l.units;
-}
+-- the pieces up to this one are told
+abbrev pub invariant-loop-number : goal.invariant-loop-number
+invariant-loop-number l =
+    string_bytes l.reply ++ pieces_reply l.number-iterator ≡ patch_line l.patch ++ pieces_reply (brought l.patch 0 l.preview.pieces)

@@ -1,4 +1,4 @@
-use Rattle.std.proofs.Common.{◌≡◌, ◌∙◌, true, refl, map, subst}
+use Rattle.std.proofs.Common.{◌≡◌, ◌∙◌, refl, map, subst}
 use Rattle.clap.specs.Words.{HasMatchesOf, app_of}
 use Rattle.mdtool.specs.ToolWords.{tool_app}
 use Rattle.mdtool.proofs.tool_words.read_words.Goals as goal

@@ -47,7 +47,7 @@ returns-in-Code-clause-found c = λ kind begin later h.
 pub returns-in-Table-clause-left : goal.returns-in-Table-clause-left
 returns-in-Table-clause-left c = λ kind begin later h.
     let g = c.args.gathering.now in
-    table_ended g.entities.now c.args.first c.in-Table.table kind begin later (gathered_texts g) (gathered_texts g) _ (subst (λ w. IsLeafOf g.entities.now w kind begin later) c.in-Table.is h)
+    table_ended g.entities.now c.args.first c.in-Table.table kind begin later (gathered_texts g) _ c.end-in-Table.ensures.value (subst (λ w. IsLeafOf g.entities.now w kind begin later) c.in-Table.is h)
 
 pub returns-in-Table-clause-found : goal.returns-in-Table-clause-found
 returns-in-Table-clause-found c = λ kind begin later h.

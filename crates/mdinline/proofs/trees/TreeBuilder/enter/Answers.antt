@@ -1,6 +1,7 @@
 use Rattle.std.proofs.Common.{◌++◌, ◌∷◌, [], Vec, Global, ap, ◌∙◌}
 use Rattle.inlinespec.specs.InlineEvents.{Enter}
-use Rattle.mdinline.specs.held.TreeBuilding.{row_events, span_of, spread}
+use Rattle.mdinline.specs.SpanKinds.{span_of}
+use Rattle.mdinline.specs.held.TreeBuilding.{row_events, spread}
 use Rattle.mdinline.specs.declared.inlines.Inline.{Inline}
 use Rattle.mdinline.specs.declared.trees.Frame.{Frame}
 use Rattle.mdinline.proofs.BuiltRows.{entered}

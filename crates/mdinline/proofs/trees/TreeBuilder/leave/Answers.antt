@@ -1,6 +1,7 @@
 use Rattle.std.proofs.Common.{◌∷◌, [], ◌++◌, Vec, Global, ap, ◌∙◌}
 use Rattle.inlinespec.specs.InlineEvents.{within}
-use Rattle.mdinline.specs.held.TreeBuilding.{row_events, span_of}
+use Rattle.mdinline.specs.SpanKinds.{span_of}
+use Rattle.mdinline.specs.held.TreeBuilding.{row_events}
 use Rattle.mdinline.specs.declared.inlines.Inline.{Inline}
 use Rattle.mdinline.proofs.BuiltRows.{left, on_ok}
 use Rattle.mdinline.proofs.trees.TreeBuilder.leave.Goals as goal

@@ -1,0 +1,19 @@
+use Rattle.std.proofs.Common.{◌≡◌, string_bytes, drop, length}
+use Rattle.mdblock.specs.BlockView.{blocks_view, items_view}
+use Rattle.mdhtml.specs.BlockHtml.{blocks_html, items_html, trees_of}
+use Rattle.mdblock.specs.Positions.{BlocksIn, ItemsIn}
+use Rattle.mdhtml.proofs.+block.Given as goal
+
+abbrev pub invariant-blocks::write_blocks-loop-block : goal.invariant-blocks::write_blocks-loop-block
+invariant-blocks::write_blocks-loop-block l = record {
+  within : BlocksIn (length l.texts) (blocks_view (drop l.block-index l.blocks));
+  written : blocks_html l.options (trees_of l.texts) l.tight (blocks_view (drop l.block-index l.blocks)) (string_bytes l.out)
+      ≡ blocks_html l.options (trees_of l.texts) l.tight (blocks_view l.blocks) (string_bytes l.fn.out);
+}
+
+abbrev pub invariant-list_items::write_items-loop-item : goal.invariant-list_items::write_items-loop-item
+invariant-list_items::write_items-loop-item l = record {
+  within : ItemsIn (length l.texts) (items_view (drop l.item-index l.items));
+  written : items_html l.options (trees_of l.texts) l.tight (items_view (drop l.item-index l.items)) (string_bytes l.out)
+      ≡ items_html l.options (trees_of l.texts) l.tight (items_view l.items) (string_bytes l.fn.out);
+}

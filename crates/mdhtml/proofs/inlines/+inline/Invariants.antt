@@ -1,8 +1,0 @@
-use Rattle.std.proofs.Common.{◌≡◌, ◌++◌, string_bytes, drop}
-use Rattle.mdinline.specs.TreeView.{inlines_view}
-use Rattle.mdhtml.specs.InlineHtml.{inlines_html}
-use Rattle.mdhtml.proofs.inlines.+inline.Given as goal
-
-abbrev pub invariant-write_inlines-loop-inline : goal.invariant-write_inlines-loop-inline
-invariant-write_inlines-loop-inline l =
-    string_bytes l.out ++ inlines_html l.options (inlines_view (drop l.inline-index l.inlines)) ≡ string_bytes l.fn.out ++ inlines_html l.options (inlines_view l.inlines)

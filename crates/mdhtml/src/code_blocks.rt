@@ -1,0 +1,31 @@
+//! HTML of code blocks, fenced and indented.
+
+ghost use Rattle.std.specs.Prelude.{◌≡◌, ◌++◌, OnOk, string_bytes};
+ghost use Rattle.mdhtml.specs.BlockHtml.{fresh, code_html, code_open};
+
+use crate::pieces::write_fresh;
+use mdtext::{NoMemory, escape_text};
+
+pub(crate) fn write_code(lang: &str, body: &str, out: &mut String) -> Result<(), NoMemory>
+    ensures { OnOk result (string_bytes out.new
+        ≡ fresh (string_bytes out.old) ++ code_html lang.now body.now) }
+{
+    write_fresh(out)?;
+    open_code(lang, out)?;
+    escape_text(body, out)?;
+    out.push_str("</code></pre>\n")?;
+    Ok(())
+}
+
+fn open_code(lang: &str, out: &mut String) -> Result<(), NoMemory>
+    ensures { OnOk result (string_bytes out.new ≡ string_bytes out.old ++ code_open lang.now) }
+{
+    if lang.is_empty() {
+        out.push_str("<pre><code>")?;
+    } else {
+        out.push_str("<pre><code class=\"language-")?;
+        escape_text(lang, out)?;
+        out.push_str("\">")?;
+    }
+    Ok(())
+}

@@ -1,0 +1,19 @@
+//! HTML blocks.
+
+ghost use Rattle.std.specs.Prelude.{◌≡◌, ◌++◌, OnOk, string_bytes};
+ghost use Rattle.mdhtml.specs.BlockHtml.{fresh, raw_block_html};
+
+use crate::options::Options;
+use crate::pieces::write_fresh;
+use crate::raw_html::write_raw;
+use mdtext::NoMemory;
+
+pub(crate) fn write_html(text: &str, options: &Options, out: &mut String) -> Result<(), NoMemory>
+    ensures { OnOk result (string_bytes out.new
+        ≡ fresh (string_bytes out.old) ++ raw_block_html options.now text.now) }
+{
+    write_fresh(out)?;
+    write_raw(text, options, out)?;
+    out.push_str("\n")?;
+    Ok(())
+}
