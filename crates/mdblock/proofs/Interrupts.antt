@@ -13,7 +13,7 @@ use Rattle.mdscan.specs.Tag.{first_is}
 use Rattle.mdscan.specs.ThematicBreak.{is_thematic_break}
 use Rattle.mdscan.specs.Spans.{part}
 use Rattle.mdscan.specs.declared.atx_headings.AtxLine.{AtxLine}
-use Rattle.mdscan.specs.declared.fences.FenceLine.{FenceLine}
+use Rattle.mdscan.specs.declared.code_fences.FenceLine.{FenceLine}
 use Rattle.mdscan.specs.declared.list_markers.Marker.{Marker}
 use Rattle.blockspec.specs.BlockLine.{BlockLine, rest, indentation, is_blank_line, behind_marker}
 use Rattle.blockspec.specs.BlockStart.{Mode, Free, Inside, Lazy, Kind, Paragraph, SetextHeading, Table, AtxHeading, ThematicBreak, FencedCode, IndentedCode, HtmlBlock, Holds, Quote, is_free, is_inside, begins_quote, begins_atx, begins_fence, begins_html, html_by, html_where, begins_underline, begins_break, begins_item, item_by, item_of, may_begin_item, begins_rows, start_near, start_at, start_far, start_where, start}
