@@ -1,10 +1,8 @@
 -- The first byte of a line tells which of the recognisers may find anything (CommonMark 4, 5).
-use Rattle.std.proofs.Common.{◌≡◌, ℕ, ◌==◌, Bool, true, false, ◌&&◌, ◌||◌, List, [], ◌∷◌, Option, Some, None, refl, ap, sym, ◌∙◌, cond, arith}
+use Rattle.std.proofs.Common.{◌≡◌, ℕ, ◌==◌, Bool, true, false, ◌||◌, List, [], ◌∷◌, Option, Some, None, refl, ap, ◌∙◌, arith}
 use Rattle.std.proofs.lemmas.Bool.Decides.{nat_tests}
-use Rattle.std.proofs.Math.Bool.{and-false}
 use Rattle.std.specs.Char.{is_ascii_digit}
-use Rattle.std.specs.List.{prefix_len, list_any}
-use Rattle.std.specs.Option.{option_or, option_map}
+use Rattle.std.specs.Option.{option_or}
 use Rattle.mdscan.specs.AtxHeading.{atx_heading}
 use Rattle.mdscan.specs.Blanks.{begins_with}
 use Rattle.mdscan.specs.BlockQuote.{is_quote_marker}
@@ -29,7 +27,7 @@ unfolding opening_fence opening_backticks
 no_fence [] h g = refl
 no_fence (b ∷ bs) h g = rw (h, g) refl
 
-no_kind : (text : List ℕ) → begins_with 60 text ≡ false → html_kind text ≡ None
+pub no_kind : (text : List ℕ) → begins_with 60 text ≡ false → html_kind text ≡ None
 unfolding html_kind begins_raw begins_block begins_whole_tag open_tag closing_tag
 no_kind [] h = refl
 no_kind (b ∷ bs) h = let other : (60 == b) ≡ false = grind (arith, nat_tests, h) in rw (h, other) refl

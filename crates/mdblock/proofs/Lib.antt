@@ -5,6 +5,7 @@ pub mod ClosingLaws
 pub mod HeldNodesLaws
 pub mod FirstBytes
 pub mod HtmlEnds
+pub mod Interrupts
 pub mod LeafEndings
 pub mod LeafLaws
 pub mod LeafTexts

@@ -1,5 +1,5 @@
 -- What an open paragraph's text tells of its lines, and what a line does to it.
-use Rattle.std.proofs.Common.{◌≡◌, ℕ, zero, suc, ◌+◌, ◌-◌, ◌<◌, ◌≤◌, Bool, true, false, List, [], ◌∷◌, ◌++◌, append_assoc, length, length-append, map, take, drop, Option, Some, None, refl, ap, sym, ◌∙◌, subst, arith, cond, nat_le}
+use Rattle.std.proofs.Common.{◌≡◌, ℕ, zero, suc, ◌+◌, ◌-◌, ◌<◌, ◌≤◌, Bool, true, false, not, List, [], ◌∷◌, ◌++◌, append_assoc, append-nil, length, length-append, map, take, drop, Option, Some, None, refl, ap, sym, ◌∙◌, subst, arith, cond, nat_le}
 use Rattle.std.proofs.Math.Seq.{drop-append-add, drop-nil, get_or-append_seam}
 use Rattle.std.proofs.lemmas.List.{map-append}
 use Rattle.std.proofs.lemmas.Str.{IsCharBoundary-start, IsCharBoundary-after_ascii, IsCharBoundary-before_ascii}
@@ -15,6 +15,10 @@ use Rattle.mdblock.specs.held.StartKind.{kind_of_start}
 use Rattle.mdblock.specs.held.ParagraphLines.{HeldText, HoldsLines}
 use Rattle.mdblock.specs.held.StartParts.{start_before_underline, start_after_underline}
 use Rattle.blockspec.specs.Stretches.{Continues, IsLastLine, IsOverBefore, interrupted, paragraph_step}
+use Rattle.mdblock.specs.held.Continuations.{step_view, goes_on}
+use Rattle.mdblock.specs.declared.open_blocks.Continuation.{Continuation}
+use Rattle.mdblock.specs.declared.open_blocks.Continuation.TheVariants as continuation
+use Rattle.blockspec.specs.UnitBegin.{is_stop}
 use Rattle.mdblock.specs.declared.block_starts.BlockStart.{BlockStart}
 use Rattle.mdblock.specs.declared.block_starts.BlockStart.TheVariants as o
 use Rattle.blocklaws.proofs.OpenLeafLaws.{joined_next, last_next}
@@ -93,6 +97,12 @@ line_begins t ended whole r n u e w m =
     let before : n - 1 ≡ length t = omega (arith, long) in
     (subst (IsCharBoundary whole) (sym long) (IsCharBoundary-after_ascii whole (length t) u within ascii), λ _. ap (slice_index whole) before ∙ byte)
 
+-- the same where the line may not have been appended
+pub line_may_begin : (t ended whole r : List ℕ) (done : Bool) (n : ℕ) → IsUtf8 whole → ended ≡ t ++ 10 ∷ [] → whole ≡ cond done (ended ++ r) ended → n ≡ length ended
+    → IsCharBoundary whole n × (0 < n → slice_index whole (n - 1) ≡ 10)
+line_may_begin t ended whole r true n u e w m = line_begins t ended whole r n u e w m
+line_may_begin t ended whole r false n u e w m = line_begins t ended whole [] n u e (w ∙ sym (append-nil ended)) m
+
 -- and before that line ending
 pub before_ending : (text : List ℕ) (last n : ℕ) → IsUtf8 text → IsCharBoundary text last → (0 < last → slice_index text (last - 1) ≡ 10) → n ≡ last - 1 → IsCharBoundary text n
 before_ending text zero n u b ends e = subst (IsCharBoundary text) (sym e) (IsCharBoundary-start text u)
@@ -166,3 +176,33 @@ pub behind_all : {A : Type 0} (f : A → Kind) (o p : Option A) (lines : List Bl
     → interrupted (start_near Inside lines l) ≡ interrupted (cond t (Some (Table (length lines))) None)
 behind_all f o p lines l t e h u d g r =
     ap interrupted (parts_are lines l None None None (cond t (Some (Table (length lines))) None) (none_by f o _ e h) u (none_by f p _ d g) (ap (λ t. cond t (Some (Table (length lines))) None) (sym r)))
+
+-- what makes a heading of it is an underline
+pub underlines_is : (lines : ℕ) (c : Continuation) (level : ℕ) → step_view lines c ≡ IsLastLine (SetextHeading level) → c ≡ continuation.Underlines level
+underlines_is lines continuation.Matched level h = cc
+underlines_is lines (continuation.Underlines n) level h = let same : n ≡ level = cc in ap (λ k. continuation.Underlines k) same
+underlines_is lines continuation.Delimits level h = cc
+underlines_is lines continuation.Lazy level h = cc
+underlines_is lines continuation.Between level h = cc
+underlines_is lines (continuation.Next marker) level h = cc
+underlines_is lines (continuation.Outside opening) level h = cc
+
+-- what makes a table of it is a delimiter row
+pub delimits_is : (lines : ℕ) (c : Continuation) (above : ℕ) → step_view lines c ≡ Continues (Table above) → c ≡ continuation.Delimits
+delimits_is lines continuation.Matched above h = cc
+delimits_is lines (continuation.Underlines n) above h = cc
+delimits_is lines continuation.Delimits above h = refl
+delimits_is lines continuation.Lazy above h = cc
+delimits_is lines continuation.Between above h = cc
+delimits_is lines (continuation.Next marker) above h = cc
+delimits_is lines (continuation.Outside opening) above h = cc
+
+-- whether it goes on, by its step
+pub goes_by_step : (lines : ℕ) (c : Continuation) → goes_on c ≡ not (is_stop (step_view lines c))
+goes_by_step lines continuation.Matched = refl
+goes_by_step lines (continuation.Underlines n) = refl
+goes_by_step lines continuation.Delimits = refl
+goes_by_step lines continuation.Lazy = refl
+goes_by_step lines continuation.Between = refl
+goes_by_step lines (continuation.Next marker) = refl
+goes_by_step lines (continuation.Outside opening) = refl

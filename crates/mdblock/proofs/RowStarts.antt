@@ -8,7 +8,7 @@ use Rattle.mdscan.specs.Spans.{part}
 use Rattle.mdscan.specs.TableRow.{inside, cell, cells_split, bars, row_cells}
 use Rattle.mdleaf.specs.TableRows.{begins_table}
 use Rattle.mdtext.specs.Columns.{unindented}
-use Rattle.mdblock.specs.held.ParagraphSteps.{begins_row}
+use Rattle.mdblock.specs.held.ParagraphLines.{begins_row}
 use Rattle.mdtext.proofs.Unindented.{unindented_nil, unindented_blank, unindented_other, is_bool}
 
 abbrev pub begins_blank : List ℕ → Bool

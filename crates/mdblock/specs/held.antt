@@ -1,5 +1,6 @@
 -- What the reader holds, hands in and answers line by line, and how it stands for what is defined of the lines.
 pub mod ClosedViews
+pub mod Continuations
 pub mod HandedIn
 pub mod HeldLevel
 pub mod HeldNodes
@@ -10,7 +11,6 @@ pub mod OpenPositions
 pub mod StartKind
 pub mod StartSpans
 pub mod ParagraphLines
-pub mod ParagraphSteps
 pub mod ReaderState
 pub mod Reads
 pub mod StartParts

@@ -1,12 +1,13 @@
 //! The block that a line begins, by the order in which the constructs are tried.
 
-ghost use Rattle.std.specs.Prelude.{◌≡◌, IfSome, drop, false, [], List};
+ghost use Rattle.std.specs.Prelude.{◌≡◌, ◌&&◌, not, is_none, Some, IfSome, drop, false, [], List};
 ghost use Rattle.std.specs.Option.{option_map};
 ghost use Rattle.mdscan.specs.Blanks.{is_blank_text};
-ghost use Rattle.blockspec.specs.BlockLine.{BlockLine, rest, behind_marker};
+ghost use Rattle.blockspec.specs.BlockLine.{BlockLine, rest, is_blank_line, behind_marker};
 ghost use Rattle.mdscan.specs.Blanks.{begins_with};
-ghost use Rattle.blockspec.specs.BlockStart.{is_free, is_inside, begins_atx, begins_fence, begins_html, begins_item, may_begin_item, start};
-ghost use Rattle.mdblock.specs.held.StartKind.{mode_view, kind_of_start};
+ghost use Rattle.blockspec.specs.BlockStart.{Lazy, is_free, is_inside, begins_atx, begins_fence, begins_html, begins_item, may_begin_item, start};
+ghost use Rattle.mdblock.specs.held.Continuations.{IsBeginningOf};
+ghost use Rattle.mdblock.specs.held.StartKind.{mode_view, kind_of_start, stays_lazy};
 ghost use Rattle.mdblock.specs.held.StartSpans.{IsStartOf};
 ghost use Rattle.mdblock.specs.held.StartParts.{begins_marker, start_before_underline, start_after_underline, start_alone_near, start_alone};
 
@@ -51,6 +52,23 @@ pub(crate) enum BlockStart {
     Code,
 }
 
+impl BlockStart {
+    /// Whether a line that begins this where no paragraph is open continues one in a container that it does not match (CommonMark 5.1).
+    fn stays_lazy(self) -> bool
+        ensures { (line : BlockLine) → result ≡ stays_lazy (Some (kind_of_start line self)) }
+    {
+        match self {
+            BlockStart::Html(kind) => kind >= 7,
+            BlockStart::Code => true,
+            BlockStart::Quote
+            | BlockStart::Heading(_)
+            | BlockStart::Fence(_)
+            | BlockStart::Break
+            | BlockStart::Item(_) => false,
+        }
+    }
+}
+
 /// The block that a line begins, but for setext underlines and tables, which need the paragraph before.
 #[tactic(auto, using(crate::proofs::StartLaws::starts_alone), unfolding(crate::specs::held::StartParts::start_alone))]
 pub(crate) fn start(line: &Line, mode: Mode) -> Option<BlockStart>
@@ -68,6 +86,25 @@ pub(crate) fn start(line: &Line, mode: Mode) -> Option<BlockStart>
         return Some(BlockStart::Code);
     }
     None
+}
+
+/// The block that a line begins where no paragraph is open; none where it is blank or begins a paragraph.
+pub(crate) fn beginning(line: &Line) -> Option<BlockStart>
+    ensures { IsBeginningOf line.now result }
+{
+    start(line, Mode::Free)
+}
+
+/// Whether a line continues a paragraph in a container that it does not match (CommonMark 5.1), where `opening` is what it begins if none is open:
+/// it is not blank, and begins nothing that may interrupt a paragraph.
+pub(crate) fn continues_lazily(line: &Line, opening: Option<BlockStart>) -> bool
+    requires { IsBeginningOf line.now opening }
+    ensures { result ≡ (not (is_blank_line line.now) && is_none (start Lazy [] line.now)) }
+{
+    match opening {
+        None => !line.is_blank(),
+        Some(found) => found.stays_lazy(),
+    }
 }
 
 #[tactic(auto, unfolding(crate::specs::held::StartParts::start_alone_near))]

@@ -5,6 +5,7 @@ ghost use Rattle.mdtext.specs.EntityTable.{EntityTable};
 ghost use Rattle.blockspec.specs.BlockLine.{BlockLine, rest};
 ghost use Rattle.blockspec.specs.BlockStart.{Kind};
 ghost use Rattle.mdblock.specs.BlockView.{block_view};
+ghost use Rattle.mdblock.specs.held.Continuations.{IsContinuationOf, ContinuesLeaf, goes_on};
 ghost use Rattle.mdblock.specs.held.HandedIn.{gathered_texts, gathered_definitions};
 ghost use Rattle.blockspec.specs.Laziness.{Tip};
 ghost use Rattle.mdblock.specs.held.LeafEnds.{IsEndOf, IsTableEnd, is_paragraph, end_definitions};
@@ -24,10 +25,11 @@ pub(crate) mod paragraphs;
 pub(crate) mod tables;
 pub(crate) mod thematic_breaks;
 
-use crate::block_starts::BlockStart;
+use crate::block_starts::{BlockStart, beginning};
 use crate::blocks::Block;
 use crate::gathering::Gathering;
 use crate::lines::Line;
+use crate::open_blocks::Continuation;
 use fenced_code::Fence;
 use html_blocks::HtmlBlock;
 use indented_code::IndentedCode;
@@ -90,28 +92,32 @@ impl Leaf {
         }
     }
 
-    /// Whether the leaf takes a line, all of whose containers match it.
-    pub(crate) fn takes(&self, line: &Line) -> bool
-        ensures { (entities : EntityTable) (kind : Kind) (first : BlockLine) (later : List BlockLine) → IsLeafOf entities self.now kind first later
-            → (tip : List BlockLine → Tip) → result ≡ not (is_stop (step tip kind first later line.now)) }
+    /// How a line, all of whose containers match it, continues the leaf.
+    pub(crate) fn continuation(&self, line: &Line) -> Continuation
+        ensures continuation { IsContinuationOf line.now result }
+        ensures step { ContinuesLeaf self.now line.now result }
+        ensures takes { (entities : EntityTable) (kind : Kind) (first : BlockLine) (later : List BlockLine) → IsLeafOf entities self.now kind first later
+            → (tip : List BlockLine → Tip) → goes_on result ≡ not (is_stop (step tip kind first later line.now)) }
     {
         match self {
-            Leaf::Paragraph(paragraph) => paragraph.takes(line),
-            Leaf::Fence(fence) => fence.takes(line),
-            Leaf::Html(html) => html.takes(line),
-            Leaf::Code(code) => code.takes(line),
-            Leaf::Table(table) => table.takes(line),
+            Leaf::Paragraph(paragraph) => paragraph.continuation(line),
+            Leaf::Fence(fence) => matched_if(fence.takes(line), line),
+            Leaf::Html(html) => matched_if(html.takes(line), line),
+            Leaf::Code(code) => matched_if(code.takes(line), line),
+            Leaf::Table(table) => matched_if(table.takes(line), line),
         }
     }
 
     /// Reads a line that the leaf takes. `first`: whether it may be the first block of a list item.
     pub(crate) fn add(
         self,
+        continuation: Continuation,
         line: &mut Line,
         first: bool,
         gathering: &mut Gathering,
     ) -> Result<LeafAfter, AllocError>
-        requires { LeafIn (length gathering.old.texts.items) self }
+        requires within { LeafIn (length gathering.old.texts.items) self }
+        requires step { ContinuesLeaf self line.old continuation }
         ensures within { IfOk result (λ step. LeafAfterIn (length gathering.new.texts.items) step) }
         ensures grows { length gathering.old.texts.items ≤ length gathering.new.texts.items }
         ensures entities { gathering.new.entities.now ≡ gathering.old.entities.now }
@@ -120,7 +126,7 @@ impl Leaf {
         ensures row { IfOk result (IsRowIn self (rest line.old) (gathered_texts gathering.old) (gathered_texts gathering.new)) }
     {
         match self {
-            Leaf::Paragraph(paragraph) => paragraph.add(line, first, gathering),
+            Leaf::Paragraph(paragraph) => paragraph.add(continuation, line, first, gathering),
             Leaf::Fence(fence) => fence.add(line),
             Leaf::Html(html) => html.add(line),
             Leaf::Code(code) => code.add(line),
@@ -154,6 +160,17 @@ impl Leaf {
             Leaf::Table(table) => Ok(Some(table.end())),
         }
     }
+}
+
+/// How a line continues a leaf that takes it or does not.
+fn matched_if(takes: bool, line: &Line) -> Continuation
+    ensures continuation { IsContinuationOf line.now result }
+    ensures takes { goes_on result ≡ takes }
+{
+    if takes {
+        return Continuation::Matched;
+    }
+    Continuation::Outside(beginning(line))
 }
 
 /// A block that is over with its line.

@@ -8,11 +8,12 @@ ghost use Rattle.mdblock.specs.BlockView.{block_view, blocks_view, items_view};
 ghost use Rattle.mdblock.specs.held.HeldLevel.{StandsFor, ClosesAll, EndsIn, is_front, is_shut};
 ghost use Rattle.blockspec.specs.LineSummary.{no_summary};
 ghost use Rattle.mdtext.specs.EntityTable.{EntityTable};
-ghost use Rattle.mdblock.specs.held.OpenPositions.{LevelIn, LeafAfterIn, IsContinuationOf};
+ghost use Rattle.mdblock.specs.held.Continuations.{IsBeginningOf, IsContinuationOf, ContinuesOpen};
+ghost use Rattle.mdblock.specs.held.OpenPositions.{LevelIn, LeafAfterIn};
 ghost use Rattle.mdblock.specs.held.StartSpans.{IsStartOf};
 ghost use Rattle.mdblock.specs.Positions.{BlockIn, BlocksIn, ItemsIn};
 
-use crate::block_starts::{BlockStart, Mode, start};
+use crate::block_starts::{BlockStart, beginning, continues_lazily};
 use crate::blocks::Block;
 use crate::closed_blocks::{push_block, push_found, with_found, with_item, with_list, with_quote};
 use crate::container::block_quotes;
@@ -58,14 +59,18 @@ enum OpenBlock {
 pub(crate) enum Continuation {
     /// A line of the leaf, or a blank line of the open item.
     Matched,
+    /// An underline, which makes a heading of this level of the open paragraph (CommonMark 4.3).
+    Underlines(u8),
+    /// A delimiter row, which makes a table's header row of the open paragraph's last line (GFM Tables (extension)).
+    Delimits,
     /// A line of the paragraph that is open in the container, which the line does not match.
     Lazy,
     /// A blank line outside of items. An item that began with one ends there.
     Between,
     /// The first line of the next item.
     Next(Marker),
-    /// No line of the block.
-    Outside,
+    /// No line of the block. This is what it begins; nothing, where it is blank or begins a paragraph.
+    Outside(Option<BlockStart>),
 }
 
 impl Level {
@@ -112,11 +117,17 @@ impl Level {
 
     /// How a line continues the open block, which is no container that it matches.
     pub(crate) fn continuation(&self, line: &Line) -> Continuation
-        ensures { IsContinuationOf (rest line.now) result }
+        ensures continuation { IsContinuationOf line.now result }
+        ensures step { ContinuesOpen self.now.last line.now result }
     {
         match &self.last {
-            OpenBlock::Shut => matched_if(line.is_lazy()),
-            OpenBlock::Leaf(leaf) => matched_if(line.is_lazy() || leaf.takes(line)),
+            OpenBlock::Shut => outside_or_lazy(line),
+            OpenBlock::Leaf(leaf) => {
+                if line.is_lazy() {
+                    return Continuation::Matched;
+                }
+                leaf.continuation(line)
+            }
             OpenBlock::Quote(inner) => inner.continuation_in_quote(line),
             OpenBlock::List(inner, list) => inner.continuation_in(list, line),
         }
@@ -124,22 +135,21 @@ impl Level {
 
     /// How a line without the marker continues the block quote that holds these blocks.
     fn continuation_in_quote(&self, line: &Line) -> Continuation
-        ensures { IsContinuationOf (rest line.now) result }
+        ensures { IsContinuationOf line.now result }
     {
-        if line.is_lazy() || self.goes_on_lazily(line) {
+        if line.is_lazy() {
             return Continuation::Lazy;
         }
-        Continuation::Outside
-    }
-
-    /// Whether a line that a container around does not match continues the paragraph that is open here.
-    fn goes_on_lazily(&self, line: &Line) -> bool {
-        !line.is_blank() && self.ends_in_text() && start(line, Mode::Lazy).is_none()
+        let opening = beginning(line);
+        if self.ends_in_text() && continues_lazily(line, opening) {
+            return Continuation::Lazy;
+        }
+        Continuation::Outside(opening)
     }
 
     /// How a line continues the list whose last item holds these blocks.
     fn continuation_in(&self, list: &OpenList, line: &Line) -> Continuation
-        ensures { IsContinuationOf (rest line.now) result }
+        ensures { IsContinuationOf line.now result }
     {
         if line.is_lazy() {
             return Continuation::Lazy;
@@ -150,12 +160,13 @@ impl Level {
             }
             return Continuation::Between;
         }
-        if list.is_open() && self.goes_on_lazily(line) {
+        let opening = beginning(line);
+        if list.is_open() && self.ends_in_text() && continues_lazily(line, opening) {
             return Continuation::Lazy;
         }
-        match list.next(line) {
+        match list.next(line, opening) {
             Some(marker) => Continuation::Next(marker),
-            None => Continuation::Outside,
+            None => Continuation::Outside(opening),
         }
     }
 
@@ -297,15 +308,16 @@ impl Level {
         gathering: &mut Gathering,
     ) -> Result<(), BlockFault>
         requires level { LevelIn (length gathering.old.texts.items) self.old }
-        requires continuation { IsContinuationOf (rest line.old) continuation }
+        requires continuation { IsContinuationOf line.old continuation }
+        requires step { ContinuesOpen self.old.last line.old continuation }
         ensures within { OnOk result (LevelIn (length gathering.new.texts.items) self.new) }
         ensures grows { length gathering.old.texts.items ≤ length gathering.new.texts.items }
         ensures entities { gathering.new.entities.now ≡ gathering.old.entities.now }
         ensures fault { IfErr result (λ fault. fault ≡ Failed → ⊥) }
     {
-        if continuation == Continuation::Outside {
+        if let Continuation::Outside(opening) = continuation {
             self.shut(gathering)?;
-            return self.begin(line, room, gathering);
+            return self.begin(line, opening, room, gathering);
         }
         let blank = line.is_blank();
         self.go_on(line, continuation, room, gathering)?;
@@ -324,7 +336,8 @@ impl Level {
         gathering: &mut Gathering,
     ) -> Result<(), BlockFault>
         requires level { LevelIn (length gathering.old.texts.items) self.old }
-        requires continuation { IsContinuationOf (rest line.old) continuation }
+        requires continuation { IsContinuationOf line.old continuation }
+        requires step { ContinuesOpen self.old.last line.old continuation }
         ensures within { OnOk result (LevelIn (length gathering.new.texts.items) self.new) }
         ensures grows { length gathering.old.texts.items ≤ length gathering.new.texts.items }
         ensures entities { gathering.new.entities.now ≡ gathering.old.entities.now }
@@ -332,7 +345,7 @@ impl Level {
     {
         match &mut self.last {
             OpenBlock::Shut => Ok(()),
-            OpenBlock::Leaf(_) => Ok(self.add_to_leaf(line, gathering)?),
+            OpenBlock::Leaf(_) => Ok(self.add_to_leaf(line, continuation, gathering)?),
             OpenBlock::Quote(inner) => {
                 line.make_lazy();
                 inner.read(line, deeper(room)?, gathering)
@@ -341,7 +354,7 @@ impl Level {
                 let room = deeper(room)?;
                 match enter_item(inner, list, self.blank, line, continuation, gathering)? {
                     Entry::Goes => inner.read(line, room, gathering),
-                    Entry::Begins => inner.begin(line, room, gathering),
+                    Entry::Begins => inner.begin(line, beginning(line), room, gathering),
                     Entry::Stays => Ok(()),
                 }
             }
@@ -361,8 +374,37 @@ impl Level {
 
     #[tactic(auto, using(crate::proofs::Within::growing))]
     /// Reads a line that the open leaf takes.
-    fn add_to_leaf(&mut self, line: &mut Line, gathering: &mut Gathering) -> Result<(), AllocError>
-        requires { LevelIn (length gathering.old.texts.items) self.old }
+    fn add_to_leaf(
+        &mut self,
+        line: &mut Line,
+        continuation: Continuation,
+        gathering: &mut Gathering,
+    ) -> Result<(), AllocError>
+        requires level { LevelIn (length gathering.old.texts.items) self.old }
+        requires step { ContinuesOpen self.old.last line.old continuation }
+        ensures within { OnOk result (LevelIn (length gathering.new.texts.items) self.new) }
+        ensures grows { length gathering.old.texts.items ≤ length gathering.new.texts.items }
+        ensures entities { gathering.new.entities.now ≡ gathering.old.entities.now }
+    {
+        if continuation != Continuation::Matched {
+            return self.add_and_put(line, continuation, gathering);
+        }
+        match &mut self.last {
+            OpenBlock::Leaf(Leaf::Paragraph(paragraph)) => paragraph.push_line(line),
+            _ => self.add_and_put(line, continuation, gathering),
+        }
+    }
+
+    #[tactic(auto, using(crate::proofs::Within::growing))]
+    /// Takes the open leaf out to read a line, and puts what the line leaves of it in place.
+    fn add_and_put(
+        &mut self,
+        line: &mut Line,
+        continuation: Continuation,
+        gathering: &mut Gathering,
+    ) -> Result<(), AllocError>
+        requires level { LevelIn (length gathering.old.texts.items) self.old }
+        requires step { ContinuesOpen self.old.last line.old continuation }
         ensures within { OnOk result (LevelIn (length gathering.new.texts.items) self.new) }
         ensures grows { length gathering.old.texts.items ≤ length gathering.new.texts.items }
         ensures entities { gathering.new.entities.now ≡ gathering.old.entities.now }
@@ -370,7 +412,7 @@ impl Level {
         let first = self.is_at_front();
         match mem::replace(&mut self.last, OpenBlock::Shut) {
             OpenBlock::Leaf(leaf) => {
-                let step = leaf.add(line, first, gathering)?;
+                let step = leaf.add(continuation, line, first, gathering)?;
                 self.put(step)
             }
             last => {
@@ -397,10 +439,12 @@ impl Level {
     pub(crate) fn begin(
         &mut self,
         line: &mut Line,
+        opening: Option<BlockStart>,
         room: usize,
         gathering: &mut Gathering,
     ) -> Result<(), BlockFault>
-        requires { LevelIn (length gathering.old.texts.items) self.old }
+        requires level { LevelIn (length gathering.old.texts.items) self.old }
+        requires opening { IsBeginningOf line.old opening }
         ensures within { OnOk result (LevelIn (length gathering.new.texts.items) self.new) }
         ensures grows { length gathering.old.texts.items ≤ length gathering.new.texts.items }
         ensures entities { gathering.new.entities.now ≡ gathering.old.entities.now }
@@ -414,18 +458,18 @@ impl Level {
         self.begun = true;
         self.spaced = self.spaced || gap;
         let alloc = gathering.alloc();
-        match start(line, Mode::Free) {
+        match opening {
             Some(BlockStart::Quote) => {
                 block_quotes::take_marker(line);
                 let mut inner = Level::new(alloc, false);
-                inner.begin(line, deeper(room)?, gathering)?;
+                inner.begin(line, beginning(line), deeper(room)?, gathering)?;
                 Ok(self.hold_quote(alloc, inner)?)
             }
             Some(BlockStart::Item(marker)) => {
                 let needed = lists::take_marker(line, marker);
                 let list = OpenList::new(alloc, marker, needed);
                 let mut inner = Level::new(alloc, true);
-                inner.begin(line, deeper(room)?, gathering)?;
+                inner.begin(line, beginning(line), deeper(room)?, gathering)?;
                 Ok(self.hold_list(alloc, inner, list)?)
             }
             Some(BlockStart::Heading(heading)) => {
@@ -462,14 +506,14 @@ impl Level {
     }
 }
 
-fn matched_if(takes: bool) -> Continuation
-    ensures { (text : List ℕ) → IsContinuationOf text result }
+/// How a line continues where no block is open.
+fn outside_or_lazy(line: &Line) -> Continuation
+    ensures { IsContinuationOf line.now result }
 {
-    if takes {
-        Continuation::Matched
-    } else {
-        Continuation::Outside
+    if line.is_lazy() {
+        return Continuation::Matched;
     }
+    Continuation::Outside(beginning(line))
 }
 
 /// One container less may be opened inside.

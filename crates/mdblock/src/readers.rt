@@ -3,12 +3,14 @@
 ghost use Rattle.std.specs.Prelude.{List, [], ℕ, ◌≡◌, ◌+◌, ◌*◌, ◌^◌, ◌<◌, ◌≤◌, false, true, None, Some, IfErr, IfOk, OnOk, OnErr, IsErrOf, is_some, length};
 ghost use Rattle.mdtext.specs.Counted.{counted};
 ghost use Rattle.mdblock.specs.declared.faults.BlockFault.TheVariants.{Failed};
+ghost use Rattle.mdblock.specs.held.Continuations.{IsBeginningOf};
 ghost use Rattle.mdblock.specs.held.HeldLevel.{HoldsSummary, GivesUnit};
 ghost use Rattle.blockspec.specs.LineSummary.{no_summary};
 ghost use Rattle.mdblock.specs.held.ReaderState.{AreKept, held_begin};
 ghost use Rattle.mdblock.specs.held.Reads.{Reads, open_begin};
 ghost use Rattle.mdtext.specs.EntityTable.{EntityTable};
 
+use crate::block_starts::{BlockStart, beginning};
 use crate::faults::BlockFault;
 use crate::gathering::Gathering;
 use crate::lines::Line;
@@ -162,14 +164,17 @@ impl<'e> OpenUnit<'e> {
                 self.level.pass_blank();
                 return Ok(None);
             }
-            return self.begin_unit(&mut line, fed, limit);
+            let opening = beginning(&line);
+            return self.begin_unit(&mut line, opening, fed, limit);
         }
         if self.level.follow(&mut line, limit, &mut self.gathering)? {
             return Ok(None);
         }
         let continuation = self.level.continuation(&line);
-        if continuation == Continuation::Outside && !line.is_blank() {
-            return self.begin_unit(&mut line, fed, limit);
+        if let Continuation::Outside(opening) = continuation {
+            if !line.is_blank() {
+                return self.begin_unit(&mut line, opening, fed, limit);
+            }
         }
         self.level
             .add(&mut line, continuation, limit, &mut self.gathering)?;
@@ -180,16 +185,18 @@ impl<'e> OpenUnit<'e> {
     fn begin_unit(
         &mut self,
         line: &mut Line,
+        opening: Option<BlockStart>,
         fed: usize,
         limit: usize,
     ) -> Result<Option<Found>, BlockFault>
-        requires { AreKept self.old }
+        requires kept { AreKept self.old }
+        requires opening { IsBeginningOf line.old opening }
         ensures kept { OnOk result (AreKept self.new) }
         ensures entities { OnOk result (self.new.gathering.entities.now ≡ self.old.gathering.entities.now) }
         ensures fault { IfErr result (λ fault. fault ≡ Failed → ⊥) }
     {
         let found = self.take_unit(fed)?;
-        self.level.begin(line, limit, &mut self.gathering)?;
+        self.level.begin(line, opening, limit, &mut self.gathering)?;
         Ok(found)
     }
 

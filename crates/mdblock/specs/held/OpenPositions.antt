@@ -1,7 +1,6 @@
 -- Each text and cell of what is still open is a position below n.
-use Rattle.std.specs.Prelude.{ℕ, List, map, IfSome}
+use Rattle.std.specs.Prelude.{ℕ, map, IfSome}
 use Rattle.std.specs.List.{AllByRecursion}
-use Rattle.mdtext.specs.Columns.{AreMarks}
 use Rattle.mdblock.specs.BlockView.{block_view, blocks_view, items_view}
 use Rattle.mdblock.specs.Positions.{CellsIn, BlockIn, BlocksIn, ItemsIn}
 use Rattle.mdblock.specs.declared.leaf.Leaf.{Leaf}
@@ -9,8 +8,6 @@ use Rattle.mdblock.specs.declared.leaf.Leaf.TheVariants as leaf
 use Rattle.mdblock.specs.declared.leaf.LeafAfter.{LeafAfter}
 use Rattle.mdblock.specs.declared.leaf.tables.Table.{Table}
 use Rattle.mdblock.specs.declared.open_blocks.Level.{Level}
-use Rattle.mdblock.specs.declared.open_blocks.Continuation.{Continuation}
-use Rattle.mdblock.specs.declared.open_blocks.Continuation.TheVariants as continuation
 use Rattle.mdblock.specs.declared.open_blocks.OpenBlock.{OpenBlock}
 use Rattle.mdblock.specs.declared.open_blocks.OpenBlock as open_block
 
@@ -35,11 +32,3 @@ OpenBlockIn n (open_block.List' p over last in_item begun blank spaced list) = (
 
 abbrev pub LevelIn : ℕ → Level → Type 0
 LevelIn n level = BlocksIn n (blocks_view level.over.items) × OpenBlockIn n level.last
-
--- the marker of a list's next item is one of the line
-abbrev pub IsContinuationOf : List ℕ → Continuation → Type 0
-IsContinuationOf text continuation.Matched = Unit {0}
-IsContinuationOf text continuation.Lazy = Unit {0}
-IsContinuationOf text continuation.Between = Unit {0}
-IsContinuationOf text (continuation.Next marker) = AreMarks marker.width text
-IsContinuationOf text continuation.Outside = Unit {0}

@@ -1,5 +1,5 @@
 -- The block that an opening of a line begins.
-use Rattle.std.specs.Prelude.{false, Option, unwrap_or}
+use Rattle.std.specs.Prelude.{Bool, true, false, not, nat_lt, Option, None, Some, unwrap_or}
 use Rattle.std.specs.Option.{option_map}
 use Rattle.mdscan.specs.Spans.{part}
 use Rattle.blockspec.specs.BlockLine.{BlockLine, indentation, rest}
@@ -26,3 +26,10 @@ kind_of_start l o.Code = IndentedCode
 -- a line without an opening begins a paragraph
 abbrev pub opened_kind : BlockLine → Option BlockStart → Kind
 opened_kind l opening = unwrap_or (option_map (kind_of_start l) opening) Paragraph
+
+-- what is found where no paragraph is open, but may not interrupt one that a container around does not match (CommonMark 5.1)
+abbrev pub stays_lazy : Option Kind → Bool
+stays_lazy None = true
+stays_lazy (Some (HtmlBlock kind)) = not (nat_lt kind 7)
+stays_lazy (Some IndentedCode) = true
+stays_lazy (Some kind) = false

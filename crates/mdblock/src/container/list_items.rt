@@ -1,10 +1,10 @@
 //! From line to line inside a list: its open item goes on, ends, or the next one begins (CommonMark 5.2, 5.3).
 
 ghost use Rattle.std.specs.Prelude.{◌≡◌, ◌≤◌, IfOk, OnOk, length};
-ghost use Rattle.blockspec.specs.BlockLine.{rest};
 ghost use Rattle.mdblock.specs.BlockView.{items_view};
 ghost use Rattle.mdblock.specs.Positions.{ItemsIn};
-ghost use Rattle.mdblock.specs.held.OpenPositions.{LevelIn, IsContinuationOf};
+ghost use Rattle.mdblock.specs.held.Continuations.{IsContinuationOf};
+ghost use Rattle.mdblock.specs.held.OpenPositions.{LevelIn};
 
 use crate::container::lists::{self, OpenList};
 use crate::gathering::Gathering;
@@ -35,14 +35,14 @@ pub(crate) fn enter_item(
 ) -> Result<Entry, AllocError>
     requires inner { LevelIn (length gathering.old.texts.items) inner.old }
     requires list { ItemsIn (length gathering.old.texts.items) (items_view list.old.items.items) }
-    requires continuation { IsContinuationOf (rest line.old) continuation }
+    requires continuation { IsContinuationOf line.old continuation }
     ensures inner { IfOk result (λ _. LevelIn (length gathering.new.texts.items) inner.new) }
     ensures list { IfOk result (λ _. ItemsIn (length gathering.new.texts.items) (items_view list.new.items.items)) }
     ensures grows { length gathering.old.texts.items ≤ length gathering.new.texts.items }
     ensures entities { gathering.new.entities.now ≡ gathering.old.entities.now }
 {
     match continuation {
-        Continuation::Matched => {
+        Continuation::Matched | Continuation::Underlines(_) | Continuation::Delimits => {
             list.enter(line);
             Ok(Entry::Goes)
         }
@@ -59,7 +59,7 @@ pub(crate) fn enter_item(
             list.begin(lists::take_marker(line, marker), gap);
             Ok(Entry::Begins)
         }
-        Continuation::Outside => Ok(Entry::Stays),
+        Continuation::Outside(_) => Ok(Entry::Stays),
     }
 }
 

@@ -7,11 +7,12 @@ ghost use Rattle.blockspec.specs.BlockStart.{Item as ItemWith, Holds, padding, i
 ghost use Rattle.mdblock.specs.BlockView.{kind_view, block_view, blocks_view, items_view};
 ghost use Rattle.blockspec.specs.ContainerLines.{opened};
 ghost use Rattle.blockspec.specs.ListGroups.{kind_of, is_same_list};
+ghost use Rattle.mdblock.specs.held.Continuations.{IsBeginningOf};
 ghost use Rattle.mdblock.specs.held.ClosedViews.{list_view, list_view_with};
 ghost use Rattle.mdblock.specs.Positions.{BlockIn, BlocksIn, ItemsIn};
 ghost use Rattle.blockspec.specs.UnitBegin.{list_mark, same_mark};
 
-use crate::block_starts::{BlockStart, Mode, start};
+use crate::block_starts::BlockStart;
 use crate::blocks::{Block, Item, ListKind};
 use crate::lines::Line;
 use mdscan::Marker;
@@ -65,13 +66,14 @@ impl OpenList {
         line.take_columns(self.needed);
     }
 
-    /// The marker of the list's next item, where a line begins one.
-    pub(crate) fn next(&self, line: &Line) -> Option<Marker>
+    /// The marker of the list's next item, where a line begins one; `opening` is what it begins.
+    pub(crate) fn next(&self, line: &Line, opening: Option<BlockStart>) -> Option<Marker>
+        requires { IsBeginningOf line.now opening }
         ensures marks { IfSome result (λ marker. AreMarks marker.width (rest line.now)) }
         ensures begins { IfSome result (λ marker. begun line.now ≡ Holds (item_of line.now marker)) }
         ensures same { is_some result ≡ same_mark (Some (kind_view self.now.kind)) (list_mark (begun line.now)) }
     {
-        match start(line, Mode::Free) {
+        match opening {
             Some(BlockStart::Item(marker)) => {
                 if is_same_list(self.kind, kind_of(marker)) {
                     return Some(marker);

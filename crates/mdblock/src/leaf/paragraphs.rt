@@ -1,13 +1,14 @@
 //! Paragraphs (CommonMark 4.8), and what becomes of their lines.
 
-ghost use Rattle.std.specs.Prelude.{◌≡◌, ◌+◌, ◌-◌, ◌≤◌, ℕ, true, not, List, [], ◌∷◌, ◌++◌, IfOk, IfSome, OnOk, length, take, drop, string_bytes};
+ghost use Rattle.std.specs.Prelude.{◌≡◌, ◌+◌, ◌-◌, ◌≤◌, ℕ, true, false, nat_le, List, [], ◌∷◌, ◌++◌, IfOk, IfSome, OnOk, length, take, drop, string_bytes};
 ghost use Rattle.std.specs.Option.{option_map};
 ghost use Rattle.std.specs.Str.{IsCharBoundary};
 ghost use Rattle.mdleaf.specs.ParagraphText.{is_definitions_alone, behind_definitions, without_end_blanks};
 ghost use Rattle.mdleaf.specs.LeadingDefinitions.{leading_of};
 ghost use Rattle.mdleaf.specs.TableRows.{begins_table};
-ghost use Rattle.blockspec.specs.BlockLine.{BlockLine, rest, is_blank_line};
-ghost use Rattle.blockspec.specs.BlockStart.{Paragraph as ParagraphKind, Table as TableKind, Inside, SetextHeading, begins_underline, last_text, start, start_near};
+ghost use Rattle.blockspec.specs.BlockLine.{BlockLine, rest, indentation, is_blank_line};
+ghost use Rattle.blockspec.specs.BlockStart.{Paragraph as ParagraphKind, Table as TableKind, Inside, SetextHeading};
+ghost use Rattle.blockspec.specs.BlockStart.{begins_underline, last_text, start, start_near};
 ghost use Rattle.blockspec.specs.BlockTree.{heading as heading_block};
 ghost use Rattle.mdblock.specs.BlockView.{block_view};
 ghost use Rattle.mdblock.specs.held.HandedIn.{gathered_definitions, gathered_texts, taken, left_behind, IsHandedIn};
@@ -16,10 +17,9 @@ ghost use Rattle.mdblock.specs.Positions.{BlockIn};
 ghost use Rattle.mdblock.specs.held.HeldTables.{IsTableBehind, first_rows};
 ghost use Rattle.mdblock.specs.held.OpenLeaves.{IsGoing, IsOver, IsParagraphLeaf};
 ghost use Rattle.mdblock.specs.held.OpenPositions.{LeafAfterIn};
-ghost use Rattle.mdblock.specs.held.ParagraphLines.{HoldsLines};
-ghost use Rattle.mdblock.specs.held.ParagraphSteps.{step_view, begins_row};
+ghost use Rattle.mdblock.specs.held.Continuations.{IsContinuationOf, step_view};
+ghost use Rattle.mdblock.specs.held.ParagraphLines.{HoldsLines, begins_row};
 ghost use Rattle.blockspec.specs.Stretches.{Continues, IsLastLine, paragraph_step, interrupted};
-ghost use Rattle.blockspec.specs.UnitBegin.{is_stop};
 
 use crate::block_starts::{Mode, after_underline, before_underline};
 use crate::blocks::Block;
@@ -28,6 +28,7 @@ use crate::leaf::headings::setext_heading;
 use crate::leaf::tables::Table;
 use crate::leaf::{Leaf, LeafAfter, going};
 use crate::lines::{Line, trimmed_length};
+use crate::open_blocks::Continuation;
 use mdleaf::{begins_table, is_only_definitions, table_header, task_mark};
 use mdscan::setext;
 use std::alloc::AllocError;
@@ -52,18 +53,6 @@ impl Model for Paragraph {
     ghost invariant = { λ p. IsCharBoundary (string_bytes p.text) p.last × (0 < p.last → slice_index (string_bytes p.text) (p.last - 1) ≡ 10) };
 }
 
-/// What a line does to an open paragraph.
-#[derive(Clone, Copy, Debug, PartialEq, Eq)]
-enum ParagraphStep {
-    /// The paragraph has ended before the line.
-    IsOverBefore,
-    Continues,
-    /// It becomes a setext heading of this level (CommonMark 4.3).
-    Underlines(u8),
-    /// Its last line becomes the header row of a table (GFM Tables (extension)).
-    Delimits,
-}
-
 /// The paragraph that a line begins.
 pub(crate) fn begin(line: &Line, gathering: &Gathering) -> Result<LeafAfter, AllocError>
     ensures within { (n : ℕ) → IfOk result (λ step. LeafAfterIn n step) }
@@ -83,48 +72,45 @@ impl Paragraph {
         })
     }
 
-    /// Whether the paragraph takes a line, as its text or as what turns it into another block.
-    pub(crate) fn takes(&self, line: &Line) -> bool
-        ensures { (lines : List BlockLine) → HoldsLines lines self.now
-            → result ≡ not (is_stop (paragraph_step line.now.lazy (is_blank_line line.now) (start Inside lines line.now))) }
-    {
-        !matches!(self.step(line), ParagraphStep::IsOverBefore)
-    }
-
-    fn step(&self, line: &Line) -> ParagraphStep
-        ensures row { result ≡ ParagraphStep.Delimits → begins_table (drop self.now.last self.now.text) (rest line.now) ≡ true }
+    /// How a line continues the paragraph, all of whose containers match it, or that is lazy.
+    pub(crate) fn continuation(&self, line: &Line) -> Continuation
+        ensures continuation { IsContinuationOf line.now result }
+        ensures row { result ≡ Continuation.Delimits → begins_table (drop self.now.last self.now.text) (rest line.now) ≡ true }
         ensures step { (lines : List BlockLine) → HoldsLines lines self.now
             → step_view (length lines) result ≡ paragraph_step line.now.lazy (is_blank_line line.now) (start Inside lines line.now) }
     {
         if line.is_lazy() {
-            return ParagraphStep::Continues;
+            return Continuation::Matched;
         }
         if line.is_blank() {
-            return ParagraphStep::IsOverBefore;
+            return Continuation::Outside(None);
         }
         if line.is_near_margin() {
-            return self.step_at_margin(line);
+            return self.continuation_at_margin(line);
         }
-        ParagraphStep::Continues
+        Continuation::Matched
     }
 
-    fn step_at_margin(&self, line: &Line) -> ParagraphStep
-        ensures row { result ≡ ParagraphStep.Delimits → begins_table (drop self.now.last self.now.text) (rest line.now) ≡ true }
+    fn continuation_at_margin(&self, line: &Line) -> Continuation
+        requires blank { is_blank_line line.now ≡ false }
+        requires near { nat_le (indentation line.now) 3 ≡ true }
+        ensures continuation { IsContinuationOf line.now result }
+        ensures row { result ≡ Continuation.Delimits → begins_table (drop self.now.last self.now.text) (rest line.now) ≡ true }
         ensures step { (lines : List BlockLine) → HoldsLines lines self.now → step_view (length lines) result ≡ interrupted (start_near Inside lines line.now) }
     {
-        if before_underline(line, Mode::Inside).is_some() {
-            return ParagraphStep::IsOverBefore;
+        if let Some(opening) = before_underline(line, Mode::Inside) {
+            return Continuation::Outside(Some(opening));
         }
         if let Some(level) = self.underline(line) {
-            return ParagraphStep::Underlines(level);
+            return Continuation::Underlines(level);
         }
-        if after_underline(line, Mode::Inside).is_some() {
-            return ParagraphStep::IsOverBefore;
+        if let Some(opening) = after_underline(line, Mode::Inside) {
+            return Continuation::Outside(Some(opening));
         }
         if self.is_delimited(line) {
-            return ParagraphStep::Delimits;
+            return Continuation::Delimits;
         }
-        ParagraphStep::Continues
+        Continuation::Matched
     }
 
     /// The level of the heading that a line makes of the paragraph (CommonMark 4.3).
@@ -186,10 +172,14 @@ impl Paragraph {
     /// Reads a line that the paragraph takes.
     pub(crate) fn add(
         self,
+        continuation: Continuation,
         line: &Line,
         first: bool,
         gathering: &mut Gathering,
     ) -> Result<LeafAfter, AllocError>
+        requires step { (lines : List BlockLine) → HoldsLines lines self
+            → step_view (length lines) continuation ≡ paragraph_step line.now.lazy (is_blank_line line.now) (start Inside lines line.now) }
+        requires row { continuation ≡ Continuation.Delimits → begins_table (drop self.last self.text) (rest line.now) ≡ true }
         ensures within { IfOk result (λ step. LeafAfterIn (length gathering.new.texts.items) step) }
         ensures grows { length gathering.old.texts.items ≤ length gathering.new.texts.items }
         ensures entities { gathering.new.entities.now ≡ gathering.old.entities.now }
@@ -217,12 +207,10 @@ impl Paragraph {
             → OnOk result (gathered_definitions gathering.new ≡ gathered_definitions gathering.old
             ++ leading_of gathering.old.entities.now (without_end_blanks (take (self.last - 1) self.text))) }
     {
-        match self.step(line) {
-            ParagraphStep::Underlines(level) => self.turn_into_heading(level, gathering),
-            ParagraphStep::Delimits => self.turn_into_table(line.text(), first, gathering),
-            ParagraphStep::IsOverBefore | ParagraphStep::Continues => Ok(going(Leaf::Paragraph(
-                self.with_line(line)?,
-            ))),
+        match continuation {
+            Continuation::Underlines(level) => self.turn_into_heading(level, gathering),
+            Continuation::Delimits => self.turn_into_table(line.text(), first, gathering),
+            _ => Ok(going(Leaf::Paragraph(self.with_line(line)?))),
         }
     }
 
@@ -230,11 +218,19 @@ impl Paragraph {
     fn with_line(self, line: &Line) -> Result<Paragraph, AllocError>
         ensures { IfOk result (λ held. (held.text ≡ self.text ++ 10 ∷ rest line.now) × (held.last ≡ length self.text + 1)) }
     {
-        let mut text = self.text;
-        text.push_str("\n")?;
-        let last = text.len();
-        text.push_str(line.text())?;
-        Ok(Paragraph { text, last })
+        let mut paragraph = self;
+        paragraph.push_line(line)?;
+        Ok(paragraph)
+    }
+
+    /// Appends one line more.
+    pub(crate) fn push_line(&mut self, line: &Line) -> Result<(), AllocError>
+        ensures text { OnOk result (self.new.text ≡ self.old.text ++ 10 ∷ rest line.now) }
+        ensures last { OnOk result (self.new.last ≡ length self.old.text + 1) }
+    {
+        self.text.push_str("\n")?;
+        self.last = self.text.len();
+        self.text.push_str(line.text())
     }
 
     /// The table whose header row is the last line, behind a paragraph of the other lines.

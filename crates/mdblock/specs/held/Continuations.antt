@@ -1,0 +1,68 @@
+-- How a line continues what is open, and what it begins where it does not (CommonMark 4.3, 4.8, 5.1, 5.2; GFM Tables (extension)).
+use Rattle.std.specs.Prelude.{◌≡◌, ℕ, Bool, true, false, List, [], length, drop, Option, IfSome}
+use Rattle.std.specs.Option.{option_map}
+use Rattle.mdtext.specs.Columns.{AreMarks}
+use Rattle.mdleaf.specs.TableRows.{begins_table}
+use Rattle.blockspec.specs.BlockLine.{BlockLine, rest, is_blank_line}
+use Rattle.blockspec.specs.BlockStart.{Free, Inside, Paragraph, SetextHeading, Table, start}
+use Rattle.blockspec.specs.Stretches.{Step, Continues, IsLastLine, IsOverBefore, paragraph_step}
+use Rattle.mdblock.specs.held.ParagraphLines.{HoldsLines}
+use Rattle.mdblock.specs.held.StartKind.{kind_of_start}
+use Rattle.mdblock.specs.held.StartSpans.{IsStartOf}
+use Rattle.mdblock.specs.declared.block_starts.BlockStart.{BlockStart}
+use Rattle.mdblock.specs.declared.leaf.Leaf.{Leaf}
+use Rattle.mdblock.specs.declared.leaf.Leaf.TheVariants as leaf
+use Rattle.mdblock.specs.declared.open_blocks.Continuation.{Continuation}
+use Rattle.mdblock.specs.declared.open_blocks.Continuation.TheVariants as continuation
+use Rattle.mdblock.specs.declared.open_blocks.OpenBlock.{OpenBlock}
+use Rattle.mdblock.specs.declared.open_blocks.OpenBlock as open_block
+
+-- the block that a line begins where no paragraph is open, as it was found; none of a blank line and of text
+abbrev pub IsBeginningOf : BlockLine → Option BlockStart → Type 0
+IsBeginningOf l opening = IfSome opening (λ o. IsStartOf (rest l) o) × (option_map (kind_of_start l) opening ≡ start Free [] l)
+
+-- The marker of a list's next item is one of the line; a line of no open block begins what was found.
+abbrev pub IsContinuationOf : BlockLine → Continuation → Type 0
+IsContinuationOf l continuation.Matched = Unit {0}
+IsContinuationOf l (continuation.Underlines level) = Unit {0}
+IsContinuationOf l continuation.Delimits = Unit {0}
+IsContinuationOf l continuation.Lazy = Unit {0}
+IsContinuationOf l continuation.Between = Unit {0}
+IsContinuationOf l (continuation.Next marker) = AreMarks marker.width (rest l)
+IsContinuationOf l (continuation.Outside opening) = IsBeginningOf l opening
+
+-- whether the line is one of the open leaf
+abbrev pub goes_on : Continuation → Bool
+goes_on continuation.Matched = true
+goes_on (continuation.Underlines level) = true
+goes_on continuation.Delimits = true
+goes_on continuation.Lazy = true
+goes_on continuation.Between = false
+goes_on (continuation.Next marker) = false
+goes_on (continuation.Outside opening) = false
+
+-- what that does to a paragraph of so many lines
+abbrev pub step_view : (lines : ℕ) → Continuation → Step
+step_view lines continuation.Matched = Continues Paragraph
+step_view lines (continuation.Underlines level) = IsLastLine (SetextHeading level)
+step_view lines continuation.Delimits = Continues (Table lines)
+step_view lines continuation.Lazy = Continues Paragraph
+step_view lines continuation.Between = IsOverBefore
+step_view lines (continuation.Next marker) = IsOverBefore
+step_view lines (continuation.Outside opening) = IsOverBefore
+
+-- of an open paragraph it is what the definition says, and a delimiter row fits what is held of the last line
+abbrev pub ContinuesLeaf : Leaf → BlockLine → Continuation → Type 0
+ContinuesLeaf (leaf.Paragraph p) l c =
+    ((lines : List BlockLine) → HoldsLines lines p → step_view (length lines) c ≡ paragraph_step l.lazy (is_blank_line l) (start Inside lines l))
+    × (c ≡ continuation.Delimits → begins_table (drop p.last p.text) (rest l) ≡ true)
+ContinuesLeaf (leaf.Fence f) l c = Unit {0}
+ContinuesLeaf (leaf.Html h) l c = Unit {0}
+ContinuesLeaf (leaf.Code k) l c = Unit {0}
+ContinuesLeaf (leaf.Table t) l c = Unit {0}
+
+abbrev pub ContinuesOpen : OpenBlock → BlockLine → Continuation → Type 0
+ContinuesOpen open_block.Shut l c = Unit {0}
+ContinuesOpen (open_block.Leaf held) l c = ContinuesLeaf held l c
+ContinuesOpen (open_block.Quote' p over last in_item begun blank spaced) l c = Unit {0}
+ContinuesOpen (open_block.List' p over last in_item begun blank spaced list) l c = Unit {0}
