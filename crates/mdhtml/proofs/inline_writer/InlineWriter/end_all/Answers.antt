@@ -1,4 +1,4 @@
-use Rattle.std.proofs.Common.{ap, sym, ◌∙◌, ◌∷◌, [], map, reverse, string_bytes}
+use Rattle.std.proofs.Common.{ap, sym, ◌∙◌, map, reverse, string_bytes}
 use Rattle.mdhtml.specs.InlineWriting.{writing, ends_by, all_end}
 use Rattle.mdhtml.specs.held.InlineWriter.{end_of, writing_of}
 use Rattle.mdhtml.proofs.InlineWriterSteps.{ends_pushed, none_open}
