@@ -25,10 +25,6 @@ finished o w [] = w
 finished o w (r ∷ []) = shows w (row_html o w.in_image r)
 finished o w (r ∷ s ∷ rows) = finished o (span_ends (shows w (row_html o w.in_image r))) (s ∷ rows)
 
-cut_choice : (t : Bool) (a b c d : List ℕ) → shown_in t (a ++ c) (b ++ d) ≡ shown_in t a b ++ shown_in t c d
-cut_choice true a b c d = refl
-cut_choice false a b c d = refl
-
 -- an inline in front of a row
 row_front : (o : Options) (t : Bool) (i : Inline) (row : Inlines) → row_html o t (inline i row) ≡ one_html o t i ++ row_html o t row
 row_front o true i row = flat_map-append escaped_byte (alt i) (alts row)

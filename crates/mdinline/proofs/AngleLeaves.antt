@@ -33,12 +33,3 @@ pub nothing_there : (entities : EntityTable) (text : List ℕ) (at : ℕ) → No
     angle_lexeme entities text at (autolink_at text at) (raw_html (drop at text)) ≡ as_written 1 (drop at text)
 nothing_there entities text at auto html =
     no_autolink entities text at (raw_html (drop at text)) auto ∙ ap (angle_lexeme entities text at None) (none_mapped (λ n. at + n) (raw_html (drop at text)) html)
-
--- what stands there is that which is found
-pub autolink_there : {X : Type 0} (entities : EntityTable) (text : List ℕ) (at : ℕ) (lexeme : X → Lexeme) (found : X) → Some (lexeme found) ≡ option_map (λ auto. autolink_lexeme entities text at auto) (autolink_at text at) →
-    lexeme found ≡ angle_lexeme entities text at (autolink_at text at) (raw_html (drop at text))
-autolink_there entities text at lexeme found e = by (autolink_at text at) e
-  where
-    by : (o : Option Auto) → Some (lexeme found) ≡ option_map (λ auto. autolink_lexeme entities text at auto) o → lexeme found ≡ angle_lexeme entities text at o (raw_html (drop at text))
-    by None e = cc
-    by (Some auto) e = (let same : lexeme found ≡ autolink_lexeme entities text at auto = cc in same)

@@ -29,10 +29,6 @@ next_span begun (suc n) place b es all some e h =
     ∙ ap (λ k. es ++ Enter (span_of b.kind) ∷ begun_events begun k b.inner) (let k : suc n - 1 ≡ n = omega arith in k)
     ∙ sym (ap (λ o. es ++ and_inner (begun_events begun n) o) e) ∙ h
 
-pub no_span : (begun : List Begun) (left place : ℕ) (es all : List Event) → slice_get begun place ≡ None → es ++ begun_events begun left place ≡ all → es ≡ all
-no_span begun zero place es all e h = sym (append-nil es) ∙ h
-no_span begun (suc n) place es all e h = sym (append-nil es) ∙ sym (ap (λ o. es ++ and_inner (begun_events begun n) o) e) ∙ h
-
 pub all_spans : (begun : List Begun) (left place : ℕ) (es all : List Event) → left ≡ 0 → es ++ begun_events begun left place ≡ all → es ≡ all
 all_spans begun zero place es all e h = sym (append-nil es) ∙ h
 all_spans begun (suc n) place es all e h = absurd (omega (arith, e))
