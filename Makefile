@@ -20,7 +20,7 @@ BASH_COMPLETION_DIR ?= $(PREFIX)/share/bash-completion/completions
 ZSH_COMPLETION_DIR ?= $(PREFIX)/share/zsh/site-functions
 INSTALL ?= install
 
-.PHONY: help run test build check fmt picture bench compare counts rows rows_inlines install uninstall
+.PHONY: help run test build check fmt picture bench hostile pane_test compare counts rows rows_inlines install uninstall
 
 help:
 	@echo "make run                 runs mdrender on a page and mdpreview on a writer's few edits, and shows what goes in and out (from the sources, unproved, where bin/ is empty); PAGE=FILE and EDITS=FILE show files of yours"
@@ -32,6 +32,8 @@ help:
 	@echo "make install PREFIX=DIR  installs the programs, their man pages and completions for bash and zsh below DIR ($(PREFIX)); DESTDIR is honoured"
 	@echo "make uninstall           removes what make install put there"
 	@echo "make bench               measures bin/mdrender beside cmark-gfm and md4c: instructions, times and memory on 22 kinds of texts, of which docs/SPEED.md has a run"
+	@echo "make pane_test           looks at clients/pane in a headless Chromium, and compares the page with mdrender's HTML after each change of a file"
+	@echo "make hostile             counts the instructions of bin/mdrender on hostile texts at two sizes (valgrind), and says where twice the text takes much more than twice as many"
 	@echo "make rows ORACLE=DIR CORPUS=DIR  proves rows of the definitions of PART=$(PART) from the standards' examples in CORPUS, with what ORACLE/oracle.py says of them"
 	@echo "make compare ORACLE=DIR  builds, and runs DIR/compare on the programs, with TEXTS=$(TEXTS) random texts and SCRIPTS=$(SCRIPTS) random edit scripts"
 	@echo "make counts ORACLE=DIR   compares what each edit of SCRIPTS=$(SCRIPTS) random edit scripts reads with what DIR/oracle.py allows"
@@ -57,6 +59,12 @@ picture: bin/mdpreview
 
 bench: $(if $(BUILT),,build)
 	@tools/bench.py
+
+hostile: $(if $(BUILT),,build)
+	@tools/hostile.py bin/mdrender
+
+pane_test: $(if $(BUILT),,build)
+	@tools/pane_test.py
 
 compare: $(if $(BUILT),,build)
 	@tools/compare $(ORACLE) $(TEXTS) $(SCRIPTS)

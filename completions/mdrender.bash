@@ -1,5 +1,5 @@
-# Completion of mdrender's and mdpreview's words for bash: each option once, one kind of line breaks, a file behind --entities,
-# nothing behind a limit, and one file to read.
+# Completion of mdrender's and mdpreview's words for bash: each option once, one kind of line breaks, a file behind --entities
+# and --prelude, nothing behind a limit, and one file to read.
 
 # The files that begin as the word does, folders among them.
 _mdrender_files() {
@@ -13,7 +13,7 @@ _mdrender_files() {
 # The options that may still be given after those in $given.
 _mdrender_options() {
     local option
-    for option in --unsafe --hardbreaks --nobreaks --entities --max-containers --max-spans --help; do
+    for option in --unsafe --hardbreaks --nobreaks --entities --prelude --max-containers --max-spans --help; do
         case "$option $given" in
             *" $option "*) ;;
             --hardbreaks*" --nobreaks "* | --nobreaks*" --hardbreaks "*) ;;
@@ -35,7 +35,7 @@ _mdrender() {
         else
             case $word in
                 --) ended=1 ;;
-                --entities) given+="$word " value=file ;;
+                --entities | --prelude) given+="$word " value=file ;;
                 --max-containers | --max-spans) given+="$word " value=number ;;
                 -?*) given+="$word " ;;
                 *) named=1 ;;

@@ -351,9 +351,9 @@ behind_first (x ∷ xs) ys n = let w = behind_first xs ys n in (suc w.0, omega (
 abbrev pub begins_in : List FoundUnit → List ℕ
 begins_in us = map (λ f. f.begin) us
 
-record BeginsAt (n : ℕ) (ns : List ℕ) : Type 0 where
-  rest : List ℕ
-  is : ns ≡ n ∷ rest
+pub record BeginsAt (n : ℕ) (ns : List ℕ) : Type 0 where
+  pub rest : List ℕ
+  pub is : ns ≡ n ∷ rest
 
 starts_first : (m : Option ListKind) (ss : List Stretch) → IsHeadedBy m ss → BeginsAt 0 (starts None (outline ss))
 unfolding starts
@@ -361,7 +361,7 @@ starts_first m [] w = absurd (let e : None ≡ Some m = w.1 in let x : ⊥ = cc 
 starts_first m (s ∷ ss) w = record { rest = starts (list_mark s.kind) (outline ss); is = ap (λ z. z ∷ starts (list_mark s.kind) (outline ss)) w.0 }
 
 -- the first unit of lines that begin with a line that is not blank
-units_first : (e : EntityTable) (l : BlockLine) (ys : List BlockLine) → is_blank_line l ≡ false → BeginsAt 0 (begins_in (units_of e (l ∷ ys)))
+pub units_first : (e : EntityTable) (l : BlockLine) (ys : List BlockLine) → is_blank_line l ≡ false → BeginsAt 0 (begins_in (units_of e (l ∷ ys)))
 unfolding groups_within
 units_first e l ys b =
     let all = l ∷ ys in
@@ -377,7 +377,7 @@ units_first e l ys b =
           ∙ f.is;
     }
 
-shifted_begins : (k : ℕ) (us : List FoundUnit) → begins_in (map (shift_found k) us) ≡ map (λ n. n + k) (begins_in us)
+pub shifted_begins : (k : ℕ) (us : List FoundUnit) → begins_in (map (shift_found k) us) ≡ map (λ n. n + k) (begins_in us)
 shifted_begins k [] = refl
 shifted_begins k (u ∷ us) = ap (λ z. (u.begin + k) ∷ z) (shifted_begins k us)
 
@@ -386,7 +386,7 @@ visible_there true false c e = refl
 visible_there true true c e = absurd (let x : ⊥ = cc in x)
 visible_there false b c e = absurd (let x : ⊥ = cc in x)
 
-begun_visible : (xs : List BlockLine) (l : BlockLine) → begins_unit xs l ≡ true → is_blank_line l ≡ false
+pub begun_visible : (xs : List BlockLine) (l : BlockLine) → begins_unit xs l ≡ true → is_blank_line l ≡ false
 unfolding begins_unit begins_behind
 begun_visible xs l b =
     let T = tip_within (depth_of xs) in

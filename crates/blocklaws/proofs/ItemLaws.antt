@@ -31,7 +31,7 @@ items_assoc no_item_nodes b c = refl
 items_assoc (item_node nodes a) b c = ap (item_node nodes) (items_assoc a b c)
 
 -- whether a list goes on is the same of each of its items
-same_list : (a b c : ListKind) → is_same_list a b ≡ true → is_same_list b c ≡ is_same_list a c
+pub same_list : (a b c : ListKind) → is_same_list a b ≡ true → is_same_list b c ≡ is_same_list a c
 same_list (bullet m) (bullet n) (bullet k) e = ap (λ z. z == k) (sym (eqb-true m n e))
 same_list (bullet m) (bullet n) (ordered d s) e = refl
 same_list (ordered d s) (ordered d' s') (ordered d'' s'') e = ap (λ z. z == d'') (sym (eqb-true d d' e))

@@ -3,6 +3,7 @@ pub mod CutLaws
 pub mod DepthLaws
 pub mod DocumentLaws
 pub mod GroupLaws
+pub mod HandedLaws
 pub mod ItemLaws
 pub mod LeafSteps
 pub mod LimitLaws

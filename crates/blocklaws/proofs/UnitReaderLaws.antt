@@ -42,14 +42,14 @@ rest_none limit xs l ls b w =
 
 -- ---- units
 
-shift_twice : (k n : ℕ) (us : List FoundUnit) → map (shift_found k) (map (shift_found n) us) ≡ map (shift_found (k + n)) us
+pub shift_twice : (k n : ℕ) (us : List FoundUnit) → map (shift_found k) (map (shift_found n) us) ≡ map (shift_found (k + n)) us
 shift_twice k n [] = refl
 shift_twice k n (u ∷ us) =
     let e : u.begin + n + k ≡ u.begin + (k + n) = omega arith in
     ap (λ z. record { begin = z; lines = u.lines; unit = u.unit } ∷ map (shift_found k) (map (shift_found n) us)) e
     ∙ ap (λ z. shift_found (k + n) u ∷ z) (shift_twice k n us)
 
-shift_none : (us : List FoundUnit) → map (shift_found 0) us ≡ us
+pub shift_none : (us : List FoundUnit) → map (shift_found 0) us ≡ us
 shift_none [] = refl
 shift_none (u ∷ us) =
     let e : u.begin + 0 ≡ u.begin = omega arith in
@@ -182,23 +182,23 @@ pub holds_summary : (e : EntityTable) (limit : ℕ) (ls : List BlockLine) → de
 holds_summary e limit ls w = ap (λ z. summary_held e limit z ls) (sym (summary_none e)) ∙ held_from e limit [] ls w
 
 -- no unit, or one that begins with the first line
-abbrev IsOne : List ℕ → Type 0
+abbrev pub IsOne : List ℕ → Type 0
 IsOne [] = Unit {0}
 IsOne (n ∷ []) = n ≡ 0
 IsOne (n ∷ m ∷ ns) = ⊥
 
-none_begin : (e : EntityTable) → begins_in (units_of e []) ≡ []
+pub none_begin : (e : EntityTable) → begins_in (units_of e []) ≡ []
 unfolding groups_within found_units cut_from all_of grouped
 none_begin e = refl
 
-first_one : (e : EntityTable) (l : BlockLine) → IsOne (begins_in (units_of e (l ∷ [])))
+pub first_one : (e : EntityTable) (l : BlockLine) → IsOne (begins_in (units_of e (l ∷ [])))
 first_one e l = subst IsOne (sym (begins_next e [] l)) (go (begins_unit [] l))
   where
     go : (b : Bool) → IsOne (if b then begins_in (units_of e []) ++ 0 ∷ [] else begins_in (units_of e []))
     go true = subst (λ z. IsOne (z ++ 0 ∷ [])) (sym (none_begin e)) refl
     go false = subst IsOne (sym (none_begin e)) tt
 
-one_from : (e : EntityTable) (xs ls : List BlockLine) → IsOne (begins_in (units_of e xs)) → IsOne (begins_in (units_of e (lines_held xs ls)))
+pub one_from : (e : EntityTable) (xs ls : List BlockLine) → IsOne (begins_in (units_of e xs)) → IsOne (begins_in (units_of e (lines_held xs ls)))
 unfolding lines_held
 one_from e xs [] w = w
 one_from e xs (l ∷ ls) w = go (begins_unit xs l) refl (one_from e (l ∷ []) ls (first_one e l)) (λ v. one_from e (xs ++ l ∷ []) ls v)

@@ -2,7 +2,7 @@
 #![tactic(auto)]
 
 use anyhow::Result;
-use mdbatch::to_html;
+use mdbatch::{Prelude, to_html};
 use mdview::{Entities, Options};
 use std::fs;
 
@@ -10,7 +10,8 @@ fn main(rt: HostRuntime) -> Result<()> {
     let alloc = rt.alloc();
     let text = fs::read_to_string(&rt, "page.md")?;
     let entities = Entities::builtin(alloc)?;
-    match to_html(alloc, &text, &entities, &Options::plain()) {
+    let none = Prelude::empty(alloc);
+    match to_html(alloc, &text, &entities, &Options::plain(), &none) {
         Ok(html) => print!(rt; "{html}")?,
         Err(fault) => println!(rt; "page.md is refused: {fault}")?,
     }

@@ -2,3 +2,4 @@ pub mod DueRefusals
 pub mod SplitText
 pub mod UnitsGathered
 pub mod UnitsWritten
+pub mod PageTargets

@@ -7,7 +7,7 @@ use Rattle.blockspec.specs.UnitTree.{UnitTree, FoundUnit}
 use Rattle.mdinline.specs.ParsedText.{ParsedText}
 use Rattle.mdhtml.specs.declared.options.Options.{Options}
 use Rattle.mdview.specs.declared.fault.EditFault.{EditFault}
-use Rattle.mdview.specs.declared.fault.EditFault.TheVariants.{OutOfRange, BreakInLine, TooManyLines, TooLarge, NestedTooDeep, InlineTooDeep, NoMemory}
+use Rattle.mdview.specs.declared.fault.EditFault.TheVariants.{OutOfRange, BreakInLine, TooManyLines, TooLarge, NestedTooDeep, InlineTooDeep, NoMemory, NotDefinitions}
 use Rattle.mdview.specs.Edit.{refusal}
 use Rattle.mdview.specs.HeldUnit.{ReadUnit, html_of, unit_piece}
 use Rattle.mdbatch.specs.TextLabels.{with_units}
@@ -64,3 +64,4 @@ TextHtml (Err (InlineTooDeep line)) options text = refusal (text_lines text) ≡
 TextHtml (Err NoMemory) options text = refusal (text_lines text) ≡ None
 TextHtml (Err (OutOfRange lines)) options text = ⊥
 TextHtml (Err (BreakInLine index)) options text = ⊥
+TextHtml (Err (NotDefinitions line)) options text = ⊥

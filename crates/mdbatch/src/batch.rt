@@ -11,23 +11,26 @@ ghost use Rattle.mdbatch.specs.BatchHtml.{AppendsUnits, Gathers, TextHtml, Units
 
 use crate::labels::labels_of;
 use crate::limits::within_limits;
+use crate::page_labels::PageLabels;
 use crate::units::{Gathered, gathered_units};
 use mdblock::Found;
 use mdhtml::{Options, UnitWriter};
-use mdinline::{InlineFault, LabelTable};
+use mdinline::InlineFault;
 use mdtext::{Entities, after_mark, clean_line, is_clean};
-use mdview::EditFault;
+use mdview::{EditFault, Prelude};
 use std::alloc::Global;
 
-/// The HTML of a whole text: its lines end as CommonMark 2.1 says, a leading U+FEFF is dropped, and U+FFFD stands for each U+0000 (CommonMark 2.3).
+/// The HTML of a whole text: its lines end as CommonMark 2.1 says, a leading U+FEFF is dropped, and U+FFFD stands for each U+0000 (CommonMark 2.3). A label
+/// that the text does not define leads where the prelude says.
 ///
-/// Refused as the first edit of an empty preview that brings this text, in this order: `TooManyLines`, `TooLarge`, whatever the memory; then `NestedTooDeep`,
+/// Refused as the first edit of a preview with this prelude that brings this text, in this order: `TooManyLines`, `TooLarge`, whatever the memory; then `NestedTooDeep`,
 /// `InlineTooDeep`; `NoMemory` at any point. Lines are counted from 0.
 pub fn to_html(
     alloc: Global,
     text: &str,
     entities: &Entities,
     options: &Options,
+    prelude: &Prelude,
 ) -> Result<String, EditFault>
     requires { HasLimits options.now }
     ensures { TextHtml result options.now text.now }
@@ -35,10 +38,10 @@ pub fn to_html(
     let text = after_mark(text);
     within_limits(text)?;
     if is_clean(text) {
-        return clean_html(alloc, text, entities, options);
+        return clean_html(alloc, text, entities, options, prelude);
     }
     let clean = clean_line(alloc, text)?;
-    clean_html(alloc, &clean, entities, options)
+    clean_html(alloc, &clean, entities, options, prelude)
 }
 
 /// The HTML of a text in which no U+0000 stands.
@@ -47,6 +50,7 @@ fn clean_html(
     text: &str,
     entities: &Entities,
     options: &Options,
+    prelude: &Prelude,
 ) -> Result<String, EditFault>
     requires limits { HasLimits options.now }
     requires few { length (split_lines text.now) ≤ 1000000 }
@@ -55,7 +59,7 @@ fn clean_html(
     ensures fault { IfErr result OfReading }
 {
     let gathered = gathered_units(alloc, text, entities, options)?;
-    whole_html(alloc, gathered, entities, options)
+    whole_html(alloc, gathered, entities, options, prelude)
 }
 
 /// Writes the units that are kept behind the HTML of those that are written.
@@ -64,6 +68,7 @@ fn whole_html(
     gathered: Gathered,
     entities: &Entities,
     options: &Options,
+    prelude: &Prelude,
 ) -> Result<String, EditFault>
     requires limits { HasLimits options.now }
     requires ends_line { ends_line (string_bytes gathered.html) ≡ true }
@@ -72,7 +77,8 @@ fn whole_html(
     ensures fault { IfErr result OfReading }
 {
     let Gathered { mut html, units } = gathered;
-    let labels = labels_of(alloc, &units)?;
+    let own = labels_of(alloc, &units)?;
+    let labels = PageLabels { own: &own, prelude };
     let mut writer = UnitWriter::new(alloc, entities, options);
     append_units(&mut writer, units, &labels, &mut html)?;
     Ok(html)
@@ -82,7 +88,7 @@ fn whole_html(
 fn append_units<'a>(
     writer: &mut UnitWriter<'a>,
     units: Vec<Found>,
-    labels: &'a LabelTable,
+    labels: &'a PageLabels<'a>,
     out: &mut String,
 ) -> Result<(), EditFault>
     requires { ends_line (string_bytes out.old) ≡ true }

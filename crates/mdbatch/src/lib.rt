@@ -4,6 +4,7 @@
 mod batch;
 mod labels;
 mod limits;
+mod page_labels;
 #[cfg(test)]
 mod tests;
 mod units;
@@ -11,4 +12,4 @@ mod units;
 pub use batch::to_html;
 pub use mdhtml::{Breaks, Options};
 pub use mdtext::{Entities, TableFault};
-pub use mdview::EditFault;
+pub use mdview::{EditFault, Prelude};

@@ -156,6 +156,15 @@ static DEEP: &[(&str, &str)] = &[
     ("- > ", ""),
 ];
 
+/// Labels that the texts ask for, and some of which they define.
+static PRELUDE: &[&str] = &[
+    "[foo]: /p",
+    "",
+    "[BAR]: /q \"t\"",
+    "[baz]: </r>",
+    "[ss]: /s",
+];
+
 /// Numbers that look as if drawn by chance; the same for the same seed.
 #[derive(Drop)]
 struct Draws {
@@ -235,6 +244,7 @@ fn previewed(
     text: &str,
     entities: Entities,
     options: Options,
+    prelude: &[&str],
 ) -> Result<String, EditFault>
     requires { HasLimits options }
 {
@@ -244,6 +254,7 @@ fn previewed(
         lent.push(line.as_str())?;
     }
     let mut preview = Preview::new(alloc, entities, options);
+    preview.set_prelude(prelude, &mut Tally::new())?;
     preview.edit(0, 0, &lent, &mut Tally::new())?;
     let mut html = String::new(alloc);
     for piece in preview.pieces() {
@@ -253,12 +264,13 @@ fn previewed(
 }
 
 /// Whether both ways end alike: with the same bytes, or with the same refusal.
-fn agree(alloc: Global, text: &str, options: Options) -> Result<bool, Fail>
+fn agree(alloc: Global, text: &str, options: Options, prelude: &[&str]) -> Result<bool, Fail>
     requires { HasLimits options }
 {
     let entities = Entities::builtin(alloc)?;
-    let html = to_html(alloc, text, &entities, &options);
-    let wanted = previewed(alloc, text, entities, options);
+    let read = Prelude::read(alloc, prelude, &entities, &options, &mut Tally::new())?;
+    let html = to_html(alloc, text, &entities, &options, &read);
+    let wanted = previewed(alloc, text, entities, options, prelude);
     Ok(html == wanted)
 }
 
@@ -269,7 +281,8 @@ fn agrees_with_the_preview_on_texts_by_chance(rt: HostRuntime) -> Result<(), Fai
     for number in 0..3000 {
         let text = draws.text(alloc)?;
         let options = draws.options();
-        let same = agree(alloc, &text, options)?;
+        let known = draws.below(PRELUDE.len().saturating_add(1));
+        let same = agree(alloc, &text, options, &PRELUDE[..known])?;
         assert!(rt; same, "text {number}: {text}");
     }
     Ok(())
@@ -325,6 +338,7 @@ fn agrees_with_the_preview_on_worked_texts(rt: HostRuntime) -> Result<(), Fail> 
                         breaks,
                         ..Options::plain()
                     },
+                    PRELUDE,
                 )?;
                 assert!(rt; same, "{text}");
             }
@@ -353,7 +367,8 @@ fn repeated(alloc: Global, part: &str, count: usize) -> Result<String, NoMemory>
 fn refused(alloc: Global, part: &str, count: usize) -> Result<Option<EditFault>, Fail> {
     let options = Options::plain();
     let text = repeated(alloc, part, count)?;
-    Ok(to_html(alloc, &text, &Entities::builtin(alloc)?, &options).err())
+    let none = Prelude::empty(alloc);
+    Ok(to_html(alloc, &text, &Entities::builtin(alloc)?, &options, &none).err())
 }
 
 /// U+FFFD, which stands for U+0000, has three bytes, and each line counts one more.

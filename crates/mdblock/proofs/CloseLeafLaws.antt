@@ -93,19 +93,19 @@ pub record IsGiven (old new : List (List ℕ)) (known all : List LinkDefinition)
   pub texts : new ≡ old ++ texts_in (leaves_before leaves no_nodes)
   pub definitions : all ≡ known ++ definitions_in (leaves_before leaves no_nodes)
 
-defs_placed : (n : ℕ) (ds : List LinkDefinition) (leaves : List Leaf) → placed n (leaves_before (map definition_leaf ds ++ leaves) no_nodes) ≡ placed n (leaves_before leaves no_nodes)
+pub defs_placed : (n : ℕ) (ds : List LinkDefinition) (leaves : List Leaf) → placed n (leaves_before (map definition_leaf ds ++ leaves) no_nodes) ≡ placed n (leaves_before leaves no_nodes)
 unfolding placed
 defs_placed n [] leaves = refl
 defs_placed n (d ∷ ds) leaves =
     let e : n + 0 ≡ n = omega arith in
     defs_placed (n + 0) ds leaves ∙ ap (λ z. placed z (leaves_before leaves no_nodes)) e
 
-defs_texts : (ds : List LinkDefinition) (leaves : List Leaf) → texts_in (leaves_before (map definition_leaf ds ++ leaves) no_nodes) ≡ texts_in (leaves_before leaves no_nodes)
+pub defs_texts : (ds : List LinkDefinition) (leaves : List Leaf) → texts_in (leaves_before (map definition_leaf ds ++ leaves) no_nodes) ≡ texts_in (leaves_before leaves no_nodes)
 unfolding texts_in
 defs_texts [] leaves = refl
 defs_texts (d ∷ ds) leaves = defs_texts ds leaves
 
-defs_definitions : (ds : List LinkDefinition) (leaves : List Leaf) → definitions_in (leaves_before (map definition_leaf ds ++ leaves) no_nodes) ≡ ds ++ definitions_in (leaves_before leaves no_nodes)
+pub defs_definitions : (ds : List LinkDefinition) (leaves : List Leaf) → definitions_in (leaves_before (map definition_leaf ds ++ leaves) no_nodes) ≡ ds ++ definitions_in (leaves_before leaves no_nodes)
 unfolding definitions_in
 defs_definitions [] leaves = refl
 defs_definitions (d ∷ ds) leaves = ap (λ z. d ∷ z) (defs_definitions ds leaves)

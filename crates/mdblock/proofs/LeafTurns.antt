@@ -203,6 +203,11 @@ above_by false false (Some IndentedCode) n above w e = cc
 above_by false false (Some (HtmlBlock kind)) n above w e = cc
 above_by false false (Some (Holds container)) n above w e = cc
 
+pub table_above : (first : BlockLine) (later : List BlockLine) (l : BlockLine) (above : ℕ) → paragraph_step l.lazy (is_blank_line l) (start Inside (first ∷ later) l) ≡ Continues (Table above) → above ≡ length (first ∷ later)
+table_above first later l above is =
+    let lines = first ∷ later in
+    above_by l.lazy (is_blank_line l) (start Inside lines l) (length lines) above (start_kinds (IsAbove (length lines)) Inside lines l (kinds_above lines l)) is
+
 -- ---- paragraphs
 
 by_step : {E : Type 0} (entities : EntityTable) (lazy blank : Bool) (k : Option Kind) (first : BlockLine) (later : List BlockLine) (r : Result LeafAfter E)

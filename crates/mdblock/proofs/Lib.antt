@@ -2,6 +2,8 @@ pub mod CellRanges
 pub mod CloseLaws
 pub mod CloseLeafLaws
 pub mod ClosingLaws
+pub mod ContinuationLaws
+pub mod FitLaws
 pub mod HeldNodesLaws
 pub mod FirstBytes
 pub mod HtmlEnds
@@ -11,6 +13,7 @@ pub mod LeafLaws
 pub mod LeafTexts
 pub mod LeafTurns
 pub mod Markers
+pub mod NextLineLaws
 pub mod ParagraphLaws
 pub mod PlacedNodes
 pub mod ReadsLaws
@@ -21,3 +24,13 @@ pub mod TableLaws
 pub mod TipLaws
 pub mod Views
 pub mod Within
+pub mod LevelBegins
+pub mod LevelContainers
+pub mod LevelGroups
+pub mod LevelLeaves
+pub mod LevelLines
+pub mod LevelAdds
+pub mod LevelBlanks
+pub mod LevelGoes
+pub mod LevelGrows
+pub mod LevelItems

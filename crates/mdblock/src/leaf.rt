@@ -5,10 +5,11 @@ ghost use Rattle.mdtext.specs.EntityTable.{EntityTable};
 ghost use Rattle.blockspec.specs.BlockLine.{BlockLine, rest};
 ghost use Rattle.blockspec.specs.BlockStart.{Kind};
 ghost use Rattle.mdblock.specs.BlockView.{block_view};
-ghost use Rattle.mdblock.specs.held.Continuations.{IsContinuationOf, ContinuesLeaf, goes_on};
+ghost use Rattle.mdblock.specs.held.Continuations.{IsContinuationOf, ContinuesLeaf, IsOfLeaf, goes_on};
 ghost use Rattle.mdblock.specs.held.HandedIn.{gathered_texts, gathered_definitions};
 ghost use Rattle.blockspec.specs.Laziness.{Tip};
 ghost use Rattle.mdblock.specs.held.LeafEnds.{IsEndOf, IsTableEnd, is_paragraph, end_definitions};
+ghost use Rattle.mdblock.specs.held.LevelSteps.{HandsIn, is_content};
 ghost use Rattle.mdblock.specs.held.OpenLeaves.{IsBegun, begun_texts, IsLeafOf, IsLeft, IsOver, IsRowIn};
 ghost use Rattle.mdblock.specs.held.StartKind.{opened_kind};
 ghost use Rattle.mdblock.specs.Positions.{BlockIn};
@@ -69,6 +70,7 @@ impl Leaf {
             (opened_kind line.old opening) line.old step) }
         ensures texts { OnOk result (map string_bytes gathering.new.texts.items
             ≡ map string_bytes gathering.old.texts.items ++ begun_texts (opened_kind line.old opening)) }
+        ensures definitions { gathering.new.definitions ≡ gathering.old.definitions }
     {
         match opening {
             Some(BlockStart::Heading(heading)) => headings::begin(heading, line, gathering),
@@ -92,10 +94,21 @@ impl Leaf {
         }
     }
 
+    /// Whether it is fenced code or an HTML block, whose lines are content whatever they hold.
+    pub(crate) fn is_verbatim(&self) -> bool
+        ensures { result ≡ is_content self.now }
+    {
+        match self {
+            Leaf::Fence(_) | Leaf::Html(_) => true,
+            Leaf::Paragraph(_) | Leaf::Code(_) | Leaf::Table(_) => false,
+        }
+    }
+
     /// How a line, all of whose containers match it, continues the leaf.
     pub(crate) fn continuation(&self, line: &Line) -> Continuation
         ensures continuation { IsContinuationOf line.now result }
         ensures step { ContinuesLeaf self.now line.now result }
+        ensures leaf { IsOfLeaf result }
         ensures takes { (entities : EntityTable) (kind : Kind) (first : BlockLine) (later : List BlockLine) → IsLeafOf entities self.now kind first later
             → (tip : List BlockLine → Tip) → goes_on result ≡ not (is_stop (step tip kind first later line.now)) }
     {
@@ -124,6 +137,7 @@ impl Leaf {
         ensures step { (entities : EntityTable) (kind : Kind) (begin : BlockLine) (later : List BlockLine) → IsLeafOf entities self kind begin later
             → (tip : List BlockLine → Tip) → IfOk result (IsLeft entities (step tip kind begin later line.old) begin (later ++ line.old ∷ [])) }
         ensures row { IfOk result (IsRowIn self (rest line.old) (gathered_texts gathering.old) (gathered_texts gathering.new)) }
+        ensures hands { HandsIn self first line.old gathering.old gathering.new result }
     {
         match self {
             Leaf::Paragraph(paragraph) => paragraph.add(continuation, line, first, gathering),
@@ -166,6 +180,7 @@ impl Leaf {
 fn matched_if(takes: bool, line: &Line) -> Continuation
     ensures continuation { IsContinuationOf line.now result }
     ensures takes { goes_on result ≡ takes }
+    ensures leaf { IsOfLeaf result }
 {
     if takes {
         return Continuation::Matched;

@@ -1,6 +1,6 @@
 //! The open blocks: each level holds the blocks that are over in it, and the one that is still open.
 
-ghost use Rattle.std.specs.Prelude.{◌≡◌, ◌+◌, ◌≤◌, ℕ, List, IfErr, IfOk, IfSome, OnOk, length, true};
+ghost use Rattle.std.specs.Prelude.{◌≡◌, ◌+◌, ◌≤◌, ℕ, List, IfErr, IfOk, IfSome, IsErrOf, OnErr, OnOk, false, length, true};
 ghost use Rattle.mdblock.specs.declared.faults.BlockFault.TheVariants.{Failed, NestedTooDeep};
 ghost use Rattle.mdtext.specs.Columns.{AreMarks};
 ghost use Rattle.blockspec.specs.BlockLine.{rest};
@@ -9,20 +9,24 @@ ghost use Rattle.mdblock.specs.held.HeldLevel.{StandsFor, ClosesAll, EndsIn, is_
 ghost use Rattle.blockspec.specs.LineSummary.{no_summary};
 ghost use Rattle.mdtext.specs.EntityTable.{EntityTable};
 ghost use Rattle.mdblock.specs.held.Continuations.{IsBeginningOf, IsContinuationOf, ContinuesOpen};
-ghost use Rattle.mdblock.specs.held.OpenPositions.{LevelIn, LeafAfterIn};
+ghost use Rattle.mdblock.specs.held.LevelSteps.{GrowsLeaf, IsOpenLeaf, AddsButBlank, EndsAll, IsAllOver, IsEmpty, IsInside, IsVerbatim, MarksBlank};
+ghost use Rattle.mdblock.specs.held.LinesAdded.{AddsLine, ContinuesLevel, FollowsLine, IsUnfollowed, SinksLine};
+ghost use Rattle.mdblock.specs.held.OpenPositions.{LevelIn};
 ghost use Rattle.mdblock.specs.held.StartSpans.{IsStartOf};
-ghost use Rattle.mdblock.specs.Positions.{BlockIn, BlocksIn, ItemsIn};
+ghost use Rattle.mdblock.specs.Positions.{BlocksIn};
 
-use crate::block_starts::{BlockStart, beginning, continues_lazily};
+pub(crate) mod beginnings;
+mod continuations;
+
+use crate::block_starts::{BlockStart, beginning};
 use crate::blocks::Block;
-use crate::closed_blocks::{push_block, push_found, with_found, with_item, with_list, with_quote};
+use crate::closed_blocks::{with_found, with_item, with_list, with_quote};
 use crate::container::block_quotes;
 use crate::container::list_items::{Entry, enter_item};
-use crate::container::lists::{self, OpenList};
+use crate::container::lists::OpenList;
 use crate::faults::BlockFault;
 use crate::gathering::Gathering;
-use crate::leaf::paragraphs::Paragraph;
-use crate::leaf::{Leaf, LeafAfter, headings};
+use crate::leaf::Leaf;
 use crate::lines::Line;
 use mdscan::Marker;
 use std::alloc::{AllocError, Global};
@@ -77,6 +81,8 @@ impl Level {
     /// No blocks yet.
     pub(crate) fn new(alloc: Global, in_item: bool) -> Level
         ensures empty { (entities : EntityTable) (at : ℕ) → StandsFor entities at in_item result no_summary }
+        ensures over { (entities : EntityTable) (at : ℕ) → IsAllOver entities at in_item result no_summary }
+        ensures holds_none { IsEmpty in_item result }
         ensures within { (n : ℕ) → LevelIn n result }
     {
         Level {
@@ -112,61 +118,6 @@ impl Level {
             OpenBlock::Leaf(leaf) => leaf.is_text(),
             OpenBlock::Quote(inner) => inner.ends_in_text(),
             OpenBlock::List(inner, list) => list.is_open() && inner.ends_in_text(),
-        }
-    }
-
-    /// How a line continues the open block, which is no container that it matches.
-    pub(crate) fn continuation(&self, line: &Line) -> Continuation
-        ensures continuation { IsContinuationOf line.now result }
-        ensures step { ContinuesOpen self.now.last line.now result }
-    {
-        match &self.last {
-            OpenBlock::Shut => outside_or_lazy(line),
-            OpenBlock::Leaf(leaf) => {
-                if line.is_lazy() {
-                    return Continuation::Matched;
-                }
-                leaf.continuation(line)
-            }
-            OpenBlock::Quote(inner) => inner.continuation_in_quote(line),
-            OpenBlock::List(inner, list) => inner.continuation_in(list, line),
-        }
-    }
-
-    /// How a line without the marker continues the block quote that holds these blocks.
-    fn continuation_in_quote(&self, line: &Line) -> Continuation
-        ensures { IsContinuationOf line.now result }
-    {
-        if line.is_lazy() {
-            return Continuation::Lazy;
-        }
-        let opening = beginning(line);
-        if self.ends_in_text() && continues_lazily(line, opening) {
-            return Continuation::Lazy;
-        }
-        Continuation::Outside(opening)
-    }
-
-    /// How a line continues the list whose last item holds these blocks.
-    fn continuation_in(&self, list: &OpenList, line: &Line) -> Continuation
-        ensures { IsContinuationOf line.now result }
-    {
-        if line.is_lazy() {
-            return Continuation::Lazy;
-        }
-        if line.is_blank() {
-            if list.is_open() && self.begun {
-                return Continuation::Matched;
-            }
-            return Continuation::Between;
-        }
-        let opening = beginning(line);
-        if list.is_open() && self.ends_in_text() && continues_lazily(line, opening) {
-            return Continuation::Lazy;
-        }
-        match list.next(line, opening) {
-            Some(marker) => Continuation::Next(marker),
-            None => Continuation::Outside(opening),
         }
     }
 
@@ -225,6 +176,7 @@ impl Level {
         ensures within { OnOk result (LevelIn (length gathering.new.texts.items) self.new) }
         ensures grows { length gathering.old.texts.items ≤ length gathering.new.texts.items }
         ensures entities { gathering.new.entities.now ≡ gathering.old.entities.now }
+        ensures ends { OnOk result (EndsAll self.old gathering.old self.new gathering.new) }
     {
         let alloc = gathering.alloc();
         let (in_item, begun) = (self.in_item, self.begun);
@@ -254,6 +206,8 @@ impl Level {
         ensures grows { length gathering.old.texts.items ≤ length gathering.new.texts.items }
         ensures entities { gathering.new.entities.now ≡ gathering.old.entities.now }
         ensures fault { IfErr result (λ fault. fault ≡ Failed → ⊥) }
+        ensures adds { OnOk result (AddsLine room self.old gathering.old line.old self.new gathering.new) }
+        ensures deep { IsErrOf result NestedTooDeep → SinksLine room self.old gathering.old line.old }
     {
         if self.follow(line, room, gathering)? {
             return Ok(());
@@ -276,15 +230,21 @@ impl Level {
         ensures grows { length gathering.old.texts.items ≤ length gathering.new.texts.items }
         ensures entities { gathering.new.entities.now ≡ gathering.old.entities.now }
         ensures fault { IfErr result (λ fault. fault ≡ Failed → ⊥) }
+        ensures adds { IfOk result (λ followed. followed ≡ true → FollowsLine room self.old gathering.old line.old self.new gathering.new) }
+        ensures passes { IfOk result (λ followed. followed ≡ false
+            → (self.new ≡ self.old) × (line.new ≡ line.old) × (gathering.new ≡ gathering.old) × IsUnfollowed self.old.last line.old) }
+        ensures deep { IsErrOf result NestedTooDeep → SinksLine room self.old gathering.old line.old }
     {
         match &mut self.last {
-            OpenBlock::Shut | OpenBlock::Leaf(_) => return Ok(false),
+            OpenBlock::Shut | OpenBlock::Leaf(_) => Ok(false),
             OpenBlock::Quote(inner) => {
                 if !block_quotes::matches(line) {
                     return Ok(false);
                 }
                 block_quotes::take_marker(line);
                 inner.read(line, deeper(room)?, gathering)?;
+                self.blank = false;
+                Ok(true)
             }
             OpenBlock::List(inner, list) => {
                 if !list.matches(line) {
@@ -292,10 +252,10 @@ impl Level {
                 }
                 list.enter(line);
                 inner.read(line, deeper(room)?, gathering)?;
+                self.blank = false;
+                Ok(true)
             }
         }
-        self.blank = false;
-        Ok(true)
     }
 
     /// Reads one line more, which continues what is open so, where at most `room` containers may be open inside one another.
@@ -310,10 +270,13 @@ impl Level {
         requires level { LevelIn (length gathering.old.texts.items) self.old }
         requires continuation { IsContinuationOf line.old continuation }
         requires step { ContinuesOpen self.old.last line.old continuation }
+        requires last { ContinuesLevel self.old line.old continuation }
         ensures within { OnOk result (LevelIn (length gathering.new.texts.items) self.new) }
         ensures grows { length gathering.old.texts.items ≤ length gathering.new.texts.items }
         ensures entities { gathering.new.entities.now ≡ gathering.old.entities.now }
         ensures fault { IfErr result (λ fault. fault ≡ Failed → ⊥) }
+        ensures adds { OnOk result (AddsLine room self.old gathering.old line.old self.new gathering.new) }
+        ensures deep { IsErrOf result NestedTooDeep → SinksLine room self.old gathering.old line.old }
     {
         if let Continuation::Outside(opening) = continuation {
             self.shut(gathering)?;
@@ -321,8 +284,19 @@ impl Level {
         }
         let blank = line.is_blank();
         self.go_on(line, continuation, room, gathering)?;
-        self.blank = blank && !self.is_verbatim();
+        self.mark_blank(blank);
         Ok(())
+    }
+
+    /// Says whether the line that was read is blank, and no content of fenced code or an HTML block.
+    fn mark_blank(&mut self, blank: bool)
+        ensures { MarksBlank self.old blank self.new }
+    {
+        if blank {
+            self.blank = !self.is_verbatim();
+        } else {
+            self.blank = false;
+        }
     }
 
     /// Reads a line that the open block takes.
@@ -338,10 +312,14 @@ impl Level {
         requires level { LevelIn (length gathering.old.texts.items) self.old }
         requires continuation { IsContinuationOf line.old continuation }
         requires step { ContinuesOpen self.old.last line.old continuation }
+        requires last { ContinuesLevel self.old line.old continuation }
+        requires inside { IsInside continuation }
         ensures within { OnOk result (LevelIn (length gathering.new.texts.items) self.new) }
         ensures grows { length gathering.old.texts.items ≤ length gathering.new.texts.items }
         ensures entities { gathering.new.entities.now ≡ gathering.old.entities.now }
         ensures fault { IfErr result (λ fault. fault ≡ Failed → ⊥) }
+        ensures adds { OnOk result (AddsButBlank room self.old gathering.old line.old self.new gathering.new) }
+        ensures deep { IsErrOf result NestedTooDeep → SinksLine room self.old gathering.old line.old }
     {
         match &mut self.last {
             OpenBlock::Shut => Ok(()),
@@ -362,11 +340,12 @@ impl Level {
     }
 
     /// Whether a blank line that was read last is content of fenced code or an HTML block.
-    fn is_verbatim(&self) -> bool {
+    fn is_verbatim(&self) -> bool
+        ensures { IsVerbatim self.now.last result }
+    {
         match &self.last {
             OpenBlock::Shut => false,
-            OpenBlock::Leaf(Leaf::Fence(_)) | OpenBlock::Leaf(Leaf::Html(_)) => true,
-            OpenBlock::Leaf(_) => false,
+            OpenBlock::Leaf(leaf) => leaf.is_verbatim(),
             OpenBlock::Quote(_) => false,
             OpenBlock::List(inner, list) => list.is_open() && !inner.blank,
         }
@@ -382,15 +361,20 @@ impl Level {
     ) -> Result<(), AllocError>
         requires level { LevelIn (length gathering.old.texts.items) self.old }
         requires step { ContinuesOpen self.old.last line.old continuation }
+        requires leaf { IsOpenLeaf self.old.last }
         ensures within { OnOk result (LevelIn (length gathering.new.texts.items) self.new) }
         ensures grows { length gathering.old.texts.items ≤ length gathering.new.texts.items }
         ensures entities { gathering.new.entities.now ≡ gathering.old.entities.now }
+        ensures adds { OnOk result (GrowsLeaf self.old gathering.old line.old self.new gathering.new) }
     {
-        if continuation != Continuation::Matched {
+        if !continuation.is_matched() {
             return self.add_and_put(line, continuation, gathering);
         }
         match &mut self.last {
-            OpenBlock::Leaf(Leaf::Paragraph(paragraph)) => paragraph.push_line(line),
+            OpenBlock::Leaf(Leaf::Paragraph(paragraph)) => {
+                paragraph.push_line(line)?;
+                Ok(())
+            }
             _ => self.add_and_put(line, continuation, gathering),
         }
     }
@@ -405,15 +389,18 @@ impl Level {
     ) -> Result<(), AllocError>
         requires level { LevelIn (length gathering.old.texts.items) self.old }
         requires step { ContinuesOpen self.old.last line.old continuation }
+        requires leaf { IsOpenLeaf self.old.last }
         ensures within { OnOk result (LevelIn (length gathering.new.texts.items) self.new) }
         ensures grows { length gathering.old.texts.items ≤ length gathering.new.texts.items }
         ensures entities { gathering.new.entities.now ≡ gathering.old.entities.now }
+        ensures adds { OnOk result (GrowsLeaf self.old gathering.old line.old self.new gathering.new) }
     {
         let first = self.is_at_front();
         match mem::replace(&mut self.last, OpenBlock::Shut) {
             OpenBlock::Leaf(leaf) => {
                 let step = leaf.add(continuation, line, first, gathering)?;
-                self.put(step)
+                self.put(step)?;
+                Ok(())
             }
             last => {
                 self.last = last;
@@ -421,105 +408,13 @@ impl Level {
             }
         }
     }
-
-    /// Puts what a line leaves of a leaf in place.
-    fn put(&mut self, step: LeafAfter) -> Result<(), AllocError>
-        ensures { OnOk result ((n : ℕ) → BlocksIn n (blocks_view self.old.over.items) → LeafAfterIn n step → LevelIn n self.new) }
-    {
-        push_found(&mut self.over, step.over)?;
-        self.last = match step.going {
-            Some(leaf) => OpenBlock::Leaf(leaf),
-            None => OpenBlock::Shut,
-        };
-        Ok(())
-    }
-
-    /// Reads a line that no open block takes.
-    #[tactic(auto, using(crate::proofs::Within::growing))]
-    pub(crate) fn begin(
-        &mut self,
-        line: &mut Line,
-        opening: Option<BlockStart>,
-        room: usize,
-        gathering: &mut Gathering,
-    ) -> Result<(), BlockFault>
-        requires level { LevelIn (length gathering.old.texts.items) self.old }
-        requires opening { IsBeginningOf line.old opening }
-        ensures within { OnOk result (LevelIn (length gathering.new.texts.items) self.new) }
-        ensures grows { length gathering.old.texts.items ≤ length gathering.new.texts.items }
-        ensures entities { gathering.new.entities.now ≡ gathering.old.entities.now }
-        ensures fault { IfErr result (λ fault. fault ≡ Failed → ⊥) }
-    {
-        let gap = self.begun && self.blank;
-        self.blank = line.is_blank();
-        if line.is_blank() {
-            return Ok(());
-        }
-        self.begun = true;
-        self.spaced = self.spaced || gap;
-        let alloc = gathering.alloc();
-        match opening {
-            Some(BlockStart::Quote) => {
-                block_quotes::take_marker(line);
-                let mut inner = Level::new(alloc, false);
-                inner.begin(line, beginning(line), deeper(room)?, gathering)?;
-                Ok(self.hold_quote(alloc, inner)?)
-            }
-            Some(BlockStart::Item(marker)) => {
-                let needed = lists::take_marker(line, marker);
-                let list = OpenList::new(alloc, marker, needed);
-                let mut inner = Level::new(alloc, true);
-                inner.begin(line, beginning(line), deeper(room)?, gathering)?;
-                Ok(self.hold_list(alloc, inner, list)?)
-            }
-            Some(BlockStart::Heading(heading)) => {
-                let block = headings::atx_heading(heading, line, gathering)?;
-                Ok(push_block(&mut self.over, block)?)
-            }
-            None => {
-                let paragraph = Paragraph::new(line, gathering)?;
-                self.last = OpenBlock::Leaf(Leaf::Paragraph(paragraph));
-                Ok(())
-            }
-            opening => {
-                let step = Leaf::begin(opening, line, gathering)?;
-                Ok(self.put(step)?)
-            }
-        }
-    }
-
-    /// Holds an open block quote of these blocks.
-    fn hold_quote(&mut self, alloc: Global, inner: Level) -> Result<(), AllocError>
-        ensures { OnOk result ((n : ℕ) → BlocksIn n (blocks_view self.old.over.items) → LevelIn n inner → LevelIn n self.new) }
-    {
-        self.last = OpenBlock::Quote(Box::new(alloc, inner)?);
-        Ok(())
-    }
-
-    /// Holds an open list whose last item has these blocks.
-    fn hold_list(&mut self, alloc: Global, inner: Level, list: OpenList) -> Result<(), AllocError>
-        ensures { OnOk result ((n : ℕ) → BlocksIn n (blocks_view self.old.over.items) → LevelIn n inner → ItemsIn n (items_view list.items.items)
-            → LevelIn n self.new) }
-    {
-        self.last = OpenBlock::List(Box::new(alloc, inner)?, list);
-        Ok(())
-    }
-}
-
-/// How a line continues where no block is open.
-fn outside_or_lazy(line: &Line) -> Continuation
-    ensures { IsContinuationOf line.now result }
-{
-    if line.is_lazy() {
-        return Continuation::Matched;
-    }
-    Continuation::Outside(beginning(line))
 }
 
 /// One container less may be opened inside.
-fn deeper(room: usize) -> Result<usize, BlockFault>
+pub(crate) fn deeper(room: usize) -> Result<usize, BlockFault>
     ensures less { IfOk result (λ less. less + 1 ≡ room) }
     ensures fault { IfErr result (λ fault. fault ≡ NestedTooDeep) }
+    ensures none { OnErr result (room ≡ 0) }
 {
     if room == 0 {
         return Err(BlockFault::NestedTooDeep);

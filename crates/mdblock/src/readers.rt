@@ -1,20 +1,25 @@
 //! The reading of a text line by line, and the handing out of its units.
 
-ghost use Rattle.std.specs.Prelude.{List, [], ℕ, ◌≡◌, ◌+◌, ◌*◌, ◌^◌, ◌<◌, ◌≤◌, false, true, None, Some, IfErr, IfOk, OnOk, OnErr, IsErrOf, is_some, length};
+ghost use Rattle.std.specs.Prelude.{List, [], ℕ, ◌≡◌, ◌+◌, ◌*◌, ◌^◌, ◌<◌, ◌≤◌, false, true, None, Some, IfErr, IfOk, OnOk, OnErr, IsErrOf, ◌∷◌, ◌++◌, is_some, length};
+ghost use Rattle.std.specs.Option.{option_to_list};
 ghost use Rattle.mdtext.specs.Counted.{counted};
-ghost use Rattle.mdblock.specs.declared.faults.BlockFault.TheVariants.{Failed};
+ghost use Rattle.mdblock.specs.declared.faults.BlockFault.TheVariants.{Failed, NestedTooDeep};
+ghost use Rattle.blockspec.specs.BlockLine.{document_line};
+ghost use Rattle.blockspec.specs.BlockUnits.{units};
+ghost use Rattle.blockspec.specs.Nesting.{first_too_deep};
+ghost use Rattle.blockspec.specs.SummaryDepth.{sinks};
 ghost use Rattle.mdblock.specs.held.Continuations.{IsBeginningOf};
 ghost use Rattle.mdblock.specs.held.HeldLevel.{HoldsSummary, GivesUnit};
 ghost use Rattle.blockspec.specs.LineSummary.{no_summary};
 ghost use Rattle.mdblock.specs.held.ReaderState.{AreKept, held_begin};
-ghost use Rattle.mdblock.specs.held.Reads.{Reads, open_begin};
+ghost use Rattle.mdblock.specs.held.Reads.{Reads, BeginsUnit, HandsOn, SinksBehind, handed, open_begin};
 ghost use Rattle.mdtext.specs.EntityTable.{EntityTable};
 
 use crate::block_starts::{BlockStart, beginning};
 use crate::faults::BlockFault;
 use crate::gathering::Gathering;
 use crate::lines::Line;
-use crate::open_blocks::{Continuation, Level};
+use crate::open_blocks::Level;
 use crate::units::Found;
 use mdtext::{Count, Entities};
 use std::alloc::{AllocError, Global};
@@ -85,6 +90,11 @@ impl<'e> Reader<'e> {
         ensures fault { OnErr result (self.new ≡ record self.old { held = None }) }
         ensures failed { self.old.held ≡ None → IsErrOf result Failed }
         ensures failed_before { IsErrOf result Failed → self.old.held ≡ None }
+        ensures reads { OnOk result ((limit : ℕ) (e : EntityTable) (ls : List (List ℕ)) → Reads limit e self.old ls → Reads limit e self.new (ls ++ text.now ∷ [])) }
+        ensures hands { IfOk result (λ found. (limit : ℕ) (e : EntityTable) (ls : List (List ℕ)) → Reads limit e self.old ls
+            → handed e (ls ++ text.now ∷ []) ≡ handed e ls ++ option_to_list found) }
+        ensures deep { IsErrOf result NestedTooDeep → (limit : ℕ) (e : EntityTable) (ls : List (List ℕ)) → Reads limit e self.old ls
+            → first_too_deep limit (ls ++ text.now ∷ []) ≡ Some (length ls) }
         ensures lines { C.lines count.new ≡ counted (C.lines count.old) }
         ensures inlines { C.inlines count.new ≡ C.inlines count.old }
     {
@@ -108,6 +118,8 @@ impl<'e> Reader<'e> {
     pub fn finish(self) -> Result<Option<Found>, BlockFault>
         ensures failed { self.entry.held ≡ None → IsErrOf result Failed }
         ensures failed_before { IsErrOf result Failed → self.entry.held ≡ None }
+        ensures hands { IfOk result (λ found. (limit : ℕ) (e : EntityTable) (ls : List (List ℕ)) → Reads limit e self.entry ls
+            → units e ls ≡ handed e ls ++ option_to_list found) }
     {
         let fed = self.fed;
         match self.held {
@@ -156,6 +168,8 @@ impl<'e> OpenUnit<'e> {
         requires kept { AreKept self.old }
         ensures kept { OnOk result (AreKept self.new) }
         ensures entities { OnOk result (self.new.gathering.entities.now ≡ self.old.gathering.entities.now) }
+        ensures next { IfOk result (λ found. HandsOn limit fed self.old (document_line text.now) found self.new) }
+        ensures deep { IsErrOf result NestedTooDeep → SinksBehind limit self.old (document_line text.now) }
         ensures fault { IfErr result (λ fault. fault ≡ Failed → ⊥) }
     {
         let mut line = Line::new(text);
@@ -171,10 +185,8 @@ impl<'e> OpenUnit<'e> {
             return Ok(None);
         }
         let continuation = self.level.continuation(&line);
-        if let Continuation::Outside(opening) = continuation {
-            if !line.is_blank() {
-                return self.begin_unit(&mut line, opening, fed, limit);
-            }
+        if continuation.begins_block(&line) {
+            return self.begin_unit(&mut line, continuation.opening(), fed, limit);
         }
         self.level
             .add(&mut line, continuation, limit, &mut self.gathering)?;
@@ -193,6 +205,8 @@ impl<'e> OpenUnit<'e> {
         requires opening { IsBeginningOf line.old opening }
         ensures kept { OnOk result (AreKept self.new) }
         ensures entities { OnOk result (self.new.gathering.entities.now ≡ self.old.gathering.entities.now) }
+        ensures begins { IfOk result (λ found. BeginsUnit limit fed self.old line.old found self.new) }
+        ensures deep { IsErrOf result NestedTooDeep → sinks limit no_summary line.old ≡ true }
         ensures fault { IfErr result (λ fault. fault ≡ Failed → ⊥) }
     {
         let found = self.take_unit(fed)?;

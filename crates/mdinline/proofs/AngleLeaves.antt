@@ -3,9 +3,8 @@ use Rattle.std.proofs.Common.{◌≡◌, ℕ, ◌+◌, ◌-◌, List, [], ◌∷
 use Rattle.mdtext.specs.EntityTable.{EntityTable}
 use Rattle.mdscan.specs.AutoLink.{autolink_at}
 use Rattle.mdscan.specs.RawHtml.{raw_html}
-use Rattle.mdscan.specs.declared.autolinks.Auto.{Auto}
 use Rattle.inlinespec.specs.InlineEvents.{RawHtml}
-use Rattle.inlinespec.specs.Lexing.{Lexeme, angle_lexeme, as_written, autolink_lexeme, leaf}
+use Rattle.inlinespec.specs.Lexing.{angle_lexeme, as_written, autolink_lexeme, leaf}
 
 none_mapped : {X Y : Type 0} (f : X → Y) (o : Option X) → None ≡ option_map f o → o ≡ None
 none_mapped f None e = refl

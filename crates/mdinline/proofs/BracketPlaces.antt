@@ -1,6 +1,7 @@
 -- Brackets that were read before a place.
 use Rattle.std.proofs.Common.{◌≡◌, ℕ, ◌+◌, ◌≤◌, List, [], ◌∷◌, ◌++◌, length, length-append, get_or, ap, ◌∙◌, subst, arith}
 use Rattle.std.proofs.lemmas.List.{get_or_append_left}
+use Rattle.std.proofs.Math.Seq.{get_or-append_seam}
 use Rattle.mdscan.specs.Spans.{IsEndAfter}
 use Rattle.mdinline.specs.held.Brackets.{IsBehindBracket, AreBracketsOf, IsLinkEnd}
 use Rattle.mdinline.specs.declared.bracket_stack.Opening.{Opening}
@@ -17,3 +18,9 @@ pub brackets_left : (text : List ℕ) (at : ℕ) (old new : List Opening) (o : O
 brackets_left text at old new o e h = λ k d lt.
     subst (λ x. IsBehindBracket text at x.begin) (ap (λ xs. get_or xs k d) e ∙ get_or_append_left new (o ∷ []) d k lt)
     (h k d (let long : length old ≡ length (new ++ o ∷ []) = ap (λ xs. length xs) e in omega (arith, long, length-append new (o ∷ []), lt)))
+
+-- and stands behind the place as well
+pub last_bracket : (text : List ℕ) (at : ℕ) (old new : List Opening) (o : Opening) → old ≡ new ++ o ∷ [] → AreBracketsOf text at old → IsBehindBracket text at o.begin
+last_bracket text at old new o e h =
+    subst (λ x. IsBehindBracket text at x.begin) (ap (λ xs. get_or xs (length new) o) e ∙ get_or-append_seam new o [] o)
+    (h (length new) o (let long : length old ≡ length (new ++ o ∷ []) = ap (λ xs. length xs) e in omega (arith, long, length-append new (o ∷ []))))

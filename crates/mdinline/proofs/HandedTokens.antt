@@ -1,5 +1,5 @@
 -- Tokens that are handed out one after the other.
-use Rattle.std.proofs.Common.{◌≡◌, ℕ, zero, suc, ◌+◌, ◌-◌, ◌<◌, List, [], ◌∷◌, ◌++◌, length, drop, replicate, Some, None, refl, ap, sym, ◌∙◌, arith, add-one, append_assoc, append-nil, drop-cons, get_or, ◌≤◌}
+use Rattle.std.proofs.Common.{◌≡◌, ℕ, zero, suc, ◌+◌, ◌-◌, ◌<◌, List, [], ◌∷◌, ◌++◌, length, drop, replicate, Some, refl, ap, sym, ◌∙◌, arith, add-one, append_assoc, append-nil, drop-cons, get_or, ◌≤◌}
 use Rattle.std.proofs.lemmas.List.{drop_all}
 use Rattle.mdtext.specs.EntityTable.{EntityTable}
 use Rattle.mdinline.specs.declared.tokens.Token.{Token}

@@ -13,6 +13,16 @@ pub mod NearestOpeners
 pub mod PaddedCode
 pub mod PairedMatches
 pub mod PlainTokens
+pub mod ReadAsked
+pub mod ReadHanded
+pub mod ReadHolding
+pub mod ReadLeaf
+pub mod ReadLinked
+pub mod ReadMarks
+pub mod ReadPaired
+pub mod ReadPending
+pub mod ReadState
+pub mod ReadSteps
 pub mod RunTokens
 pub mod SeenInlines
 pub mod SignItems

@@ -7,6 +7,11 @@ pub mod LeafEvents
 pub mod LongTags
 pub mod PairedRuns
 pub mod PlainText
+pub mod ReadMarks
+pub mod ReadPending
+pub mod ReadState
+pub mod ReadSteps
+pub mod ReadTo
 pub mod Recognised
 pub mod StoredTree
 pub mod Ticks

@@ -1,11 +1,12 @@
 //! Autolinks (CommonMark 6.5).
 
-ghost use Rattle.std.specs.Prelude.{◌≡◌, ◌-◌, ◌<◌, IfSome, length, option_map, slice_index};
+ghost use Rattle.std.specs.Prelude.{◌≡◌, ◌-◌, ◌<◌, IfSome, length, option_map, slice_index, true};
 ghost use Rattle.mdtext.specs.EntityTable.{EntityTable};
 ghost use Rattle.mdscan.specs.AutoLink.{autolink_at};
 ghost use Rattle.mdscan.specs.Spans.{IsEndAfter};
 ghost use Rattle.inlinespec.specs.Lexing.{autolink_lexeme};
 ghost use Rattle.mdinline.specs.held.LeafEvents.{IsTokenOf};
+ghost use Rattle.mdinline.specs.held.ReadPending.{is_leaf};
 ghost use Rattle.mdinline.specs.held.Recognised.{lexeme_of};
 
 use crate::scanner::{Found, leaf_of};
@@ -18,6 +19,7 @@ pub(crate) fn autolink_found(text: &str, at: usize) -> Option<Found<'static>>
     requires mark { slice_index text.now at < 128 }
     ensures end { IfSome result (λ found. IsEndAfter text.now at found.end) }
     ensures token { IfSome result (λ found. IsTokenOf text.now found.token) }
+    ensures leaf { IfSome result (λ found. is_leaf found.token ≡ true) }
     ensures value { (entities : EntityTable) → option_map (λ found. lexeme_of entities text.now at found) result
         ≡ option_map (λ auto. autolink_lexeme entities text.now at auto) (autolink_at text.now at) }
 {

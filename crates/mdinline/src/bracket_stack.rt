@@ -115,6 +115,7 @@ impl BracketStack {
     pub(crate) fn take(&mut self) -> Option<(Opening, bool)>
         ensures unused { MatchOption result (self.new.unused.items ≡ self.old.unused.items)
             (λ taken. self.old.unused.items ≡ self.new.unused.items ++ taken.0 ∷ []) }
+        ensures empty { result ≡ None → self.old.unused.items ≡ [] }
         ensures taken { (ps : List Piece) → AreOpenersOf ps self.old
             → MatchOption result (nearest_opener ps ≡ None) (λ taken. (o : Opened) × IsTaken ps taken o) }
         ensures left { (ps : List Piece) → AreOpenersOf ps self.old → AreOpenersOf (spent ps) self.new }

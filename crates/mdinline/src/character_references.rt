@@ -1,6 +1,6 @@
 //! Entity and numeric character references (CommonMark 2.5).
 
-ghost use Rattle.std.specs.Prelude.{◌≡◌, ◌+◌, ◌<◌, ◌++◌, IfOk, OnOk, IfSome, length, drop, slice_index, option_map, string_bytes};
+ghost use Rattle.std.specs.Prelude.{◌≡◌, ◌+◌, ◌<◌, ◌++◌, IfOk, OnOk, IfSome, length, drop, slice_index, option_map, string_bytes, true};
 ghost use Rattle.std.specs.Str.{IsCharBoundary};
 ghost use Rattle.mdtext.specs.References.{added, reference, reference_or};
 ghost use Rattle.mdtext.specs.Referents.{meaning_of, referent_text};
@@ -8,6 +8,7 @@ ghost use Rattle.mdscan.specs.Spans.{IsEndAfter};
 ghost use Rattle.inlinespec.specs.AutolinkText.{without_references};
 ghost use Rattle.inlinespec.specs.Lexing.{reference_lexeme};
 ghost use Rattle.mdinline.specs.held.LeafEvents.{IsTokenOf};
+ghost use Rattle.mdinline.specs.held.ReadPending.{is_leaf};
 ghost use Rattle.mdinline.specs.held.Recognised.{IsFound};
 
 use crate::scanner::{Found, leaf_of};
@@ -21,6 +22,7 @@ pub(crate) fn reference<'a>(text: &str, at: usize, entities: &'a Entities) -> Op
     requires mark { slice_index text.now at < 128 }
     ensures end { IfSome result (λ found. IsEndAfter text.now at found.end) }
     ensures token { IfSome result (λ found. IsTokenOf text.now found.token) }
+    ensures leaf { IfSome result (λ found. is_leaf found.token ≡ true) }
     ensures value { IsFound entities.now text.now at (reference_lexeme (drop at text.now) (reference entities.now (drop (at + 1) text.now))) result }
 {
     match reference_at(text, at, entities) {

@@ -13,6 +13,7 @@ ghost use Rattle.mdinline.specs.held.BacktickTable.{HoldsLast, KnowsStrings};
 ghost use Rattle.inlinespec.specs.CodeSpans.{as_one_line, before_backticks, code_inside, is_padded, is_space_or_feed, unpadded};
 ghost use Rattle.inlinespec.specs.Lexing.{code_lexeme};
 ghost use Rattle.mdinline.specs.held.LeafEvents.{IsTokenOf};
+ghost use Rattle.mdinline.specs.held.ReadPending.{is_leaf};
 ghost use Rattle.mdinline.specs.held.Recognised.{IsFound};
 ghost use Rattle.mdinline.specs.held.Ticks.{AreTicksFrom};
 
@@ -56,6 +57,7 @@ impl Backticks {
         requires mark { slice_index text.now at < 128 }
         ensures end { IfOk result (λ found. IfSome found (λ found. IsEndAfter text.now at found.end)) }
         ensures token { slice_index text.now at ≡ 96 → IfOk result (λ found. IfSome found (λ found. IsTokenOf text.now found.token)) }
+        ensures leaf { IfOk result (λ found. IfSome found (λ found. is_leaf found.token ≡ true)) }
         ensures value { slice_index text.now at ≡ 96 → KnowsStrings text.now self.old
             → IfOk result (λ found. (entities : EntityTable)
             → IsFound entities text.now at (code_lexeme (drop at text.now) (code_inside (drop at text.now))) found) }

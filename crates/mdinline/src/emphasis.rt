@@ -45,8 +45,9 @@ pub(crate) fn take_all(
     begun: &mut Vec<Begun>,
     matches: &[Match],
 ) -> Result<(), AllocError>
-    ensures { OnOk result ((rs : List DelimiterRun) → All (IsOrdered (length rs)) matches.now → ArePaired begun.old.items [] rs runs.old.items
+    ensures paired { OnOk result ((rs : List DelimiterRun) → All (IsOrdered (length rs)) matches.now → ArePaired begun.old.items [] rs runs.old.items
         → ArePaired begun.new.items matches.now rs runs.new.items) }
+    ensures begun { OnOk result ((more : List Held) × (begun.new.items ≡ begun.old.items ++ more)) }
 {
     for matched in matches {
         take(runs, begun, matched)?;
@@ -59,8 +60,9 @@ fn take(
     begun: &mut Vec<Begun>,
     matched: &Match,
 ) -> Result<(), AllocError>
-    ensures { OnOk result ((front : List Match) (rs : List DelimiterRun) → IsOrdered (length rs) matched.now → length front + 1 < 2 ^ 64
+    ensures paired { OnOk result ((front : List Match) (rs : List DelimiterRun) → IsOrdered (length rs) matched.now → length front + 1 < 2 ^ 64
         → ArePaired begun.old.items front rs runs.old.items → ArePaired begun.new.items (front ++ matched.now ∷ []) rs runs.new.items) }
+    ensures begun { OnOk result ((more : List Held) × (begun.new.items ≡ begun.old.items ++ more)) }
 {
     if matched.opener < runs.len() {
         begin_span(&mut runs[matched.opener], begun, matched.width)?;

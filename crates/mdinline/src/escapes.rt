@@ -1,10 +1,11 @@
 //! Backslash escapes (CommonMark 2.4).
 
-ghost use Rattle.std.specs.Prelude.{◌≡◌, ◌<◌, IfSome, length, drop, slice_index};
+ghost use Rattle.std.specs.Prelude.{◌≡◌, ◌<◌, IfSome, length, drop, slice_index, true};
 ghost use Rattle.mdtext.specs.EntityTable.{EntityTable};
 ghost use Rattle.mdscan.specs.Spans.{IsEndAfter};
 ghost use Rattle.inlinespec.specs.Lexing.{escape_lexeme};
 ghost use Rattle.mdinline.specs.held.LeafEvents.{IsTokenOf};
+ghost use Rattle.mdinline.specs.held.ReadPending.{is_leaf};
 ghost use Rattle.mdinline.specs.held.Recognised.{IsFound};
 
 use crate::line_breaks::past_break;
@@ -18,6 +19,7 @@ pub(crate) fn escape(text: &str, at: usize) -> Option<Found<'static>>
     requires mark { slice_index text.now at < 128 }
     ensures end { IfSome result (λ found. IsEndAfter text.now at found.end) }
     ensures token { IfSome result (λ found. IsTokenOf text.now found.token) }
+    ensures leaf { IfSome result (λ found. is_leaf found.token ≡ true) }
     ensures value { slice_index text.now at ≡ 92 → (entities : EntityTable) → IsFound entities text.now at (escape_lexeme (drop at text.now)) result }
 {
     let bytes = text.as_bytes();

@@ -16,6 +16,7 @@ mod labels;
 mod line_breaks;
 mod links;
 mod parsed;
+mod pending;
 mod raw_html;
 mod readers;
 mod reading;

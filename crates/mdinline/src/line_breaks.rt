@@ -1,11 +1,12 @@
 //! Hard and soft line breaks (CommonMark 6.7, 6.8).
 
-ghost use Rattle.std.specs.Prelude.{◌≡◌, ◌+◌, ◌<◌, ◌≤◌, IfSome, length, drop, slice_index};
+ghost use Rattle.std.specs.Prelude.{◌≡◌, ◌+◌, ◌<◌, ◌≤◌, IfSome, length, drop, slice_index, true};
 ghost use Rattle.mdtext.specs.EntityTable.{EntityTable};
 ghost use Rattle.mdscan.specs.Spans.{IsEndAfter};
 ghost use Rattle.inlinespec.specs.Lexing.{break_or_written};
 ghost use Rattle.inlinespec.specs.LineBreaks.{spaces, spaced_break};
 ghost use Rattle.mdinline.specs.held.LeafEvents.{IsTokenOf};
+ghost use Rattle.mdinline.specs.held.ReadPending.{is_leaf};
 ghost use Rattle.mdinline.specs.held.Recognised.{IsFound};
 
 use crate::scanner::{Found, leaf_of};
@@ -17,6 +18,7 @@ pub(crate) fn line_break(text: &str, at: usize) -> Option<Found<'static>>
     requires inside { at < length text.now }
     ensures end { IfSome result (λ found. IsEndAfter text.now at found.end) }
     ensures token { IfSome result (λ found. IsTokenOf text.now found.token) }
+    ensures leaf { IfSome result (λ found. is_leaf found.token ≡ true) }
     ensures value { (entities : EntityTable) → IsFound entities text.now at (break_or_written (drop at text.now) (spaced_break (drop at text.now))) result }
 {
     let bytes = text.as_bytes();

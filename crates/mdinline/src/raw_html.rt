@@ -1,6 +1,6 @@
 //! Raw HTML, and what a `<` begins (CommonMark 6.5, 6.6).
 
-ghost use Rattle.std.specs.Prelude.{◌≡◌, ◌+◌, ◌<◌, ℕ, List, None, IfSome, length, drop, slice_index, option_map};
+ghost use Rattle.std.specs.Prelude.{◌≡◌, ◌+◌, ◌<◌, ℕ, List, None, IfSome, length, drop, slice_index, option_map, true};
 ghost use Rattle.std.specs.Char.{is_ascii_alphabetic};
 ghost use Rattle.mdtext.specs.EntityTable.{EntityTable};
 ghost use Rattle.mdscan.specs.AutoLink.{autolink_at};
@@ -9,6 +9,7 @@ ghost use Rattle.mdscan.specs.RawHtml.{place_of, raw_html};
 ghost use Rattle.mdscan.specs.Spans.{IsEndAfter, EndsAfterMark};
 ghost use Rattle.inlinespec.specs.Lexing.{angle_lexeme};
 ghost use Rattle.mdinline.specs.held.LeafEvents.{IsTokenOf};
+ghost use Rattle.mdinline.specs.held.ReadPending.{is_leaf};
 ghost use Rattle.mdinline.specs.held.LongTags.{BeginsTag, FollowsMark, KnowsEnds, close_text, is_endless};
 ghost use Rattle.mdinline.specs.held.Recognised.{IsFound};
 
@@ -53,6 +54,7 @@ impl EndlessTags {
         requires mark { slice_index text.now at < 128 }
         ensures end { IfSome result (λ found. IsEndAfter text.now at found.end) }
         ensures token { IfSome result (λ found. IsTokenOf text.now found.token) }
+        ensures leaf { IfSome result (λ found. is_leaf found.token ≡ true) }
         ensures value { slice_index text.now at ≡ 60 → KnowsEnds text.now at self.old
             → (entities : EntityTable)
             → IsFound entities text.now at (angle_lexeme entities text.now at (autolink_at text.now at) (raw_html (drop at text.now))) result }

@@ -1,6 +1,7 @@
 //! The reading of a text as a tree.
 
-ghost use Rattle.std.specs.Prelude.{◌≡◌, ◌≤◌};
+ghost use Rattle.std.specs.Prelude.{◌≡◌, ◌≤◌, IfOk};
+ghost use Rattle.inlinespec.specs.TextTree.{asked};
 ghost use Rattle.mdtext.specs.Counted.{counted};
 
 use crate::asked::{Asked, AskedSet};
@@ -28,6 +29,7 @@ pub fn read<L: Labels, C: Count>(
     requires most { limit ≤ 256 }
     ensures inlines { C.inlines count.new ≡ counted (C.inlines count.old) }
     ensures lines { C.lines count.new ≡ C.lines count.old }
+    ensures asked { IfOk result (λ parsed. parsed.asked ≡ asked entities.now (L.target labels.now) text.now) }
 {
     count.inline();
     let mut reader = TextReader::new(alloc, entities, limit);

@@ -8,6 +8,7 @@ ghost use Rattle.mdscan.specs.Spans.{IsEndAfter, EndsAfterMark};
 ghost use Rattle.inlinespec.specs.InlineEvents.{written};
 ghost use Rattle.inlinespec.specs.Lexing.{as_written};
 ghost use Rattle.mdinline.specs.held.LeafEvents.{IsTokenOf, leaf_events};
+ghost use Rattle.mdinline.specs.held.ReadPending.{is_leaf};
 ghost use Rattle.mdinline.specs.held.PlainText.{IsWritten, is_escaped, is_stop};
 ghost use Rattle.mdinline.specs.held.Recognised.{lexeme_of};
 
@@ -22,6 +23,7 @@ pub(crate) fn byte_token(text: &str, at: usize) -> Token<'static>
     requires inside { at < length text.now }
     requires mark { slice_index text.now at < 128 }
     ensures token { IsTokenOf text.now result }
+    ensures leaf { is_leaf result ≡ true }
     ensures value { (entities : EntityTable) → leaf_events entities text.now result ≡ written (take 1 (drop at text.now)) }
 {
     let span = Span {
@@ -49,6 +51,7 @@ pub(crate) fn plain(text: &str, at: usize) -> Found<'static>
     requires inside { at < length text.now }
     ensures end { IsEndAfter text.now at result.end }
     ensures token { IsTokenOf text.now result.token }
+    ensures leaf { is_leaf result.token ≡ true }
     ensures value { (entities : EntityTable) → lexeme_of entities text.now at result ≡ as_written (result.end - at) (drop at text.now) }
     ensures rest { IsWritten text.now (at + 1) result.end }
 {

@@ -1,5 +1,6 @@
 pub mod BottomKept
 pub mod Characters
+pub mod IdleRuns
 pub mod OrderedMatches
 pub mod RunEnds
 pub mod Sweep

@@ -204,7 +204,7 @@ taken_less c o passed below rest p q found =
           (pushed_left c.place (c.left - w) c.run rest (λ t some. absurd (omega (arith, closer_whole c.run o.left c.left q.0.1 t))) q.1),
     )
 
-match_less : (passed rest : List Remaining) (t : Match) (next : List Remaining) → AllByRecursion IsLeft passed → AllByRecursion IsLeft rest →
+pub match_less : (passed rest : List Remaining) (t : Match) (next : List Remaining) → AllByRecursion IsLeft passed → AllByRecursion IsLeft rest →
     first_match passed rest ≡ Some (t, next) → IsLess passed rest next
 match_less passed [] t next p q e = cc
 match_less passed (c ∷ rest) t next p q e =
@@ -229,7 +229,7 @@ rewrites_few ls [] end p h = omega arith
 rewrites_few ls (t ∷ ts) end p h =
     let less = match_less [] ls t h.0 tt p h.1 in omega (arith, less.0, rewrites_few h.0 ts end less.1 h.2)
 
-whole_left : (n : ℕ) (rs : List DelimiterRun) → AllByRecursion IsLeft (whole n rs)
+pub whole_left : (n : ℕ) (rs : List DelimiterRun) → AllByRecursion IsLeft (whole n rs)
 whole_left n [] = tt
 whole_left n (r ∷ rs) = pushed_left n r.length r (whole (n + 1) rs) (λ _ _. refl) (whole_left (n + 1) rs)
 

@@ -1,7 +1,7 @@
 //! `mdrender`: writes the HTML of a Markdown text.
 #![tactic(auto)]
 
-use mdtool::{ReadFeed, Stop, ToolFault, WriteOut, convert, ended, entities_of, opened, words_of};
+use mdtool::{ReadFeed, Stop, ToolFault, WriteOut, convert, ended, entities_of, opened, prelude_of, words_of};
 use std::io::BufWriter;
 use std::process::ExitCode;
 
@@ -12,6 +12,7 @@ fn main(rt: HostRuntime) -> ExitCode {
 fn run(rt: &HostRuntime) -> Result<(), Stop> {
     let words = words_of(rt, "mdrender")?;
     let entities = entities_of(rt, &words)?;
+    let prelude = prelude_of(rt, &words)?;
     let Ok(writer) = BufWriter::new(rt.alloc(), rt.stdout()) else {
         return Err(Stop::Tool(ToolFault::NoMemory));
     };
@@ -19,11 +20,11 @@ fn run(rt: &HostRuntime) -> Result<(), Stop> {
     let end = match &words.file {
         Some(name) => {
             let mut feed = opened(rt, name)?;
-            convert(rt.alloc(), &mut feed, &mut out, entities, words.options)
+            convert(rt.alloc(), &mut feed, &mut out, entities, words.options, &prelude)
         }
         None => {
             let mut feed = ReadFeed::new(rt.stdin());
-            convert(rt.alloc(), &mut feed, &mut out, entities, words.options)
+            convert(rt.alloc(), &mut feed, &mut out, entities, words.options, &prelude)
         }
     };
     end.map_err(Stop::Tool)

@@ -4,7 +4,8 @@ use Rattle.std.proofs.Math.Seq.{take-append_seam}
 use Rattle.std.proofs.lemmas.Bool.Decides.{nat_tests}
 use Rattle.mdtool.specs.declared.fault.ToolFault.{ToolFault}
 use Rattle.mdtool.specs.declared.fault.ToolFault.TheVariants.{Read, Write, Refused, BadCommand, Truncated, Table, NoMemory}
-use Rattle.mdtool.specs.Commands.{Command, Html, Edit, HtmlHead, EditHead, Stop, Open, Bad, head_of, first_command, stop_of, stop_at, script_lines, capped}
+use Rattle.mdtool.specs.Commands.{Command, Html, Change, Head, HtmlHead, Stop, Open, Bad, head_of, command_of, with_texts, first_command, stop_of, stop_at, script_lines, capped}
+use Rattle.viewspec.specs.Calls.{Call}
 use Rattle.mdtool.specs.Pending.{Pending, MayFollow, Reads, Draws, HasLine, IsOver, used}
 use Rattle.mdtool.specs.Steps.{Steps, StopsAt, ReadsCommand, FewLines, ReadsTexts, NextCommand}
 use Rattle.mdtool.proofs.Readings.{reads_on, reads_line}
@@ -62,31 +63,37 @@ bad_stops a c o n line number read none is =
     stops a c o n (line ∷ []) (line ∷ rest) (Bad number) read refl (rw none refl)
     (ap Bad is ∙ sym (stop_cons n.is_ended (capped (o.lines + 1)) line rest ∙ ap (λ h. stop_of h n.is_ended (capped (o.lines + 1))) none))
 
-pub few_stops : (a b c : Option (List ℕ)) (o p n : Pending) (line : List ℕ) (at del add : ℕ) (ended : Bool) → Reads a o (line ∷ []) b p
-    → head_of line ≡ Some (EditHead at del add) → FewLines b p c n ended add → StopsAt a o c (stop_of (Some (EditHead at del add)) ended (capped (o.lines + 1)))
-few_stops a b c o p n line at del add ended read head few =
+-- fewer lines stand below a head than it asks for
+pub few_stops : (a b c : Option (List ℕ)) (o p n : Pending) (line : List ℕ) (head : Head) (call : List (List ℕ) → Call) (add : ℕ) (ended : Bool) → Reads a o (line ∷ []) b p
+    → head_of line ≡ Some head → ((lines : List (List ℕ)) → command_of (Some head) lines ≡ with_texts add call lines) → FewLines b p c n ended add
+    → StopsAt a o c (stop_of (Some head) ended (capped (o.lines + 1)))
+few_stops a b c o p n line head call add ended read is asks few =
     let not_all : leb add (length few.lines) ≡ false = grind (arith, nat_tests, few.few) in
     let rest : script_lines n.is_ended n.bytes ≡ [] = ap (λ e. script_lines e n.bytes) few.over.is_ended ∙ few.over.no_line in
+    let none : with_texts add call few.lines ≡ None = rw not_all refl in
     stops a c o n (line ∷ few.lines) (line ∷ few.lines) _ (reads_on a b c o p n (line ∷ []) few.lines read few.reads)
     (ap (λ ls. line ∷ (few.lines ++ ls)) rest ∙ ap (λ ls. line ∷ ls) (append-nil few.lines))
-    (rw (head, not_all) refl)
-    (sym (stop_cons n.is_ended (capped (o.lines + 1)) line few.lines ∙ ap (λ h. stop_of h n.is_ended (capped (o.lines + 1))) head ∙ ap (λ e. stop_of (Some (EditHead at del add)) e (capped (o.lines + 1))) few.over.is_ended))
+    (ap (λ h. command_of h few.lines) is ∙ asks few.lines ∙ none)
+    (sym (stop_cons n.is_ended (capped (o.lines + 1)) line few.lines ∙ ap (λ h. stop_of h n.is_ended (capped (o.lines + 1))) is ∙ ap (λ e. stop_of (Some head) e (capped (o.lines + 1))) few.over.is_ended))
 
 pub html_read : (a c : Option (List ℕ)) (o n : Pending) (line : List ℕ) → Reads a o (line ∷ []) c n → head_of line ≡ Some HtmlHead → ReadsCommand a o c n Html
 html_read a c o n line read head = record { lines = line ∷ []; reads = read; first = λ rest. rw head refl }
 
-pub edit_read : (a b c : Option (List ℕ)) (o p n : Pending) (line : List ℕ) (at del add : ℕ) (texts : Vec (String Global) Global) → Reads a o (line ∷ []) b p
-    → head_of line ≡ Some (EditHead at del add) → ReadsTexts b p c n add texts
-    → ReadsCommand a o c n (Edit (record { at = at; del = del; add = map string_bytes texts.items }))
-edit_read a b c o p n line at del add texts read head more = record {
+-- the lines stand below it
+pub texts_read : (a b c : Option (List ℕ)) (o p n : Pending) (line : List ℕ) (head : Head) (call : List (List ℕ) → Call) (add : ℕ) (texts : Vec (String Global) Global) → Reads a o (line ∷ []) b p
+    → head_of line ≡ Some head → ((lines : List (List ℕ)) → command_of (Some head) lines ≡ with_texts add call lines) → ReadsTexts b p c n add texts
+    → ReadsCommand a o c n (Change (call (map string_bytes texts.items)))
+texts_read a b c o p n line head call add texts read is asks more = record {
   lines = line ∷ more.lines;
   reads = reads_on a b c o p n (line ∷ []) more.lines read more.reads;
   first = λ rest.
       let enough : leb add (length (more.lines ++ rest)) ≡ true = grind (arith, nat_tests, more.all, length-append more.lines rest) in
       let front : take add (more.lines ++ rest) ≡ more.lines = ap (λ k. take k (more.lines ++ rest)) (sym more.all) ∙ take-append_seam more.lines rest in
       let size : add + 1 ≡ length (line ∷ more.lines) = omega (arith, more.all) in
-      let F : List (List ℕ) → ℕ → Option (Command × ℕ) = λ ls k. Some (Edit (record { at = at; del = del; add = ls }), k) in
-      rw (head, enough, front) (ap (λ ls. F ls (add + 1)) (sym more.texts_are) ∙ ap (F (map string_bytes texts.items)) size);
+      let F : List (List ℕ) → ℕ → Option (Command × ℕ) = λ ls k. Some (Change (call ls), k) in
+      let all : with_texts add call (more.lines ++ rest) ≡ F (map string_bytes texts.items) (length (line ∷ more.lines)) =
+      rw (enough, front) (ap (λ ls. F ls (add + 1)) (sym more.texts_are) ∙ ap (F (map string_bytes texts.items)) size) in
+      ap (λ h. command_of h (more.lines ++ rest)) is ∙ asks (more.lines ++ rest) ∙ all;
 }
 
 -- the step that fails where a command is read

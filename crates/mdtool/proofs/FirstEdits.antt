@@ -2,18 +2,20 @@
 use Rattle.std.proofs.Common.{◌≡◌, ℕ, ◌+◌, Bool, true, false, List, [], ◌∷◌, ◌++◌, Option, Some, None, Err, map, refl, ap, ◌∙◌, cond, ◌&&◌, ◌||◌, eqb, eqb-true, append-nil, length}
 use Rattle.std.specs.List.{list_any}
 use Rattle.mdtext.specs.Lines.{clean_byte, without_nul, without_mark, begins_with_lf, at_front, split_lines, text_lines}
-use Rattle.mdhtml.specs.declared.options.Options.{Options}
 use Rattle.mdview.specs.declared.fault.EditFault.{EditFault}
-use Rattle.mdview.specs.declared.fault.EditFault.TheVariants.{OutOfRange, BreakInLine, TooManyLines, TooLarge, NestedTooDeep, InlineTooDeep, NoMemory}
+use Rattle.mdview.specs.declared.fault.EditFault.TheVariants.{OutOfRange, BreakInLine, TooManyLines, TooLarge, NestedTooDeep, InlineTooDeep, NoMemory, NotDefinitions}
 use Rattle.mdtool.specs.declared.fault.ToolFault.TheVariants.{Refused}
-use Rattle.mdview.specs.Document.{Document, document}
+use Rattle.mdview.specs.Document.{Document}
+use Rattle.mdview.specs.Preludes.{HeldPrelude}
 use Rattle.mdview.specs.Edit.{due, due_of_text, refusal, put, has_line_ending, first_with_ending}
 use Rattle.mdview.specs.HeldUnit.{ReadUnit, unit_piece}
 use Rattle.mdview.specs.Outcome.{outcome_due}
 use Rattle.mdview.specs.ReadingEnd.{ReadingEnd, read, nested, too_deep, starved}
 use Rattle.viewspec.specs.ChangedPieces.{ChangedPieces}
 use Rattle.mdbatch.specs.BatchHtml.{TextHtml, UnitsHtml}
-use Rattle.mdtool.specs.Convert.{whole_text, Accepts, Refuses, HasHtml, WholeHtml, refusal_of}
+use Rattle.mdtool.specs.Convert.{whole_text, Accepts, Refuses, HasHtml, WholeHtml}
+use Rattle.mdtool.specs.PreludeSet.{beside}
+use Rattle.mdtool.specs.ToolRefusals.{refusal_of}
 
 ends_line : ℕ → Bool
 ends_line byte = eqb byte 10 || eqb byte 13
@@ -85,43 +87,44 @@ due_is_refusal text =
     ∙ ap refusal (append-nil (map without_nul (text_lines text)) ∙ all_clean lines)
 
 -- the edit is accepted where none is due, by the reading with these units
-accepts : (entities : List (List ℕ × List ℕ)) (options : Options) (text : List ℕ) (units : List ReadUnit) → refusal (text_lines text) ≡ None
-    → Accepts (document entities options [] 0 []) (text_lines text) (map (unit_piece options) units)
-accepts entities options text units e =
-    let empty : Document = document entities options [] 0 [] in
+accepts : (empty : Document) (prelude : HeldPrelude) (text : List ℕ) (units : List ReadUnit) → refusal (text_lines text) ≡ None
+    → Accepts (beside empty prelude) (text_lines text) (map (unit_piece empty.options) units)
+accepts empty prelude text units e =
+    let held : Document = beside empty prelude in
     let patch : ChangedPieces = record { first = 0; removed = 0; added = length units; again = [] } in
     let none = due_is_refusal text ∙ e in
     record {
-      reading = read patch 0 units;
+      reading = read patch 0 units [];
       patch = patch;
-      answer = ap (λ d. (outcome_due d empty (whole_text (text_lines text)) (read patch 0 units)).0) none;
-      held = ap (λ d. (outcome_due d empty (whole_text (text_lines text)) (read patch 0 units)).1.pieces) none;
+      answer = ap (λ d. (outcome_due d held (whole_text (text_lines text)) (read patch 0 units [])).0) none;
+      held = ap (λ d. (outcome_due d held (whole_text (text_lines text)) (read patch 0 units [])).1.pieces) none;
     }
 
-refuses : (entities : List (List ℕ × List ℕ)) (options : Options) (text : List ℕ) (reading : ReadingEnd) (fault : EditFault) (d : Option EditFault) → refusal (text_lines text) ≡ d
-    → (outcome_due d (document entities options [] 0 []) (whole_text (text_lines text)) reading).0 ≡ Err fault → refusal_of fault ≡ Refused fault
-    → Refuses (document entities options [] 0 []) (text_lines text) fault
-refuses entities options text reading fault d e answer refused =
-    let empty : Document = document entities options [] 0 [] in
+refuses : (empty : Document) (prelude : HeldPrelude) (text : List ℕ) (reading : ReadingEnd) (fault : EditFault) (d : Option EditFault) → refusal (text_lines text) ≡ d
+    → (outcome_due d (beside empty prelude) (whole_text (text_lines text)) reading).0 ≡ Err fault → refusal_of fault ≡ Refused fault
+    → Refuses (beside empty prelude) (text_lines text) fault
+refuses empty prelude text reading fault d e answer refused =
+    let held : Document = beside empty prelude in
     record {
       reading = reading;
-      answer = ap (λ d. (outcome_due d empty (whole_text (text_lines text)) reading).0) (due_is_refusal text ∙ e) ∙ answer;
+      answer = ap (λ d. (outcome_due d held (whole_text (text_lines text)) reading).0) (due_is_refusal text ∙ e) ∙ answer;
       refusal = refused;
     }
 
--- the HTML of a text is that of an empty preview after the edit that brings it
-pub has_html : (entities : List (List ℕ × List ℕ)) (options : Options) (text html : List ℕ) → refusal (text_lines text) ≡ None → UnitsHtml options html
-    → HasHtml (document entities options [] 0 []) (text_lines text) html
-has_html entities options text html e is =
-    record { pieces = map (unit_piece options) is.units; accepted = accepts entities options text is.units e; html_is = is.written }
+-- the HTML of a text is that of a preview with its prelude after the edit that brings it
+pub has_html : (empty : Document) (prelude : HeldPrelude) (text html : List ℕ) → refusal (text_lines text) ≡ None → UnitsHtml empty.options html
+    → HasHtml (beside empty prelude) (text_lines text) html
+has_html empty prelude text html e is =
+    record { pieces = map (unit_piece empty.options) is.units; accepted = accepts empty prelude text is.units e; html_is = is.written }
 
 -- and so is its refusal
-pub is_refused : (entities : List (List ℕ × List ℕ)) (options : Options) (text : List ℕ) (fault : EditFault) → TextHtml (Err fault) options text
-    → WholeHtml (Err (refusal_of fault)) (document entities options [] 0 []) (text_lines text)
-is_refused entities options text TooManyLines h = refuses entities options text starved TooManyLines _ h refl refl
-is_refused entities options text TooLarge h = refuses entities options text starved TooLarge _ h refl refl
-is_refused entities options text (NestedTooDeep line) h = refuses entities options text (nested line) (NestedTooDeep line) _ h refl refl
-is_refused entities options text (InlineTooDeep line) h = refuses entities options text (too_deep line) (InlineTooDeep line) _ h refl refl
-is_refused entities options text NoMemory h = tt
-is_refused entities options text (OutOfRange lines) h = absurd h
-is_refused entities options text (BreakInLine index) h = absurd h
+pub is_refused : (empty : Document) (prelude : HeldPrelude) (text : List ℕ) (fault : EditFault) → TextHtml (Err fault) empty.options text
+    → WholeHtml (Err (refusal_of fault)) (beside empty prelude) (text_lines text)
+is_refused empty prelude text TooManyLines h = refuses empty prelude text starved TooManyLines _ h refl refl
+is_refused empty prelude text TooLarge h = refuses empty prelude text starved TooLarge _ h refl refl
+is_refused empty prelude text (NestedTooDeep line) h = refuses empty prelude text (nested line) (NestedTooDeep line) _ h refl refl
+is_refused empty prelude text (InlineTooDeep line) h = refuses empty prelude text (too_deep line) (InlineTooDeep line) _ h refl refl
+is_refused empty prelude text NoMemory h = tt
+is_refused empty prelude text (OutOfRange lines) h = absurd h
+is_refused empty prelude text (BreakInLine index) h = absurd h
+is_refused empty prelude text (NotDefinitions line) h = absurd h

@@ -13,3 +13,4 @@ pub mod ServeRuns
 pub mod ServeEnds
 pub mod Rows
 pub mod FirstEdits
+pub mod PreludeEnds

@@ -1,7 +1,7 @@
 -- What a refusal is written as.
 use Rattle.std.proofs.Common.{◌≡◌, refl}
 use Rattle.mdview.specs.declared.fault.EditFault.{EditFault}
-use Rattle.mdview.specs.declared.fault.EditFault.TheVariants.{OutOfRange, BreakInLine, TooManyLines, TooLarge, NestedTooDeep, InlineTooDeep, NoMemory}
+use Rattle.mdview.specs.declared.fault.EditFault.TheVariants.{OutOfRange, BreakInLine, TooManyLines, TooLarge, NestedTooDeep, InlineTooDeep, NoMemory, NotDefinitions}
 use Rattle.mdtool.specs.RefusalText.{refused_text}
 use Rattle.mdtool.specs.Endings.{refusal_reason_of}
 
@@ -14,3 +14,4 @@ refusal_is TooManyLines other = refl
 refusal_is TooLarge other = refl
 refusal_is (NestedTooDeep line) other = refl
 refusal_is (InlineTooDeep line) other = refl
+refusal_is (NotDefinitions line) other = refl

@@ -7,9 +7,10 @@ use Rattle.blockspec.specs.BlockTree.{Block, block, no_blocks, heading, paragrap
 use Rattle.mdhtml.specs.Limits.{plain}
 use Rattle.mdhtml.specs.BlockHtml.{fresh}
 use Rattle.mdview.specs.HeldUnit.{ReadUnit, unit_piece}
-use Rattle.mdview.specs.ReadingEnd.{read, nested, starved}
-use Rattle.mdview.specs.Document.{document}
-use Rattle.mdtool.specs.Commands.{Html, Edit, HtmlHead, EditHead, number, split_number, head_of}
+use Rattle.mdview.specs.ReadingEnd.{read, nested, undefining, starved}
+use Rattle.mdview.specs.Document.{empty}
+use Rattle.viewspec.specs.Calls.{edit, set_prelude}
+use Rattle.mdtool.specs.Commands.{Html, Change, HtmlHead, PreludeHead, EditHead, number, split_number, head_of}
 use Rattle.mdtool.specs.Replies.{ScriptTurn, replies}
 
 -- a unit of one block with one text
@@ -44,6 +45,14 @@ head_edit : head_of (codes "edit 00 12 3") ≡ Some (EditHead 0 12 3)
 unfolding head_of number split_number
 head_edit = refl
 
+head_prelude : head_of (codes "prelude 12") ≡ Some (PreludeHead 12)
+unfolding head_of number split_number
+head_prelude = refl
+
+head_prelude_alone : head_of (codes "prelude ") ≡ None
+unfolding head_of number split_number
+head_prelude_alone = refl
+
 head_two_spaces : head_of (codes "edit  0 0 0") ≡ None
 unfolding head_of number split_number
 head_two_spaces = refl
@@ -58,12 +67,14 @@ head_html_space = refl
 
 -- a script's replies, where its texts read so
 edits : List ScriptTurn
-edits = record { command = Edit (record { at = 0; del = 0; add = codes "# a" ∷ codes "b  " ∷ codes "c" ∷ [] }); reading = read (record { first = 0; removed = 0; added = 2; again = [] }) 0 (title ∷ broken ∷ []) }
-    ∷ record { command = Edit (record { at = 0; del = 1; add = [] }); reading = read (record { first = 0; removed = 1; added = 0; again = [] }) 0 (broken ∷ []) }
-    ∷ record { command = Edit (record { at = 0; del = 0; add = codes ">" ∷ [] }); reading = nested 0 }
-    ∷ record { command = Edit (record { at = 9; del = 0; add = [] }); reading = starved }
+edits = record { command = Change (edit 0 0 (codes "# a" ∷ codes "b  " ∷ codes "c" ∷ [])); reading = read (record { first = 0; removed = 0; added = 2; again = [] }) 0 (title ∷ broken ∷ []) [] }
+    ∷ record { command = Change (edit 0 1 []); reading = read (record { first = 0; removed = 1; added = 0; again = [] }) 0 (broken ∷ []) [] }
+    ∷ record { command = Change (edit 0 0 (codes ">" ∷ [])); reading = nested 0 }
+    ∷ record { command = Change (edit 9 0 []); reading = starved }
+    ∷ record { command = Change (set_prelude (codes "x" ∷ [])); reading = undefining 0 }
+    ∷ record { command = Change (set_prelude (codes "[a]: /u" ∷ [])); reading = read (record { first = 0; removed = 0; added = 0; again = 0 ∷ [] }) 0 (broken ∷ []) [] }
     ∷ record { command = Html; reading = starved } ∷ []
 
-first_replies : replies (document [] plain [] 0 []) edits ≡ codes "ok 0 0 2 0\npiece 0 11\n<h1>a</h1>\npiece 1 17\n<p>b<br />\nc</p>\nok 0 1 0 0\nrefused NestedTooDeep 0\nrefused OutOfRange 2\nhtml 17\n<p>b<br />\nc</p>\n"
+first_replies : replies (empty [] plain) edits ≡ codes "ok 0 0 2 0\npiece 0 11\n<h1>a</h1>\npiece 1 17\n<p>b<br />\nc</p>\nok 0 1 0 0\nrefused NestedTooDeep 0\nrefused OutOfRange 2\nrefused NotDefinitions 0\nok 0 0 0 1\npiece 0 17\n<p>b<br />\nc</p>\nhtml 17\n<p>b<br />\nc</p>\n"
 unfolding edits title broken unit_of replies fresh escaped_byte digits
 first_replies = refl

@@ -4,15 +4,16 @@ use Rattle.std.specs.List.{list_any, list_all, before_first, after_first, positi
 use Rattle.std.specs.Cmp.Lexicographic.{pointwise}
 use Rattle.std.specs.Char.{is_ascii_digit}
 use Rattle.std.specs.Str.Lossy.{utf8_lossy}
-use Rattle.mdview.specs.Edit.{Call}
+use Rattle.viewspec.specs.Calls.{Call, edit, set_prelude}
 
 pub data Command : Type 0 where
   Html : Command
-  Edit : Call → Command
+  Change : Call → Command
 
 -- what the first line of a command says
 pub data Head : Type 0 where
   HtmlHead : Head
+  PreludeHead : ℕ → Head
   EditHead : ℕ → ℕ → ℕ → Head
 
 -- the number that a word of 1 to 9 digits is
@@ -38,18 +39,23 @@ edit_head_of words =
 abbrev pub is_text : List ℕ → List ℕ → Bool
 is_text bytes text = pointwise nat_eq bytes text
 
--- `html` alone, or `edit AT DEL ADD` with single spaces
+-- `html` alone, or `prelude ADD` or `edit AT DEL ADD` with single spaces
 unfoldable pub head_of : List ℕ → Option Head
 head_of line =
     if is_text line (codes "html") then Some HtmlHead
+    else if is_text (take 8 line) (codes "prelude ") then option_map PreludeHead (number (drop 8 line))
     else if is_text (take 5 line) (codes "edit ") then edit_head_of (drop 5 line) else None
+
+-- a command whose first line asks for so many lines below it, where there are so many, and of how many lines it is
+abbrev pub with_texts : ℕ → (List (List ℕ) → Call) → List (List ℕ) → Option (Command × ℕ)
+with_texts add call lines = if nat_le add (length lines) then Some (Change (call (map utf8_lossy (take add lines))), add + 1) else None
 
 -- the command that a line with this head and the lines below make, and of how many lines it is
 abbrev pub command_of : Option Head → List (List ℕ) → Option (Command × ℕ)
 command_of None lines = None
 command_of (Some HtmlHead) lines = Some (Html, 1)
-command_of (Some (EditHead at del add)) lines =
-    if nat_le add (length lines) then Some (Edit (record { at = at; del = del; add = map utf8_lossy (take add lines) }), add + 1) else None
+command_of (Some (PreludeHead add)) lines = with_texts add set_prelude lines
+command_of (Some (EditHead at del add)) lines = with_texts add (edit at del) lines
 
 -- the whole command at the front of these lines; bytes of its texts that are no UTF-8 are read as U+FFFD
 abbrev pub first_command : List (List ℕ) → Option (Command × ℕ)

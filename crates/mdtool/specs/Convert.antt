@@ -1,5 +1,5 @@
 -- What each end of a conversion says.
-use Rattle.std.specs.Prelude.{◌≡◌, ℕ, List, Option, Result, Ok, Err, String, string_bytes}
+use Rattle.std.specs.Prelude.{◌≡◌, ◌⊎◌, ℕ, List, Option, Result, Ok, Err, String, string_bytes}
 use Rattle.std.specs.Global.{Global}
 use Rattle.std.specs.List.{concat}
 use Rattle.std.specs.Str.Lossy.{utf8_lossy}
@@ -7,13 +7,13 @@ use Rattle.mdtext.specs.Lines.{text_lines}
 use Rattle.mdtool.specs.declared.fault.ToolFault.{ToolFault}
 use Rattle.mdtool.specs.declared.fault.ToolFault.TheVariants.{Read, Write, Refused, BadCommand, Truncated, Table, NoMemory}
 use Rattle.mdview.specs.declared.fault.EditFault.{EditFault}
-use Rattle.mdview.specs.declared.fault.EditFault.TheVariants.{OutOfRange, BreakInLine, TooManyLines, TooLarge, NestedTooDeep, InlineTooDeep}
-use Rattle.mdview.specs.declared.fault.EditFault.TheVariants.{NoMemory as EditNoMemory}
 use Rattle.mdtool.specs.Bytes.{Gains, GainsFront}
 use Rattle.mdview.specs.Document.{Document}
 use Rattle.mdtool.specs.Drained.{TakesAll, TakesSome}
-use Rattle.mdview.specs.Edit.{Call}
+use Rattle.viewspec.specs.Calls.{Call, edit}
 use Rattle.mdview.specs.Outcome.{outcome}
+use Rattle.mdtool.specs.PreludeSet.{Beside, PreludeRefused}
+use Rattle.mdtool.specs.ToolRefusals.{refusal_of}
 use Rattle.mdview.specs.ReadingEnd.{ReadingEnd}
 use Rattle.viewspec.specs.ChangedPieces.{ChangedPieces}
 
@@ -25,19 +25,9 @@ TextRead left text left' = (bytes : List ℕ) × TakesAll left bytes left' × (t
 abbrev pub LinesRead : Option (List ℕ) → List (List ℕ) → Option (List ℕ) → Type 0
 LinesRead left lines left' = (bytes : List ℕ) × TakesAll left bytes left' × (lines ≡ text_lines (utf8_lossy bytes))
 
--- the edit that puts these lines into an empty preview
+-- the edit that puts these lines into a preview without lines
 abbrev pub whole_text : List (List ℕ) → Call
-whole_text lines = record { at = 0; del = 0; add = lines }
-
--- want of memory is no refusal of the text
-abbrev pub refusal_of : EditFault → ToolFault
-refusal_of EditNoMemory = NoMemory
-refusal_of (OutOfRange lines) = Refused (OutOfRange lines)
-refusal_of (BreakInLine index) = Refused (BreakInLine index)
-refusal_of TooManyLines = Refused TooManyLines
-refusal_of TooLarge = Refused TooLarge
-refusal_of (NestedTooDeep line) = Refused (NestedTooDeep line)
-refusal_of (InlineTooDeep line) = Refused (InlineTooDeep line)
+whole_text lines = edit 0 0 lines
 
 -- the edit is accepted, and these pieces are held behind it, by some reading of the lines
 pub record Accepts (empty : Document) (lines : List (List ℕ)) (pieces : List (List ℕ)) : Type 0 where
@@ -92,7 +82,7 @@ pub record Declined (empty : Document) (left left' written written' : Option (Li
   pub refused : Refuses empty lines fault
   pub same : written' ≡ written
 
--- what each end says; there is no other
+-- what each end says, where a preview without lines holds this; there is no other
 abbrev pub Conversion : {T : Type 0} → Result T ToolFault → Document → Option (List ℕ) → Option (List ℕ) → Option (List ℕ) → Option (List ℕ) → Type 0
 Conversion (Ok answer) empty left left' written written' = Converted empty left left' written written'
 Conversion (Err Write) empty left left' written written' = Interrupted empty left left' written written'
@@ -102,3 +92,15 @@ Conversion (Err NoMemory) empty left left' written written' = TakesSome left lef
 Conversion (Err (BadCommand line)) empty left left' written written' = ⊥
 Conversion (Err (Truncated line)) empty left left' written written' = ⊥
 Conversion (Err (Table fault)) empty left left' written written' = ⊥
+
+-- what each end says where the prelude is read first; there is no other
+abbrev pub ConversionBeside : {T : Type 0} → Result T ToolFault → Document → List (List ℕ) → Option (List ℕ) → Option (List ℕ) → Option (List ℕ) → Option (List ℕ) → Type 0
+ConversionBeside (Ok answer) empty prelude left left' written written' = Beside empty prelude (λ held. Converted held left left' written written')
+ConversionBeside (Err Write) empty prelude left left' written written' = Beside empty prelude (λ held. Interrupted held left left' written written')
+ConversionBeside (Err (Refused fault)) empty prelude left left' written written' =
+    PreludeRefused empty prelude fault left left' written written' ⊎ Beside empty prelude (λ held. Declined held left left' written written' fault)
+ConversionBeside (Err Read) empty prelude left left' written written' = TakesSome left left' × (written' ≡ written)
+ConversionBeside (Err NoMemory) empty prelude left left' written written' = TakesSome left left' × (written' ≡ written)
+ConversionBeside (Err (BadCommand line)) empty prelude left left' written written' = ⊥
+ConversionBeside (Err (Truncated line)) empty prelude left left' written written' = ⊥
+ConversionBeside (Err (Table fault)) empty prelude left left' written written' = ⊥

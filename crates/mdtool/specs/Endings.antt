@@ -1,7 +1,7 @@
 -- What a program says when it stops, and its status.
 use Rattle.std.specs.Prelude.{◌≡◌, ℕ, List, [], ◌∷◌, ◌++◌, codes, decimal, string_bytes}
 use Rattle.mdview.specs.declared.fault.EditFault.{EditFault}
-use Rattle.mdview.specs.declared.fault.EditFault.TheVariants.{OutOfRange, BreakInLine, TooManyLines, TooLarge, NestedTooDeep, InlineTooDeep}
+use Rattle.mdview.specs.declared.fault.EditFault.TheVariants.{OutOfRange, BreakInLine, TooManyLines, TooLarge, NestedTooDeep, InlineTooDeep, NotDefinitions}
 use Rattle.mdview.specs.declared.fault.EditFault.TheVariants.{NoMemory as EditNoMemory}
 use Rattle.mdtext.specs.declared.entity_file.TableFault.TheVariants.{NotJson, BadEntry}
 use Rattle.mdtext.specs.declared.entity_file.TableFault.TheVariants.{NoMemory as TableNoMemory}
@@ -18,7 +18,7 @@ use Rattle.mdtool.specs.RefusalText.{refused_text}
 abbrev pub no_memory : List ℕ
 no_memory = codes "no memory"
 
--- want of memory is no refusal of the text
+-- want of memory is no refusal of the text or the prelude
 abbrev pub refusal_reason_of : EditFault → List ℕ
 refusal_reason_of EditNoMemory = no_memory
 refusal_reason_of (OutOfRange lines) = refused_text (OutOfRange lines)
@@ -27,6 +27,7 @@ refusal_reason_of TooManyLines = refused_text TooManyLines
 refusal_reason_of TooLarge = refused_text TooLarge
 refusal_reason_of (NestedTooDeep line) = refused_text (NestedTooDeep line)
 refusal_reason_of (InlineTooDeep line) = refused_text (InlineTooDeep line)
+refusal_reason_of (NotDefinitions line) = refused_text (NotDefinitions line)
 
 abbrev pub tool_reason_of : ToolFault → List ℕ
 tool_reason_of Read = codes "read failed"

@@ -1,6 +1,8 @@
 pub mod Bytes
 pub mod Commands
 pub mod RefusalText
+pub mod ToolRefusals
+pub mod PreludeSet
 pub mod Replies
 pub mod Endings
 pub mod Views

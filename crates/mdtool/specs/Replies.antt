@@ -8,7 +8,7 @@ use Rattle.viewspec.specs.Patch.{brought}
 use Rattle.mdview.specs.Document.{Document}
 use Rattle.mdview.specs.Outcome.{outcome}
 use Rattle.mdview.specs.ReadingEnd.{ReadingEnd}
-use Rattle.mdtool.specs.Commands.{Command, Html, Edit}
+use Rattle.mdtool.specs.Commands.{Command, Html, Change}
 
 -- a piece with its number and its length
 abbrev pub piece_reply : ℕ → List ℕ → List ℕ
@@ -25,7 +25,7 @@ patch_line patch = codes "ok " ++ decimal patch.first ++ 32 ∷ decimal patch.re
 abbrev pub refused_reply : EditFault → List ℕ
 refused_reply fault = refused_text fault ++ 10 ∷ []
 
--- the reply to an edit that left these pieces
+-- the reply to an edit, or a new prelude, that left these pieces
 abbrev pub edit_reply : Result ChangedPieces EditFault → List (List ℕ) → List ℕ
 edit_reply (Ok patch) pieces = patch_line patch ++ pieces_reply (brought patch 0 pieces)
 edit_reply (Err fault) pieces = refused_reply fault
@@ -42,11 +42,11 @@ pub record ScriptTurn : Type 0 where
 -- what is held behind a command
 abbrev pub held_behind : Document → Command → ReadingEnd → Document
 held_behind old Html reading = old
-held_behind old (Edit call) reading = (outcome old call reading).1
+held_behind old (Change call) reading = (outcome old call reading).1
 
 abbrev pub reply : Document → Command → ReadingEnd → List ℕ
 reply old Html reading = html_reply old.pieces
-reply old (Edit call) reading = edit_reply ((outcome old call reading).0) ((outcome old call reading).1.pieces)
+reply old (Change call) reading = edit_reply ((outcome old call reading).0) ((outcome old call reading).1.pieces)
 
 -- the replies to the commands, one after the other
 unfoldable pub replies : Document → List ScriptTurn → List ℕ

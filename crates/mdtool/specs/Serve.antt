@@ -1,11 +1,12 @@
 -- What a script of edits is answered, at each end.
-use Rattle.std.specs.Prelude.{◌≡◌, ℕ, ◌+◌, Bool, true, List, Option, Result, Ok, Err, map}
+use Rattle.std.specs.Prelude.{◌≡◌, ◌⊎◌, ℕ, ◌+◌, Bool, true, List, Option, Result, Ok, Err, map}
 use Rattle.mdtool.specs.declared.fault.ToolFault.{ToolFault}
 use Rattle.mdtool.specs.declared.fault.ToolFault.TheVariants.{Read, Write, Refused, BadCommand, Truncated, Table, NoMemory}
 use Rattle.mdtool.specs.Bytes.{Takes, AtEnd, Gains, GainsFront}
 use Rattle.mdview.specs.Document.{Document}
 use Rattle.mdtool.specs.Commands.{Command, Stop, Done, Open, Bad, Short, Script, Leads, script_lines}
 use Rattle.mdview.specs.ReadingEnd.{ReadingEnd}
+use Rattle.mdtool.specs.PreludeSet.{Beside, PreludeRefused}
 use Rattle.mdtool.specs.Replies.{ScriptTurn, replies, reply, held_behind}
 
 abbrev pub commands_of : List ScriptTurn → List Command
@@ -33,7 +34,7 @@ pub record Broken (document : Document) (left left' written written' : Option (L
   pub leads : Leads 1 (script_lines ended bytes) (commands_of turns) next rest
   pub replied : GainsFront written (replies document turns) written'
 
--- what each end says; there is no other
+-- what each end says, where this is held at the beginning; there is no other
 abbrev pub Served : {T : Type 0} → Result T ToolFault → Document → Option (List ℕ) → Option (List ℕ) → Option (List ℕ) → Option (List ℕ) → Type 0
 Served (Ok answer) document left left' written written' = Answered document left left' written written' Done
 Served (Err (BadCommand line)) document left left' written written' = Answered document left left' written written' (Bad line)
@@ -43,6 +44,18 @@ Served (Err Write) document left left' written written' = Broken document left l
 Served (Err NoMemory) document left left' written written' = Broken document left left' written written'
 Served (Err (Refused fault)) document left left' written written' = ⊥
 Served (Err (Table fault)) document left left' written written' = ⊥
+
+-- what each end says where the prelude is read first; there is no other
+abbrev pub ServedBeside : {T : Type 0} → Result T ToolFault → Document → List (List ℕ) → Option (List ℕ) → Option (List ℕ) → Option (List ℕ) → Option (List ℕ) → Type 0
+ServedBeside (Ok answer) empty prelude left left' written written' = Beside empty prelude (λ held. Answered held left left' written written' Done)
+ServedBeside (Err (BadCommand line)) empty prelude left left' written written' = Beside empty prelude (λ held. Answered held left left' written written' (Bad line))
+ServedBeside (Err (Truncated line)) empty prelude left left' written written' = Beside empty prelude (λ held. Answered held left left' written written' (Short line))
+ServedBeside (Err Read) empty prelude left left' written written' = Beside empty prelude (λ held. Answered held left left' written written' Open)
+ServedBeside (Err Write) empty prelude left left' written written' = Beside empty prelude (λ held. Broken held left left' written written')
+ServedBeside (Err NoMemory) empty prelude left left' written written' =
+    ((left' ≡ left) × (written' ≡ written)) ⊎ Beside empty prelude (λ held. Broken held left left' written written')
+ServedBeside (Err (Refused fault)) empty prelude left left' written written' = PreludeRefused empty prelude fault left left' written written'
+ServedBeside (Err (Table fault)) empty prelude left left' written written' = ⊥
 
 -- the out's failures afterwards: `Write` answers one more
 abbrev pub out_failures_after : {T : Type 0} → Result T ToolFault → ℕ → ℕ

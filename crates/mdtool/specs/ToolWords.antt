@@ -24,8 +24,8 @@ file_rule = record (new_rule (codes "file")) { value_names = 1 }
 -- the words that a program of this name understands, in the order that its help has them
 abbrev pub tool_app : Text → App
 tool_app name =
-    with_rule (with_rule (with_rule (with_rule (with_rule (with_rule (with_rule (new_app name)
-    (flag_rule (codes "unsafe"))) (flag_rule (codes "hardbreaks"))) (flag_rule (codes "nobreaks"))) (valued_rule (codes "entities")))
+    with_rule (with_rule (with_rule (with_rule (with_rule (with_rule (with_rule (with_rule (new_app name)
+    (flag_rule (codes "unsafe"))) (flag_rule (codes "hardbreaks"))) (flag_rule (codes "nobreaks"))) (valued_rule (codes "entities"))) (valued_rule (codes "prelude")))
     (valued_rule (codes "max-containers"))) (valued_rule (codes "max-spans"))) file_rule
 
 -- the option is on where it was given
@@ -67,4 +67,5 @@ pub record WordsRead (words : List Text) (read : Words) : Type 0 where
   pub rows : rows_of (found_of matches) ≡ matches_of (tool_app program) words
   pub options : OptionsRead matches read.options
   pub entities : option_map string_bytes read.entities ≡ first_value (found_of matches) (codes "entities")
+  pub prelude : option_map string_bytes read.prelude ≡ first_value (found_of matches) (codes "prelude")
   pub file : option_map string_bytes read.file ≡ first_value (found_of matches) (codes "file")

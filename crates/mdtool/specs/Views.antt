@@ -1,15 +1,18 @@
 -- The commands of the code, as the definitions see them.
 use Rattle.std.specs.Prelude.{map, string_bytes}
 use Rattle.mdtool.specs.declared.command.Header.{Header}
-use Rattle.mdtool.specs.declared.command.Header.TheVariants.{Html as HtmlHeader, Edit as EditHeader}
+use Rattle.mdtool.specs.declared.command.Header.TheVariants.{Html as HtmlHeader, Prelude as PreludeHeader, Edit as EditHeader}
 use Rattle.mdtool.specs.declared.command.Command.{Command as TheCommand}
-use Rattle.mdtool.specs.declared.command.Command.TheVariants.{Html as TheHtml, Edit as TheEdit}
-use Rattle.mdtool.specs.Commands.{Command, Html, Edit, Head, HtmlHead, EditHead}
+use Rattle.mdtool.specs.declared.command.Command.TheVariants.{Html as TheHtml, Prelude as ThePrelude, Edit as TheEdit}
+use Rattle.mdtool.specs.Commands.{Command, Html, Change, Head, HtmlHead, PreludeHead, EditHead}
+use Rattle.viewspec.specs.Calls.{edit, set_prelude}
 
 abbrev pub head_view : Header → Head
 head_view HtmlHeader = HtmlHead
+head_view (PreludeHeader add) = PreludeHead add
 head_view (EditHeader at del add) = EditHead at del add
 
 abbrev pub command_view : TheCommand → Command
 command_view TheHtml = Html
-command_view (TheEdit at del add) = Edit (record { at = at; del = del; add = map string_bytes add.items })
+command_view (ThePrelude lines) = Change (set_prelude (map string_bytes lines.items))
+command_view (TheEdit at del add) = Change (edit at del (map string_bytes add.items))

@@ -4,13 +4,17 @@
 #[derive(Clone, Copy, Debug, PartialEq, Eq)]
 pub enum Header {
     Html,
+    Prelude { add: usize },
     Edit { at: usize, del: usize, add: usize },
 }
 
-/// A whole command: an edit with the lines that it adds.
+/// A whole command: an edit with the lines that it adds, or a prelude with its lines.
 #[derive(Drop)]
 pub enum Command {
     Html,
+    Prelude {
+        lines: Vec<String>,
+    },
     Edit {
         at: usize,
         del: usize,

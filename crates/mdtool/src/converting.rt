@@ -1,9 +1,11 @@
 //! Turns a whole text into HTML.
-ghost use Rattle.std.specs.Prelude.{◌≡◌, ◌-◌, ◌^◌, ◌<◌, IfOk, [], string_bytes};
+ghost use Rattle.std.specs.Prelude.{◌≡◌, ◌-◌, ◌^◌, ◌<◌, IfOk, map, string_bytes};
 ghost use Rattle.std.specs.Str.Lossy.{utf8_lossy};
 ghost use Rattle.mdtext.specs.Lines.{text_lines};
-ghost use Rattle.mdtool.specs.Convert.{Conversion, TextRead, WholeHtml, refusal_of};
-ghost use Rattle.mdview.specs.Document.{document};
+ghost use Rattle.mdtool.specs.Convert.{Conversion, ConversionBeside, TextRead, WholeHtml};
+ghost use Rattle.mdtool.specs.ToolRefusals.{refusal_of};
+ghost use Rattle.mdview.specs.Document.{empty};
+ghost use Rattle.mdtool.specs.PreludeSet.{PreludeSet, beside};
 ghost use Rattle.mdtool.specs.Drained.{TakesSome};
 ghost use Rattle.mdtool.specs.Serve.{out_failures_after};
 ghost use Rattle.mdtool.specs.Steps.{Steps, failures_after};
@@ -12,43 +14,82 @@ ghost use Rattle.mdhtml.specs.Limits.{HasLimits};
 use crate::device::{Feed, Out};
 use crate::draining::read_all;
 use crate::fault::ToolFault;
-use crate::serving::send;
+use crate::serving::{lent, send};
 use mdbatch::to_html;
 use mdhtml::Options;
-use mdtext::Entities;
-use mdview::EditFault;
+use mdtext::{Entities, Tally};
+use mdview::{EditFault, Prelude};
 use std::alloc::{AllocError, Global};
 
 /// Writes the HTML of the text that the feed has left, and flushes.
 ///
 /// Bytes that are no UTF-8 are read as U+FFFD, and lines end as CommonMark 2.1 says. Nothing is written before the whole
 /// text was read and accepted: nothing at all after `Refused`, `Read` and `NoMemory`, and after `Write` a beginning of the
-/// HTML.
+/// HTML. The definitions in the prelude's lines stand below the text's; they are read first, and where they are refused nothing
+/// of the feed was read.
 pub fn convert<R: Feed, W: Out>(
     alloc: Global,
     feed: &mut R,
     out: &mut W,
     entities: Entities,
     options: Options,
+    prelude: &[String],
 ) -> Result<(), ToolFault>
     requires limits { HasLimits options }
     requires feed { R.failures feed.old < 2 ^ 64 - 1 }
     requires out { W.failures out.old < 2 ^ 64 - 1 }
-    ensures converted { Conversion result (document entities options [] 0 []) (R.left feed.old) (R.left feed.new) (W.written out.old) (W.written out.new) }
+    ensures converted { ConversionBeside result (empty entities options) (map string_bytes prelude.now) (R.left feed.old) (R.left feed.new) (W.written out.old) (W.written out.new) }
     // `Read` is answered where the feed failed, and `Write` where the out did.
     ensures feed { R.failures feed.new ≡ failures_after result (R.failures feed.old) }
     ensures out { W.failures out.new ≡ out_failures_after result (W.failures out.old) }
 {
+    let prelude = prelude_of(alloc, prelude, &entities, &options)?;
+    convert_beside(alloc, feed, out, &entities, &options, &prelude)
+}
+
+/// Writes the HTML of the text that the feed has left and that stands beside this prelude, and flushes.
+fn convert_beside<R: Feed, W: Out>(
+    alloc: Global,
+    feed: &mut R,
+    out: &mut W,
+    entities: &Entities,
+    options: &Options,
+    prelude: &Prelude,
+) -> Result<(), ToolFault>
+    requires limits { HasLimits options.now }
+    requires feed { R.failures feed.old < 2 ^ 64 - 1 }
+    requires out { W.failures out.old < 2 ^ 64 - 1 }
+    ensures converted { Conversion result (beside (empty entities.now options.now) prelude.now) (R.left feed.old) (R.left feed.new) (W.written out.old) (W.written out.new) }
+    ensures feed { R.failures feed.new ≡ failures_after result (R.failures feed.old) }
+    ensures out { W.failures out.new ≡ out_failures_after result (W.failures out.old) }
+{
     let text = read_text(alloc, feed)?;
-    let html = whole_html(alloc, &text, &entities, &options)?;
+    let html = whole_html(alloc, &text, entities, options, prelude)?;
     if send(out, html.as_bytes()).is_err() {
         return Err(ToolFault::Write);
     }
     Ok(())
 }
 
+/// The prelude of these lines.
+fn prelude_of(
+    alloc: Global,
+    lines: &[String],
+    entities: &Entities,
+    options: &Options,
+) -> Result<Prelude, ToolFault>
+    requires { HasLimits options.now }
+    ensures { PreludeSet (beside (empty entities.now options.now)) result (empty entities.now options.now) (map string_bytes lines.now) }
+{
+    let lines = lent(alloc, lines)?;
+    match Prelude::read(alloc, &lines, entities, options, &mut Tally::new()) {
+        Ok(prelude) => Ok(prelude),
+        Err(reason) => Err(refusal(reason)),
+    }
+}
+
 /// The text of all bytes that the feed has left.
-fn read_text<R: Feed>(alloc: Global, feed: &mut R) -> Result<String, ToolFault>
+pub fn read_text<R: Feed>(alloc: Global, feed: &mut R) -> Result<String, ToolFault>
     requires { R.failures feed.old < 2 ^ 64 - 1 }
     ensures steps { Steps result
         (λ text. TextRead (R.left feed.old) (string_bytes text) (R.left feed.new))
@@ -76,17 +117,19 @@ fn whole_html(
     text: &str,
     entities: &Entities,
     options: &Options,
+    prelude: &Prelude,
 ) -> Result<String, ToolFault>
     requires { HasLimits options.now }
-    ensures { WholeHtml result (document entities.now options.now [] 0 []) (text_lines text.now) }
+    ensures { WholeHtml result (beside (empty entities.now options.now) prelude.now) (text_lines text.now) }
 {
-    match to_html(alloc, text, entities, options) {
+    match to_html(alloc, text, entities, options, prelude) {
         Ok(html) => Ok(html),
         Err(fault) => Err(refusal(fault)),
     }
 }
 
-fn refusal(fault: EditFault) -> ToolFault
+/// Want of memory is no refusal.
+pub fn refusal(fault: EditFault) -> ToolFault
     ensures { result ≡ refusal_of fault }
 {
     match fault {

@@ -1,4 +1,4 @@
-//! Answers a script of edits with what was read for each, so that it can be compared with what an edit may read.
+//! Answers a script of edits and preludes with what was read for each, so that it can be compared with what an edit may read.
 ghost use Rattle.std.specs.Prelude.{◌-◌, ◌^◌, ◌<◌};
 ghost use Rattle.mdhtml.specs.Limits.{HasLimits};
 
@@ -6,7 +6,7 @@ use crate::command::Command;
 use crate::device::{Feed, Out};
 use crate::fault::ToolFault;
 use crate::script::Script;
-use crate::serving::{lent, send};
+use crate::serving::{lent, preview_with, send};
 use mdhtml::Options;
 use mdtext::{Entities, Tally};
 use mdview::Preview;
@@ -19,12 +19,13 @@ pub fn serve_counts<R: Feed, W: Out>(
     out: &mut W,
     entities: Entities,
     options: Options,
+    prelude: &[String],
 ) -> Result<(), ToolFault>
     requires limits { HasLimits options }
     requires feed { R.failures feed.old < 2 ^ 64 - 1 }
     requires out { W.failures out.old < 2 ^ 64 - 1 }
 {
-    let mut preview = Preview::new(alloc, entities, options);
+    let mut preview = preview_with(alloc, entities, options, prelude)?;
     let mut script = Script::new(alloc);
     while let Some(command) = script.next_command(alloc, feed)? {
         let count = counted(alloc, &mut preview, &command)?;
@@ -39,9 +40,16 @@ pub fn serve_counts<R: Feed, W: Out>(
 /// Carries out one command, and answers what was read for it.
 fn counted(alloc: Global, preview: &mut Preview, command: &Command) -> Result<Tally, AllocError> {
     let mut count = Tally::new();
-    if let Command::Edit { at, del, add } = command {
-        let lines = lent(alloc, add)?;
-        let _ = preview.edit(*at, *del, &lines, &mut count);
+    match command {
+        Command::Html => {}
+        Command::Prelude { lines } => {
+            let lines = lent(alloc, lines)?;
+            let _ = preview.set_prelude(&lines, &mut count);
+        }
+        Command::Edit { at, del, add } => {
+            let lines = lent(alloc, add)?;
+            let _ = preview.edit(*at, *del, &lines, &mut count);
+        }
     }
     Ok(count)
 }

@@ -15,13 +15,13 @@ pub enum ToolFault {
     /// The out failed.
     #[error("write failed")]
     Write,
-    /// The whole text was refused.
+    /// The whole text was refused, or the prelude.
     #[error("{0}")]
     Refused(EditFault),
     /// The line of the script, counted from 1, is no command.
     #[error("bad command in line {0}")]
     BadCommand(u64),
-    /// The script ends inside the edit that begins in this line, counted from 1.
+    /// The script ends inside the edit or the prelude that begins in this line, counted from 1.
     #[error("script ends inside the edit of line {0}")]
     Truncated(u64),
     /// The entity file was refused.

@@ -9,14 +9,18 @@ use crate::command::Header;
 /// The number of digits at the most.
 const MAX_DIGITS: usize = 9;
 
-/// What the line says as the first of a command, or nothing where it is none: `html` alone, or `edit AT DEL ADD` with
-/// single spaces.
+/// What the line says as the first of a command, or nothing where it is none: `html` alone, or `prelude ADD` or
+/// `edit AT DEL ADD` with single spaces.
 #[tactic(auto, unfolding(crate::specs::Commands::head_of))]
 pub fn header(line: &[u8]) -> Option<Header>
     ensures { option_map head_view result ≡ head_of line.now }
 {
     if line == b"html".as_slice() {
         return Some(Header::Html);
+    }
+    if let Some(rest) = line.strip_prefix(b"prelude ") {
+        let add = number(rest)?;
+        return Some(Header::Prelude { add });
     }
     let rest = line.strip_prefix(b"edit ")?;
     let (at, rest) = number_before_space(rest)?;

@@ -8,6 +8,7 @@ use crate::endings::ending;
 use crate::entity_tables::entities_from;
 use crate::fault::{Stop, ToolFault, WordFault};
 use crate::io_devices::{ReadFeed, WriteOut};
+use crate::preludes::prelude_from;
 use crate::tool_words::{Words, read_words};
 use mdtext::Entities;
 use std::alloc::{AllocError, Global};
@@ -71,6 +72,17 @@ pub fn entities_of(rt: &HostRuntime, words: &Words) -> Result<Entities, Stop> {
             entities_from(rt.alloc(), &mut feed).map_err(Stop::Tool)
         }
         None => Entities::builtin(rt.alloc()).map_err(|_| Stop::Tool(ToolFault::NoMemory)),
+    }
+}
+
+/// The lines of the prelude's file that the words name, or none.
+pub fn prelude_of(rt: &HostRuntime, words: &Words) -> Result<Vec<String>, Stop> {
+    match &words.prelude {
+        Some(name) => {
+            let mut feed = opened(rt, name)?;
+            prelude_from(rt.alloc(), &mut feed).map_err(Stop::Tool)
+        }
+        None => Ok(Vec::new(rt.alloc())),
     }
 }
 

@@ -79,6 +79,12 @@ impl Script {
         };
         match head {
             Header::Html => Ok(Some(Command::Html)),
+            Header::Prelude { add } => {
+                let Some(lines) = self.next_texts(alloc, feed, add)? else {
+                    return Err(ToolFault::Truncated(line));
+                };
+                Ok(Some(Command::Prelude { lines }))
+            }
             Header::Edit { at, del, add } => {
                 let Some(add) = self.next_texts(alloc, feed, add)? else {
                     return Err(ToolFault::Truncated(line));

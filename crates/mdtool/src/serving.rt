@@ -2,13 +2,15 @@
 ghost use Rattle.std.specs.Prelude.{◌≡◌, ◌+◌, ◌-◌, ◌^◌, ◌<◌, [], IfOk, map, string_bytes};
 ghost use Rattle.std.specs.Result.{is_ok};
 ghost use Rattle.mdtool.specs.Bytes.{Puts};
-ghost use Rattle.mdview.specs.Document.{document};
+ghost use Rattle.mdview.specs.Document.{Document, empty};
+ghost use Rattle.mdtool.specs.PreludeSet.{PreludeSet};
 ghost use Rattle.mdtool.specs.Views.{command_view};
 ghost use Rattle.mdtool.specs.Steps.{failures_after};
-ghost use Rattle.mdtool.specs.Serve.{Served, Replied, out_failures_after};
+ghost use Rattle.mdtool.specs.Serve.{Served, ServedBeside, Replied, out_failures_after};
 ghost use Rattle.mdhtml.specs.Limits.{HasLimits};
 
 use crate::command::Command;
+use crate::converting::refusal;
 use crate::device::{DeviceFault, Feed, Out, put_all};
 use crate::fault::ToolFault;
 use crate::replies::{edit_reply, html_reply};
@@ -29,12 +31,35 @@ pub fn lent<'a>(alloc: Global, lines: &'a [String]) -> Result<Vec<&'a str>, Allo
     Ok(lent)
 }
 
+/// An empty preview with a prelude of these lines.
+pub fn preview_with(
+    alloc: Global,
+    entities: Entities,
+    options: Options,
+    prelude: &[String],
+) -> Result<Preview, ToolFault>
+    requires { HasLimits options }
+    ensures { PreludeSet (λ (held : Document). held) result (empty entities options) (map string_bytes prelude.now) }
+{
+    let mut preview = Preview::new(alloc, entities, options);
+    let lines = lent(alloc, prelude)?;
+    match preview.set_prelude(&lines, &mut Tally::new()) {
+        Ok(_) => Ok(preview),
+        Err(fault) => Err(refusal(fault)),
+    }
+}
+
 /// Carries out one command and makes its reply.
 fn reply_to(alloc: Global, preview: &mut Preview, command: &Command) -> Result<String, AllocError>
     ensures { IfOk result (λ reply. Replied preview.old (command_view command.now) (string_bytes reply) preview.new) }
 {
     match command {
         Command::Html => html_reply(alloc, preview),
+        Command::Prelude { lines } => {
+            let lines = lent(alloc, lines)?;
+            let answer = preview.set_prelude(&lines, &mut Tally::new());
+            edit_reply(alloc, preview, &answer)
+        }
         Command::Edit { at, del, add } => {
             let lines = lent(alloc, add)?;
             let answer = preview.edit(*at, *del, &lines, &mut Tally::new());
@@ -54,28 +79,48 @@ pub fn send<W: Out>(out: &mut W, reply: &[u8]) -> Result<(), DeviceFault>
 
 /// Answers the commands of a script as they come, each reply flushed.
 ///
-/// A command is `html`, or `edit AT DEL ADD` and ADD lines after it; lines end at LF. A refused edit is answered and the
-/// script goes on. `BadCommand` and `Truncated` end it after the replies to the commands before, and so does `Read`, where
-/// an unfinished last line is none. After `Write` and `NoMemory` a beginning of the replies went out.
+/// A command is `html`, or `edit AT DEL ADD` or `prelude ADD` and ADD lines after it; lines end at LF. A refused edit or
+/// prelude is answered and the script goes on. `BadCommand` and `Truncated` end it after the replies to the commands before,
+/// and so does `Read`, where an unfinished last line is none. After `Write` and `NoMemory` a beginning of the replies went out.
+///
+/// The prelude of these lines is set before anything is read, without a reply. `Refused` says why it is refused; then nothing was
+/// read or written.
 pub fn serve<R: Feed, W: Out>(
     alloc: Global,
     feed: &mut R,
     out: &mut W,
     entities: Entities,
     options: Options,
+    prelude: &[String],
 ) -> Result<(), ToolFault>
     requires limits { HasLimits options }
     requires feed { R.failures feed.old < 2 ^ 64 - 1 }
     requires out { W.failures out.old < 2 ^ 64 - 1 }
-    ensures served { Served result (document entities options [] 0 []) (R.left feed.old) (R.left feed.new) (W.written out.old) (W.written out.new) }
+    ensures served { ServedBeside result (empty entities options) (map string_bytes prelude.now) (R.left feed.old) (R.left feed.new) (W.written out.old) (W.written out.new) }
     // `Read` is answered where the feed failed, and `Write` where the out did.
     ensures feed { R.failures feed.new ≡ failures_after result (R.failures feed.old) }
     ensures out { W.failures out.new ≡ out_failures_after result (W.failures out.old) }
 {
-    let mut preview = Preview::new(alloc, entities, options);
+    let mut preview = preview_with(alloc, entities, options, prelude)?;
+    answer(alloc, feed, out, &mut preview)
+}
+
+/// Answers the commands of a script as they come, each reply flushed.
+fn answer<R: Feed, W: Out>(
+    alloc: Global,
+    feed: &mut R,
+    out: &mut W,
+    preview: &mut Preview,
+) -> Result<(), ToolFault>
+    requires feed { R.failures feed.old < 2 ^ 64 - 1 }
+    requires out { W.failures out.old < 2 ^ 64 - 1 }
+    ensures served { Served result preview.old (R.left feed.old) (R.left feed.new) (W.written out.old) (W.written out.new) }
+    ensures feed { R.failures feed.new ≡ failures_after result (R.failures feed.old) }
+    ensures out { W.failures out.new ≡ out_failures_after result (W.failures out.old) }
+{
     let mut script = Script::new(alloc);
     while let Some(command) = script.next_command(alloc, feed)? {
-        let reply = reply_to(alloc, &mut preview, &command)?;
+        let reply = reply_to(alloc, preview, &command)?;
         if send(out, reply.as_str().as_bytes()).is_err() {
             return Err(ToolFault::Write);
         }

@@ -2,6 +2,7 @@
 
 mod kept_units;
 mod limits;
+mod preludes;
 mod tools;
 mod worked_texts;
 
@@ -40,7 +41,7 @@ fn served(
     let mut feed = MemoryFeed::new(script, step, None);
     let mut out = MemoryOut::new(alloc, step, None);
     let entities = Entities::builtin(alloc)?;
-    let end = serve(alloc, &mut feed, &mut out, entities, options(breaks));
+    let end = serve(alloc, &mut feed, &mut out, entities, options(breaks), &[]);
     let written = String::from_utf8_lossy(alloc, out.bytes())?;
     let end = format!(in alloc; "{end:?}")?;
     Ok((written, end, out.flushes()))
@@ -285,7 +286,14 @@ fn ends_at_each_device_fault(rt: HostRuntime) -> Result<(), Fail> {
         let mut feed = MemoryFeed::new(EDITS.as_bytes(), 6, Some(call));
         let mut out = MemoryOut::new(alloc, 1000, None);
         let entities = Entities::builtin(alloc)?;
-        let end = serve(alloc, &mut feed, &mut out, entities, options(Breaks::Soft));
+        let end = serve(
+            alloc,
+            &mut feed,
+            &mut out,
+            entities,
+            options(Breaks::Soft),
+            &[],
+        );
         assert!(rt; matches!(end, Err(ToolFault::Read)), "read {call}");
         assert!(rt; REPLIES.as_bytes().starts_with(out.bytes()), "read {call}");
     }
@@ -294,7 +302,14 @@ fn ends_at_each_device_fault(rt: HostRuntime) -> Result<(), Fail> {
         let mut feed = MemoryFeed::new(EDITS.as_bytes(), 1000, None);
         let mut out = MemoryOut::new(alloc, 1000, Some(call));
         let entities = Entities::builtin(alloc)?;
-        let end = serve(alloc, &mut feed, &mut out, entities, options(Breaks::Soft));
+        let end = serve(
+            alloc,
+            &mut feed,
+            &mut out,
+            entities,
+            options(Breaks::Soft),
+            &[],
+        );
         assert!(rt; matches!(end, Err(ToolFault::Write)), "write {call}");
         let lens = [0, 61, 72, 97];
         let len = lens.get(replies).copied().unwrap_or(0);

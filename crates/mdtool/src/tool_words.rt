@@ -20,6 +20,8 @@ pub struct Words {
     pub options: Options,
     /// The name of the entity file.
     pub entities: Option<String>,
+    /// The name of the prelude's file.
+    pub prelude: Option<String>,
     /// The name of the file to read.
     pub file: Option<String>,
 }
@@ -33,8 +35,9 @@ const RENDER_EXAMPLE: &str = "Example:
 const PREVIEW_ABOUT: &str =
     "Holds a Markdown text that is edited by lines, and answers each edit with the pieces of HTML that changed.";
 
-const PREVIEW_EXAMPLE: &str = "A script has two commands:
+const PREVIEW_EXAMPLE: &str = "A script has three commands:
   edit AT DEL ADD  at line AT (counted from 0) DEL lines go, and the ADD lines below the command come
+  prelude ADD      the ADD lines below the command are the prelude: definitions that count below the text's own
   html             all of the HTML
 
 Example:
@@ -55,10 +58,12 @@ pub fn read_words<'a>(alloc: Global, words: &'a [&'a str]) -> Result<Words, Word
     };
     let options = options_of(&matches)?;
     let entities = copied(alloc, matches.get_str("entities"))?;
+    let prelude = copied(alloc, matches.get_str("prelude"))?;
     let file = copied(alloc, matches.get_str("file"))?;
     Ok(Words {
         options,
         entities,
+        prelude,
         file,
     })
 }
@@ -95,6 +100,12 @@ fn command<'a>(alloc: Global, program: &'a str) -> Result<Command<'a>, AllocErro
             "entities",
             "FILE",
             "Read the names of entities from a JSON file, as HTML's entities.json is",
+        ))?
+        .arg(valued(
+            alloc,
+            "prelude",
+            "FILE",
+            "Read definitions from a file, which count where the text has none of its own",
         ))?
         .arg(valued(
             alloc,

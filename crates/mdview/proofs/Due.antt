@@ -7,7 +7,7 @@ use Rattle.std.proofs.lemmas.Bool.Decides.{nat_tests}
 use Rattle.mdview.specs.declared.fault.EditFault.TheVariants.{TooLarge}
 use Rattle.mdtext.specs.Lines.{without_nul}
 use Rattle.mdview.specs.Document.{size_of}
-use Rattle.mdview.specs.Edit.{Call, put, due, first_with_ending}
+use Rattle.mdview.specs.Edit.{call_of, put, due, first_with_ending}
 use Rattle.mdview.proofs.Sizes.{size_part, size_replaced, length_replaced}
 
 -- the size of the lines that go, as the code has them
@@ -16,27 +16,27 @@ gone_is items at del =
     let e : at + del - at ≡ del = omega arith in
     rw e (ap size_of (sym (take-map string_bytes del (drop at items)) ∙ ap (take del) (sym (drop-map string_bytes at items))))
 
-pub due_of_parts : (ls : List (List ℕ)) (call : Call) (gone : ℕ) → call.at + call.del ≤ length ls → first_with_ending 0 call.add ≡ None
-    → gone ≡ size_of (take call.del (drop call.at ls)) → length call.add ≤ 1000000 - (length ls - call.del) → length ls ≤ 1000000
-    → due ls call ≡ (if nat_lt 16777216 (size_of ls - gone + size_of (map without_nul call.add)) then Some TooLarge else None)
-due_of_parts ls call gone within unbroken gone_is few held =
-    let lines = length_replaced ls (map without_nul call.add) call.at call.del within in
-    let added = length-map call.add without_nul in
-    let size = size_replaced ls (map without_nul call.add) call.at call.del in
-    let part = size_part ls call.at call.del in
-    let total : size_of (put ls call) ≡ size_of ls - gone + size_of (map without_nul call.add) = omega arith in
-    let short : length (put ls call) ≤ 1000000 = omega arith in
-    let inside : (nat_lt (length ls) call.at || nat_lt (length ls - call.at) call.del) ≡ false = grind (arith, nat_tests) in
-    let small : nat_lt 1000000 (length (put ls call)) ≡ false = grind (arith, nat_tests) in
+pub due_of_parts : (ls : List (List ℕ)) (at del : ℕ) (add : List (List ℕ)) (gone : ℕ) → at + del ≤ length ls → first_with_ending 0 add ≡ None
+    → gone ≡ size_of (take del (drop at ls)) → length add ≤ 1000000 - (length ls - del) → length ls ≤ 1000000
+    → due ls (call_of at del add) ≡ (if nat_lt 16777216 (size_of ls - gone + size_of (map without_nul add)) then Some TooLarge else None)
+due_of_parts ls at del add gone within unbroken gone_is few held =
+    let lines = length_replaced ls (map without_nul add) at del within in
+    let added = length-map add without_nul in
+    let size = size_replaced ls (map without_nul add) at del in
+    let part = size_part ls at del in
+    let total : size_of (put ls (call_of at del add)) ≡ size_of ls - gone + size_of (map without_nul add) = omega arith in
+    let short : length (put ls (call_of at del add)) ≤ 1000000 = omega arith in
+    let inside : (nat_lt (length ls) at || nat_lt (length ls - at) del) ≡ false = grind (arith, nat_tests) in
+    let small : nat_lt 1000000 (length (put ls (call_of at del add))) ≡ false = grind (arith, nat_tests) in
     rw (inside, unbroken, small, total) refl
 
 -- the text after the edit, from what the tests found
-pub put_of_parts : (ls : List (List ℕ)) (call : Call) (gone : ℕ) → call.at + call.del ≤ length ls
-    → gone ≡ size_of (take call.del (drop call.at ls)) → length call.add ≤ 1000000 - (length ls - call.del) → length ls ≤ 1000000
-    → (size_of (put ls call) ≡ size_of ls - gone + size_of (map without_nul call.add)) × (length (put ls call) ≤ 1000000)
-put_of_parts ls call gone within gone_is few held =
-    let lines = length_replaced ls (map without_nul call.add) call.at call.del within in
-    let added = length-map call.add without_nul in
-    let size = size_replaced ls (map without_nul call.add) call.at call.del in
-    let part = size_part ls call.at call.del in
+pub put_of_parts : (ls : List (List ℕ)) (at del : ℕ) (add : List (List ℕ)) (gone : ℕ) → at + del ≤ length ls
+    → gone ≡ size_of (take del (drop at ls)) → length add ≤ 1000000 - (length ls - del) → length ls ≤ 1000000
+    → (size_of (put ls (call_of at del add)) ≡ size_of ls - gone + size_of (map without_nul add)) × (length (put ls (call_of at del add)) ≤ 1000000)
+put_of_parts ls at del add gone within gone_is few held =
+    let lines = length_replaced ls (map without_nul add) at del within in
+    let added = length-map add without_nul in
+    let size = size_replaced ls (map without_nul add) at del in
+    let part = size_part ls at del in
     (omega arith, omega arith)

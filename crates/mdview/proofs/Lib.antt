@@ -3,6 +3,7 @@ pub mod Sizes
 pub mod Due
 pub mod Runs
 pub mod Outcomes
+pub mod LedLabels
 pub mod MemberChanges
 pub mod RenewedUnits
 pub mod Targets

@@ -1,12 +1,12 @@
 -- What stays, and what holds, where units are read again.
-use Rattle.std.proofs.Common.{◌≡◌, ℕ, zero, suc, Bool, true, false, List, [], ◌∷◌, map, slice_get, refl, ◌∙◌, sym, arith, subst}
+use Rattle.std.proofs.Common.{◌≡◌, ℕ, zero, suc, Bool, true, false, List, [], ◌∷◌, map, slice_get, refl, ap, ◌∙◌, sym, arith, subst}
 use Rattle.std.specs.Prelude.{◌==◌, ◌||◌, IfSome}
 use Rattle.std.specs.List.{All, list_any}
 use Rattle.std.proofs.lemmas.Bool.{true≢false, eq-eqb}
 use Rattle.blockspec.specs.UnitTree.{UnitTree}
 use Rattle.mdhtml.specs.declared.options.Options.{Options}
 use Rattle.mdview.specs.declared.readings.Again.{Again}
-use Rattle.mdview.specs.HeldUnit.{HeldUnit, IsRendered, unit_in}
+use Rattle.mdview.specs.HeldUnit.{HeldUnit, ReadUnit, IsRendered, read_of, unit_in}
 use Rattle.mdview.specs.Update.{map_at, renewed, all_renewed, IsWritten}
 use Rattle.mdview.proofs.MemberChanges.{map_changed, others_stay, all_first, all_rest}
 
@@ -23,6 +23,14 @@ unfolding all_renewed
 unit_trees_stay units [] = refl
 unit_trees_stay units (one ∷ again) =
     unit_trees_stay (map_at (renewed one) one.unit units) again ∙ map_changed unit_in (renewed one) (λ u. refl) one.unit units
+
+trees_read : (units : List HeldUnit) → map (λ (u : ReadUnit). u.unit) (map read_of units) ≡ map unit_in units
+trees_read [] = refl
+trees_read (u ∷ units) = ap (λ trees. u.read.unit ∷ trees) (trees_read units)
+
+-- the trees of units as they are read
+pub renewed_trees : (units : List HeldUnit) (again : List Again) → map (λ (u : ReadUnit). u.unit) (map read_of (all_renewed units again)) ≡ map (λ (u : ReadUnit). u.unit) (map read_of units)
+renewed_trees units again = trees_read (all_renewed units again) ∙ unit_trees_stay units again ∙ sym (trees_read units)
 
 -- one that is read again is rendered where its piece is its HTML
 one_rendered : (options : Options) (one : Again) (i : ℕ) (units : List HeldUnit) → All (IsRendered options) units → IfSome (slice_get (map unit_in units) i) (λ u. IsWritten options (u ∷ []) (record { unit = 0; inlines = one.inlines; piece = one.piece }))

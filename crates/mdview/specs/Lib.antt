@@ -4,6 +4,7 @@ pub mod Lists
 pub mod Document
 pub mod Edit
 pub mod Outcome
+pub mod Preludes
 pub mod Run
 pub mod FaultNames
 pub mod NewText

@@ -6,7 +6,7 @@ use std::alloc::{AllocError, AllocFailed};
 use std::error::Error;
 use std::fmt;
 
-/// Why an edit was refused. Nothing has changed then.
+/// Why an edit or a new prelude was refused. Nothing has changed then.
 #[derive(Clone, Copy, Debug, PartialEq, Eq)]
 pub enum EditFault {
     /// The edit reaches past the text, which has this many lines.
@@ -25,6 +25,10 @@ pub enum EditFault {
     InlineTooDeep { line: usize },
     /// A growth was refused.
     NoMemory,
+    /// The prelude is more than definitions: its line of this number, counted from 0, begins a container that lies in as
+    /// many others as the options allow, or, where none does, the first block that is no definition begins in it or in
+    /// the definitions that stand on top of it.
+    NotDefinitions { line: usize },
 }
 
 impl EditFault {
@@ -40,10 +44,11 @@ impl EditFault {
             EditFault::NestedTooDeep { .. } => "NestedTooDeep",
             EditFault::InlineTooDeep { .. } => "InlineTooDeep",
             EditFault::NoMemory => "NoMemory",
+            EditFault::NotDefinitions { .. } => "NotDefinitions",
         }
     }
 
-    /// Its number: of lines, of an added line, or of a line of the text; 0 where it has none.
+    /// Its number: of lines, of an added line, or of a line of the text or the prelude; 0 where it has none.
     pub fn number(&self) -> usize
         ensures { result ≡ number_of self.now }
     {
@@ -51,6 +56,7 @@ impl EditFault {
             EditFault::OutOfRange { lines } => *lines,
             EditFault::BreakInLine { index } => *index,
             EditFault::NestedTooDeep { line } | EditFault::InlineTooDeep { line } => *line,
+            EditFault::NotDefinitions { line } => *line,
             EditFault::TooManyLines | EditFault::TooLarge | EditFault::NoMemory => 0,
         }
     }
@@ -84,6 +90,12 @@ impl fmt::Display for EditFault {
                 )
             }
             EditFault::NoMemory => write!(f, "no memory"),
+            EditFault::NotDefinitions { line } => {
+                write!(
+                    f,
+                    "the prelude is refused: the block in its line {line} is no definition"
+                )
+            }
         }
     }
 }

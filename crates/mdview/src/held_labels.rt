@@ -1,6 +1,7 @@
 //! Where the labels of a text lead, now and after an edit.
 
-ghost use Rattle.mdview.specs.LabelTargets.{target_held, target_after};
+ghost use Rattle.std.specs.Prelude.{◌≡◌, []};
+ghost use Rattle.mdview.specs.LabelTargets.{leading, target_held, target_after};
 
 use crate::label_changes::LabelChanges;
 use mdinline::Labels;
@@ -8,7 +9,7 @@ use mdtext::{Label, NoMemory, Target};
 use std::alloc::Global;
 use std::collections::BTreeMap;
 
-/// Where each label of the text leads (CommonMark 4.7). A label may have room here and lead nowhere.
+/// Where each label of the text and its prelude leads (CommonMark 4.7). A label may have room here and lead nowhere.
 #[derive(Drop)]
 pub(crate) struct HeldLabels {
     targets: BTreeMap<Label, Option<Target>, Global>,
@@ -27,7 +28,9 @@ impl Labels for HeldLabels {
 
 impl HeldLabels {
     /// No label leads anywhere. Takes no memory.
-    pub(crate) fn new(alloc: Global) -> HeldLabels {
+    pub(crate) fn new(alloc: Global) -> HeldLabels
+        ensures { leading result.targets.entries ≡ [] }
+    {
         HeldLabels {
             targets: BTreeMap::new(alloc),
         }
@@ -38,11 +41,20 @@ impl HeldLabels {
         &mut self,
         alloc: Global,
         changes: &LabelChanges,
-    ) -> Result<(), NoMemory> {
+    ) -> Result<(), NoMemory>
+        ensures { leading self.new.targets.entries ≡ leading self.old.targets.entries }
+    {
         for label in changes.labels() {
-            if !self.targets.contains_key(label) {
-                self.targets.insert(label.copy(alloc)?, None)?;
-            }
+            self.make_room_for(alloc, label)?;
+        }
+        Ok(())
+    }
+
+    fn make_room_for(&mut self, alloc: Global, label: &Label) -> Result<(), NoMemory>
+        ensures { leading self.new.targets.entries ≡ leading self.old.targets.entries }
+    {
+        if !self.targets.contains_key(label) {
+            self.targets.insert(label.copy(alloc)?, None)?;
         }
         Ok(())
     }

@@ -1,9 +1,10 @@
-//! What an edit changes of where labels lead.
+//! What an edit or a new prelude changes of where labels lead.
 
 ghost use Rattle.std.specs.Prelude.{◌≡◌, ◌≤◌, length, option_copied};
 ghost use Rattle.mdview.specs.LabelTargets.{at};
 
 use crate::held_labels::HeldLabels;
+use crate::preludes::Prelude;
 use crate::reparse::Reparsed;
 use crate::touched_labels::TouchedLabels;
 use crate::update::HeldText;
@@ -13,7 +14,7 @@ use std::alloc::Global;
 use std::collections::BTreeMap;
 use std::collections::btree_map::Keys;
 
-/// The labels that lead elsewhere after an edit than before it, and where they lead then.
+/// The labels that lead elsewhere after an edit or a new prelude than before it, and where they lead then.
 #[derive(Drop)]
 pub(crate) struct LabelChanges {
     targets: BTreeMap<Label, Option<Target>, Global>,
@@ -34,7 +35,23 @@ impl LabelChanges {
             touched.define_held(&held.units[reparsed.next..])?;
         }
         Ok(LabelChanges {
-            targets: touched.changed(held.labels)?,
+            targets: touched.changed(held.labels, held.prelude)?,
+        })
+    }
+
+    /// What this prelude changes in the place of the one that is held. A definition of the text counts before one of a prelude.
+    pub(crate) fn of_prelude(
+        held: &HeldText<'_>,
+        prelude: &Prelude,
+    ) -> Result<LabelChanges, NoMemory> {
+        let mut touched = TouchedLabels::new(held.alloc);
+        touched.touch_prelude(held.prelude)?;
+        touched.touch_prelude(prelude)?;
+        if !touched.is_empty() {
+            touched.define_held(held.units)?;
+        }
+        Ok(LabelChanges {
+            targets: touched.changed(held.labels, prelude)?,
         })
     }
 

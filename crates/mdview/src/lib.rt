@@ -3,6 +3,7 @@
 
 mod clean;
 mod commit;
+mod defining;
 mod fault;
 mod held_labels;
 mod held_units;
@@ -15,6 +16,7 @@ mod new_text;
 mod patch;
 mod patch_pieces;
 mod pieces;
+mod preludes;
 mod preview;
 mod readings;
 mod reparse;
@@ -36,4 +38,5 @@ pub use mdwalk::{Edge, Node, Walk};
 pub use patch::Patch;
 pub use patch_pieces::PatchPieces;
 pub use pieces::Pieces;
+pub use preludes::Prelude;
 pub use preview::Preview;

@@ -6,6 +6,10 @@ ghost use Rattle.mdview.specs.Edit.{has_line_ending, first_with_ending};
 
 use mdtext::{Class, clean_len, first_special};
 
+pub(crate) const MAX_LINES: usize = 1_000_000;
+
+pub(crate) const MAX_SIZE: usize = 16_777_216;
+
 /// Whether a line ending stands in the line.
 pub(crate) fn has_line_break(line: &str) -> bool
     ensures { result ≡ has_line_ending line.now }

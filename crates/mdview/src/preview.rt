@@ -1,8 +1,10 @@
 ghost use Rattle.std.specs.Prelude.{if◌then◌else◌, nat_lt, None, Some, ◌≡◌, ◌≤◌, ◌+◌, IfOk, IfErr, OnOk};
 ghost use Rattle.std.specs.Prelude.{List, [], map, length, slice_get, get_or, IsSome, option_map, string_bytes};
 ghost use Rattle.mdhtml.specs.Limits.{HasLimits};
-ghost use Rattle.mdview.specs.Document.{document, size_of};
-ghost use Rattle.mdview.specs.Edit.{Call, call_of, due, put};
+ghost use Rattle.mdview.specs.Document.{empty, size_of};
+ghost use Rattle.mdview.specs.Edit.{call_of, due, due_of_prelude, put};
+ghost use Rattle.mdview.specs.Preludes.{IsUndefining};
+ghost use Rattle.viewspec.specs.Calls.{set_prelude};
 ghost use Rattle.mdview.specs.Outcome.{outcome};
 ghost use Rattle.mdview.specs.Lists.{replaced};
 ghost use Rattle.mdview.specs.ReadingEnd.{OfReading, reading_of};
@@ -16,11 +18,12 @@ use crate::commit::commit;
 use crate::fault::EditFault;
 use crate::held_labels::HeldLabels;
 use crate::held_units::HeldUnit;
-use crate::limits::{clean_size, first_line_break, size};
+use crate::limits::{MAX_LINES, MAX_SIZE, clean_size, first_line_break, size};
 use crate::lines::Lines;
 use crate::new_text::NewText;
 use crate::patch::Patch;
 use crate::pieces::Pieces;
+use crate::preludes::Prelude;
 use crate::resuming::begin_of;
 use crate::splice::splice;
 use crate::update::{HeldText, Update};
@@ -31,10 +34,6 @@ use mdtext::{Count, Entities};
 use mdwalk::Walk;
 use std::alloc::{AllocError, Global};
 use std::marker::Model;
-
-const MAX_LINES: usize = 1_000_000;
-
-const MAX_SIZE: usize = 16_777_216;
 
 /// A text that is edited by lines, and its HTML.
 #[derive(Drop)]
@@ -47,6 +46,7 @@ pub struct Preview {
     /// How many lines stand before the first unit.
     head: usize,
     units: Vec<HeldUnit>,
+    prelude: Prelude,
     labels: HeldLabels,
 }
 
@@ -55,19 +55,23 @@ impl Model for Preview {
     ghost use Rattle.mdhtml.specs.Limits.{HasLimits};
     ghost use Rattle.mdview.specs.Document.{Document, size_of};
     ghost use Rattle.mdview.specs.HeldUnit.{IsRendered, piece_of, read_of, read_unit_code};
+    ghost use Rattle.mdview.specs.LabelTargets.{leading};
+    ghost use Rattle.inlinespec.specs.LabelMap.{map_code};
     ghost use Rattle.std.specs.Coded.{codes};
     ghost use Rattle.std.specs.List.{All};
 
     ghost Value = { Document };
 
-    ghost coded = { Prim.hlevel (codes, read_unit_code) };
+    ghost coded = { Prim.hlevel (codes, read_unit_code, map_code) };
 
     ghost view = { λ p. record {
       entities = p.entities;
       options = p.options;
       lines = map string_bytes p.lines.items;
+      prelude = p.prelude.lines;
       head = p.head;
       units = map read_of p.units.items;
+      labels = leading p.labels.targets.entries;
       pieces = map piece_of p.units.items;
     } };
 
@@ -76,10 +80,10 @@ impl Model for Preview {
 }
 
 impl Preview {
-    /// The empty text. The limits of the options are 1 to 256. Takes no memory.
+    /// The empty text, with an empty prelude. The limits of the options are 1 to 256. Takes no memory.
     pub fn new(alloc: Global, entities: Entities, options: Options) -> Preview
         requires { HasLimits options }
-        ensures { result ≡ document entities options [] 0 [] }
+        ensures { result ≡ empty entities options }
     {
         Preview {
             alloc,
@@ -89,6 +93,7 @@ impl Preview {
             size: 0,
             head: 0,
             units: Vec::new(alloc),
+            prelude: Prelude::empty(alloc),
             labels: HeldLabels::new(alloc),
         }
     }
@@ -169,6 +174,13 @@ impl Preview {
         }
     }
 
+    /// Each line of the prelude in order, without its ending, lent without copying.
+    pub fn prelude(&self) -> Lines<'_>
+        ensures { result ≡ self.now.prelude }
+    {
+        self.prelude.lines()
+    }
+
     /// The HTML of each unit, in order, lent without copying.
     pub fn pieces(&self) -> Pieces<'_>
         ensures { result ≡ self.now.pieces }
@@ -245,6 +257,7 @@ impl Preview {
             options: &self.options,
             head: self.head,
             units: &self.units,
+            prelude: &self.prelude,
             labels: &self.labels,
         };
         let text = NewText::new(&self.lines, at, del, &new_lines);
@@ -258,6 +271,50 @@ impl Preview {
         self.size = size;
         self.head = update.head;
         commit(&mut self.units, &mut self.labels, update);
+        Ok(patch)
+    }
+
+    /// Replaces the prelude, which is empty at first, and says which pieces were made again: those of the units with a text
+    /// that asked for a label which leads elsewhere now. A label that the text defines leads where the text says
+    /// (CommonMark 4.7).
+    ///
+    /// The lines are read as a text of their own, and counted against limits of their own. Refused, in this order:
+    /// `BreakInLine`, `TooManyLines`, `TooLarge`, whatever the memory; then `NotDefinitions`, `InlineTooDeep`; `NoMemory` at
+    /// any point. After each the preview is as before, and after the first three the counter too. `NotDefinitions` comes
+    /// before any inline text is read.
+    pub fn set_prelude<C: Count>(
+        &mut self,
+        lines: &[&str],
+        count: &mut C,
+    ) -> Result<Patch, EditFault>
+        ensures outcome { (result, self.new) ≡ outcome self.old (set_prelude (map (λ line. line.now) lines.now)) (reading_of result self.new) }
+        // No unit comes or goes; those that the patch does not bring are held as they were.
+        ensures numbers { IfOk result (λ patch. (patch.first ≡ 0) × (patch.removed ≡ 0) × (patch.added ≡ 0)) }
+        ensures trees { map (λ (u : ReadUnit). u.unit) self.new.units ≡ map (λ (u : ReadUnit). u.unit) self.old.units }
+        ensures patch { IfOk result (λ patch. Brings patch self.old.pieces self.new.pieces) }
+        ensures units { IfOk result (λ patch. Brings patch self.old.units self.new.units) }
+        // What was read is counted, and nothing is read where a refusal is due.
+        ensures lines { C.lines count.new ≤ C.lines count.old + length lines.now }
+        ensures inlines { OnOk result (C.inlines count.new ≤ C.inlines count.old + texts_of self.old.units) }
+        ensures unread { IfErr result (λ fault. IsUndefining fault → C.inlines count.new ≡ C.inlines count.old) }
+        ensures uncounted { IsSome (due_of_prelude (map (λ line. line.now) lines.now)) → count.new ≡ count.old }
+    {
+        let prelude = Prelude::read(self.alloc, lines, &self.entities, &self.options, count)?;
+        let held = HeldText {
+            alloc: self.alloc,
+            entities: &self.entities,
+            options: &self.options,
+            head: self.head,
+            units: &self.units,
+            prelude: &self.prelude,
+            labels: &self.labels,
+        };
+        let renewal = Update::of_prelude(&held, &prelude, count)?;
+        let patch = renewal.patch(self.alloc)?;
+        self.labels.make_room(self.alloc, &renewal.changes)?;
+        // From here on nothing fails.
+        self.prelude = prelude;
+        commit(&mut self.units, &mut self.labels, renewal);
         Ok(patch)
     }
 }

@@ -3,7 +3,7 @@
 ghost use Rattle.std.specs.Prelude.{◌≡◌, ◌+◌, ◌≤◌, ◌<◌, IfOk, IfErr, OnOk, length, map, string_bytes};
 ghost use Rattle.std.specs.List.{All};
 ghost use Rattle.mdhtml.specs.Limits.{HasLimits};
-ghost use Rattle.mdview.specs.ReadingEnd.{OfReading};
+ghost use Rattle.mdview.specs.ReadingEnd.{OfTexts};
 ghost use Rattle.mdview.specs.HeldUnit.{HeldUnit, IsRendered, html_of, texts_of, read_of, unit_in, texts_before, texts_in};
 ghost use Rattle.mdview.specs.Update.{Fits, IsWritten};
 
@@ -42,7 +42,8 @@ impl<'a> TextReader<'a> {
         count: &mut C,
     ) -> Result<Vec<HeldUnit>, EditFault>
         requires limits { HasLimits self.now.options.now }
-        ensures fault { IfErr result OfReading }
+        ensures fault { IfErr result OfTexts }
+        ensures all { IfOk result (λ units. length units.items ≡ length found.items) }
         ensures pieces { IfOk result (λ units. All (IsRendered self.now.options.now) units.items) }
         ensures lines { C.lines count.new ≡ C.lines count.old }
         ensures inlines { IfOk result (λ units. C.inlines count.new ≤ C.inlines count.old + texts_of (map read_of units.items)) }
@@ -109,7 +110,7 @@ impl<'a> TextReader<'a> {
         requires written { All (IsWritten self.now.options.now (map unit_in units.now)) again.old.items }
         ensures fits { OnOk result (All (Fits (map unit_in units.now)) again.new.items) }
         ensures written { OnOk result (All (IsWritten self.now.options.now (map unit_in units.now)) again.new.items) }
-        ensures fault { IfErr result OfReading }
+        ensures fault { IfErr result OfTexts }
         ensures lines { C.lines count.new ≡ C.lines count.old }
         ensures inlines { OnOk result (C.inlines count.new + texts_before first units.now ≤ C.inlines count.old + texts_before next units.now) }
     {
@@ -228,7 +229,7 @@ impl<'a> TextReader<'a> {
 }
 
 fn fault_in_unit(fault: InlineFault, begin: usize) -> EditFault
-    ensures { OfReading result }
+    ensures { OfTexts result }
 {
     match fault {
         InlineFault::TooDeep => EditFault::InlineTooDeep { line: begin },

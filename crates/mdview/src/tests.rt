@@ -188,6 +188,57 @@ fn the_first_definition_counts(rt: HostRuntime) -> Result<(), Fail> {
 }
 
 #[test]
+fn a_prelude_stands_below_the_text(rt: HostRuntime) -> Result<(), Fail> {
+    let alloc = rt.alloc();
+    let mut preview = preview_of(alloc, ["[foo]", "", "[bar]", "", "x [baz]"].as_slice())?;
+    let mut count = Tally::new();
+    let patch = preview.set_prelude(
+        ["[foo]: /p", "[Bar]: /q", "[foo]: /r"].as_slice(),
+        &mut count,
+    )?;
+    assert_eq!(rt; (patch.first, patch.removed, patch.added), (0, 0, 0));
+    assert_eq!(rt; patch.again.as_slice(), [0, 1].as_slice());
+    assert_eq!(rt; (count.lines(), count.inlines()), (3, 2));
+    assert_eq!(rt; preview.piece(0), Some("<p><a href=\"/p\">foo</a></p>\n"));
+    assert_eq!(rt; preview.prelude().count(), 3);
+    let patch = preview.edit(5, 0, ["", "[foo]: /t"].as_slice(), &mut Tally::new())?;
+    assert_eq!(rt; patch.again.as_slice(), [0].as_slice());
+    // What the text defines stays, and what leads where it led is not read again.
+    let mut count = Tally::new();
+    let patch = preview.set_prelude(["[foo]: /u", "[bar]: /q"].as_slice(), &mut count)?;
+    assert_eq!(rt; patch.again.len(), 0);
+    assert_eq!(rt; (count.lines(), count.inlines()), (2, 0));
+    assert_eq!(rt; preview.piece(0), Some("<p><a href=\"/t\">foo</a></p>\n"));
+    let patch = preview.edit(5, 2, [].as_slice(), &mut Tally::new())?;
+    assert_eq!(rt;
+        patch.text(&preview, 0),
+        Some("<p><a href=\"/u\">foo</a></p>\n")
+    );
+    Ok(())
+}
+
+#[test]
+fn a_refused_prelude_is_not_held(rt: HostRuntime) -> Result<(), Fail> {
+    let alloc = rt.alloc();
+    let mut preview = preview_of(alloc, ["[foo]", "", "[bar]"].as_slice())?;
+    preview.set_prelude(["[foo]: /p"].as_slice(), &mut Tally::new())?;
+    let many = vec![in alloc; ""; 1_000_001]?;
+    let mut count = Tally::new();
+    let refused = preview.set_prelude(&many, &mut count);
+    assert!(rt; matches!(refused, Err(EditFault::TooManyLines)));
+    let refused = preview.set_prelude(["[bar]: /q", "a\rb"].as_slice(), &mut count);
+    assert!(rt; matches!(refused, Err(EditFault::BreakInLine { index: 1 })));
+    assert_eq!(rt; (count.lines(), count.inlines()), (0, 0));
+    let refused = preview.set_prelude(["[bar]: /q", "", "---"].as_slice(), &mut count);
+    assert!(rt; matches!(refused, Err(EditFault::NotDefinitions { line: 2 })));
+    assert_eq!(rt; (count.lines(), count.inlines()), (3, 0));
+    assert_eq!(rt; preview.prelude().count(), 1);
+    assert_eq!(rt; preview.piece(0), Some("<p><a href=\"/p\">foo</a></p>\n"));
+    assert_eq!(rt; preview.piece(1), Some("<p>[bar]</p>\n"));
+    Ok(())
+}
+
+#[test]
 fn units_are_told_by_their_numbers(rt: HostRuntime) -> Result<(), Fail> {
     let alloc = rt.alloc();
     let preview = preview_of(alloc, ["", "a *b*", "", "# [c]", "[d]: /u"].as_slice())?;
@@ -249,6 +300,7 @@ fn line_of(seed: &mut u64) -> &'static str {
 /// Whether both hold the same, as far as it is told.
 fn are_same(rt: &impl Abort, one: &Preview, other: &Preview) {
     assert_eq!(rt; (one.len(), one.units()), (other.len(), other.units()));
+    assert!(rt; one.prelude().eq(other.prelude()));
     for i in 0..one.len() {
         assert_eq!(rt; one.line(i), other.line(i));
     }
@@ -256,6 +308,26 @@ fn are_same(rt: &impl Abort, one: &Preview, other: &Preview) {
         assert_eq!(rt; one.first_line(i), other.first_line(i));
         assert_eq!(rt; one.piece(i), other.piece(i));
     }
+}
+
+/// Definitions of the labels that the lines ask for.
+const DEFINITIONS: [&str; 6] = [
+    "",
+    "[k]: /p",
+    "[m]: /q \"t\"",
+    "[k]: /r",
+    "[x]: /s",
+    "[m]: /v \"t\"",
+];
+
+/// A prelude of some definitions.
+fn prelude_of(alloc: Global, seed: &mut u64) -> Result<Vec<&'static str>, AllocError> {
+    let mut prelude = Vec::new(alloc);
+    for _ in 0..next(seed) % 4 {
+        let one = DEFINITIONS.as_slice().get(next(seed) % 6);
+        prelude.push(one.copied().unwrap_or(""))?;
+    }
+    Ok(prelude)
 }
 
 /// The lines with some replaced.
@@ -290,7 +362,12 @@ fn edits_leave_what_the_whole_text_gives(rt: HostRuntime) -> Result<(), Fail> {
         lines.push(if i % 3 == 0 { line_of(&mut seed) } else { "z" })?;
     }
     let mut preview = preview_of(alloc, &lines)?;
-    for _ in 0..1000 {
+    let mut prelude: Vec<&'static str> = Vec::new(alloc);
+    for step in 0..1000 {
+        if step % 8 == 0 {
+            prelude = prelude_of(alloc, &mut seed)?;
+            preview.set_prelude(&prelude, &mut Tally::new())?;
+        }
         let at = next(&mut seed) % (lines.len() + 1);
         let del = (next(&mut seed) % 4).min(lines.len() - at);
         let mut add: Vec<&'static str> = Vec::new(alloc);
@@ -301,7 +378,9 @@ fn edits_leave_what_the_whole_text_gives(rt: HostRuntime) -> Result<(), Fail> {
             .edit(at, del, &add, &mut Tally::new())
             .map_err(|_| "refused")?;
         lines = replaced(alloc, &lines, at, del, &add)?;
-        are_same(&rt, &preview, &preview_of(alloc, &lines)?);
+        let mut anew = preview_of(alloc, &lines)?;
+        anew.set_prelude(&prelude, &mut Tally::new())?;
+        are_same(&rt, &preview, &anew);
     }
     Ok(())
 }

@@ -1,15 +1,16 @@
-//! The labels that an edit touches, and where they lead after it.
+//! The labels that an edit or a new prelude touches, and where they lead after it.
 
 use crate::held_labels::HeldLabels;
 use crate::held_units::HeldUnit;
+use crate::preludes::{Prelude, or_beside};
 use mdblock::{Definition, Found, Unit};
 use mdinline::Labels;
 use mdtext::{Label, NoMemory, Target};
 use std::alloc::Global;
 use std::collections::BTreeMap;
 
-/// The labels that an edit touches: those that the units define which go, and those that the units define which come. A label
-/// leads nowhere until the first unit that defines it was seen.
+/// The labels that an edit or a new prelude touches: those that units or a prelude define which go, and those that units or a
+/// prelude define which come. A label leads nowhere until the first unit that defines it was seen.
 #[derive(Drop)]
 pub(crate) struct TouchedLabels {
     alloc: Global,
@@ -45,10 +46,22 @@ impl TouchedLabels {
 
     fn touch(&mut self, unit: &Unit) -> Result<(), NoMemory> {
         for definition in unit.definitions() {
-            if !self.targets.contains_key(&definition.label) {
-                self.targets
-                    .insert(definition.label.copy(self.alloc)?, None)?;
-            }
+            self.touch_label(&definition.label)?;
+        }
+        Ok(())
+    }
+
+    /// The labels that a prelude defines which goes or comes.
+    pub(crate) fn touch_prelude(&mut self, prelude: &Prelude) -> Result<(), NoMemory> {
+        for label in prelude.labels() {
+            self.touch_label(label)?;
+        }
+        Ok(())
+    }
+
+    fn touch_label(&mut self, label: &Label) -> Result<(), NoMemory> {
+        if !self.targets.contains_key(label) {
+            self.targets.insert(label.copy(self.alloc)?, None)?;
         }
         Ok(())
     }
@@ -84,13 +97,16 @@ impl TouchedLabels {
         Ok(())
     }
 
-    /// Those that lead elsewhere than they do in the text that is held.
+    /// Those that lead elsewhere than they do now, where a label that no unit defines leads where this prelude says.
     pub(crate) fn changed(
         self,
         held: &HeldLabels,
+        prelude: &Prelude,
     ) -> Result<BTreeMap<Label, Option<Target>, Global>, NoMemory> {
-        let mut changed = BTreeMap::new(self.alloc);
+        let alloc = self.alloc;
+        let mut changed = BTreeMap::new(alloc);
         for (label, target) in self.targets {
+            let target = or_beside(alloc, target, &label, prelude)?;
             if !is_same(held.find(&label), target.as_ref()) {
                 changed.insert(label, target)?;
             }

@@ -1,10 +1,10 @@
-//! What an edit changes, made before anything of the preview is.
+//! What an edit or a new prelude changes, made before anything of the preview is.
 
-ghost use Rattle.std.specs.Prelude.{◌≡◌, ◌≤◌, ◌+◌, IfErr, IfOk, length, map};
+ghost use Rattle.std.specs.Prelude.{◌≡◌, ◌≤◌, ◌+◌, [], IfErr, IfOk, OnOk, length, map};
 ghost use Rattle.mdhtml.specs.Limits.{HasLimits};
 ghost use Rattle.mdview.specs.Document.{size_of};
 ghost use Rattle.mdview.specs.NewText.{lines_of};
-ghost use Rattle.mdview.specs.ReadingEnd.{OfReading};
+ghost use Rattle.mdview.specs.ReadingEnd.{OfReading, OfTexts};
 ghost use Rattle.mdview.specs.HeldUnit.{unit_in, read_of, texts_before, texts_of};
 ghost use Rattle.mdview.specs.Update.{IsFitFor, IsPatchOf, number_after};
 
@@ -14,6 +14,7 @@ use crate::held_units::HeldUnit;
 use crate::label_changes::LabelChanges;
 use crate::new_text::NewText;
 use crate::patch::Patch;
+use crate::preludes::Prelude;
 use crate::readings::{Again, TextReader};
 use crate::reparse::{Reparsed, reparse};
 use mdblock::Found;
@@ -30,6 +31,7 @@ pub(crate) struct HeldText<'a> {
     /// How many lines stand before the first unit.
     pub(crate) head: usize,
     pub(crate) units: &'a [HeldUnit],
+    pub(crate) prelude: &'a Prelude,
     pub(crate) labels: &'a HeldLabels,
 }
 
@@ -65,6 +67,54 @@ impl Update {
     {
         let reparsed = reparse(held, text, count)?;
         let changes = LabelChanges::of(held, &reparsed)?;
+        Update::behind(held, reparsed, changes, count)
+    }
+
+    /// What a new prelude brings: no unit comes or goes. Each inline text that is read is counted. Where several units have a
+    /// text that is too deep, the first of the text is named.
+    pub(crate) fn of_prelude<C: Count>(
+        held: &HeldText<'_>,
+        prelude: &Prelude,
+        count: &mut C,
+    ) -> Result<Update, EditFault>
+        requires limits { HasLimits held.now.options.now }
+        ensures fault { IfErr result OfTexts }
+        ensures inlines { OnOk result (C.inlines count.new ≤ C.inlines count.old + texts_before (length held.now.units.now) held.now.units.now) }
+        ensures fit { IfOk result (IsFitFor held.now.options.now (map unit_in held.now.units.now)) }
+        ensures none { IfOk result (λ r. (r.first ≡ 0) × (r.next ≡ 0) × (r.units.items ≡ [])) }
+        ensures lines { C.lines count.new ≡ C.lines count.old }
+    {
+        let changes = LabelChanges::of_prelude(held, prelude)?;
+        let unread = Reparsed {
+            first: 0,
+            next: 0,
+            from: 0,
+            meet: held.head,
+            found: Vec::new(held.alloc),
+        };
+        Update::behind(held, unread, changes, count)
+    }
+
+    /// What comes where labels lead elsewhere so: the units that were found, and the texts that asked for such a label read
+    /// again.
+    fn behind<C: Count>(
+        held: &HeldText<'_>,
+        reparsed: Reparsed,
+        changes: LabelChanges,
+        count: &mut C,
+    ) -> Result<Update, EditFault>
+        requires limits { HasLimits held.now.options.now }
+        requires first { reparsed.first ≤ reparsed.next }
+        requires next { reparsed.next ≤ length held.now.units.now }
+        ensures fault { IfErr result OfTexts }
+        ensures inlines { IfOk result (λ r. C.inlines count.new + texts_before r.next held.now.units.now
+            ≤ C.inlines count.old + texts_before r.first held.now.units.now + texts_of (map read_of r.units.items)
+            + texts_before (length held.now.units.now) held.now.units.now) }
+        ensures fit { IfOk result (IsFitFor held.now.options.now (map unit_in held.now.units.now)) }
+        ensures place { IfOk result (λ r. (r.first ≡ reparsed.first) × (r.next ≡ reparsed.next)) }
+        ensures units { IfOk result (λ r. length r.units.items ≡ length reparsed.found.items) }
+        ensures lines { C.lines count.new ≡ C.lines count.old }
+    {
         let reader = TextReader {
             alloc: held.alloc,
             entities: held.entities,

@@ -1,5 +1,5 @@
 -- How a line continues what is open, and what it begins where it does not (CommonMark 4.3, 4.8, 5.1, 5.2; GFM Tables (extension)).
-use Rattle.std.specs.Prelude.{◌≡◌, ℕ, Bool, true, false, List, [], length, drop, Option, IfSome}
+use Rattle.std.specs.Prelude.{◌≡◌, ℕ, Bool, true, false, not, List, [], length, drop, Option, None, IfSome}
 use Rattle.std.specs.Option.{option_map}
 use Rattle.mdtext.specs.Columns.{AreMarks}
 use Rattle.mdleaf.specs.TableRows.{begins_table}
@@ -41,6 +41,16 @@ goes_on continuation.Between = false
 goes_on (continuation.Next marker) = false
 goes_on (continuation.Outside opening) = false
 
+-- no line of a list
+abbrev pub IsOfLeaf : Continuation → Type 0
+IsOfLeaf continuation.Matched = Unit {0}
+IsOfLeaf (continuation.Underlines level) = Unit {0}
+IsOfLeaf continuation.Delimits = Unit {0}
+IsOfLeaf continuation.Lazy = Unit {0}
+IsOfLeaf continuation.Between = ⊥
+IsOfLeaf (continuation.Next marker) = ⊥
+IsOfLeaf (continuation.Outside opening) = Unit {0}
+
 -- what that does to a paragraph of so many lines
 abbrev pub step_view : (lines : ℕ) → Continuation → Step
 step_view lines continuation.Matched = Continues Paragraph
@@ -66,3 +76,23 @@ ContinuesOpen open_block.Shut l c = Unit {0}
 ContinuesOpen (open_block.Leaf held) l c = ContinuesLeaf held l c
 ContinuesOpen (open_block.Quote' p over last in_item begun blank spaced) l c = Unit {0}
 ContinuesOpen (open_block.List' p over last in_item begun blank spaced list) l c = Unit {0}
+
+-- what a line of no open block begins
+abbrev pub opening_of : Continuation → Option BlockStart
+opening_of continuation.Matched = None
+opening_of (continuation.Underlines level) = None
+opening_of continuation.Delimits = None
+opening_of continuation.Lazy = None
+opening_of continuation.Between = None
+opening_of (continuation.Next marker) = None
+opening_of (continuation.Outside opening) = opening
+
+-- Whether it begins a block, which no list holds: at the outermost level a unit.
+abbrev pub begins_block : Continuation → BlockLine → Bool
+begins_block continuation.Matched l = false
+begins_block (continuation.Underlines level) l = false
+begins_block continuation.Delimits l = false
+begins_block continuation.Lazy l = false
+begins_block continuation.Between l = false
+begins_block (continuation.Next marker) l = false
+begins_block (continuation.Outside opening) l = not (is_blank_line l)

@@ -1,24 +1,52 @@
 -- How what a reader holds stands for the lines that it has read.
-use Rattle.std.specs.Prelude.{◌≡◌, ℕ, false, List, [], ◌∷◌, length, map, Option, None, Some}
+use Rattle.std.specs.Prelude.{◌≡◌, ℕ, suc, true, false, List, [], ◌∷◌, length, map, Option, None, Some, if◌then◌else◌}
+use Rattle.std.specs.Option.{option_map}
 use Rattle.mdtext.specs.EntityTable.{EntityTable}
-use Rattle.blockspec.specs.BlockLine.{document_line}
-use Rattle.blockspec.specs.BlockUnits.{begins}
-use Rattle.mdblock.specs.held.HeldLevel.{StandsFor}
+use Rattle.blockspec.specs.BlockLine.{BlockLine, document_line}
+use Rattle.blockspec.specs.BlockUnits.{begins, units}
+use Rattle.blockspec.specs.LeafContents.{without_last}
+use Rattle.mdblock.specs.held.HeldLevel.{StandsFor, HoldsSummary, GivesUnit, Fits, found_between}
 use Rattle.mdblock.specs.held.HeldNodes.{handed_nodes}
-use Rattle.blockspec.specs.LineSummary.{Summary, summary_of}
+use Rattle.blockspec.specs.LineSummary.{Summary, no_summary, summary_of, line_added, begins_after}
 use Rattle.blockspec.specs.Nesting.{first_too_deep}
 use Rattle.blockspec.specs.NodeTree.{texts_in, definitions_in}
 use Rattle.mdblock.specs.held.ReaderState.{UnitSoFar, ReaderState}
-use Rattle.blockspec.specs.UnitReader.{lines_held}
+use Rattle.blockspec.specs.SummaryDepth.{sinks}
+use Rattle.blockspec.specs.UnitReader.{lines_held, read_behind}
+use Rattle.blockspec.specs.UnitTree.{FoundUnit}
+use Rattle.mdblock.specs.declared.readers.OpenUnit.{OpenUnit}
 
 abbrev pub last_of : List ℕ → Option ℕ
 last_of [] = None
 last_of (n ∷ []) = Some n
 last_of (n ∷ m ∷ ns) = last_of (m ∷ ns)
 
+-- the units that a reader has handed out behind these lines: all but the last one, which may go on
+abbrev pub handed : EntityTable → (lines : List (List ℕ)) → List FoundUnit
+handed entities lines = without_last (units entities lines)
+
 -- the first line of the last unit
 abbrev pub open_begin : EntityTable → (lines : List (List ℕ)) → Option ℕ
 open_begin entities lines = last_of (begins entities lines)
+
+-- What one line more makes of what is held, behind so many lines: it goes on, or hands out the unit before the one that the line begins.
+abbrev pub HandsOn : (limit fed : ℕ) → (old : OpenUnit) → BlockLine → Option FoundUnit → (new : OpenUnit) → Type 0
+HandsOn limit fed old l found new =
+    (s : Summary) → HoldsSummary old s → Fits limit s
+    → (sinks limit s l ≡ false)
+    × (found ≡ (if begins_after s l then option_map (found_between old.gathering.entities.now s fed) old.begin else None))
+    × (new.begin ≡ (if begins_after s l then Some fed else old.begin))
+    × HoldsSummary new (line_added old.gathering.entities.now (suc limit) (read_behind (begins_after s l) s) l)
+
+-- The line begins a unit: what is held is handed out, and what is held then is the line's.
+abbrev pub BeginsUnit : (limit fed : ℕ) → (old : OpenUnit) → BlockLine → Option FoundUnit → (new : OpenUnit) → Type 0
+BeginsUnit limit fed old l found new =
+    GivesUnit old fed found × (new.begin ≡ Some fed) × (sinks limit no_summary l ≡ false)
+    × HoldsSummary new (line_added old.gathering.entities.now (suc limit) no_summary l)
+
+-- the line begins a container too deep behind what is held
+abbrev pub SinksBehind : (limit : ℕ) → OpenUnit → BlockLine → Type 0
+SinksBehind limit held l = (s : Summary) → HoldsSummary held s → Fits limit s → sinks limit s l ≡ true
 
 abbrev pub StandsForHeld : EntityTable → UnitSoFar → Summary → Type 0
 StandsForHeld entities held s =

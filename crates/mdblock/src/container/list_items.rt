@@ -4,6 +4,7 @@ ghost use Rattle.std.specs.Prelude.{◌≡◌, ◌≤◌, IfOk, OnOk, length};
 ghost use Rattle.mdblock.specs.BlockView.{items_view};
 ghost use Rattle.mdblock.specs.Positions.{ItemsIn};
 ghost use Rattle.mdblock.specs.held.Continuations.{IsContinuationOf};
+ghost use Rattle.mdblock.specs.held.LevelSteps.{EndsItem, EntersItem};
 ghost use Rattle.mdblock.specs.held.OpenPositions.{LevelIn};
 
 use crate::container::lists::{self, OpenList};
@@ -40,6 +41,7 @@ pub(crate) fn enter_item(
     ensures list { IfOk result (λ _. ItemsIn (length gathering.new.texts.items) (items_view list.new.items.items)) }
     ensures grows { length gathering.old.texts.items ≤ length gathering.new.texts.items }
     ensures entities { gathering.new.entities.now ≡ gathering.old.entities.now }
+    ensures enters { IfOk result (EntersItem continuation inner.old list.old gap gathering.old line.old inner.new list.new gathering.new line.new) }
 {
     match continuation {
         Continuation::Matched | Continuation::Underlines(_) | Continuation::Delimits => {
@@ -76,6 +78,7 @@ fn end_item(
     ensures list { OnOk result (ItemsIn (length gathering.new.texts.items) (items_view list.new.items.items)) }
     ensures grows { length gathering.old.texts.items ≤ length gathering.new.texts.items }
     ensures entities { gathering.new.entities.now ≡ gathering.old.entities.now }
+    ensures ends { OnOk result (EndsItem inner.old list.old gathering.old inner.new list.new gathering.new) }
 {
     if list.is_open() {
         let item = mem::replace(inner, Level::new(gathering.alloc(), true));

@@ -4,6 +4,7 @@ ghost use Rattle.std.specs.Prelude.{◌≡◌, ℕ, ◌+◌, ◌^◌, ◌<◌, �
 ghost use Rattle.mdtext.specs.Columns.{AreMarks};
 ghost use Rattle.blockspec.specs.BlockLine.{rest, indentation, is_blank_line, without_columns};
 ghost use Rattle.blockspec.specs.BlockStart.{Item as ItemWith, Holds, padding, item_of, begun};
+ghost use Rattle.blockspec.specs.BlockTree.{no_items};
 ghost use Rattle.mdblock.specs.BlockView.{kind_view, block_view, blocks_view, items_view};
 ghost use Rattle.blockspec.specs.ContainerLines.{opened};
 ghost use Rattle.blockspec.specs.ListGroups.{kind_of, is_same_list};
@@ -35,6 +36,8 @@ impl OpenList {
         ensures kind { kind_view result.kind ≡ kind_of marker }
         ensures needed { result.needed ≡ needed }
         ensures open { result.item_open ≡ true }
+        ensures tight { result.loose ≡ false }
+        ensures none { items_view result.items.items ≡ no_items }
     {
         OpenList {
             kind: kind_of(marker),

@@ -29,6 +29,7 @@ pub(crate) fn atx_heading(
     ensures entities { gathering.new.entities.now ≡ gathering.old.entities.now }
     ensures block { IfOk result (λ block. block_view block ≡ heading_block heading.level (length gathering.old.texts.items)) }
     ensures texts { OnOk result (gathered_texts gathering.new ≡ gathered_texts gathering.old ++ part (rest line.now) heading.content ∷ []) }
+    ensures definitions { gathering.new.definitions ≡ gathering.old.definitions }
 {
     let line = line.text();
     let content = &line[heading.content.start..heading.content.end];
@@ -51,6 +52,7 @@ pub(crate) fn begin(
     ensures entities { gathering.new.entities.now ≡ gathering.old.entities.now }
     ensures step { IfOk result (λ step. IsOver (heading_block heading.level (length gathering.old.texts.items)) step) }
     ensures texts { OnOk result (gathered_texts gathering.new ≡ gathered_texts gathering.old ++ part (rest line.now) heading.content ∷ []) }
+    ensures definitions { gathering.new.definitions ≡ gathering.old.definitions }
 {
     Ok(over(atx_heading(heading, line, gathering)?))
 }

@@ -17,7 +17,7 @@ ghost use Rattle.mdblock.specs.Positions.{BlockIn};
 ghost use Rattle.mdblock.specs.held.HeldTables.{IsTableBehind, first_rows};
 ghost use Rattle.mdblock.specs.held.OpenLeaves.{IsGoing, IsOver, IsParagraphLeaf};
 ghost use Rattle.mdblock.specs.held.OpenPositions.{LeafAfterIn};
-ghost use Rattle.mdblock.specs.held.Continuations.{IsContinuationOf, step_view};
+ghost use Rattle.mdblock.specs.held.Continuations.{IsContinuationOf, IsOfLeaf, step_view};
 ghost use Rattle.mdblock.specs.held.ParagraphLines.{HoldsLines, begins_row};
 ghost use Rattle.blockspec.specs.Stretches.{Continues, IsLastLine, paragraph_step, interrupted};
 
@@ -75,6 +75,7 @@ impl Paragraph {
     /// How a line continues the paragraph, all of whose containers match it, or that is lazy.
     pub(crate) fn continuation(&self, line: &Line) -> Continuation
         ensures continuation { IsContinuationOf line.now result }
+        ensures leaf { IsOfLeaf result }
         ensures row { result ≡ Continuation.Delimits → begins_table (drop self.now.last self.now.text) (rest line.now) ≡ true }
         ensures step { (lines : List BlockLine) → HoldsLines lines self.now
             → step_view (length lines) result ≡ paragraph_step line.now.lazy (is_blank_line line.now) (start Inside lines line.now) }
@@ -95,6 +96,7 @@ impl Paragraph {
         requires blank { is_blank_line line.now ≡ false }
         requires near { nat_le (indentation line.now) 3 ≡ true }
         ensures continuation { IsContinuationOf line.now result }
+        ensures leaf { IsOfLeaf result }
         ensures row { result ≡ Continuation.Delimits → begins_table (drop self.now.last self.now.text) (rest line.now) ≡ true }
         ensures step { (lines : List BlockLine) → HoldsLines lines self.now → step_view (length lines) result ≡ interrupted (start_near Inside lines line.now) }
     {

@@ -42,6 +42,7 @@ fn check(
         &mut out,
         Entities::builtin(alloc)?,
         options,
+        &[],
     );
     let written = String::from_utf8_lossy(alloc, out.bytes())?;
     let end = format!(in alloc; "{end:?}")?;
@@ -136,7 +137,14 @@ fn the_deepest_texts_are_edited(rt: HostRuntime) -> Result<(), Fail> {
     let mut feed = MemoryFeed::new(script.as_bytes(), 4096, None);
     let mut out = MemoryOut::new(alloc, 4096, None);
     let entities = Entities::builtin(alloc)?;
-    let end = serve(alloc, &mut feed, &mut out, entities, with_limits(256, 256));
+    let end = serve(
+        alloc,
+        &mut feed,
+        &mut out,
+        entities,
+        with_limits(256, 256),
+        &[],
+    );
     let written = String::from_utf8_lossy(alloc, out.bytes())?;
     assert!(rt; end.is_ok());
     assert_eq!(rt; written.as_str(), want.as_str());

@@ -29,7 +29,7 @@ fn converted(
     let mut feed = MemoryFeed::new(text, 7, feed_fails);
     let mut out = MemoryOut::new(alloc, 7, out_fails);
     let entities = Entities::builtin(alloc)?;
-    let end = convert(alloc, &mut feed, &mut out, entities, options);
+    let end = convert(alloc, &mut feed, &mut out, entities, options, &[]);
     let written = String::from_utf8_lossy(alloc, out.bytes())?;
     let end = format!(in alloc; "{end:?}")?;
     Ok((written, end))
@@ -160,7 +160,7 @@ fn replied(
     let mut feed = MemoryFeed::new(EDITS, 7, feed_fails);
     let mut out = MemoryOut::new(alloc, 7, out_fails);
     let entities = Entities::builtin(alloc)?;
-    let end = serve(alloc, &mut feed, &mut out, entities, SOFT);
+    let end = serve(alloc, &mut feed, &mut out, entities, SOFT, &[]);
     let written = String::from_utf8_lossy(alloc, out.bytes())?;
     let end = format!(in alloc; "{end:?}")?;
     Ok((written, end, out.flushes()))

@@ -170,7 +170,7 @@ fn answered(alloc: Global, text: &str, unsafe_html: bool) -> Result<String, Allo
         max_containers: 64,
         max_spans: 64,
     };
-    if serve(alloc, &mut feed, &mut out, entities, options).is_err() {
+    if serve(alloc, &mut feed, &mut out, entities, options, &[]).is_err() {
         return Err(AllocError);
     }
     String::from_utf8_lossy(alloc, out.bytes())
@@ -313,6 +313,7 @@ fn refused_depth_changes_nothing(rt: HostRuntime) -> Result<(), Fail> {
         &mut out,
         Entities::builtin(alloc)?,
         options,
+        &[],
     );
     assert!(rt; end.is_ok());
     let written = String::from_utf8_lossy(alloc, out.bytes())?;

@@ -8,6 +8,7 @@ returns c =
     let file : rule_of c.help.result ≡ file_rule = search rules in
     c.described.ensures
     ∙ c.in_ok-command.ensures.shape (search rules) ∙ ap₂ with_rule
+    (c.in_ok-arg-7.ensures.shape c.valued-4.ensures.local ∙ ap₂ with_rule
     (c.in_ok-arg-6.ensures.shape c.valued-3.ensures.local ∙ ap₂ with_rule
     (c.in_ok-arg-5.ensures.shape c.valued-2.ensures.local ∙ ap₂ with_rule
     (c.in_ok-arg-4.ensures.shape c.valued.ensures.local ∙ ap₂ with_rule
@@ -19,4 +20,5 @@ returns c =
     c.valued.ensures.rule)
     c.valued-2.ensures.rule)
     c.valued-3.ensures.rule)
+    c.valued-4.ensures.rule)
     file

@@ -15,5 +15,6 @@ returns-clause-read c =
       rows = (matched refl).0;
       options = c.in_ok-options.ensures.read;
       entities = c.in_ok-entities.ensures ∙ c.get_str.ensures;
-      file = c.in_ok-file.ensures ∙ c.get_str-2.ensures;
+      prelude = c.in_ok-prelude.ensures ∙ c.get_str-2.ensures;
+      file = c.in_ok-file.ensures ∙ c.get_str-3.ensures;
     }

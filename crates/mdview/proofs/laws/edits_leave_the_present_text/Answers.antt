@@ -1,6 +1,7 @@
-use Rattle.std.proofs.Common.{[]}
+use Rattle.mdview.specs.Document.{nothing}
+use Rattle.mdview.specs.Run.{no_units}
 use Rattle.mdview.proofs.Runs.{run_is_document}
 use Rattle.mdview.proofs.laws.edits_leave_the_present_text.Goals as goal
 
 pub returns : goal.returns
-returns c = λ entities options turns. run_is_document entities options turns [] (0, [])
+returns c = λ entities options turns. run_is_document entities options turns nothing no_units

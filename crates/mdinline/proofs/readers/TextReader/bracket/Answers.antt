@@ -1,4 +1,5 @@
-use Rattle.std.proofs.Common.{refl, arith}
+use Rattle.std.proofs.Common.{[], true, false, refl, arith}
+use Rattle.mdinline.proofs.ReadHolding.{holds_opening}
 use Rattle.mdinline.proofs.Marks.{behind}
 use Rattle.mdinline.proofs.readers.TextReader.bracket.Goals as goal
 
@@ -21,3 +22,28 @@ pub returns-in_ok-open-in-Image-clause-brackets : goal.returns-in_ok-open-in-Ima
 returns-in_ok-open-in-Image-clause-brackets g c =
     let later = c.requires.bracket.later in
     c.in_ok-open-in-Image.ensures.brackets c.args.text.now c.args.at c.requires.bracket.whole (omega (arith, later)) c.requires.brackets
+
+pub returns-in_ok-open-in-Link-clause-takes : goal.returns-in_ok-open-in-Link-clause-takes
+returns-in_ok-open-in-Link-clause-takes g c = (
+  [],
+  g.met.S.InlineSink.takes_none c.args.sink.now,
+  λ handed ps unused h.
+      let entities = c.args.self.now.entities.now in
+      let text = c.args.text.now in
+      let later = c.requires.bracket.later in
+      rw c.in-Link.is (holds_opening entities text handed _ ps false c.args.at c.args.bracket.end (omega (arith, later)) (c.in_ok-open-in-Link.ensures.pieces entities text handed ps h)),
+)
+
+pub returns-in_ok-open-in-Image-clause-takes : goal.returns-in_ok-open-in-Image-clause-takes
+returns-in_ok-open-in-Image-clause-takes g c = (
+  [],
+  g.met.S.InlineSink.takes_none c.args.sink.now,
+  λ handed ps unused h.
+      let entities = c.args.self.now.entities.now in
+      let text = c.args.text.now in
+      let later = c.requires.bracket.later in
+      rw c.in-Image.is (holds_opening entities text handed _ ps true c.args.at c.args.bracket.end (omega (arith, later)) (c.in_ok-open-in-Image.ensures.pieces entities text handed ps h)),
+)
+
+pub returns-in-Closing-clause-takes : goal.returns-in-Closing-clause-takes
+returns-in-Closing-clause-takes g c = rw c.in-Closing.is c.close.ensures.takes

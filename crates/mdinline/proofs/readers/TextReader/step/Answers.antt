@@ -1,5 +1,16 @@
-use Rattle.std.proofs.Common.{◌<◌, slice_index, subst}
+use Rattle.std.proofs.Common.{◌≡◌, ◌+◌, ◌-◌, ◌<◌, [], ◌∷◌, ◌++◌, false, None, slice_index, refl, sym, subst, arith}
+use Rattle.mdpair.specs.Neighbours.{run_at}
+use Rattle.inlinespec.specs.Lexing.{Lexeme, Delimiters, lex}
+use Rattle.inlinespec.specs.Settled.{Run}
+use Rattle.inlinespec.specs.TextReading.{after_deed, item_by}
+use Rattle.mdinline.specs.held.KnownText.{KnowsText}
+use Rattle.mdinline.specs.held.PlainText.{is_bracket}
+use Rattle.mdinline.specs.held.Recognised.{bracket_of, kind_of}
+use Rattle.mdinline.specs.held.UnusedOpeners.{AreOpenersOf}
 use Rattle.mdinline.proofs.Marks.{behind_next, same_place}
+use Rattle.mdinline.proofs.ReadHolding.{leaves_unused}
+use Rattle.mdinline.proofs.ReadLeaf.{knows_later, leaf_leads, run_unused}
+use Rattle.mdinline.proofs.ReadSteps.{at_run, leads_lexeme}
 use Rattle.mdinline.proofs.readers.TextReader.step.Goals as goal
 
 pub bracket-requires-clause-bracket : goal.bracket-requires-clause-bracket
@@ -8,3 +19,88 @@ bracket-requires-clause-bracket g c =
 
 pub bracket-requires-clause-mark : goal.bracket-requires-clause-mark
 bracket-requires-clause-mark g c = subst (λ t. slice_index t c.args.at < 128) c.as_bytes.ensures.value c.in-Some-bracket_at.ensures.mark
+
+pub returns-in-Some-clause-reads : goal.returns-in-Some-clause-reads
+returns-in-Some-clause-reads g c =
+    let entities = c.args.self.now.entities.now in
+    let table = g.L.Labels.target c.args.labels.now in
+    let text = c.args.text.now in
+    let at = c.args.at in
+    let run = c.in-Some.run' in
+    let now = c.in_ok-run.ensures in
+    let took = now.takes in
+    let some = c.in-Some.ensures.some in
+    let l : Lexeme = record { size = run.length; kind = Delimiters run } in (
+      took.0,
+      took.1,
+      λ handed ps h. (
+        [],
+        Run run ∷ ps,
+        leads_lexeme entities table text at (at + run.length) ps l c.requires.inside (at_run entities text at run (sym c.in-Some.ensures.value)) refl (omega (arith, some)) c.in-Some.ensures.within,
+        g.met.A.AsksLabels.asks_none c.args.asked.now,
+        record {
+          entities_same = rw now.entities refl;
+          knows = subst (KnowsText text (at + run.length)) (sym now.scanner) (knows_later text at (at + run.length) c.args.self.now.scanner (omega arith) h.knows);
+          unused = subst (AreOpenersOf (Run run ∷ ps)) (sym now.openings) (run_unused ps c.args.self.now.pending.openings run h.unused);
+          pieces = took.2 handed ps h.pieces;
+        },
+      ),
+    )
+
+pub returns-in-Some-bracket_at-clause-reads : goal.returns-in-Some-bracket_at-clause-reads
+returns-in-Some-bracket_at-clause-reads g c =
+    let entities = c.args.self.now.entities.now in
+    let table = g.L.Labels.target c.args.labels.now in
+    let text = c.args.text.now in
+    let at = c.args.at in
+    let bracket = c.in-Some-bracket_at.bracket in
+    let now = c.in_ok-end.ensures in
+    let took = now.takes in
+    let end = c.in_ok-end.end in
+    let later = now.end.later in
+    let lexed : lex entities text at ≡ bracket_of at bracket = subst (λ t. lex entities t at ≡ bracket_of at bracket) c.as_bytes.ensures.value (c.in-Some-bracket_at.ensures.value entities) in (
+      took.0,
+      took.1,
+      λ handed ps h. (
+        (item_by entities table text at ps (bracket.end - at) (kind_of bracket.kind)).asks,
+        after_deed (item_by entities table text at ps (bracket.end - at) (kind_of bracket.kind)).deed ps,
+        leads_lexeme entities table text at end ps (bracket_of at bracket) c.requires.inside lexed (now.size ps h.unused entities) (omega (arith, later)) now.end.within,
+        now.asks ps h.unused entities,
+        record {
+          entities_same = rw now.entities refl;
+          knows = subst (KnowsText text end) (sym now.scanner) (knows_later text at end c.args.self.now.scanner (omega (arith, later)) h.knows);
+          unused = now.openers ps h.unused entities;
+          pieces = took.2 handed ps h.unused h.pieces;
+        },
+      ),
+    )
+
+pub returns-clause-reads : goal.returns-clause-reads
+returns-clause-reads g c =
+    let entities = c.args.self.now.entities.now in
+    let table = g.L.Labels.target c.args.labels.now in
+    let text = c.args.text.now in
+    let at = c.args.at in
+    let found = c.in_ok-found.found in
+    let leaf = c.in_ok-found.ensures in
+    let now = c.in_ok-put.ensures in
+    let took = now.takes in
+    let later = leaf.end.later in
+    let no_run : run_at text at ≡ None = sym c.in_default.ensures.value in
+    let no_bracket : is_bracket (lex entities text at).kind ≡ false = subst (λ t. is_bracket (lex entities t at).kind ≡ false) c.as_bytes.ensures.value (c.in_default-bracket_at.ensures.value entities) in (
+      took.0,
+      took.1,
+      λ handed ps h.
+          let led = leaf_leads entities table text at ps found c.requires.inside leaf.end (leaf.value no_run no_bracket h.knows) in (
+            [],
+            led.made ++ ps,
+            led.leads,
+            g.met.A.AsksLabels.asks_none c.args.asked.now,
+            record {
+              entities_same = rw now.entities refl;
+              knows = subst (KnowsText text found.end) (sym now.scanner) (knows_later text at found.end c.leaf.new.self (omega (arith, later)) (leaf.knows h.knows));
+              unused = subst (AreOpenersOf (led.made ++ ps)) (sym now.openings) (leaves_unused led.made ps c.args.self.now.pending.openings led.plain h.unused);
+              pieces = took.2 handed ps led.made leaf.leaf led.plain led.same h.pieces;
+            },
+          ),
+    )

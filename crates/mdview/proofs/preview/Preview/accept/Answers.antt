@@ -3,7 +3,7 @@ use Rattle.std.proofs.lemmas.List.{length-map}
 use Rattle.std.proofs.lemmas.Bool.Decides.{nat_tests}
 use Rattle.mdview.specs.Document.{size_of}
 use Rattle.mdtext.specs.Lines.{without_nul}
-use Rattle.mdview.specs.Edit.{due, put}
+use Rattle.mdview.specs.Edit.{call_of, due, put}
 use Rattle.mdview.proofs.Sizes.{size_part}
 use Rattle.mdview.proofs.Due.{gone_is, due_of_parts, put_of_parts}
 use Rattle.mdview.proofs.preview.Preview.accept.Goals as goal
@@ -29,7 +29,7 @@ returns-then-added-kept-clause-err c =
     let added : length add ≡ length c.args.add.now = length-map c.args.add.now (λ line. line.now) in
     let held = c.self.inside.lines.ok.0 in
     let gone = (rw c.deref.ensures.value at c.size.ensures) ∙ gone_is c.self.inside.lines.items c.args.at c.args.del in
-    let is = due_of_parts ls (record { at = c.args.at; del = c.args.del; add = add }) c.size.result (omega arith) (sym c.first_line_break.ensures ∙ c.in_default.is) gone (omega arith) (omega arith) in
+    let is = due_of_parts ls c.args.at c.args.del add c.size.result (omega arith) (sym c.first_line_break.ensures ∙ c.in_default.is) gone (omega arith) (omega arith) in
     let large : nat_lt 16777216 (size_of ls - c.size.result + size_of (map without_nul add)) ≡ true = grind (arith, nat_tests) in
     rw (← c.self.view_is, is, large) refl
 
@@ -41,11 +41,11 @@ returns-clause-ok c =
     let added : length add ≡ length c.args.add.now = length-map c.args.add.now (λ line. line.now) in
     let held = c.self.inside.lines.ok.0 in
     let gone = (rw c.deref.ensures.value at c.size.ensures) ∙ gone_is c.self.inside.lines.items c.args.at c.args.del in
-    let is = due_of_parts ls (record { at = c.args.at; del = c.args.del; add = add }) c.size.result (omega arith) (sym c.first_line_break.ensures ∙ c.in_default.is) gone (omega arith) (omega arith) in
-    let after = put_of_parts ls (record { at = c.args.at; del = c.args.del; add = add }) c.size.result (omega arith) gone (omega arith) (omega arith) in
+    let is = due_of_parts ls c.args.at c.args.del add c.size.result (omega arith) (sym c.first_line_break.ensures ∙ c.in_default.is) gone (omega arith) (omega arith) in
+    let after = put_of_parts ls c.args.at c.args.del add c.size.result (omega arith) gone (omega arith) (omega arith) in
     let small : nat_lt 16777216 (size_of ls - c.size.result + size_of (map without_nul add)) ≡ false = grind (arith, nat_tests) in
-    let none : due ls (record { at = c.args.at; del = c.args.del; add = add }) ≡ None = is ∙ (rw small refl) in
-    let size : c.self.inside.size - c.size.result + c.clean_size-added.result ≡ size_of (put ls (record { at = c.args.at; del = c.args.del; add = add })) = omega arith in
+    let none : due ls (call_of c.args.at c.args.del add) ≡ None = is ∙ (rw small refl) in
+    let size : c.self.inside.size - c.size.result + c.clean_size-added.result ≡ size_of (put ls (call_of c.args.at c.args.del add)) = omega arith in
     rw (← c.self.view_is) (none, size)
 
 pub returns-clause-small : goal.returns-clause-small
@@ -56,6 +56,6 @@ returns-clause-small c =
     let added : length add ≡ length c.args.add.now = length-map c.args.add.now (λ line. line.now) in
     let held = c.self.inside.lines.ok.0 in
     let gone = (rw c.deref.ensures.value at c.size.ensures) ∙ gone_is c.self.inside.lines.items c.args.at c.args.del in
-    let after = put_of_parts ls (record { at = c.args.at; del = c.args.del; add = add }) c.size.result (omega arith) gone (omega arith) (omega arith) in
-    let small : size_of (put ls (record { at = c.args.at; del = c.args.del; add = add })) ≤ 16777216 = omega arith in
+    let after = put_of_parts ls c.args.at c.args.del add c.size.result (omega arith) gone (omega arith) (omega arith) in
+    let small : size_of (put ls (call_of c.args.at c.args.del add)) ≤ 16777216 = omega arith in
     rw (← c.self.view_is) (after.1, small)

@@ -3,8 +3,11 @@ use Rattle.std.specs.List.{All}
 use Rattle.std.proofs.lemmas.List.{length-map}
 use Rattle.mdtext.specs.Lines.{without_nul}
 use Rattle.mdview.specs.Document.{Document}
-use Rattle.mdview.specs.Edit.{Call, put}
+use Rattle.viewspec.specs.Calls.{Call}
+use Rattle.mdview.specs.Edit.{call_of, put}
 use Rattle.mdview.specs.HeldUnit.{HeldUnit, IsRendered, unit_in, piece_of, read_of, unit_piece}
+use Rattle.inlinespec.specs.LabelMap.{LabelMap}
+use Rattle.mdview.specs.LabelTargets.{leading}
 use Rattle.mdview.specs.Lists.{replaced}
 use Rattle.mdview.specs.Outcome.{edited}
 use Rattle.viewspec.specs.Patch.{Brings}
@@ -17,7 +20,7 @@ use Rattle.mdview.proofs.preview.Preview.edit.Goals as goal
 pub invariant_of-self-2 : goal.invariant_of-self-2
 invariant_of-self-2 g c =
     let add : List (List ℕ) = map (λ line. line.now) c.args.add.now in
-    let call : Call = record { at = c.args.at; del = c.args.del; add = add } in
+    let call : Call = call_of c.args.at c.args.del add in
     let was : map string_bytes c.self.inside.lines.items ≡ c.args.self.now.lines = ap (λ d. d.lines) c.self.view_is in
     let added : map string_bytes c.in_ok-new_lines.new_lines.items ≡ map without_nul add = c.in_ok-new_lines.ensures in
     let spliced : c.splice.new.items.items ≡ replaced c.self.inside.lines.items c.args.at c.args.del c.in_ok-new_lines.new_lines.items =
@@ -39,7 +42,7 @@ invariant_of-self-2 g c =
 pub returns-clause-outcome : goal.returns-clause-outcome
 returns-clause-outcome g c =
     let add : List (List ℕ) = map (λ line. line.now) c.args.add.now in
-    let call : Call = record { at = c.args.at; del = c.args.del; add = add } in
+    let call : Call = call_of c.args.at c.args.del add in
     let was : map string_bytes c.self.inside.lines.items ≡ c.args.self.now.lines = ap (λ d. d.lines) c.self.view_is in
     let added : map string_bytes c.in_ok-new_lines.new_lines.items ≡ map without_nul add = c.in_ok-new_lines.ensures in
     let spliced : c.splice.new.items.items ≡ replaced c.self.inside.lines.items c.args.at c.args.del c.in_ok-new_lines.new_lines.items =
@@ -58,9 +61,11 @@ returns-clause-outcome g c =
     let new : List HeldUnit = c.commit.new.held.items in
     let rendered : All (IsRendered options) new = subst (All (IsRendered options)) (sym held) (committed_rendered options units r fit c.self.invariant.3) in
     let pieces : map piece_of new ≡ map (unit_piece old.options) (map read_of new) = pieces_are options new rendered ∙ (rw same_options refl) in
-    let fresh : record { entities = c.self.inside.entities; options = options; lines = map string_bytes c.splice.new.items.items; head = r.head; units = map read_of new; pieces = map piece_of new }
-    ≡ edited old call r.head (map read_of new) = rw (entities, same_options, lines, pieces) refl in
-    accepted_is_outcome old _ call c.in_ok-patch.patch r.head (map read_of new) c.in_ok-size.ensures.ok.0 fresh
+    let prelude : c.self.inside.prelude.lines ≡ old.prelude = ap (λ d. d.prelude) c.self.view_is in
+    let labels : LabelMap = leading c.commit.new.labels.targets.entries in
+    let fresh : record { entities = c.self.inside.entities; options = options; lines = map string_bytes c.splice.new.items.items; prelude = c.self.inside.prelude.lines; head = r.head; units = map read_of new; labels = labels; pieces = map piece_of new }
+    ≡ edited old call r.head (map read_of new) labels = rw (entities, same_options, lines, prelude, pieces) refl in
+    accepted_is_outcome old _ call c.in_ok-patch.patch r.head (map read_of new) labels c.in_ok-size.ensures.ok.0 fresh
 
 pub returns-clause-patch : goal.returns-clause-patch
 returns-clause-patch g c =

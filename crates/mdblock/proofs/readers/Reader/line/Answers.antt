@@ -1,0 +1,30 @@
+use Rattle.std.proofs.Common.{◌≡◌, IfSome, subst, sym, ◌∙◌}
+use Rattle.std.specs.Prelude.{option_map}
+use Rattle.mdblock.specs.held.ReaderState.{AreKept, unit_so_far}
+use Rattle.mdblock.specs.held.Reads.{Reads}
+use Rattle.mdblock.proofs.NextLineLaws.{reads_next, hands_next, deep_next}
+use Rattle.mdblock.proofs.readers.Reader.line.Goals as goal
+
+pub returns-in-Ok-clause-reads : goal.returns-in-Ok-clause-reads
+returns-in-Ok-clause-reads g c = λ limit e ls r.
+    let i = c.self.inside in
+    let seen = subst (λ z. Reads limit e z ls) (sym c.self.view_is) r in
+    let kept = subst (λ z. IfSome z (λ held. AreKept held × (held.gathering.entities.now ≡ i.entities.now))) c.in-Some.is c.self.invariant in
+    reads_next limit e i.entities.now i.limit i.fed c.in-Some.held c.read.new.self c.in-Ok.found c.args.text.now ls kept.1 (c.in-Ok.ensures.entities ∙ kept.1) c.in-Ok.ensures.next
+    (subst (λ z. Reads limit e (record { entities = i.entities.now; limit = i.limit; fed = i.fed; held = option_map unit_so_far z }) ls) c.in-Some.is seen)
+
+pub returns-in-Ok-clause-hands : goal.returns-in-Ok-clause-hands
+returns-in-Ok-clause-hands g c = λ limit e ls r.
+    let i = c.self.inside in
+    let seen = subst (λ z. Reads limit e z ls) (sym c.self.view_is) r in
+    let kept = subst (λ z. IfSome z (λ held. AreKept held × (held.gathering.entities.now ≡ i.entities.now))) c.in-Some.is c.self.invariant in
+    hands_next limit e i.entities.now i.limit i.fed c.in-Some.held c.read.new.self c.in-Ok.found c.args.text.now ls kept.1 c.in-Ok.ensures.next
+    (subst (λ z. Reads limit e (record { entities = i.entities.now; limit = i.limit; fed = i.fed; held = option_map unit_so_far z }) ls) c.in-Some.is seen)
+
+pub returns-in-Err-clause-deep : goal.returns-in-Err-clause-deep
+returns-in-Err-clause-deep g c = λ err limit e ls r.
+    let i = c.self.inside in
+    let seen = subst (λ z. Reads limit e z ls) (sym c.self.view_is) r in
+    let kept = subst (λ z. IfSome z (λ held. AreKept held × (held.gathering.entities.now ≡ i.entities.now))) c.in-Some.is c.self.invariant in
+    deep_next limit e i.entities.now i.limit i.fed c.in-Some.held c.args.text.now ls kept.1 (c.in-Err.ensures.deep err)
+    (subst (λ z. Reads limit e (record { entities = i.entities.now; limit = i.limit; fed = i.fed; held = option_map unit_so_far z }) ls) c.in-Some.is seen)

@@ -1,0 +1,291 @@
+//! What was read of a text and not handed out yet (CommonMark 6; GFM Strikethrough (extension)).
+
+ghost use Rattle.std.specs.Prelude.{◌≡◌, ◌+◌, ◌∷◌, ◌++◌, ◌==◌, ◌&&◌, ◌≤◌, ◌<◌, [], true, ℕ, List, All, IfSome, MatchOption, OnOk, drop, length, map, set, slice_index_or};
+ghost use Rattle.std.specs.Str.{IsCharBoundary};
+ghost use Rattle.mdtext.specs.EntityTable.{EntityTable};
+ghost use Rattle.mdpair.specs.Matches.{matches};
+ghost use Rattle.inlinespec.specs.InlineEvents.{Event};
+ghost use Rattle.inlinespec.specs.LabelMap.{LinkTarget};
+ghost use Rattle.inlinespec.specs.Settled as settled;
+ghost use Rattle.inlinespec.specs.TextReading.{Opened, linked, nearest_opener, spent};
+ghost use Rattle.mdinline.specs.declared.tokens.Begun.{Begun as Held};
+ghost use Rattle.mdinline.specs.declared.tokens.PairedRun.{PairedRun as Left};
+ghost use Rattle.mdinline.specs.declared.tokens.Token.TheVariants as kept;
+ghost use Rattle.mdinline.specs.held.Brackets.{AreBracketsOf};
+ghost use Rattle.mdinline.specs.held.LeafEvents.{IsGoalOf, IsTokenOf, goal_target, leaf_events};
+ghost use Rattle.mdinline.specs.held.PairedRuns.{ArePaired};
+ghost use Rattle.mdinline.specs.held.ReadMarks.{marked, marks_back, ones};
+ghost use Rattle.mdinline.specs.held.ReadPending.{AreRunsAt, HasSpansOf, HoldsPieces, HoldsTaken, IsKept, IsPaired, IsSettled, IsSpanned};
+ghost use Rattle.mdinline.specs.held.ReadPending.{is_leaf, paired_piece, shown_pieces};
+ghost use Rattle.mdinline.specs.held.UnusedOpeners.{AreOpenersOf, IsTaken, openers};
+
+use crate::bracket_stack::{BracketStack, Opening};
+use crate::emphasis::{append_unpaired, take_all};
+use crate::tokens::{Begun, Goal, PairedRun, Token};
+use mdpair::{DelimiterRun, pair};
+use std::alloc::{AllocError, Global};
+
+/// What was read of a text and not handed out yet.
+#[derive(Drop)]
+pub(crate) struct Pending<'a> {
+    alloc: Global,
+    /// There is none while no run and no bracket is pending.
+    tokens: Vec<Token<'a>>,
+    /// The delimiter runs that are not paired yet, and their places among the tokens.
+    runs: Vec<DelimiterRun>,
+    places: Vec<usize>,
+    openings: BracketStack,
+    /// What matches leave of the runs that are being paired.
+    paired: Vec<PairedRun>,
+    /// The spans that begin at runs that are paired.
+    begun: Vec<Begun>,
+}
+
+impl<'a> Pending<'a> {
+    pub(crate) fn new(alloc: Global) -> Pending<'a> {
+        Pending {
+            alloc,
+            tokens: Vec::new(alloc),
+            runs: Vec::new(alloc),
+            places: Vec::new(alloc),
+            openings: BracketStack::new(alloc),
+            paired: Vec::new(alloc),
+            begun: Vec::new(alloc),
+        }
+    }
+
+    /// Forgets what was read before.
+    pub(crate) fn clear(&mut self)
+        ensures tokens { self.new.tokens.items ≡ [] }
+        ensures unused { self.new.openings.unused.items ≡ [] }
+        ensures none { AreOpenersOf [] self.new.openings }
+        ensures pieces { (entities : EntityTable) (text : List ℕ) → HoldsPieces entities text [] self.new [] }
+    {
+        self.tokens.clear();
+        self.runs.clear();
+        self.places.clear();
+        self.openings.clear();
+        self.begun.clear();
+    }
+
+    pub(crate) fn is_empty(&self) -> bool
+        ensures { result ≡ (length self.now.tokens.items == 0) }
+    {
+        self.tokens.is_empty()
+    }
+
+    /// Whether no run and no bracket is pending.
+    pub(crate) fn is_idle(&self) -> bool
+        ensures { result ≡ ((length self.now.runs.items == 0) && (length self.now.openings.unused.items == 0)) }
+    {
+        self.runs.is_empty() && self.openings.is_empty()
+    }
+
+    pub(crate) fn tokens(&self) -> &[Token<'a>]
+        ensures { result.now ≡ self.now.tokens.items }
+    {
+        &self.tokens
+    }
+
+    /// The spans that begin at runs that are paired.
+    pub(crate) fn begun(&self) -> &[Begun]
+        ensures { result.now ≡ self.now.begun.items }
+    {
+        &self.begun
+    }
+
+    /// Forgets what was handed out.
+    pub(crate) fn handed_out(&mut self)
+        ensures tokens { self.new.tokens.items ≡ [] }
+        ensures openings { self.new.openings ≡ self.old.openings }
+        ensures runs { self.new.runs ≡ self.old.runs }
+        ensures places { self.new.places ≡ self.old.places }
+    {
+        self.tokens.clear();
+        self.begun.clear();
+    }
+
+    /// Keeps a leaf.
+    pub(crate) fn leaf(&mut self, token: Token<'a>) -> Result<(), AllocError>
+        ensures tokens { OnOk result (self.new.tokens.items ≡ self.old.tokens.items ++ token.entry ∷ []) }
+        ensures openings { self.new.openings ≡ self.old.openings }
+        ensures pieces { OnOk result ((entities : EntityTable) (text : List ℕ) (handed : List Event) (ps qs : List settled.Piece)
+            → is_leaf token.entry ≡ true → openers qs ≡ [] → ones (leaf_events entities text token.entry) ≡ marks_back qs
+            → HoldsPieces entities text handed self.old ps → HoldsPieces entities text handed self.new (qs ++ ps)) }
+    {
+        self.tokens.push(token)?;
+        Ok(())
+    }
+
+    /// Keeps a run.
+    pub(crate) fn run(&mut self, run: DelimiterRun) -> Result<(), AllocError>
+        ensures tokens { OnOk result (self.new.tokens.items ≡ self.old.tokens.items ++ kept.Run run ∷ []) }
+        ensures openings { self.new.openings ≡ self.old.openings }
+        ensures pieces { OnOk result ((entities : EntityTable) (text : List ℕ) (handed : List Event) (ps : List settled.Piece)
+            → HoldsPieces entities text handed self.old ps → HoldsPieces entities text handed self.new (settled.Run run ∷ ps)) }
+    {
+        self.places.push(self.tokens.len())?;
+        self.tokens.push(Token::Run(run))?;
+        self.runs.push(run)?;
+        Ok(())
+    }
+
+    /// Keeps an opening bracket, behind which the text begins at a place.
+    pub(crate) fn open(&mut self, is_image: bool, begin: usize) -> Result<(), AllocError>
+        ensures openers { OnOk result ((ps : List settled.Piece) → AreOpenersOf ps self.old.openings
+            → AreOpenersOf (settled.Opening is_image begin ∷ ps) self.new.openings) }
+        ensures brackets { OnOk result ((text : List ℕ) (at : ℕ) → IsCharBoundary text begin → at ≤ begin → AreBracketsOf text at self.old.openings.unused.items
+            → AreBracketsOf text begin self.new.openings.unused.items) }
+        ensures tokens { OnOk result (self.new.tokens.items ≡ self.old.tokens.items ++ kept.Bracket is_image ∷ []) }
+        ensures pieces { OnOk result ((entities : EntityTable) (text : List ℕ) (handed : List Event) (ps : List settled.Piece)
+            → HoldsPieces entities text handed self.old ps → HoldsPieces entities text handed self.new (settled.Opening is_image begin ∷ ps)) }
+    {
+        self.openings.push(Opening {
+            token: self.tokens.len(),
+            runs: self.runs.len(),
+            begin,
+            is_image,
+        })?;
+        self.tokens.push(Token::Bracket { is_image })?;
+        Ok(())
+    }
+
+    /// Uses up the nearest unused bracket, and answers it with whether it is live.
+    pub(crate) fn take(&mut self) -> Option<(Opening, bool)>
+        ensures unused { MatchOption result (self.new.openings.unused.items ≡ self.old.openings.unused.items)
+            (λ taken. self.old.openings.unused.items ≡ self.new.openings.unused.items ++ taken.0 ∷ []) }
+        ensures taken { (ps : List settled.Piece) → AreOpenersOf ps self.old.openings
+            → MatchOption result (nearest_opener ps ≡ None) (λ taken. (o : Opened) × IsTaken ps taken o) }
+        ensures left { (ps : List settled.Piece) → AreOpenersOf ps self.old.openings → AreOpenersOf (spent ps) self.new.openings }
+        ensures tokens { self.new.tokens ≡ self.old.tokens }
+        ensures pieces { (entities : EntityTable) (text : List ℕ) (handed : List Event) (ps : List settled.Piece) → HoldsPieces entities text handed self.old ps
+            → HoldsPieces entities text handed self.new (spent ps) }
+        ensures opened { (entities : EntityTable) (text : List ℕ) (handed : List Event) (ps : List settled.Piece) → HoldsPieces entities text handed self.old ps
+            → IfSome result (λ taken. HoldsTaken entities text handed taken.0 self.new ps) }
+    {
+        self.openings.take()
+    }
+
+    /// Makes a link or an image of what was kept from a bracket on.
+    pub(crate) fn link(&mut self, opening: Opening, goal: Goal<'a>) -> Result<(), AllocError>
+        ensures unused { OnOk result (self.new.openings.unused.items ≡ self.old.openings.unused.items) }
+        ensures openers { OnOk result ((ps : List settled.Piece) (o : Opened) (t : LinkTarget) → IsTaken ps (opening, true) o
+            → AreOpenersOf (spent ps) self.old.openings
+            → AreOpenersOf (linked t ps (nearest_opener ps)) self.new.openings) }
+        ensures tokens { OnOk result ((text : List ℕ) → IsGoalOf text goal.entry
+            → All (IsTokenOf text) self.old.tokens.items → All (IsTokenOf text) self.new.tokens.items) }
+        ensures pieces { OnOk result ((entities : EntityTable) (text : List ℕ) (handed : List Event) (ps : List settled.Piece)
+            → IsKept entities text self.old → HoldsTaken entities text handed opening self.old ps
+            → HoldsPieces entities text handed self.new (linked (goal_target entities text goal.entry) ps (nearest_opener ps))) }
+    {
+        self.settle(opening.runs)?;
+        let token = Token::Enter {
+            is_image: opening.is_image,
+            goal,
+        };
+        self.replace(opening.token, token);
+        self.openings.made(opening);
+        self.tokens.push(Token::Leave)?;
+        Ok(())
+    }
+
+    /// Puts a token in place of another.
+    fn replace(&mut self, place: usize, token: Token<'a>)
+        ensures openings { self.new.openings ≡ self.old.openings }
+        ensures tokens { (text : List ℕ) → IsTokenOf text token.entry
+            → All (IsTokenOf text) self.old.tokens.items → All (IsTokenOf text) self.new.tokens.items }
+        ensures value { self.new.tokens.items ≡ set self.old.tokens.items place token.entry }
+        ensures runs { self.new.runs ≡ self.old.runs }
+        ensures places { self.new.places ≡ self.old.places }
+        ensures paired { self.new.paired ≡ self.old.paired }
+        ensures begun { self.new.begun ≡ self.old.begun }
+    {
+        if place < self.tokens.len() {
+            self.tokens[place] = token;
+        }
+    }
+
+    /// Pairs the runs that are pending from one on.
+    pub(crate) fn settle(&mut self, from: usize) -> Result<(), AllocError>
+        ensures openings { OnOk result (self.new.openings ≡ self.old.openings) }
+        ensures tokens { OnOk result ((text : List ℕ) → All (IsTokenOf text) self.old.tokens.items → All (IsTokenOf text) self.new.tokens.items) }
+        ensures pieces { OnOk result ((entities : EntityTable) (text : List ℕ) → IsKept entities text self.old → IsSettled entities text from self.old self.new) }
+    {
+        self.pair_and_mark(from)?;
+        self.runs.truncate(from);
+        self.places.truncate(from);
+        Ok(())
+    }
+
+    fn pair_and_mark(&mut self, from: usize) -> Result<(), AllocError>
+        ensures openings { OnOk result (self.new.openings ≡ self.old.openings) }
+        ensures tokens { OnOk result ((text : List ℕ) → All (IsTokenOf text) self.old.tokens.items → All (IsTokenOf text) self.new.tokens.items) }
+        ensures runs { OnOk result (self.new.runs ≡ self.old.runs) }
+        ensures places { OnOk result (self.new.places ≡ self.old.places) }
+        ensures pieces { OnOk result ((entities : EntityTable) (text : List ℕ) → IsKept entities text self.old → IsPaired entities text from self.old self.new) }
+    {
+        if from >= self.runs.len() {
+            return Ok(());
+        }
+        self.pair_from(from)?;
+        self.mark_from(from);
+        Ok(())
+    }
+
+    /// What matches leave of the runs that are pending from one on.
+    fn pair_from(&mut self, from: usize) -> Result<(), AllocError>
+        requires { from ≤ length self.old.runs.items }
+        ensures paired { OnOk result (ArePaired self.new.begun.items (matches (drop from self.old.runs.items))
+            (drop from self.old.runs.items) self.new.paired.items) }
+        ensures begun { OnOk result ((more : List Held) × (self.new.begun.items ≡ self.old.begun.items ++ more)) }
+        ensures tokens { OnOk result (self.new.tokens ≡ self.old.tokens) }
+        ensures runs { OnOk result (self.new.runs ≡ self.old.runs) }
+        ensures places { OnOk result (self.new.places ≡ self.old.places) }
+        ensures openings { OnOk result (self.new.openings ≡ self.old.openings) }
+    {
+        self.paired.clear();
+        append_unpaired(&self.runs[from..], &mut self.paired)?;
+        let matches = pair(self.alloc, &self.runs[from..])?;
+        take_all(&mut self.paired, &mut self.begun, &matches)?;
+        Ok(())
+    }
+
+    /// Marks the tokens of these runs with what is left of them.
+    fn mark_from(&mut self, from: usize)
+        ensures openings { self.new.openings ≡ self.old.openings }
+        ensures tokens { (text : List ℕ) → All (IsTokenOf text) self.old.tokens.items → All (IsTokenOf text) self.new.tokens.items }
+        ensures runs { self.new.runs ≡ self.old.runs }
+        ensures places { self.new.places ≡ self.old.places }
+        ensures paired { self.new.paired ≡ self.old.paired }
+        ensures begun { self.new.begun ≡ self.old.begun }
+        ensures value { (entities : EntityTable) (text : List ℕ) → AreRunsAt entities text from self.old
+            → shown_pieces entities text self.new ≡ marked (shown_pieces entities text self.old) from (map (paired_piece self.old.begun.items) self.old.paired.items) }
+        ensures spans { All (HasSpansOf self.old.begun.items) self.old.paired.items → All (IsSpanned self.old.begun.items) self.old.tokens.items
+            → All (IsSpanned self.old.begun.items) self.new.tokens.items }
+    {
+        for i in 0..self.paired.len() {
+            self.mark(from.saturating_add(i), i);
+        }
+    }
+
+    /// Marks the token of the run at a place of the list with the paired one at another.
+    fn mark(&mut self, run: usize, paired: usize)
+        ensures openings { self.new.openings ≡ self.old.openings }
+        ensures tokens { (text : List ℕ) → All (IsTokenOf text) self.old.tokens.items → All (IsTokenOf text) self.new.tokens.items }
+        ensures runs { self.new.runs ≡ self.old.runs }
+        ensures places { self.new.places ≡ self.old.places }
+        ensures paired { self.new.paired ≡ self.old.paired }
+        ensures begun { self.new.begun ≡ self.old.begun }
+        ensures value { run < length self.old.places.items → paired < length self.old.paired.items → (d : ℕ) (p : Left)
+            → self.new.tokens.items ≡ set self.old.tokens.items (slice_index_or self.old.places.items run d) (kept.Paired (slice_index_or self.old.paired.items paired p)) }
+        ensures spans { All (HasSpansOf self.old.begun.items) self.old.paired.items → All (IsSpanned self.old.begun.items) self.old.tokens.items
+            → All (IsSpanned self.old.begun.items) self.new.tokens.items }
+    {
+        if run >= self.places.len() || paired >= self.paired.len() {
+            return;
+        }
+        let place = self.places[run];
+        let token = Token::Paired(self.paired[paired]);
+        self.replace(place, token);
+    }
+}

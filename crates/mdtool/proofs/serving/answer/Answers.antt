@@ -1,0 +1,66 @@
+use Rattle.std.proofs.Common.{◌≡◌, refl, ap, ◌∙◌, true, false}
+use Rattle.std.specs.Prelude.{not}
+use Rattle.std.specs.Result.{is_ok}
+use Rattle.std.proofs.lemmas.Result.{err_from_is_err_and}
+use Rattle.mdtool.proofs.Readings.{draws_of}
+use Rattle.mdtool.proofs.ServeRuns.{run_start, run_more, run_stops, run_starves, run_breaks}
+use Rattle.mdtool.proofs.ServeEnds.{ends_so}
+use Rattle.mdtool.specs.Commands.{Done}
+use Rattle.mdtool.proofs.serving.answer.Goals as goal
+
+pub loop-script-init : goal.loop-script-init
+loop-script-init g c = record { run = run_start _ _ _ _ _ c.new-script.ensures refl; feed = refl; out = refl }
+
+pub returns-in_err-command-clause-served : goal.returns-in_err-command-clause-served
+returns-in_err-command-clause-served g c =
+    let p = err_from_is_err_and c.from_residual.result c.from_residual.ensures.1 in
+    rw (p.1, p.2) (ends_so (Unit {0}) c.in_err-command.field-0.0 _ _ _ _ _ _ _ _ _ c.loop-script.invariant.run c.in_err-command.ensures.next)
+
+pub returns-in_err-reply-clause-served : goal.returns-in_err-reply-clause-served
+returns-in_err-reply-clause-served g c =
+    let read = rw c.in-Some.is at c.in_ok-command.ensures.next in
+    let p = err_from_is_err_and c.from_residual-in_err-reply.result c.from_residual-in_err-reply.ensures.1 in
+    rw (p.1, p.2) (run_starves _ _ _ _ _ _ _ _ c.loop-script.invariant.run (draws_of _ _ _ _ _ read.reads))
+
+pub returns-then-is_err-clause-served : goal.returns-then-is_err-clause-served
+returns-then-is_err-clause-served g c =
+    let read = rw c.in-Some.is at c.in_ok-command.ensures.next in
+    let failed : is_ok c.send.result ≡ false = c.is_err.ensures.negation ∙ ap not c.if-is_err.true in
+    let front = rw (failed, c.as_bytes.ensures.value, c.as_str.ensures.value) at c.send.ensures in
+    run_breaks _ _ _ _ _ _ _ _ _ _ _ _ _ c.loop-script.invariant.run read c.in_ok-reply.ensures front.0
+
+pub loop-script-preserved-else-is_err : goal.loop-script-preserved-else-is_err
+loop-script-preserved-else-is_err g c =
+    let read = rw c.in-Some.is at c.in_ok-command.ensures.next in
+    let sent : is_ok c.send.result ≡ true = c.is_err.ensures.negation ∙ ap not c.if-is_err.false in
+    let gained = rw (sent, c.as_bytes.ensures.value, c.as_str.ensures.value) at c.send.ensures in
+    record {
+      run = run_more _ _ _ _ _ _ _ _ _ _ _ _ _ c.loop-script.invariant.run read c.in_ok-reply.ensures gained.0;
+      feed = c.in_ok-command.ensures.failures ∙ c.loop-script.invariant.feed;
+      out = gained.1 ∙ c.loop-script.invariant.out;
+    }
+
+pub loop-script-preserved-else-is_err-2 : goal.loop-script-preserved-else-is_err-2
+loop-script-preserved-else-is_err-2 g c =
+    let read = rw c.in-Some.is at c.in_ok-command.ensures.next in
+    let sent : is_ok c.send.result ≡ true = c.is_err.ensures.negation ∙ ap not c.if-is_err.false in
+    let gained = rw (sent, c.as_bytes.ensures.value, c.as_str.ensures.value) at c.send.ensures in
+    record {
+      run = run_more _ _ _ _ _ _ _ _ _ _ _ _ _ c.loop-script.invariant.run read c.in_ok-reply.ensures gained.0;
+      feed = c.in_ok-command.ensures.failures ∙ c.loop-script.invariant.feed;
+      out = gained.1 ∙ c.loop-script.invariant.out;
+    }
+
+pub loop-script-preserved : goal.loop-script-preserved
+loop-script-preserved g c =
+    let read = rw c.in-Some.is at c.in_ok-command.ensures.next in
+    let sent : is_ok c.send.result ≡ true = c.is_err.ensures.negation ∙ ap not c.if-is_err.false in
+    let gained = rw (sent, c.as_bytes.ensures.value, c.as_str.ensures.value) at c.send.ensures in
+    record {
+      run = run_more _ _ _ _ _ _ _ _ _ _ _ _ _ c.loop-script.invariant.run read c.in_ok-reply.ensures gained.0;
+      feed = c.in_ok-command.ensures.failures ∙ c.loop-script.invariant.feed;
+      out = gained.1 ∙ c.loop-script.invariant.out;
+    }
+
+pub returns-clause-served : goal.returns-clause-served
+returns-clause-served g c = run_stops _ _ _ _ _ _ _ _ Done c.loop-script.invariant.run (rw c.in_default.is at c.in_ok-command.ensures.next)

@@ -1,0 +1,207 @@
+//! Preludes: the worked script, those that are handed in, and their refusals.
+
+ghost use Rattle.std.specs.Prelude.{◌<◌};
+ghost use Rattle.mdhtml.specs.Limits.{HasLimits};
+
+use crate::tests::{check, options};
+use crate::{
+    Breaks, EditFault, MemoryFeed, MemoryOut, Options, Stop, ToolFault, convert, ending,
+    prelude_from, serve,
+};
+use mdtext::Entities;
+use std::alloc::{AllocError, Global};
+use std::process::Abort;
+use std::test::Fail;
+
+#[test]
+fn a_script_sets_preludes(rt: HostRuntime) -> Result<(), Fail> {
+    let alloc = rt.alloc();
+    check(
+        &rt,
+        alloc,
+        "edit 0 0 1\n[foo]\nprelude 1\n[foo]: /p\nedit 1 0 2\n\n[foo]: /a\nprelude 0\nprelude 1\nx\n",
+        "ok 0 0 1 0\npiece 0 13\n<p>[foo]</p>\nok 0 0 0 1\npiece 0 28\n<p><a href=\"/p\">foo</a></p>\nok 0 1 2 0\npiece 0 28\n<p><a href=\"/a\">foo</a></p>\npiece 1 0\nok 0 0 0 0\nrefused NotDefinitions 0\n",
+        "Ok(())",
+    )
+    .map_err(Fail::from)?;
+    // The text's definition goes, and the label leads where the prelude says; a refused prelude is not held.
+    check(
+        &rt,
+        alloc,
+        "prelude 2\n[a]: /p\n[a]: /q\nedit 0 0 3\n[a]\n\n[a]: /t\nprelude 2\n[a]: /r\n# b\nedit 2 1 0\nprelude 1\n[b]: /p\nhtml\n",
+        "ok 0 0 0 0\nok 0 0 2 0\npiece 0 26\n<p><a href=\"/t\">a</a></p>\npiece 1 0\nrefused NotDefinitions 1\nok 0 2 1 0\npiece 0 26\n<p><a href=\"/p\">a</a></p>\nok 0 0 0 1\npiece 0 11\n<p>[a]</p>\nhtml 11\n<p>[a]</p>\n",
+        "Ok(())",
+    )
+    .map_err(Fail::from)?;
+    Ok(())
+}
+
+#[test]
+fn a_script_ends_inside_a_prelude(rt: HostRuntime) -> Result<(), Fail> {
+    let alloc = rt.alloc();
+    check(&rt, alloc, "prelude 2\n[a]: /u\n", "", "Err(Truncated(1))")?;
+    for script in [
+        "prelude\n",
+        "prelude \n",
+        "prelude  1\n",
+        "prelude 1 \n",
+        "prelude 1000000000\n",
+        "prelude -1\n",
+        "Prelude 0\n",
+    ] {
+        check(&rt, alloc, script, "", "Err(BadCommand(1))")?;
+    }
+    Ok(())
+}
+
+/// Each refusal of a prelude, and which of two comes first.
+#[test]
+fn a_prelude_is_refused_by_name(rt: HostRuntime) -> Result<(), Fail> {
+    let alloc = rt.alloc();
+    for (script, want) in [
+        ("prelude 2\nx\n[a]\r: /u\n", "refused BreakInLine 1\n"),
+        (
+            "prelude 3\n[a]: /u\n\n    x\n",
+            "refused NotDefinitions 2\n",
+        ),
+        ("prelude 2\n[a]: /u\nx\n", "refused NotDefinitions 0\n"),
+        // The line with a container too many counts, though another block stands above it.
+        (
+            "prelude 3\nx\n\n>>>>>>>>>>>>>>>>>>>>>>>>>>>>>>>>>>>>>>>>>>>>>>>>>>>>>>>>>>>>>>>>>\n",
+            "refused NotDefinitions 2\n",
+        ),
+        (
+            "prelude 2\n\n>>>>>>>>>>>>>>>>>>>>>>>>>>>>>>>>>>>>>>>>>>>>>>>>>>>>>>>>>>>>>>>>\n",
+            "refused NotDefinitions 1\n",
+        ),
+    ] {
+        check(&rt, alloc, script, want, "Ok(())")?;
+    }
+    Ok(())
+}
+
+/// A text that a label of the prelude makes too deep is refused, and the prelude is not held.
+#[test]
+fn a_prelude_makes_no_text_too_deep(rt: HostRuntime) -> Result<(), Fail> {
+    let alloc = rt.alloc();
+    let mut script = String::from_str(alloc, "edit 0 0 3\nx\n\n")?;
+    for _ in 0..64 {
+        script.push_str("*a ")?;
+    }
+    script.push_str("[k]")?;
+    for _ in 0..64 {
+        script.push_str(" a*")?;
+    }
+    script.push_str("\nprelude 1\n[k]: /u\nprelude 1\n[m]: /u\nedit 0 1 1\n[m]\n")?;
+    let mut feed = MemoryFeed::new(script.as_bytes(), 4096, None);
+    let mut out = MemoryOut::new(alloc, 4096, None);
+    let entities = Entities::builtin(alloc)?;
+    let end = serve(
+        alloc,
+        &mut feed,
+        &mut out,
+        entities,
+        options(Breaks::Soft),
+        &[],
+    );
+    assert!(rt; end.is_ok());
+    let written = String::from_utf8_lossy(alloc, out.bytes())?;
+    let want =
+        "refused InlineTooDeep 2\nok 0 0 0 0\nok 0 1 1 0\npiece 0 26\n<p><a href=\"/u\">m</a></p>\n";
+    assert!(rt; written.as_str().ends_with(want), "{written}");
+    Ok(())
+}
+
+/// The lines of a prelude's file.
+fn lines_in(alloc: Global, bytes: &[u8]) -> Result<Vec<String>, ToolFault> {
+    prelude_from(alloc, &mut MemoryFeed::new(bytes, 7, None))
+}
+
+#[test]
+fn reads_the_lines_of_a_prelude(rt: HostRuntime) -> Result<(), Fail> {
+    let alloc = rt.alloc();
+    let lines = lines_in(alloc, b"a\nb").map_err(|_| "not read")?;
+    assert_eq!(rt; lines.len(), 2);
+    assert_eq!(rt; lines[0].as_str(), "a");
+    assert_eq!(rt; lines[1].as_str(), "b");
+    assert!(rt; lines_in(alloc, b"").map_err(|_| "not read")?.is_empty());
+    let mut feed = MemoryFeed::new(b"[a]: /u\n".as_slice(), 7, Some(1));
+    assert!(rt; matches!(prelude_from(alloc, &mut feed), Err(ToolFault::Read)));
+    Ok(())
+}
+
+/// What `convert` writes for a text beside a prelude, and how it ends.
+fn converted(
+    alloc: Global,
+    prelude: &[u8],
+    text: &str,
+    options: Options,
+) -> Result<(String, String), Fail>
+    requires { HasLimits options }
+{
+    let lines = lines_in(alloc, prelude).map_err(|_| "not read")?;
+    let mut feed = MemoryFeed::new(text.as_bytes(), 7, None);
+    let mut out = MemoryOut::new(alloc, 7, None);
+    let entities = Entities::builtin(alloc)?;
+    let end = convert(alloc, &mut feed, &mut out, entities, options, &lines);
+    let written = String::from_utf8_lossy(alloc, out.bytes())?;
+    Ok((written, format!(in alloc; "{end:?}")?))
+}
+
+#[test]
+fn a_text_stands_beside_its_prelude(rt: HostRuntime) -> Result<(), Fail> {
+    let alloc = rt.alloc();
+    let options = options(Breaks::Soft);
+    for (prelude, text, want, want_end) in [
+        (
+            b"[a]: /p\n[b]: /q".as_slice(),
+            "[a] [b]\n\n[a]: /t\n",
+            "<p><a href=\"/t\">a</a> <a href=\"/q\">b</a></p>\n",
+            "Ok(())",
+        ),
+        (b"", "[a]", "<p>[a]</p>\n", "Ok(())"),
+        (
+            b"[a]: /p\n\nb\n",
+            ">>>>>>>>>>>>>>>>>>>>>>>>>>>>>>>>>>>>>>>>>>>>>>>>>>>>>>>>>>>>>>>>>",
+            "",
+            "Err(Refused(NotDefinitions { line: 2 }))",
+        ),
+    ] {
+        let (written, end) = converted(alloc, prelude, text, options)?;
+        assert_eq!(rt; written.as_str(), want);
+        assert_eq!(rt; end.as_str(), want_end);
+    }
+    Ok(())
+}
+
+/// A refused prelude ends `serve` before anything is read: a feed that fails at once is not asked.
+#[test]
+fn a_refused_prelude_ends_a_script(rt: HostRuntime) -> Result<(), Fail> {
+    let alloc = rt.alloc();
+    let lines = lines_in(alloc, b"# a").map_err(|_| "not read")?;
+    let mut feed = MemoryFeed::new(b"html\n".as_slice(), 7, Some(0));
+    let mut out = MemoryOut::new(alloc, 7, None);
+    let entities = Entities::builtin(alloc)?;
+    let end = serve(
+        alloc,
+        &mut feed,
+        &mut out,
+        entities,
+        options(Breaks::Soft),
+        &lines,
+    );
+    assert!(rt;
+        matches!(
+            end,
+            Err(ToolFault::Refused(EditFault::NotDefinitions { line: 0 }))
+        )
+    );
+    assert!(rt; out.bytes().is_empty());
+    let mut err = MemoryOut::new(alloc, 7, None);
+    let stop = Stop::Tool(ToolFault::Refused(EditFault::NotDefinitions { line: 3 }));
+    let status = ending("mdpreview", &stop, &mut err);
+    assert_eq!(rt; status, 1);
+    let line = String::from_utf8_lossy(alloc, err.bytes())?;
+    assert_eq!(rt; line.as_str(), "mdpreview: refused NotDefinitions 3\n");
+    Ok(())
+}

@@ -1,0 +1,244 @@
+#!/usr/bin/env python3
+"""Looks at the pane in a headless browser: changes a file, and compares the page with mdrender's HTML and the pieces that were put in with mdpreview's replies.
+
+usage: tools/pane_test.py [--shots FOLDER]
+"""
+import argparse
+import base64
+import json
+import os
+import shutil
+import subprocess
+import sys
+import tempfile
+import time
+import urllib.error
+import urllib.request
+
+ROOT = os.path.join(os.path.dirname(os.path.abspath(__file__)), "..")
+sys.path.insert(0, os.path.join(ROOT, "clients", "pane"))
+import pane  # noqa: E402
+
+BIN = os.path.join(ROOT, "bin")
+BROWSERS = ("chromium", "chromium-browser", "google-chrome")
+PIECES = "[...document.getElementById('pieces').children]"
+
+
+class Browser:
+    """A headless Chromium that is spoken to over a pipe."""
+
+    def __init__(self, program, home):
+        to_read, self.out = os.pipe()
+        self.answers, to_write = os.pipe()
+        # The browser reads commands from descriptor 3 and writes answers to 4.
+        script = f'exec 3<&{to_read} 4>&{to_write}; exec "$@"'
+        self.child = subprocess.Popen(
+            ["bash", "-c", script, "browser", program, "--headless=new", "--no-sandbox", "--disable-gpu", f"--user-data-dir={home}", "--remote-debugging-pipe", "about:blank"],
+            pass_fds=(to_read, to_write), stdout=subprocess.DEVNULL, stderr=subprocess.DEVNULL)
+        os.close(to_read)
+        os.close(to_write)
+        self.rest, self.number, self.session = b"", 0, None
+        targets = self.call("Target.getTargets")["targetInfos"]
+        page = next(one["targetId"] for one in targets if one["type"] == "page")
+        self.session = self.call("Target.attachToTarget", targetId=page, flatten=True)["sessionId"]
+        self.call("Page.enable")
+
+    def call(self, method, **words):
+        self.number += 1
+        command = {"id": self.number, "method": method, "params": words}
+        if self.session:
+            command["sessionId"] = self.session
+        os.write(self.out, json.dumps(command).encode() + b"\0")
+        while True:
+            while b"\0" not in self.rest:
+                more = os.read(self.answers, 1 << 16)
+                if not more:
+                    raise RuntimeError("the browser has ended")
+                self.rest += more
+            message, self.rest = self.rest.split(b"\0", 1)
+            message = json.loads(message)
+            if message.get("id") == self.number:
+                if "error" in message:
+                    raise RuntimeError(message["error"]["message"])
+                return message["result"]
+
+    def value(self, script):
+        return self.call("Runtime.evaluate", expression=script, returnByValue=True)["result"].get("value")
+
+    def look(self, width, height, dark=False):
+        self.call("Emulation.setDeviceMetricsOverride", width=width, height=height, deviceScaleFactor=1, mobile=False)
+        self.call("Emulation.setEmulatedMedia", features=[{"name": "prefers-color-scheme", "value": "dark" if dark else "light"}])
+
+    def shot(self, name):
+        time.sleep(0.3)
+        with open(name, "wb") as file:
+            file.write(base64.b64decode(self.call("Page.captureScreenshot")["data"]))
+
+    def stop(self):
+        self.child.terminate()
+        self.child.wait()
+
+
+def texts():
+    """The texts of a file, one after the other: a letter, a heading, a fence opened and closed, a definition, a long list."""
+    lines = ["# Log", "", "See the [chart][] and the [plan].", "", "- sails", "- ropes", "", "Some *words* to the end.", "", "[chart]: /chart"]
+    yield lines
+    for place, line in [(7, "Some *words* to the End."), (0, "# Log of the day"), (0, "## Log of the day"), (2, "See the [chart], and the [plan]."), (4, "- sails and masts")]:
+        lines = lines[:place] + [line] + lines[place + 1:]
+        yield lines
+    for fence in range(4):
+        yield lines[:3] + ["```"] + lines[3:]
+        yield lines[:3] + ["```", f"code {fence}", "```"] + lines[3:]
+        yield lines
+    for target in ("/plan", "/plan-2", "/plan-3"):
+        yield lines + [f"[plan]: {target}"]
+    for count in (1, 2, 50, 51, 300, 299):
+        yield lines[:6] + [f"- item {n}" for n in range(count)] + lines[6:]
+    yield lines[:4] + lines[6:]
+    yield ["<script>alert(1)</script>", "", "a <b>b</b>"] + lines
+    yield []
+    yield lines
+
+
+def shown(browser, rendered):
+    """Whether the page shows this HTML, as the browser itself reads it."""
+    return browser.value(f"(() => {{ const whole = document.createElement('div'); whole.innerHTML = {json.dumps(rendered)}; return whole.innerHTML === {PIECES}.map(one => one.innerHTML).join(''); }})()")
+
+
+def wait(test, seconds=5.0):
+    end = time.monotonic() + seconds
+    while time.monotonic() < end:
+        if test():
+            return True
+        time.sleep(0.02)
+    return False
+
+
+def save(name, text):
+    """Writes the file at once, as an editor does."""
+    with open(name + ".new", "w", encoding="utf-8") as file:
+        file.write(text)
+    os.replace(name + ".new", name)
+
+
+def rendered_of(name):
+    return subprocess.run([os.path.join(BIN, "mdrender"), name], capture_output=True, text=True, check=True).stdout
+
+
+def session(browser, address, name, say):
+    """Changes the file, and compares after each change; answers how many comparisons passed and failed."""
+    passed = failed = 0
+    own = pane.Preview(os.path.join(BIN, "mdpreview"))
+    own.edit(pane.lines_of(open(name, encoding="utf-8").read()))
+    browser.call("Page.navigate", url=address)
+    if not wait(lambda: browser.value("window.replaced") is not None and shown(browser, rendered_of(name))):
+        say("the first page is not shown")
+        failed += 1
+    for number, lines in enumerate(texts()):
+        before = browser.value("window.replaced")
+        save(name, "".join(line + "\n" for line in lines))
+        answer = own.edit(lines)
+        expected = len(answer["pieces"]) if answer else 0
+        if not wait(lambda: shown(browser, rendered_of(name))):
+            say(f"change {number}: the page is not mdrender's HTML")
+            failed += 1
+            continue
+        time.sleep(0.05)
+        put = browser.value("window.replaced") - before
+        if put != expected:
+            say(f"change {number}: {put} pieces were put in, mdpreview's reply names {expected}")
+            failed += 1
+        else:
+            passed += 1
+    own.stop()
+    return passed, failed
+
+
+def refusal(browser, name):
+    """A text that is refused: its reason is shown, and the page stays."""
+    before = browser.value(PIECES + ".length")
+    save(name, open(name, encoding="utf-8").read() + "\n" + ">" * 100 + "\n")
+    said = wait(lambda: "lies in too many others" in browser.value("document.getElementById('refused').textContent"))
+    return said and browser.value(PIECES + ".length") == before
+
+
+def started(name, *words):
+    """A pane that shows a file, and its address."""
+    command = [sys.executable, os.path.join(ROOT, "clients", "pane", "pane.py"), "--program", os.path.join(BIN, "mdpreview"), *words, name]
+    server = subprocess.Popen(command, stdout=subprocess.PIPE, text=True)
+    return server, server.stdout.readline().strip()
+
+
+def writes(browser, name):
+    """A text that is written on the page is shown beside it, and the file stays as it was."""
+    server, address = started(name, "--write")
+    kept = open(name, encoding="utf-8").read()
+    try:
+        browser.call("Page.navigate", url=address)
+        wait(lambda: browser.value("document.querySelector('textarea') !== null"))
+        browser.value("(() => { const area = document.querySelector('textarea'); area.value = '# A *try*'; area.dispatchEvent(new Event('input')); })()")
+        return wait(lambda: shown(browser, "<h1>A <em>try</em></h1>\n")) and open(name, encoding="utf-8").read() == kept
+    finally:
+        server.terminate()
+        server.wait()
+
+
+def answers_strangers(address):
+    """Whether a request that names another host, or comes from another page, is answered."""
+    for header, value in (("Host", "elsewhere.example"), ("Origin", "http://elsewhere.example")):
+        try:
+            urllib.request.urlopen(urllib.request.Request(address, headers={header: value}))
+            return True
+        except urllib.error.HTTPError as fault:
+            if fault.code != 403:
+                return True
+    return False
+
+
+def main():
+    parser = argparse.ArgumentParser()
+    parser.add_argument("--shots", help="a folder for screenshots")
+    options = parser.parse_args()
+    program = next((found for found in map(shutil.which, BROWSERS) if found), None)
+    missing = [] if program else ["chromium"]
+    missing += [name for name in ("mdrender", "mdpreview") if not os.path.exists(os.path.join(BIN, name))]
+    if missing:
+        return "pane_test: missing: " + ", ".join(missing)
+    with tempfile.TemporaryDirectory() as home:
+        name = os.path.join(home, "page.md")
+        shutil.copy(os.path.join(ROOT, "examples", "page.md"), name)
+        server, address = started(name)
+        browser = None
+        try:
+            browser = Browser(program, os.path.join(home, "browser"))
+            if options.shots:
+                browser.call("Page.navigate", url=address)
+                wait(lambda: shown(browser, rendered_of(name)))
+                for look, shape in {"wide": (1100, 760), "narrow": (390, 760), "dark": (1100, 760, True)}.items():
+                    browser.look(*shape)
+                    browser.shot(os.path.join(options.shots, f"pane-{look}.png"))
+            passed, failed = session(browser, address, name, lambda words: print("pane_test: " + words))
+            said = refusal(browser, name)
+            if options.shots:
+                browser.look(1100, 760)
+                browser.shot(os.path.join(options.shots, "pane-refused.png"))
+            for holds, words in (
+                (said, "a refusal is not shown, or the page did not stay"),
+                (writes(browser, name), "what is written on the page is not shown, or the file was changed"),
+                (not answers_strangers(address), "a request from elsewhere was answered"),
+            ):
+                passed += holds
+                failed += not holds
+                if not holds:
+                    print("pane_test: " + words)
+        finally:
+            if browser:
+                browser.stop()
+            server.terminate()
+            server.wait()
+    print(f"{passed} passed, {failed} failed")
+    return 1 if failed else 0
+
+
+if __name__ == "__main__":
+    sys.exit(main())
