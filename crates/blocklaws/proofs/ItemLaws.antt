@@ -16,7 +16,7 @@ use Rattle.blockspec.specs.UnitBegin.{is_apart, list_mark, same_mark, tail_mark}
 use Rattle.blocklaws.proofs.CutLaws.{shift_all}
 use Rattle.blocklaws.proofs.VisibleLaws.{visible_append}
 use Rattle.blocklaws.proofs.DepthLaws.{groups_deep, apart_deep, gap_deep}
-use Rattle.blocklaws.proofs.GroupLaws.{joins, HasFirst, list_first, joined_nil, joined_apart, grouped_shift}
+use Rattle.blocklaws.proofs.GroupLaws.{joins, HasFirst, list_first, joined_apart, grouped_shift}
 use Rattle.blocklaws.proofs.UnitLaws.{stretches_meet, group_shift}
 
 abbrev of_part : ℕ → Bool → Part → Group
@@ -130,77 +130,6 @@ pub grouped_merged : (gs hs : List Group) → grouped (gs ++ hs) ≡ merged (gro
 unfolding grouped
 grouped_merged [] hs = refl
 grouped_merged (g ∷ gs) hs = ap (λ z. joined g g.part z) (grouped_merged gs hs) ∙ joined_merged g (grouped gs) (grouped hs)
-
--- ---- lists that are joined as their items come
-
--- no two neighbours are items of one list
-abbrev Parts : Part → List Group → Type 0
-Parts p [] = Unit {0}
-Parts p (h ∷ hs) = joins p h.part ≡ false
-
-abbrev pub IsJoined : List Group → Type 0
-IsJoined [] = Unit {0}
-IsJoined (g ∷ gs) = Parts g.part gs × IsJoined gs
-
-leaf_parts : (leaves : _) (gs : List Group) → Parts (Leaves leaves) gs
-leaf_parts leaves [] = tt
-leaf_parts leaves (g ∷ gs) = refl
-
-quote_parts : (nodes : _) (gs : List Group) → Parts (Quoted nodes) gs
-quote_parts nodes [] = tt
-quote_parts nodes (g ∷ gs) = refl
-
--- a list that another goes on with joins what that one does
-list_joins : (kind kind' : ListKind) (t t' : Bool) (items items' : ItemNodes) (p : Part) → is_same_list kind kind' ≡ true →
-    joins (Listed kind' t' items') p ≡ joins (Listed kind t items) p
-list_joins kind kind' t t' items items' (Leaves leaves) e = refl
-list_joins kind kind' t t' items items' (Quoted nodes) e = refl
-list_joins kind kind' t t' items items' (Listed kind'' t'' items'') e = same_list kind kind' kind'' e
-
-list_parts : (kind kind' : ListKind) (t t' : Bool) (items items' : ItemNodes) (gs : List Group) → is_same_list kind kind' ≡ true →
-    Parts (Listed kind' t' items') gs → Parts (Listed kind t items) gs
-list_parts kind kind' t t' items items' [] e w = tt
-list_parts kind kind' t t' items items' (g ∷ gs) e w = sym (list_joins kind kind' t t' items items' g.part e) ∙ w
-
-where_joined : (same : Bool) (b : ℕ) (gap : Bool) (kind : ListKind) (t : Bool) (items : ItemNodes) (b' : ℕ) (gap' : Bool) (kind' : ListKind) (t' : Bool) (items' : ItemNodes) (gs : List Group) →
-    is_same_list kind kind' ≡ same → Parts (Listed kind' t' items') gs → IsJoined gs →
-    IsJoined (joined_where same (of_part b gap (Listed kind t items)) kind t items (of_part b' gap' (Listed kind' t' items')) t' items' gs)
-where_joined true b gap kind t items b' gap' kind' t' items' gs e w v =
-    (list_parts kind kind' (t && not gap' && t') t' (items_before items items') items' gs e w, v)
-where_joined false b gap kind t items b' gap' kind' t' items' gs e w v = (e, (w, v))
-
-part_joined : (b : ℕ) (gap : Bool) (kind : ListKind) (t : Bool) (items : ItemNodes) (b' : ℕ) (gap' : Bool) (q : Part) (gs : List Group) → Parts q gs → IsJoined gs →
-    IsJoined (joined_list (of_part b gap (Listed kind t items)) kind t items (of_part b' gap' q) q gs)
-part_joined b gap kind t items b' gap' (Leaves leaves) gs w v = (refl, (w, v))
-part_joined b gap kind t items b' gap' (Quoted nodes) gs w v = (refl, (w, v))
-part_joined b gap kind t items b' gap' (Listed kind' t' items') gs w v = where_joined (is_same_list kind kind') b gap kind t items b' gap' kind' t' items' gs refl w v
-
-joined_is : (b : ℕ) (gap : Bool) (p : Part) (gs : List Group) → IsJoined gs → IsJoined (joined (of_part b gap p) p gs)
-joined_is b gap (Leaves leaves) gs w = (leaf_parts leaves gs, w)
-joined_is b gap (Quoted nodes) gs w = (quote_parts nodes gs, w)
-joined_is b gap (Listed kind t items) [] w = (tt, tt)
-joined_is b gap (Listed kind t items) (h ∷ hs) w = part_joined b gap kind t items h.begin h.gap h.part hs w.0 w.1
-
-pub grouped_joined : (gs : List Group) → IsJoined (grouped gs)
-unfolding grouped
-grouped_joined [] = tt
-grouped_joined (g ∷ gs) = joined_is g.begin g.gap g.part (grouped gs) (grouped_joined gs)
-
-parted : (g : Group) (gs : List Group) → Parts g.part gs → joined g g.part gs ≡ g ∷ gs
-parted g [] w = joined_nil g g.part
-parted g (h ∷ hs) w = joined_apart g g.part h hs w
-
-joined_stays : (gs : List Group) → IsJoined gs → grouped gs ≡ gs
-unfolding grouped
-joined_stays [] w = refl
-joined_stays (g ∷ gs) w = ap (λ z. joined g g.part z) (joined_stays gs w.1) ∙ parted g gs w.0
-
--- Groups may be joined as they come.
-pub grouped_again : (gs : List Group) → grouped (grouped gs) ≡ grouped gs
-grouped_again gs = joined_stays (grouped gs) (grouped_joined gs)
-
-pub grouped_so_far : (gs hs : List Group) → grouped (grouped gs ++ hs) ≡ grouped (gs ++ hs)
-grouped_so_far gs hs = grouped_merged (grouped gs) hs ∙ ap (λ z. merged z (grouped hs)) (grouped_again gs) ∙ sym (grouped_merged gs hs)
 
 groups_split : (e : EntityTable) (d : ℕ) (xs : List BlockLine) (l : BlockLine) (ys : List BlockLine) →
     is_apart (tip_within d) (cut_by (tip_within d) xs).tail l ≡ true → is_blank_line l ≡ false →

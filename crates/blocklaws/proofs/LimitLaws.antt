@@ -1,23 +1,23 @@
 -- Lines with no container too many need no more depth than the limit.
-use Rattle.std.proofs.Common.{◌≡◌, ℕ, zero, suc, ◌+◌, ◌≤◌, Bool, true, false, not, List, [], ◌∷◌, ◌++◌, length, map, Option, Some, None, refl, sym, ◌∙◌, ap, subst, append_assoc, arith}
+use Rattle.std.proofs.Common.{◌≡◌, ℕ, zero, suc, ◌+◌, ◌≤◌, Bool, true, false, not, List, [], ◌∷◌, ◌++◌, length, Option, Some, None, refl, sym, ◌∙◌, ap, subst, append_assoc, arith}
 use Rattle.std.proofs.lemmas.List.{append-nil, length-append}
 use Rattle.std.specs.Option.{option_or}
 use Rattle.std.specs.Prelude.{if◌then◌else◌}
 use Rattle.mdtext.specs.EntityTable.{EntityTable}
-use Rattle.blockspec.specs.BlockLine.{BlockLine, document_line, is_blank_line}
+use Rattle.blockspec.specs.BlockLine.{BlockLine, is_blank_line}
 use Rattle.blockspec.specs.BlockStart.{Container, Kind, Holds, begun}
-use Rattle.blockspec.specs.BlockUnits.{visible_in, depth_of, groups_within, found_units, units}
+use Rattle.blockspec.specs.BlockUnits.{visible_in, depth_of, groups_within}
 use Rattle.blockspec.specs.ContainerLines.{opened, inside, inner}
-use Rattle.blockspec.specs.LineSummary.{Summary, summary, Last, nothing_yet, ended_block, open_leaf, open_container, no_summary, summary_tip, closed, last_groups, new_last, summary_gap, begin_after, last_grown, leaf_after, container_after, last_after, line_added, last_at, last_of, summary_within, summary_of, is_apart_after}
+use Rattle.blockspec.specs.LineSummary.{Summary, summary, Last, nothing_yet, ended_block, open_leaf, open_container, no_summary, summary_tip, last_groups, new_last, summary_gap, begin_after, last_grown, leaf_after, container_after, last_after, line_added, last_at, last_of, summary_within, summary_of, is_apart_after}
 use Rattle.blockspec.specs.ListGroups.{Group, merged}
-use Rattle.blockspec.specs.Nesting.{deep_at, first_deep, deep_within, first_too_deep}
+use Rattle.blockspec.specs.Nesting.{deep_at, first_deep, deep_within}
 use Rattle.blockspec.specs.OpenLeaf.{OpenLeaf, NextLeaf, ContinuesAs, EndsAs, EndedBefore, next_leaf, is_parted}
 use Rattle.blockspec.specs.Stretches.{Stretch, goes_on, is_single, Tail, Empty, Going, Over, Cut, all_of, cut_from, cut_by, tip_within}
 use Rattle.blockspec.specs.SummaryDepth.{sinks_first, sinks_later, sinks_at, sinks_by, sinks, lines_added, refused_line}
 use Rattle.blocklaws.proofs.LeafSteps.{Sort, is_container, is_leaf, sort_of}
 use Rattle.blocklaws.proofs.NestingLaws.{moved_on, stretch_deep, push_deep, deep_in, deep_to, deep_agrees, deep_stays}
 use Rattle.blocklaws.proofs.SummaryLaws.{leaf_last, new_leaf}
-use Rattle.blocklaws.proofs.ReaderLaws.{summary_none, summary_closed, summary_added, summary_sinks}
+use Rattle.blocklaws.proofs.ReaderLaws.{summary_none, summary_added, summary_sinks}
 
 -- ---- no more containers are open
 
@@ -239,10 +239,3 @@ refused_from e limit ls (l ∷ more) w = go (sinks limit (summary_of e ls) l) re
 -- It refuses exactly the first line with a container too many.
 pub refused_first : (e : EntityTable) (limit : ℕ) (ls : List BlockLine) → refused_line e limit no_summary 0 ls ≡ deep_within limit ls
 refused_first e limit ls = ap (λ z. refused_line e limit z 0 ls) (sym (summary_none e)) ∙ refused_from e limit [] ls (none_deep limit)
-
--- and the units of a document so far are what it holds.
-pub units_limited : (e : EntityTable) (limit : ℕ) (lines : List (List ℕ)) → first_too_deep limit lines ≡ None →
-    units e lines ≡ found_units (closed e (lines_added e limit no_summary (map document_line lines))) (length lines)
-units_limited e limit lines w =
-    let ls = map document_line lines in
-    ap (λ z. found_units z (length lines)) (summary_closed e ls ∙ ap (closed e) (sym (lines_limited e limit ls w)))

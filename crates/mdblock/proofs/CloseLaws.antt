@@ -1,5 +1,5 @@
 -- Closing a level gives the blocks of its lines.
-use Rattle.std.proofs.Common.{Box, Global, Result, Ok, Err, IfOk, ◌≡◌, ℕ, ◌+◌, Bool, true, false, not, ◌&&◌, ◌||◌, List, [], ◌∷◌, ◌++◌, length, length-append, refl, sym, ◌∙◌, ap, subst}
+use Rattle.std.proofs.Common.{Box, Global, Result, Ok, Err, IfOk, ◌≡◌, ℕ, ◌+◌, Bool, true, false, not, ◌&&◌, ◌||◌, List, [], ◌++◌, length, length-append, refl, sym, ◌∙◌, ap, subst}
 use Rattle.mdtext.specs.EntityTable.{EntityTable}
 use Rattle.mdleaf.specs.LinkDefinition.{LinkDefinition}
 use Rattle.blockspec.specs.BlockStart.{Quote, Item}
@@ -7,10 +7,10 @@ use Rattle.blockspec.specs.BlockTree.{block_quote, no_blocks, no_items}
 use Rattle.blockspec.specs.BlockTree as tree
 use Rattle.mdblock.specs.BlockView.{blocks_view, items_view}
 use Rattle.mdblock.specs.held.ClosedViews.{list_view, list_view_with}
-use Rattle.mdblock.specs.held.HeldLevel.{is_list, behind_over, StandsFor, StandsForLast, StandsForList, HasGathered, ClosesAll}
+use Rattle.mdblock.specs.held.HeldLevel.{behind_over, StandsFor, StandsForLast, StandsForList, HasGathered, ClosesAll}
 use Rattle.mdblock.specs.held.HeldNodes.{list_of, over_behind, over_nodes, handed_nodes, handed_groups, handed_last, closed_nodes, tasked}
 use Rattle.blockspec.specs.LineSummary.{summary, Last, nothing_yet, ended_block, open_leaf, open_container, closed, last_groups}
-use Rattle.blockspec.specs.ListGroups.{Part, Leaves, Quoted, Listed, Group, kind_of, items_before, is_tight_inside, merged, nodes_of}
+use Rattle.blockspec.specs.ListGroups.{Part, Leaves, Quoted, Listed, kind_of, items_before, is_tight_inside, nodes_of}
 use Rattle.blockspec.specs.NodeTree.{Nodes, no_nodes, quote_node, no_item_nodes, item_node, texts_in, texts_in_items, definitions_in, definitions_in_items, placed, placed_items}
 use Rattle.mdblock.specs.held.TreesBehind.{nodes_before, blocks_before, placed_before}
 use Rattle.mdblock.specs.declared.blocks.Block.{Block}
@@ -18,23 +18,14 @@ use Rattle.mdblock.specs.declared.container.lists.OpenList.{OpenList}
 use Rattle.mdblock.specs.declared.gathering.Gathering.{Gathering}
 use Rattle.mdblock.specs.declared.open_blocks.Level.{Level}
 use Rattle.mdblock.specs.declared.open_blocks.OpenBlock as open_block
-use Rattle.mdblock.proofs.ClosingLaws.{closed_nothing, closed_quote, handed_quote, tasked_quote, quote_texts, quote_definitions, quote_placed, closed_item, closed_list, handed_item, tasked_list, list_texts, list_definitions, list_placed, ended_placed}
-use Rattle.mdblock.proofs.HeldNodesLaws.{merged_leaves, merged_quote}
+use Rattle.mdblock.proofs.ClosingLaws.{closed_nothing, closed_quote, handed_quote, tasked_quote, quote_texts, quote_definitions, quote_placed, closed_item, closed_list, handed_item, tasked_list, list_texts, list_definitions, list_placed, ended_placed, behind}
+use Rattle.mdblock.proofs.HeldNodesLaws.{over_ended}
 
 abbrev Yes : Bool → Type 0
 Yes true = Unit {0}
 Yes false = ⊥
 
 -- ---- nothing is open
-
--- a block that is over and no list is among what is over
-over_ended : (before : List Group) (begin : ℕ) (gap : Bool) (p : Part) → is_list p ≡ false → nodes_of (merged before (record { begin = begin; gap = gap; part = p } ∷ [])) ≡ over_behind before gap p
-over_ended before begin gap (Leaves leaves) h = merged_leaves before begin gap leaves
-over_ended before begin gap (Quoted nodes) h = merged_quote before begin gap nodes
-over_ended before begin gap (Listed kind tight items) h = absurd (no_list h)
-  where
-    no_list : true ≡ false → ⊥
-    no_list e = subst Yes e tt
 
 pub shut_closes : (level : Level) → level.last ≡ open_block.Shut → (g : Gathering) → ClosesAll level g level.over.items g
 unfolding closed last_groups handed_groups handed_last
@@ -67,9 +58,6 @@ into_quote have known texts definitions a inner h = (h.0 ∙ quote_texts texts a
 from_quote : (have : List (List ℕ)) (known : List LinkDefinition) (texts : List (List ℕ)) (definitions : List LinkDefinition) (a inner : Nodes) →
     Has have known (texts ++ texts_in a) (definitions ++ definitions_in a) inner → Has have known texts definitions (nodes_before a (quote_node inner no_nodes))
 from_quote have known texts definitions a inner h = (h.0 ∙ sym (quote_texts texts a inner), h.1 ∙ sym (quote_definitions definitions a inner))
-
-behind : (texts : List (List ℕ)) (a : Nodes) → length texts + length (texts_in a) ≡ length (texts ++ texts_in a)
-behind texts a = sym (length-append texts (texts_in a))
 
 pub quote_closes : (level : Level) (inner : Box Level Global) → level.last ≡ open_block.Quote inner → (old new : Gathering) (blocks all : List Block) →
     ClosesAll inner.value old blocks new →

@@ -36,7 +36,7 @@ use Rattle.blockspec.specs.ParagraphEnd.{paragraph_if_any}
 use Rattle.blockspec.specs.TaskItem.{with_task, task_paragraph}
 use Rattle.mdblock.specs.held.TreesBehind.{nodes_before, blocks_before, has_block}
 use Rattle.mdblock.specs.declared.blocks.Block as b
-use Rattle.mdblock.proofs.PlacedNodes.{task_behind_block, task_behind_definitions, task_has_block, placed_none, texts_before, earlier_definitions, earlier_placed}
+use Rattle.mdblock.proofs.PlacedNodes.{task_behind_block, task_behind_definitions, task_has_block, placed_none, texts_before, earlier_definitions, earlier_placed, nodes_nil}
 
 abbrev Yes : Bool → Type 0
 Yes true = Unit {0}
@@ -60,16 +60,10 @@ none_placed n (leaf_node (table_leaf aligns head rows) a) h = absurd h
 none_placed n (quote_node inner a) h = absurd h
 none_placed n (list_node kind tight items a) h = absurd h
 
-nodes_none : (a : Nodes) → nodes_before a no_nodes ≡ a
-nodes_none no_nodes = refl
-nodes_none (leaf_node leaf a) = ap (leaf_node leaf) (nodes_none a)
-nodes_none (quote_node inner a) = ap (quote_node inner) (nodes_none a)
-nodes_none (list_node kind tight items a) = ap (list_node kind tight items) (nodes_none a)
-
 -- definitions alone have no marker
 task_none : (a : Nodes) → has_block a ≡ false → with_task a ≡ a
 unfolding with_task
-task_none a h = ap with_task (sym (nodes_none a)) ∙ task_behind_definitions a no_nodes h ∙ nodes_none a
+task_none a h = ap with_task (sym (nodes_nil a)) ∙ task_behind_definitions a no_nodes h ∙ nodes_nil a
 
 -- A marker is looked for in what closes where no block is over in the item.
 pub front_rest : (in_item : Bool) (over : List b.Block) (at : ℕ) (a rest : Nodes) → blocks_view over ≡ placed at (tasked in_item a) →
@@ -174,12 +168,12 @@ record Closing (e : EntityTable) (first : Bool) (kept : OpenLeaf) (old new : Lis
   tasked_is : tasked first (leaves_before (rest_leaves e kept) no_nodes) ≡ leaves_before leaves no_nodes
   handed_is : handed_leaves e kept ≡ over_leaves e kept
 
-code_task : (first : Bool) (lang body : List ℕ) → tasked first (leaf_node (code_leaf lang body) no_nodes) ≡ leaf_node (code_leaf lang body) no_nodes
+pub code_task : (first : Bool) (lang body : List ℕ) → tasked first (leaf_node (code_leaf lang body) no_nodes) ≡ leaf_node (code_leaf lang body) no_nodes
 unfolding with_task
 code_task true lang body = refl
 code_task false lang body = refl
 
-html_task : (first : Bool) (lines : List ℕ) → tasked first (leaf_node (html_leaf lines) no_nodes) ≡ leaf_node (html_leaf lines) no_nodes
+pub html_task : (first : Bool) (lines : List ℕ) → tasked first (leaf_node (html_leaf lines) no_nodes) ≡ leaf_node (html_leaf lines) no_nodes
 unfolding with_task
 html_task true lines = refl
 html_task false lines = refl

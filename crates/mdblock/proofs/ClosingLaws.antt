@@ -1,5 +1,5 @@
 -- What lines give, and what has been handed in of them: what is over, and then what is open.
-use Rattle.std.proofs.Common.{◌≡◌, ℕ, ◌+◌, Bool, true, false, List, [], ◌∷◌, ◌++◌, length, refl, sym, ◌∙◌, ap, append_assoc, append-nil}
+use Rattle.std.proofs.Common.{◌≡◌, ℕ, ◌+◌, Bool, true, false, List, [], ◌∷◌, ◌++◌, length, refl, sym, ◌∙◌, ap, append_assoc, append-nil, length-append}
 use Rattle.mdtext.specs.EntityTable.{EntityTable}
 use Rattle.mdleaf.specs.LinkDefinition.{LinkDefinition}
 use Rattle.mdscan.specs.declared.list_markers.Marker.{Marker}
@@ -185,3 +185,7 @@ pub ended_placed : (n : ℕ) (a : Nodes) (kind : ListKind) (tight : Bool) (items
     placed n (nodes_before a (list_node kind tight items no_nodes)) ≡ blocks_before (placed n a) (block (list kind tight (placed_items (n + length (texts_in a)) items)) no_blocks)
 unfolding placed
 ended_placed n a kind tight items = earlier_placed n a (list_node kind tight items no_nodes)
+
+-- where what stands behind some texts and trees begins
+pub behind : (texts : List (List ℕ)) (a : Nodes) → length texts + length (texts_in a) ≡ length (texts ++ texts_in a)
+behind texts a = sym (length-append texts (texts_in a))

@@ -147,17 +147,11 @@ pub item_lazy : (inner : Level) (list : OpenList) (l : BlockLine) → l.lazy ≡
 item_lazy inner list l z entities at in_item s marker begin gap bare st right o isbare one out =
     let m = lazy_unmatched marker list.needed l z in (lazy_stays (Item marker list.needed) begin gap bare s l m z, unmatched (Item marker list.needed) l m)
 
-pub between_lazy : (list : OpenList) (l : BlockLine) (c : Continuation) → l.lazy ≡ true → ContinuesBetween list l c
-between_lazy list l c z begin gap tight kind items o w one = absurd (not_both l.lazy z w)
-
 pub item_matched : (inner : Level) (list : OpenList) (l : BlockLine) → l.lazy ≡ false → is_blank_line l ≡ true → inner.begun ≡ true → ContinuesInItem inner list l continuation.Matched
 item_matched inner list l z b begun entities at in_item s marker begin gap bare st right o isbare one out = (
   blank_tells marker list.needed begin gap bare s l z b ∙ isbare ∙ ap not begun,
   matched (Item marker list.needed) l (blank_matched marker list.needed l z b),
 )
-
-pub between_open : (list : OpenList) (l : BlockLine) (c : Continuation) → list.item_open ≡ true → ContinuesBetween list l c
-between_open list l c is begin gap tight kind items o w one = absurd (not_both list.item_open is o)
 
 pub item_shut : (inner : Level) (list : OpenList) (l : BlockLine) (c : Continuation) → list.item_open ≡ false → ContinuesInItem inner list l c
 item_shut inner list l c is entities at in_item s marker begin gap bare st right o isbare one out = absurd (not_both list.item_open o is)

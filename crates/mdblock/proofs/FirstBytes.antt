@@ -14,6 +14,7 @@ use Rattle.mdscan.specs.ThematicBreak.{is_thematic_break, is_break_of}
 use Rattle.blockspec.specs.BlockLine.{BlockLine, rest}
 use Rattle.blockspec.specs.BlockStart.{Mode, Kind, Quote, Holds, begins_quote, begins_atx, begins_fence, begins_html, html_by, is_free, begins_break, begins_item, item_by}
 use Rattle.mdblock.specs.held.StartParts.{start_before_underline, start_after_underline, begins_marker}
+use Rattle.mdblock.proofs.StartLaws.{or_none}
 
 -- ---- one recogniser after the other
 
@@ -79,10 +80,6 @@ no_html mode l h = ap (html_by (is_free mode)) (no_kind (rest l) h)
 pub quote_first : (mode : Mode) (l : BlockLine) → begins_with 62 (rest l) ≡ true → start_before_underline mode l ≡ Some (Holds Quote)
 unfolding is_quote_marker
 quote_first mode l h = parts mode l (Some (Holds Quote)) _ _ _ (rw h refl) refl refl refl
-
-or_none : (k : Option Kind) → option_or k None ≡ k
-or_none None = refl
-or_none (Some x) = refl
 
 pub heading_first : (mode : Mode) (l : BlockLine) → begins_with 35 (rest l) ≡ true → start_before_underline mode l ≡ begins_atx l
 heading_first mode l h =

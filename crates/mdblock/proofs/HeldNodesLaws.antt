@@ -2,7 +2,8 @@
 use Rattle.std.proofs.Common.{◌≡◌, ℕ, Bool, true, false, ◌&&◌, List, [], ◌∷◌, refl, sym, ◌∙◌, ap}
 use Rattle.mdtext.specs.EntityTable.{EntityTable}
 use Rattle.blockspec.specs.BlockTree.{ListKind, no_blocks}
-use Rattle.mdblock.specs.held.HeldNodes.{ListSoFar, list_behind, list_where, list_at, list_of, handed_groups, handed_nodes, tasked}
+use Rattle.mdblock.specs.held.HeldLevel.{is_list}
+use Rattle.mdblock.specs.held.HeldNodes.{ListSoFar, list_behind, list_where, list_at, list_of, over_behind, handed_groups, handed_nodes, tasked}
 use Rattle.blockspec.specs.LineSummary.{no_summary, closed}
 use Rattle.blockspec.specs.ListGroups.{Part, Leaves, Quoted, Listed, Group, is_same_list, items_before, joined_where, joined, merged, is_tight_inside, leaves_before, part_before, nodes_of}
 use Rattle.blockspec.specs.NodeTree.{Leaf, Nodes, no_nodes, quote_node, list_node, ItemNodes, texts_in, definitions_in, placed}
@@ -101,3 +102,9 @@ none_texts entities = refl
 pub none_definitions : (entities : EntityTable) → definitions_in (handed_nodes entities false no_summary) ≡ []
 unfolding handed_groups nodes_of definitions_in
 none_definitions entities = refl
+
+-- a block that is over and no list is among what is over
+pub over_ended : (before : List Group) (begin : ℕ) (gap : Bool) (p : Part) → is_list p ≡ false → nodes_of (merged before (record { begin = begin; gap = gap; part = p } ∷ [])) ≡ over_behind before gap p
+over_ended before begin gap (Leaves leaves) h = merged_leaves before begin gap leaves
+over_ended before begin gap (Quoted nodes) h = merged_quote before begin gap nodes
+over_ended before begin gap (Listed kind tight items) h = absurd (let x : ⊥ = cc in x)

@@ -19,7 +19,7 @@ use Rattle.blockspec.specs.BlockStart.{Mode, Free, Inside, Lazy, Kind, AtxHeadin
 use Rattle.mdblock.specs.held.StartKind.{stays_lazy}
 use Rattle.mdblock.specs.held.StartParts.{begins_marker, start_before_underline, start_after_underline}
 use Rattle.mdblock.proofs.FirstBytes.{none_first, none_behind, no_kind}
-use Rattle.mdblock.proofs.StartLaws.{near_in_parts}
+use Rattle.mdblock.proofs.StartLaws.{near_in_parts, or_assoc, or_none}
 
 -- ---- a blank line begins nothing
 
@@ -30,10 +30,6 @@ blank_begins mode paragraph l h = ap (λ t. start_where t mode paragraph l) h
 pub near_begins : (mode : Mode) (paragraph : List BlockLine) (l : BlockLine) → is_blank_line l ≡ false → nat_le (indentation l) 3 ≡ true → start mode paragraph l ≡ start_near mode paragraph l
 unfolding start
 near_begins mode paragraph l h near = ap (λ t. start_where t mode paragraph l) h ∙ ap (λ t. start_at t mode paragraph l) near
-
-or_none : (k : Option Kind) → option_or k None ≡ k
-or_none None = refl
-or_none (Some x) = refl
 
 -- where no paragraph is open whose containers all match
 near_alone : (mode : Mode) (l : BlockLine) → is_inside mode ≡ false → start_near mode [] l ≡ option_or (start_before_underline mode l) (start_after_underline mode l)
@@ -157,10 +153,6 @@ html_part l = by (html_kind (rest l)) refl where
   by : (found : Option ℕ) → html_kind (rest l) ≡ found → is_none (option_or (html_by false found) (start_after_underline Lazy l)) ≡ stays_lazy (option_or (html_by true found) (start_after_underline Free l))
   by None h = ap is_none (same_after l) ∙ after_kind l
   by (Some kind) h = small kind (nat_lt kind 7) refl h
-
-or_assoc : (a b c : Option Kind) → option_or (option_or a b) c ≡ option_or a (option_or b c)
-or_assoc None b c = refl
-or_assoc (Some x) b c = refl
 
 flat : (q a f h after : Option Kind) → option_or (option_or q (option_or a (option_or f h))) after ≡ option_or q (option_or a (option_or f (option_or h after)))
 flat q a f h after =

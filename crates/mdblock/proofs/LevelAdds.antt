@@ -1,5 +1,6 @@
 -- A line of a level, by how it continues the last block.
-use Rattle.std.proofs.Common.{Result, Ok, Err, OnOk, Box, Global, ◌≡◌, ℕ, zero, suc, ◌+◌, ◌<◌, Bool, true, false, not, ◌&&◌, ◌||◌, List, length, Option, None, is_some, refl, sym, ◌∙◌, ap, subst, arith}
+use Rattle.std.proofs.Common.{Result, Ok, Err, OnOk, Box, Global, ◌≡◌, ℕ, suc, ◌+◌, Bool, true, false, not, ◌&&◌, ◌||◌, List, length, Option, None, is_some, refl, sym, ◌∙◌, ap, subst, arith}
+use Rattle.std.proofs.Math.Bool.{or-true}
 use Rattle.std.specs.Prelude.{nat_le}
 use Rattle.mdtext.specs.EntityTable.{EntityTable}
 use Rattle.mdscan.specs.declared.list_markers.Marker.{Marker}
@@ -13,7 +14,7 @@ use Rattle.blockspec.specs.OpenLeaf.{open_tip, leaf_from, OpenLeaf, open_table}
 use Rattle.blockspec.specs.BlockStart.{Paragraph, FencedCode, IndentedCode, HtmlBlock}
 use Rattle.blockspec.specs.SummaryDepth.{sinks}
 use Rattle.blockspec.specs.UnitBegin.{list_mark, same_mark}
-use Rattle.mdblock.specs.held.HeldLevel.{is_list, CellsStand, StandsForList, behind_over, StandsFor, StandsForLast, HasGathered, IsLazyRight, Fits}
+use Rattle.mdblock.specs.held.HeldLevel.{is_list, CellsStand, StandsForList, behind_over, StandsFor, StandsForLast, HasGathered, IsLazyRight}
 use Rattle.mdblock.specs.held.HeldNodes.{handed_nodes, closed_nodes}
 use Rattle.mdblock.specs.held.LevelSteps.{MarksBlank, IsAllOver, HasRestOf, IsQuoteOf, IsListOf, IsInside, is_content, IsVerbatim, WasBlank, gap_behind, AddsButBlank, GrowsLeaf, EndsAll, BeginsApart, BeginsBehind, BeginsItem, EntersItem}
 use Rattle.mdblock.specs.held.LinesAdded.{InOpen, IsTakenOff, ContinuesLast, ContinuesLevel, IsAdded, AddsLine, FollowsLine, SinksLine}
@@ -75,13 +76,9 @@ not_off : (b : Bool) → not b ≡ true → b ≡ false
 not_off false h = refl
 not_off true h = absurd (let x : ⊥ = cc in x)
 
-or_true : (b : Bool) → (b || true) ≡ true
-or_true true = refl
-or_true false = refl
-
 item_matches : (m : Marker) (needed : ℕ) (l : BlockLine) → l.lazy ≡ false → nat_le needed (indentation l) ≡ true → matches (Item m needed) l ≡ true
 unfolding matches
-item_matches m needed l z n = ap (λ y. not y && (is_blank_line l || nat_le needed (indentation l))) z ∙ ap (λ y. is_blank_line l || y) n ∙ or_true (is_blank_line l)
+item_matches m needed l z n = ap (λ y. not y && (is_blank_line l || nat_le needed (indentation l))) z ∙ ap (λ y. is_blank_line l || y) n ∙ or-true (is_blank_line l)
 
 ended_open : (at : ℕ) (list : OpenList) (groups : List Group) (gap : Bool) (p : Part) → StandsForList at list groups gap p → list.item_open ≡ true → ⊥
 ended_open at list groups gap (Leaves leaves) st h = st
@@ -116,36 +113,6 @@ item_matched level inner list l is m e at in_item (summary groups last was lines
         let i = summary bs k bl n in
         let found = matched_inside b gap bare (Item mk needed) i l (item_matches mk needed l lazy (ap (λ z. nat_le z (indentation l)) (sym st.1) ∙ enough)) full in
         (found.0, found.1 ∙ ap (without_columns l) (sym st.1))
-
--- ---- where no container more may be open
-
-pub full_quote : (room : ℕ) (level : Level) (inner : Box Level Global) (before : Gathering) (l : BlockLine) → level.last ≡ open_block.Quote inner → room ≡ 0 → SinksLine room level before l
-full_quote room level inner before l is none in_item (summary groups last was lines) texts definitions r =
-    quote_last before.entities.now _ inner groups last (λ z. Fits room (summary groups z was lines) → sinks room (summary groups last was lines) l ≡ true)
-    (λ b gap bare i fits. absurd (subst (λ z. Fits z (summary groups (open_container b gap bare Quote i) was lines)) none fits))
-    (subst (λ z. StandsForLast before.entities.now (behind_over before.entities.now (length texts) in_item groups last) z groups last) is r.1.1) r.3
-
-pub full_list : (room : ℕ) (level : Level) (inner : Box Level Global) (list : OpenList) (before : Gathering) (l : BlockLine) → level.last ≡ open_block.List inner list → room ≡ 0 → SinksLine room level before l
-full_list room level inner list before l is none in_item (summary groups last was lines) texts definitions r =
-    absurd (go last (subst (λ z. StandsForLast e (behind_over e (length texts) in_item groups last) z groups last) is r.1.1) (subst (λ z. Fits z (summary groups last was lines)) none r.3))
-  where
-    e : EntityTable
-    e = before.entities.now
-
-    never : 0 < 0 → ⊥
-    never h = omega (arith, h)
-
-    part : (at : ℕ) (gap : Bool) (p : Part) → StandsForList at list groups gap p → (is_list p ≡ true → 0 < 0) → ⊥
-    part at gap (Leaves leaves) st f = st
-    part at gap (Quoted nodes) st f = st
-    part at gap (Listed kind t items) st f = never (f refl)
-
-    go : (last : Last) → StandsForLast e (behind_over e (length texts) in_item groups last) (open_block.List inner list) groups last → Fits zero (summary groups last was lines) → ⊥
-    go nothing_yet st f = st
-    go (ended_block g) st f = part _ g.gap g.part st.0 f
-    go (open_leaf b gap leaf) st f = st
-    go (open_container b gap bare Quote i) st f = st
-    go (open_container b gap bare (Item m needed) (summary bs k bl n)) st f = f
 
 -- ---- the mark of a blank line
 
@@ -305,15 +272,6 @@ pub outside_sinks : (room : ℕ) (level : Level) (before : Gathering) (l : Block
 outside_sinks room level before l opening deep continues in_item s texts definitions r = apart_sinks room s l (continues before.entities.now (length texts) in_item s r.1 r.2).0 ∙ deep
 
 -- ---- the last block goes on
-
-pub inside_of : (c : Continuation) → ((opening : Option BlockStart) → c ≡ continuation.Outside opening → ⊥) → IsInside c
-inside_of continuation.Matched h = tt
-inside_of (continuation.Underlines level) h = tt
-inside_of continuation.Delimits h = tt
-inside_of continuation.Lazy h = tt
-inside_of continuation.Between h = tt
-inside_of (continuation.Next marker) h = tt
-inside_of (continuation.Outside opening) h = h opening refl
 
 -- Only a list has a line between its items, or a next item.
 no_list_goes : (last : Last) (l : BlockLine) (c : Continuation) → mark_of last ≡ None → IsInside c → ContinuesLast last l c → is_apart_after last l ≡ false

@@ -12,14 +12,14 @@ use Rattle.blockspec.specs.OpenLeaf.{open_leaves}
 use Rattle.blockspec.specs.UnitBegin.{list_mark, same_mark}
 use Rattle.mdblock.specs.BlockView.{blocks_view}
 use Rattle.mdblock.specs.held.HeldLevel.{is_list, is_begun, IsShut, behind_over, StandsFor, StandsForLast, HasGathered, ClosesAll}
-use Rattle.mdblock.specs.held.HeldNodes.{over_behind, over_nodes, handed_groups, handed_last, handed_nodes, closed_nodes, tasked}
+use Rattle.mdblock.specs.held.HeldNodes.{over_nodes, handed_groups, handed_last, handed_nodes, closed_nodes, tasked}
 use Rattle.mdblock.specs.held.LevelSteps.{IsFirst, IsAllOver, EndsAll, BeginsBehind, last_mark, tight_with, BeginsBlock, IsEmpty}
 use Rattle.mdblock.specs.declared.blocks.Block as b
 use Rattle.mdblock.specs.declared.gathering.Gathering.{Gathering}
 use Rattle.mdblock.specs.declared.open_blocks.Level.{Level}
 use Rattle.mdblock.specs.declared.open_blocks.OpenBlock.{OpenBlock}
 use Rattle.mdblock.specs.declared.open_blocks.OpenBlock as open_block
-use Rattle.mdblock.proofs.HeldNodesLaws.{merged_leaves, merged_quote, none_over, none_spaced}
+use Rattle.mdblock.proofs.HeldNodesLaws.{none_over, none_spaced, over_ended}
 use Rattle.blocklaws.proofs.ItemLaws.{merged_nil}
 use Rattle.mdblock.proofs.LevelGroups.{IsAny, any_merged, mark_merged}
 
@@ -59,11 +59,6 @@ all_end level before over new after closes is in_item (summary groups last blank
     )
 
 -- ---- a blank line
-
-over_ended : (before : List Group) (begin : ℕ) (gap : Bool) (p : Part) → is_list p ≡ false → nodes_of (merged before (record { begin = begin; gap = gap; part = p } ∷ [])) ≡ over_behind before gap p
-over_ended before begin gap (Leaves leaves) h = merged_leaves before begin gap leaves
-over_ended before begin gap (Quoted nodes) h = merged_quote before begin gap nodes
-over_ended before begin gap (Listed kind tight items) h = absurd (let x : ⊥ = cc in x)
 
 no_list : (p : Part) → is_some (part_mark p) ≡ false → is_list p ≡ false
 no_list (Leaves leaves) h = refl

@@ -1,6 +1,5 @@
 -- A line stays blank, or not, where columns are taken off; and a blank line where an item is open is one of what it holds.
 use Rattle.std.proofs.Common.{◌≡◌, ℕ, zero, suc, ◌+◌, ◌-◌, ◌≤◌, Bool, true, false, not, ◌&&◌, ◌||◌, List, [], ◌∷◌, ◌++◌, length, is_none, refl, sym, ◌∙◌, ap, subst, arith, replicate, cond}
-use Rattle.std.proofs.lemmas.Bool.Decides.{nat_tests}
 use Rattle.std.specs.List.{list_all}
 use Rattle.std.specs.Prelude.{nat_le, ◌==◌, min}
 use Rattle.mdtext.specs.Columns.{indent, indent_at, strip_at, width, is_space_or_tab}
@@ -17,7 +16,7 @@ use Rattle.blockspec.specs.Stretches.{goes_on}
 use Rattle.mdblock.specs.held.HeldLevel.{IsLazyRight, Fits}
 use Rattle.mdblock.specs.held.LevelSteps.{WasBlank}
 use Rattle.mdblock.proofs.LevelLines.{apart_added, container_added, leaf_added, leaf_grown, added_blank, is_last_blank}
-use Rattle.mdblock.proofs.Skips.{blank_text}
+use Rattle.mdblock.proofs.Skips.{blank_text, never_empty}
 
 spaces_blank : (n : ℕ) (bs : List ℕ) → list_all is_blank (replicate n 32 ++ bs) ≡ list_all is_blank bs
 spaces_blank zero bs = refl
@@ -45,9 +44,6 @@ pub columns_blank : (l : BlockLine) (columns : ℕ) → is_blank_line (without_c
 columns_blank l columns = strip_blank l.line.column (min columns (indent l.line)) l.line.text (omega arith)
 
 -- ---- what a container holds of a blank line
-
-never_empty : (n : ℕ) → false ≡ (suc n == 0)
-never_empty n = grind (arith, nat_tests)
 
 no_marker : (text : List ℕ) → (length text == 0) ≡ true → is_quote_marker text ≡ false
 unfolding is_quote_marker

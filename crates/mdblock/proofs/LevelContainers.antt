@@ -24,7 +24,7 @@ use Rattle.mdblock.specs.declared.gathering.Gathering.{Gathering}
 use Rattle.mdblock.specs.declared.open_blocks.Level.{Level}
 use Rattle.mdblock.specs.declared.open_blocks.OpenBlock.{OpenBlock}
 use Rattle.mdblock.specs.declared.open_blocks.OpenBlock as open_block
-use Rattle.mdblock.proofs.ClosingLaws.{handed_quote, tasked_quote, quote_texts, quote_definitions, handed_item, tasked_list, list_texts, list_definitions}
+use Rattle.mdblock.proofs.ClosingLaws.{handed_quote, tasked_quote, quote_texts, quote_definitions, handed_item, tasked_list, list_texts, list_definitions, behind}
 use Rattle.mdblock.proofs.LevelGroups.{tight_pushed, list_apart}
 use Rattle.mdblock.proofs.LevelLines.{none_added, has_begun, begin_begun}
 
@@ -32,9 +32,6 @@ use Rattle.mdblock.proofs.LevelLines.{none_added, has_begun, begin_begun}
 
 abbrev pub texts_over : List (List ℕ) → Nodes → List (List ℕ)
 texts_over texts a = texts ++ texts_in a
-
-pub behind : (texts : List (List ℕ)) (a : Nodes) → length texts + length (texts_in a) ≡ length (texts ++ texts_in a)
-behind texts a = sym (length-append texts (texts_in a))
 
 pub into_quote : (g : Gathering) (e : EntityTable) (in_item : Bool) (before : List Group) (b : ℕ) (gap bare : Bool) (s : Summary) (blank : Bool) (lines : ℕ) (texts : List (List ℕ)) (definitions : List LinkDefinition) →
     HasGathered g texts definitions (handed_nodes e in_item (summary before (open_container b gap bare Quote s) blank lines)) →

@@ -20,11 +20,11 @@ use Rattle.mdblock.specs.held.LevelSteps.{HasRestOf, IsQuoteOf, gap_behind}
 use Rattle.mdblock.specs.held.LinesAdded.{InOpen, IsReadBehind, IsAdded, AddsLine, SinksLine}
 use Rattle.mdblock.specs.declared.gathering.Gathering.{Gathering}
 use Rattle.mdblock.specs.declared.open_blocks.Level.{Level}
-use Rattle.mdblock.specs.declared.open_blocks.OpenBlock.{OpenBlock}
 use Rattle.mdblock.specs.declared.open_blocks.OpenBlock as open_block
-use Rattle.mdblock.proofs.LevelContainers.{behind, into_quote, from_quote, in_quote, quote_stands}
+use Rattle.mdblock.proofs.LevelContainers.{into_quote, from_quote, in_quote, quote_stands}
 use Rattle.mdblock.proofs.LevelGroups.{same_gaps}
 use Rattle.mdblock.proofs.LevelLines.{container_added, container_sinks}
+use Rattle.mdblock.proofs.ClosingLaws.{behind}
 
 -- ---- what is inside is read there
 

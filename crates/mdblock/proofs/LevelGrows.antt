@@ -1,5 +1,5 @@
 -- An open leaf reads a line that it takes: it stays open, or is over.
-use Rattle.std.proofs.Common.{◌≡◌, ℕ, suc, ◌+◌, ◌-◌, ◌<◌, ◌≤◌, Bool, true, false, not, List, [], ◌∷◌, ◌++◌, length, length-append, append_assoc, append-nil, map, take, Option, Some, None, Ok, refl, sym, ◌∙◌, ap, subst, arith}
+use Rattle.std.proofs.Common.{◌≡◌, ℕ, suc, ◌+◌, ◌-◌, ◌<◌, Bool, true, false, not, List, [], ◌∷◌, ◌++◌, length, length-append, append_assoc, append-nil, map, take, Option, Some, None, Ok, refl, sym, ◌∙◌, ap, subst, arith}
 use Rattle.std.proofs.lemmas.Grind.{flat_map-append}
 use Rattle.std.proofs.lemmas.List.{length-map, map-append}
 use Rattle.std.specs.List.{flat_map}
@@ -14,7 +14,7 @@ use Rattle.mdleaf.specs.ParagraphText.{joined_lines, behind_definitions, without
 use Rattle.mdleaf.specs.TableRows.{row_aligns, row_texts}
 use Rattle.blockspec.specs.BlockLine.{BlockLine, rest, is_blank_line}
 use Rattle.blockspec.specs.BlockStart.{Inside, Quote, Item, Kind, Paragraph, SetextHeading, Table, AtxHeading, ThematicBreak, FencedCode, IndentedCode, HtmlBlock, Holds, start, last_text}
-use Rattle.blockspec.specs.BlockTree.{Blocks, no_blocks, block}
+use Rattle.blockspec.specs.BlockTree.{no_blocks, block}
 use Rattle.blockspec.specs.BlockTree as tree
 use Rattle.blockspec.specs.Laziness.{Tip, Closed}
 use Rattle.blockspec.specs.LeafContents.{without_last, code_text}
@@ -48,23 +48,17 @@ use Rattle.mdblock.specs.declared.open_blocks.Continuation.{Continuation}
 use Rattle.mdblock.specs.declared.open_blocks.Continuation.TheVariants as continuation
 use Rattle.mdblock.specs.declared.open_blocks.Level.{Level}
 use Rattle.mdblock.specs.declared.open_blocks.OpenBlock as open_block
-use Rattle.mdblock.proofs.CloseLeafLaws.{IsGiven, defs_placed, defs_texts, defs_definitions, defs_task, end_given}
+use Rattle.mdblock.proofs.CloseLeafLaws.{IsGiven, defs_placed, defs_texts, defs_definitions, defs_task, end_given, html_task, code_task}
 use Rattle.mdblock.proofs.HeldNodesLaws.{merged_leaves}
 use Rattle.mdblock.proofs.LeafTurns.{table_above}
 use Rattle.mdblock.proofs.LevelGroups.{same_gaps}
-use Rattle.mdblock.proofs.LevelLeaves.{pushed_nodes, Stand, pushed_leaves, nodes_nil, HasMarks, stands_ended, stands_open}
+use Rattle.mdblock.proofs.LevelLeaves.{pushed_nodes, Stand, pushed_leaves, HasMarks, stands_ended, stands_open}
 use Rattle.mdblock.proofs.LevelLines.{leaf_added, leaf_grown, leaf_never_sinks}
-use Rattle.mdblock.proofs.ParagraphLaws.{next_line}
-use Rattle.mdblock.proofs.PlacedNodes.{blocks_nil, texts_before, earlier_definitions, leaves_append, leaves_behind, nodes_assoc}
+use Rattle.mdblock.proofs.ParagraphLaws.{next_line, last_within}
+use Rattle.mdblock.proofs.PlacedNodes.{blocks_nil, texts_before, earlier_definitions, leaves_append, leaves_behind, nodes_assoc, nodes_nil}
 use Rattle.mdblock.proofs.TableLaws.{header_stands, row_stands}
 
 -- ---- the text above the last line
-
-last_within : (lines : List BlockLine) → length (last_text lines) ≤ length (joined_lines (map rest lines))
-unfolding joined_lines
-last_within [] = omega arith
-last_within (l ∷ []) = omega arith
-last_within (l ∷ m ∷ lines) = let p = length-append (rest l) (10 ∷ joined_lines (map rest (m ∷ lines))) in omega (arith, last_within (m ∷ lines), p)
 
 without_cons : (l m : BlockLine) (lines : List BlockLine) → without_last (l ∷ m ∷ lines) ≡ l ∷ without_last (m ∷ lines)
 without_cons l m lines = let n : length (l ∷ m ∷ lines) - 1 ≡ suc (length (m ∷ lines) - 1) = omega arith in ap (λ k. take k (l ∷ m ∷ lines)) n
@@ -230,16 +224,6 @@ one_given before after step one found h view t d same = record {
     go None h = absurd h
     go (Some z) h = ap (λ w. block w no_blocks) h
 
-code_task : (lang body : List ℕ) (first : Bool) → tasked first (leaf_node (code_leaf lang body) no_nodes) ≡ leaf_node (code_leaf lang body) no_nodes
-unfolding with_task
-code_task lang body true = refl
-code_task lang body false = refl
-
-html_task : (lines : List ℕ) (first : Bool) → tasked first (leaf_node (html_leaf lines) no_nodes) ≡ leaf_node (html_leaf lines) no_nodes
-unfolding with_task
-html_task lines true = refl
-html_task lines false = refl
-
 -- ---- fenced code
 
 fence_goes : (room : ℕ) (level new : Level) (before after : Gathering) (l : BlockLine) (step : LeafAfter) (in_item : Bool) (groups : List Group) (begin : ℕ) (gap : Bool) (was : Bool) (lines : ℕ) (texts : List (List ℕ)) (definitions : List LinkDefinition)
@@ -252,7 +236,7 @@ fence_goes room level new before after l step in_item groups begin gap was lines
     let kept = leaf_from (FencedCode i m n info false) first later in
     let next = leaf_from (FencedCode i m n info true) first (later ++ l ∷ []) in
     let one = code_leaf (code_language before.entities.now info) (code_text i (without_last (later ++ l ∷ []))) in
-    goes_over room level new before after l step in_item groups begin gap kept was lines texts definitions h next (one ∷ []) (sym is) left.nothing_going (one_given before after step one _ left refl refl refl same) refl refl (code_task _ _ (is_front in_item level.over.items))
+    goes_over room level new before after l step in_item groups begin gap kept was lines texts definitions h next (one ∷ []) (sym is) left.nothing_going (one_given before after step one _ left refl refl refl same) refl refl (code_task (is_front in_item level.over.items) _ _)
 fence_goes room level new before after l step in_item groups begin gap was lines texts definitions i m n info first later false h same is left = go step.going refl left.going
   where
     kept : OpenLeaf
@@ -332,7 +316,7 @@ html_goes room level new before after l step in_item groups begin gap was lines 
 html_goes room level new before after l step in_item groups begin gap was lines texts definitions kind first later false true h same is left =
     let one = html_leaf (joined_lines (map (λ (x : BlockLine). x.line.text) (first ∷ later ++ l ∷ []))) in
     goes_over room level new before after l step in_item groups begin gap (leaf_from (HtmlBlock kind) first later) was lines texts definitions h (leaf_from (HtmlBlock kind) first (later ++ l ∷ [])) (one ∷ []) (sym is) left.nothing_going
-    (one_given before after step one _ left refl refl refl same) refl refl (html_task _ (is_front in_item level.over.items))
+    (one_given before after step one _ left refl refl refl same) refl refl (html_task (is_front in_item level.over.items) _)
 
 -- ---- a table behind what is over
 
@@ -379,9 +363,6 @@ table_definitions definitions in_item a ls aligns head rows =
     ∙ ap (λ z. definitions ++ z) (earlier_definitions (pushed_nodes in_item a ls) (leaf_node (table_leaf aligns head rows) no_nodes) ∙ append-nil (definitions_in (pushed_nodes in_item a ls)))
 
 -- ---- a data row
-
-rows_more : (at : ℕ) (step : LeafAfter) (old new : List (List ℕ)) (t : table.Table) (row : List ℕ) → IsRowIn (leaf.Table t) row old new step → new ≡ old ++ row_of t.aligns.items row
-rows_more at step old new t row h = h.1
 
 row_texts_more : (xs head : List (List ℕ)) (rows : List (List (List ℕ))) (row : List (List ℕ)) →
     (xs ++ (head ++ flat_map (λ r. r) rows)) ++ row ≡ xs ++ (head ++ flat_map (λ r. r) (rows ++ row ∷ []))

@@ -41,10 +41,6 @@ use Rattle.mdblock.proofs.PlacedNodes.{texts_before, earlier_definitions, placed
 
 -- ---- the item reads the line
 
-not_off : (b : Bool) → not b ≡ false → b ≡ true
-not_off true h = refl
-not_off false h = absurd (let x : ⊥ = cc in x)
-
 -- a bare item takes no blank line more
 item_begun : (m : Marker) (needed : ℕ) (bare begun' : Bool) (tip : Tip) (l : BlockLine) → bare ≡ not begun' → (l.lazy ≡ true → is_blank_line l ≡ false) → not (goes_on (Item m needed) bare tip l) ≡ false →
     (begun' || not (is_blank_line l)) ≡ true

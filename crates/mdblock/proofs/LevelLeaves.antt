@@ -16,7 +16,7 @@ use Rattle.blockspec.specs.LineSummary.{Summary, no_summary, summary, ended_bloc
 use Rattle.blockspec.specs.SummaryDepth.{sinks}
 use Rattle.mdscan.specs.declared.list_markers.Marker.{Marker}
 use Rattle.blockspec.specs.ListGroups.{Leaves, Group, is_tight_inside, leaves_before, merged, nodes_of}
-use Rattle.blockspec.specs.NodeTree.{Leaf, heading_leaf, break_leaf, html_leaf, Nodes, no_nodes, leaf_node, quote_node, list_node, texts_in, definitions_in, leaf_texts, leaf_definitions, leaf_block, placed}
+use Rattle.blockspec.specs.NodeTree.{Leaf, heading_leaf, break_leaf, html_leaf, Nodes, no_nodes, leaf_node, texts_in, definitions_in, leaf_texts, leaf_definitions, leaf_block, placed}
 use Rattle.blockspec.specs.OpenLeaf.{OpenLeaf, leaf_from, open_leaves}
 use Rattle.blockspec.specs.Stretches.{ends_html, is_single, first_of}
 use Rattle.blockspec.specs.TaskItem.{with_task}
@@ -42,12 +42,12 @@ use Rattle.mdblock.specs.declared.leaf.LeafAfter.{LeafAfter}
 use Rattle.mdblock.specs.declared.open_blocks.Level.{Level}
 use Rattle.mdblock.specs.declared.open_blocks.OpenBlock.{OpenBlock}
 use Rattle.mdblock.specs.declared.open_blocks.OpenBlock as open_block
-use Rattle.mdblock.proofs.CloseLeafLaws.{front_rest, IsGiven}
+use Rattle.mdblock.proofs.CloseLeafLaws.{front_rest, IsGiven, html_task}
 use Rattle.mdblock.proofs.HeldNodesLaws.{merged_leaves}
 use Rattle.mdblock.proofs.LevelGroups.{tight_pushed}
 use Rattle.mdblock.proofs.LevelLines.{HoldsNone, leaf_sinks}
 use Rattle.mdblock.proofs.Skips.{blank_text}
-use Rattle.mdblock.proofs.PlacedNodes.{blocks_nil, texts_before, earlier_definitions, earlier_placed}
+use Rattle.mdblock.proofs.PlacedNodes.{blocks_nil, texts_before, earlier_definitions, earlier_placed, nodes_nil}
 
 -- ---- leaves behind what is over
 
@@ -77,12 +77,6 @@ pushed_leaves in_item over all_over a ls leaves texts definitions old new known 
       g.texts ∙ ap (λ z. z ++ texts_in more) st.1 ∙ append_assoc texts (texts_in A) (texts_in more) ∙ ap (λ z. texts ++ z) (sym (texts_before A more) ∙ ap texts_in (sym given)),
       g.definitions ∙ ap (λ z. z ++ definitions_in more) st.2 ∙ append_assoc definitions (definitions_in A) (definitions_in more) ∙ ap (λ z. definitions ++ z) (sym (earlier_definitions A more) ∙ ap definitions_in (sym given)),
     )
-
-pub nodes_nil : (a : Nodes) → nodes_before a no_nodes ≡ a
-nodes_nil no_nodes = refl
-nodes_nil (leaf_node leaf a) = ap (leaf_node leaf) (nodes_nil a)
-nodes_nil (quote_node inner a) = ap (quote_node inner) (nodes_nil a)
-nodes_nil (list_node kind tight items a) = ap (list_node kind tight items) (nodes_nil a)
 
 -- ---- a level whose last block is a leaf
 
@@ -229,11 +223,6 @@ unfolding with_task
 break_task true = refl
 break_task false = refl
 
-html_task : (lines : List ℕ) (first : Bool) → tasked first (leaf_node (html_leaf lines) no_nodes) ≡ leaf_node (html_leaf lines) no_nodes
-unfolding with_task
-html_task lines true = refl
-html_task lines false = refl
-
 paragraph_begins : (room : ℕ) (level : Level) (before : Gathering) (l : BlockLine) (step : LeafAfter) (new : Level) (after : Gathering) (x : Option held.Leaf) →
     begun l ≡ Paragraph → is_blank_line l ≡ false → step.going ≡ x → step.over ≡ None → MatchOption x ⊥ (IsParagraphLeaf (l ∷ [])) → Puts level before step [] new after → BeginsBlock room level before l new after
 unfolding is_single leaf_from
@@ -296,7 +285,7 @@ html_begins : (room : ℕ) (level : Level) (before : Gathering) (l : BlockLine) 
 unfolding is_single leaf_from open_leaves
 html_begins room level before l step new after false kind is ends h puts = html_open room level before l step new after step.going kind is ends refl h.nothing_over h.going puts
 html_begins room level before l step new after true kind is ends h puts =
-    over_begins room level before l (HtmlBlock kind) step (html_leaf (joined_lines (map (λ (x : BlockLine). x.line.text) (l ∷ [])))) _ new after is tt ends h refl puts refl refl (html_task _)
+    over_begins room level before l (HtmlBlock kind) step (html_leaf (joined_lines (map (λ (x : BlockLine). x.line.text) (l ∷ [])))) _ new after is tt ends h refl puts refl refl (λ first. html_task first _)
 
 heading_begins : (room : ℕ) (level : Level) (before : Gathering) (l : BlockLine) (step : LeafAfter) (new : Level) (after : Gathering) (depth : ℕ) (content : List ℕ) →
     begun l ≡ AtxHeading depth content → IsOver (tree.heading depth (length (gathered_texts before))) step → Puts level before step (content ∷ []) new after → BeginsBlock room level before l new after

@@ -1,12 +1,12 @@
 -- What one line more makes of a summary, by how the line continues the last block.
-use Rattle.std.proofs.Common.{◌≡◌, ℕ, zero, suc, ◌+◌, Bool, true, false, not, ◌&&◌, ◌||◌, List, [], is_none, refl, sym, ◌∙◌, ap, arith}
+use Rattle.std.proofs.Common.{◌≡◌, ℕ, zero, suc, ◌+◌, Bool, true, false, not, ◌||◌, List, refl, sym, ◌∙◌, ap, arith}
+use Rattle.std.proofs.Math.Bool.{or-true}
 use Rattle.mdtext.specs.EntityTable.{EntityTable}
 use Rattle.blockspec.specs.BlockLine.{BlockLine, is_blank_line}
-use Rattle.blockspec.specs.BlockStart.{Container, Kind, Paragraph, Holds, Lazy, start, begun}
-use Rattle.blockspec.specs.ContainerLines.{opened, inside, matches}
-use Rattle.blockspec.specs.Laziness.{Text, is_text, continues_lazily}
-use Rattle.blockspec.specs.LineSummary.{Summary, summary, Last, nothing_yet, ended_block, open_leaf, open_container, no_summary, last_in, summary_tip, last_tip, leaf_group, ended_last, new_last, begin_after, last_grown, leaf_after, container_after, last_after, line_added, is_apart_after}
-use Rattle.blockspec.specs.OpenLeaf.{OpenLeaf, open_text, open_table, open_fence, open_code, open_html, done_heading, done_leaf, NextLeaf, ContinuesAs, EndsAs, EndedBefore, next_leaf, is_parted}
+use Rattle.blockspec.specs.BlockStart.{Container, Kind, Paragraph, Holds, start, begun}
+use Rattle.blockspec.specs.ContainerLines.{opened, inside}
+use Rattle.blockspec.specs.LineSummary.{Summary, summary, Last, nothing_yet, ended_block, open_leaf, open_container, no_summary, last_in, summary_tip, leaf_group, ended_last, new_last, begin_after, last_grown, leaf_after, container_after, last_after, line_added, is_apart_after}
+use Rattle.blockspec.specs.OpenLeaf.{OpenLeaf, NextLeaf, ContinuesAs, EndsAs, EndedBefore, next_leaf, is_parted}
 use Rattle.blockspec.specs.ListGroups.{Group}
 use Rattle.blockspec.specs.Stretches.{Stretch, goes_on, is_single, first_of}
 use Rattle.blockspec.specs.SummaryDepth.{sinks, sinks_by, sinks_at, sinks_first, sinks_later}
@@ -227,56 +227,27 @@ begin_begun e more true (summary before last blank lines) l = ended_begun e last
 begin_begun e more false (summary before last blank lines) l =
     new_begun e more (is_single (begun l) l) (begun l) (first_of lines _ l) (sort_of (begun l))
 
-or_true : (b : Bool) → (b || true) ≡ true
-or_true true = refl
-or_true false = refl
-
 leaf_stays : (e : EntityTable) (more : Summary → BlockLine → Summary) (b : ℕ) (g : Bool) (n : NextLeaf) (s : Summary) (l : BlockLine) → has_begun (last_in s) ≡ true →
     has_begun (last_in (leaf_after e more b g n s l)) ≡ true
 unfolding leaf_after last_grown
 leaf_stays e more b g (ContinuesAs leaf) (summary before last blank lines) l h = refl
 leaf_stays e more b g (EndsAs leaf) (summary before last blank lines) l h = refl
-leaf_stays e more b g EndedBefore s l h = begin_begun e more (is_blank_line l) s l ∙ ap (λ z. not (is_blank_line l) || z) h ∙ or_true (not (is_blank_line l))
+leaf_stays e more b g EndedBefore s l h = begin_begun e more (is_blank_line l) s l ∙ ap (λ z. not (is_blank_line l) || z) h ∙ or-true (not (is_blank_line l))
 
 container_stays : (e : EntityTable) (more : Summary → BlockLine → Summary) (takes : Bool) (b : ℕ) (g : Bool) (c : Container) (i s : Summary) (l : BlockLine) → has_begun (last_in s) ≡ true →
     has_begun (last_in (container_after e more takes b g c i s l)) ≡ true
 unfolding container_after last_grown
 container_stays e more true b g c i (summary before last blank lines) l h = refl
-container_stays e more false b g c i s l h = begin_begun e more (is_blank_line l) s l ∙ ap (λ z. not (is_blank_line l) || z) h ∙ or_true (not (is_blank_line l))
+container_stays e more false b g c i s l h = begin_begun e more (is_blank_line l) s l ∙ ap (λ z. not (is_blank_line l) || z) h ∙ or-true (not (is_blank_line l))
 
 after_begun : (e : EntityTable) (more : Summary → BlockLine → Summary) (last : Last) (s : Summary) (l : BlockLine) → last_in s ≡ last → (has_begun last || not (is_blank_line l)) ≡ true →
     has_begun (last_in (last_after e more last s l)) ≡ true
 unfolding last_after
 after_begun e more nothing_yet s l i h = begin_begun e more (is_blank_line l) s l ∙ ap (λ z. z || has_begun (last_in s)) h
-after_begun e more (ended_block g) s l i h = begin_begun e more (is_blank_line l) s l ∙ ap (λ z. not (is_blank_line l) || has_begun z) i ∙ or_true (not (is_blank_line l))
+after_begun e more (ended_block g) s l i h = begin_begun e more (is_blank_line l) s l ∙ ap (λ z. not (is_blank_line l) || has_begun z) i ∙ or-true (not (is_blank_line l))
 after_begun e more (open_leaf b g leaf) s l i h = leaf_stays e more b g (next_leaf leaf l) s l (ap has_begun i)
 after_begun e more (open_container b g bare c inner) s l i h = container_stays e more (goes_on c bare (summary_tip inner) l) b g c inner s l (ap has_begun i)
 
 pub added_begun : (e : EntityTable) (room : ℕ) (s : Summary) (l : BlockLine) → (has_begun (last_in s) || not (is_blank_line l)) ≡ true → has_begun (last_in (line_added e (suc room) s l)) ≡ true
 unfolding line_added
 added_begun e room s l h = after_begun e (line_added e room) (last_in s) s l refl h
-
--- ---- a lazy line
-
-and_false : (b : Bool) → not (b || true) ≡ false
-and_false true = refl
-and_false false = refl
-
-tip_apart : (last : Last) (l : BlockLine) → l.lazy ≡ true → last_tip last ≡ Text → is_apart_after last l ≡ false
-unfolding is_apart_after last_tip continues_lazily next_leaf
-tip_apart nothing_yet l z h = absurd (let x : ⊥ = cc in x)
-tip_apart (ended_block g) l z h = absurd (let x : ⊥ = cc in x)
-tip_apart (open_leaf b g (open_text text last above)) l z h = rw z refl
-tip_apart (open_leaf b g (open_table above aligns head rows)) l z h = absurd (let x : ⊥ = cc in x)
-tip_apart (open_leaf b g (open_fence i m n info body)) l z h = absurd (let x : ⊥ = cc in x)
-tip_apart (open_leaf b g (open_code body blanks)) l z h = absurd (let x : ⊥ = cc in x)
-tip_apart (open_leaf b g (open_html kind text)) l z h = absurd (let x : ⊥ = cc in x)
-tip_apart (open_leaf b g (done_heading level text)) l z h = absurd (let x : ⊥ = cc in x)
-tip_apart (open_leaf b g (done_leaf leaves)) l z h = absurd (let x : ⊥ = cc in x)
-tip_apart (open_container b g bare c i) l z h =
-    let m = matches c l && not (bare && is_blank_line l) in
-    ap (λ y. not (m || (y || (is_text (summary_tip i) && not (is_blank_line l) && is_none (start Lazy [] l))))) z ∙ and_false m
-
-pub lazy_taken : (s : Summary) (l : BlockLine) → l.lazy ≡ true → summary_tip s ≡ Text → is_apart_after (last_in s) l ≡ false
-unfolding summary_tip
-lazy_taken (summary before last blank lines) l z h = tip_apart last l z h

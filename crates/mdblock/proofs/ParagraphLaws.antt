@@ -31,7 +31,7 @@ joined_none : joined_lines (map rest []) ≡ []
 unfolding joined_lines
 joined_none = refl
 
-last_within : (lines : List BlockLine) → length (last_text lines) ≤ length (joined_lines (map rest lines))
+pub last_within : (lines : List BlockLine) → length (last_text lines) ≤ length (joined_lines (map rest lines))
 last_within [] = rw joined_none (omega arith)
 last_within (l ∷ []) = rw (joined_one (rest l)) (omega arith)
 last_within (l ∷ m ∷ ls) =

@@ -18,6 +18,12 @@ nodes_assoc (leaf_node leaf a) b c = ap (leaf_node leaf) (nodes_assoc a b c)
 nodes_assoc (quote_node inner a) b c = ap (quote_node inner) (nodes_assoc a b c)
 nodes_assoc (list_node kind tight items a) b c = ap (list_node kind tight items) (nodes_assoc a b c)
 
+pub nodes_nil : (a : Nodes) → nodes_before a no_nodes ≡ a
+nodes_nil no_nodes = refl
+nodes_nil (leaf_node leaf a) = ap (leaf_node leaf) (nodes_nil a)
+nodes_nil (quote_node inner a) = ap (quote_node inner) (nodes_nil a)
+nodes_nil (list_node kind tight items a) = ap (list_node kind tight items) (nodes_nil a)
+
 pub blocks_nil : (a : Blocks) → blocks_before a no_blocks ≡ a
 blocks_nil no_blocks = refl
 blocks_nil (block b a) = ap (block b) (blocks_nil a)

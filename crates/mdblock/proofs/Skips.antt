@@ -69,7 +69,7 @@ pub mark_line : (old new : Place) (width : ℕ) → new ≡ behind_mark old widt
 mark_line old new width e =
     ap line_at e ∙ ap (λ t. record { column = old.column + indent (line_at old) + width; text = drop width t }) (sym (unindented_line old))
 
-never_empty : (n : ℕ) → false ≡ (suc n == 0)
+pub never_empty : (n : ℕ) → false ≡ (suc n == 0)
 never_empty n = grind (arith, nat_tests)
 
 blank_front : (b : ℕ) (bs : List ℕ) → is_space_or_tab b ≡ true → list_all is_blank (b ∷ bs) ≡ list_all is_blank bs

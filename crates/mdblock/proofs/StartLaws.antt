@@ -7,7 +7,7 @@ use Rattle.blockspec.specs.BlockLine.{BlockLine, indentation, is_blank_line}
 use Rattle.blockspec.specs.BlockStart.{Mode, Free, Inside, Lazy, Kind, is_inside, begins_quote, begins_atx, begins_fence, begins_html, begins_underline, begins_break, begins_item, begins_rows, start_near, start_at, start_where, start}
 use Rattle.mdblock.specs.held.StartParts.{start_before_underline, start_after_underline, start_alone_near, start_alone_at, start_alone_where, start_alone}
 
-or_assoc : (a b c : Option Kind) → option_or (option_or a b) c ≡ option_or a (option_or b c)
+pub or_assoc : (a b c : Option Kind) → option_or (option_or a b) c ≡ option_or a (option_or b c)
 or_assoc None b c = refl
 or_assoc (Some x) b c = refl
 
@@ -24,7 +24,7 @@ near_in_parts mode paragraph l =
     ∙ sym (ap (λ k. option_or (begins_quote l) k) (or_assoc (begins_atx l) (option_or (begins_fence l) (begins_html mode l)) behind))
     ∙ sym (or_assoc (begins_quote l) (option_or (begins_atx l) (option_or (begins_fence l) (begins_html mode l))) behind)
 
-or_none : (a : Option Kind) → option_or a None ≡ a
+pub or_none : (a : Option Kind) → option_or a None ≡ a
 or_none None = refl
 or_none (Some x) = refl
 

@@ -8,7 +8,7 @@ use Rattle.blockspec.specs.ContainerLines.{inside, matches, taken_off}
 use Rattle.blockspec.specs.LineSummary.{Summary, Last, nothing_yet, ended_block, open_leaf, open_container, last_in, line_added, is_apart_after, mark_of}
 use Rattle.blockspec.specs.SummaryDepth.{sinks}
 use Rattle.blockspec.specs.UnitBegin.{list_mark, same_mark}
-use Rattle.mdblock.specs.held.HeldLevel.{StandsFor, HasGathered, IsLazyRight, Fits, is_shut}
+use Rattle.mdblock.specs.held.HeldLevel.{StandsFor, HasGathered, IsLazyRight, Fits}
 use Rattle.mdblock.specs.held.HeldNodes.{handed_nodes}
 use Rattle.mdblock.specs.declared.gathering.Gathering.{Gathering}
 use Rattle.mdblock.specs.declared.open_blocks.Continuation.{Continuation}
@@ -85,10 +85,6 @@ FollowsLine room level before l new after =
     (in_item : Bool) (s : Summary) (texts : List (List ℕ)) (definitions : List LinkDefinition)
     → IsReadBehind room level before in_item s texts definitions l
     → (is_apart_after (last_in s) l ≡ false) × IsAdded before.entities.now room in_item s texts definitions l new after
-
--- of a line where no block is open
-abbrev pub BeginsLine : (room : ℕ) → (level : Level) → Gathering → BlockLine → (new : Level) → Gathering → Type 0
-BeginsLine room level before l new after = is_shut level.last ≡ true → l.lazy ≡ false → AddsLine room level before l new after
 
 -- The line begins a container too deep.
 abbrev pub SinksLine : (room : ℕ) → (level : Level) → Gathering → BlockLine → Type 0
