@@ -9,6 +9,9 @@ EDITS ?= examples/writer.script
 # How many random texts and edit scripts a comparison with an oracle takes.
 TEXTS ?= 2000
 SCRIPTS ?= 600
+# How long a run with random edits or random bytes is, and what its chance begins with.
+SECONDS ?= 60
+SEED ?= 1
 # The part whose rows are made of the standards' examples.
 PART ?= blocks
 
@@ -20,7 +23,7 @@ BASH_COMPLETION_DIR ?= $(PREFIX)/share/bash-completion/completions
 ZSH_COMPLETION_DIR ?= $(PREFIX)/share/zsh/site-functions
 INSTALL ?= install
 
-.PHONY: help run test build check fmt picture bench hostile pane_test compare counts rows rows_inlines install uninstall
+.PHONY: help run test build check fmt picture bench hostile soak fuzz memory pane_test compare counts rows rows_inlines install uninstall
 
 help:
 	@echo "make run                 runs mdrender on a page and mdpreview on a writer's few edits, and shows what goes in and out (from the sources, unproved, where bin/ is empty); PAGE=FILE and EDITS=FILE show files of yours"
@@ -33,7 +36,10 @@ help:
 	@echo "make uninstall           removes what make install put there"
 	@echo "make bench               measures bin/mdrender beside cmark-gfm and md4c: instructions, times and memory on 22 kinds of texts, of which docs/SPEED.md has a run"
 	@echo "make pane_test           looks at clients/pane in a headless Chromium, and compares the page with mdrender's HTML after each change of a file"
-	@echo "make hostile             counts the instructions of bin/mdrender on hostile texts at two sizes (valgrind), and says where twice the text takes much more than twice as many"
+	@echo "make hostile             counts the instructions of bin/mdrender on hostile texts at two sizes (valgrind), and says where twice the text takes much more than twice as many; then times large ones"
+	@echo "make soak SECONDS=N      random edits of the repository's own texts through bin/mdpreview, for N seconds ($(SECONDS)): the pieces that a client keeps, html and mdrender's HTML must agree (SEED=$(SEED))"
+	@echo "make fuzz SECONDS=N      random bytes through both programs under a limit on memory, for N seconds ($(SECONDS)): no crash, and no status but 0, 1 and 2 (SEED=$(SEED))"
+	@echo "make memory              refuses each growth of memory of both programs in turn, over the examples and random scripts of edits (SEED=$(SEED); a C compiler is needed)"
 	@echo "make rows ORACLE=DIR CORPUS=DIR  proves rows of the definitions of PART=$(PART) from the standards' examples in CORPUS, with what ORACLE/oracle.py says of them"
 	@echo "make compare ORACLE=DIR  builds, and runs DIR/compare on the programs, with TEXTS=$(TEXTS) random texts and SCRIPTS=$(SCRIPTS) random edit scripts"
 	@echo "make counts ORACLE=DIR   compares what each edit of SCRIPTS=$(SCRIPTS) random edit scripts reads with what DIR/oracle.py allows"
@@ -61,7 +67,16 @@ bench: $(if $(BUILT),,build)
 	@tools/bench.py
 
 hostile: $(if $(BUILT),,build)
-	@tools/hostile.py bin/mdrender
+	@tools/hostile.py bin
+
+soak: $(if $(BUILT),,build)
+	@tools/soak.py --seconds $(SECONDS) --seed $(SEED)
+
+fuzz: $(if $(BUILT),,build)
+	@tools/fuzz.py --seconds $(SECONDS) --seed $(SEED)
+
+memory: $(if $(BUILT),,build)
+	@tools/memory.py --seed $(SEED)
 
 pane_test: $(if $(BUILT),,build)
 	@tools/pane_test.py

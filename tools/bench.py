@@ -50,9 +50,9 @@ def programs(folder):
     return found, missing
 
 
-def instructions(command, name):
+def instructions(command, name, may_refuse=False):
     counted = subprocess.run(["valgrind", "--tool=callgrind", "--callgrind-out-file=/dev/null"] + command + [name],
-                             stdout=subprocess.DEVNULL, stderr=subprocess.PIPE, text=True, check=True)
+                             stdout=subprocess.DEVNULL, stderr=subprocess.PIPE, text=True, check=not may_refuse)
     return int(re.search(r"refs:\s+([0-9,]+)", counted.stderr).group(1).replace(",", ""))
 
 
@@ -144,4 +144,5 @@ def main():
         shutil.rmtree(scratch)
 
 
-main()
+if __name__ == "__main__":
+    main()

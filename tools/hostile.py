@@ -1,8 +1,13 @@
 #!/usr/bin/env python3
-"""Counts the instructions of mdrender on hostile texts at two sizes, the second twice the first, and says where the count more than doubles.
+"""Counts the instructions of mdrender on hostile texts at two sizes, the second twice the first, and says where the count more than doubles. Then each mark of
+Markdown 100,000 times, alone, behind a letter, and by turns with each other mark; and some large texts: none may take a second, or end but as it should.
 
-usage: tools/hostile.py [PROGRAM]
+usage: tools/hostile.py [FOLDER OF THE PROGRAMS]
 """
+import itertools
+import os
+import resource
+import subprocess
 import sys
 import tempfile
 
@@ -10,6 +15,11 @@ import bench
 
 # More than this many times the instructions for twice the text is not linear.
 MOST = 2.3
+# What a text may take, in seconds of the processor's time.
+LONGEST = 1.0
+MARKS = "*_~[]()!<>&\\`-+#|:="
+# How often a mark stands in a text, and in those whose instructions are counted.
+OFTEN, LESS_OFTEN = 100_000, 5_000
 
 
 def backticks(size):
@@ -62,19 +72,52 @@ KINDS = [
 ]
 
 
+LARGE = [
+    ("definitions of one label", "50,000 definitions", "mdrender", lambda: "[a]: /u\n" * 50_000 + "\n[a]\n", "done"),
+    ("a row of a table", "100,000 cells", "mdrender", lambda: "a|b\n-|-\n" + "1|" * 100_000 + "\n", "done"),
+    ("64 nested items, then blank lines", "10,000 lines", "mdrender", lambda: "- " * 64 + "a\n" + "\n" * 10_000 + "b\n", "done"),
+    ("one line", "16,777,215 letters", "mdrender", lambda: "a" * 16_777_215, "done"),
+    ("one line, too long", "16,777,216 letters", "mdrender", lambda: "a" * 16_777_216, "refused TooLarge 0"),
+    ("empty lines", "1,000,000 lines", "mdrender", lambda: "\n" * 1_000_000, "done"),
+    ("empty lines, too many", "1,000,001 lines", "mdrender", lambda: "\n" * 1_000_001, "refused TooManyLines 0"),
+    ("quotes", "100,000 `>`", "mdrender", lambda: ">" * 100_000, "refused NestedTooDeep 0"),
+    ("strong emphasis in itself", "129 `*` on either side", "mdrender", lambda: "*" * 129 + "a" + "*" * 129, "refused InlineTooDeep 0"),
+    ("an edit that claims lines", "999,999,999 lines", "mdpreview", lambda: "edit 0 0 999999999\na\n", "script ends inside the edit of line 1"),
+    ("an edit that takes lines", "999,999,999 lines", "mdpreview", lambda: "edit 0 999999999 0\n", "done"),
+    ("an edit of all lines", "1,000,000 lines", "mdpreview", lambda: "edit 0 0 1000000\n" + "a\n" * 1_000_000 + "edit 500000 1 1\nb\n", "done"),
+]
+
+
+def marked():
+    """The texts of marks: a name, and what makes one of so many characters."""
+    for mark in MARKS:
+        yield f"`{mark}`", lambda n, mark=mark: mark * n + "\n"
+        yield f"`{mark}` behind `a`", lambda n, mark=mark: "a" + mark * n + "\n"
+    for pair in itertools.combinations(MARKS, 2):
+        yield f"`{pair[0]}` and `{pair[1]}` by turns", lambda n, pair=pair: "".join(pair) * (n // 2) + "\n"
+
+
+def timed(program, text):
+    """The processor's seconds that the program takes for a text, and how it ended."""
+    before = resource.getrusage(resource.RUSAGE_CHILDREN)
+    ran = subprocess.run([program], input=text.encode(), stdout=subprocess.DEVNULL, stderr=subprocess.PIPE)
+    after = resource.getrusage(resource.RUSAGE_CHILDREN)
+    said = ran.stderr.decode().strip().removeprefix(os.path.basename(program) + ": ")
+    end = "done" if ran.returncode == 0 and not said else said if ran.returncode in (1, 2) else f"status {ran.returncode}"
+    return after.ru_utime + after.ru_stime - before.ru_utime - before.ru_stime, end
+
+
 def counted(program, text):
     """How many instructions the program takes for a text."""
     with tempfile.NamedTemporaryFile("w", suffix=".md") as page:
         page.write(text)
         page.flush()
-        return bench.instructions([program], page.name)
+        return bench.instructions([program], page.name, may_refuse=True)
 
 
-def main():
-    program = sys.argv[1] if len(sys.argv) > 1 else "bin/mdrender"
+def two_sizes(program, start):
+    """The instructions for each kind of text at both sizes. Answers how many kinds are not linear."""
     failed = 0
-    # A program that reads nothing has its share in each count.
-    start = counted(program, "")
     print("| Text | Size | Millions of instructions | Twice the text |")
     print("|---|---|--:|--:|")
     for name, unit, size, make in KINDS:
@@ -82,7 +125,49 @@ def main():
         growth = two / max(one, 1)
         failed += growth > MOST
         print(f"| {name} | {size:,}, {2 * size:,} {unit} | {one / 1e6:.1f}, {two / 1e6:.1f} | {growth:.2f} |", flush=True)
-    print(f"{len(KINDS) - failed} passed, {failed} failed")
+    return failed
+
+
+def marks(program, start):
+    """Each text of marks: its time, how it ends, and how its instructions grow. Answers how many are not as they should be, of how many."""
+    failed, slowest, steepest, ends, texts = 0, (0, ""), (0, ""), {}, list(marked())
+    for name, make in texts:
+        seconds, end = timed(program, make(OFTEN))
+        one, two = (counted(program, make(n)) - start for n in (LESS_OFTEN, 2 * LESS_OFTEN))
+        growth = two / max(one, 1)
+        end = end.rsplit(" ", 1)[0] if end.startswith("refused") else end
+        ends[end] = ends.get(end, 0) + 1
+        slowest, steepest = max(slowest, (seconds, name)), max(steepest, (growth, name))
+        if seconds > LONGEST or growth > MOST or end not in ("done", "refused NestedTooDeep", "refused InlineTooDeep"):
+            failed += 1
+            print(f"FAILED {name}: {seconds:.2f} s, {end}, {growth:.2f} times the instructions for twice the text", flush=True)
+    print(f"\n{len(texts)} texts of {OFTEN:,} marks: " + ", ".join(f"{count} {end}" for end, count in sorted(ends.items())))
+    print(f"The slowest takes {1000 * slowest[0]:.0f} ms ({slowest[1]}).")
+    print(f"Twice the text takes {steepest[0]:.2f} times the instructions at most ({steepest[1]}).")
+    return failed, len(texts)
+
+
+def large(folder):
+    """The large texts and edits. Answers how many do not end as they should, or take too long."""
+    failed = 0
+    print("\n| Text | Size | Milliseconds | How it ended |")
+    print("|---|---|--:|---|")
+    for name, size, program, make, wanted in LARGE:
+        seconds, end = timed(os.path.join(folder, program), make())
+        failed += seconds > LONGEST or end != wanted
+        print(f"| {name} | {size} | {1000 * seconds:.0f} | {end} |", flush=True)
+    return failed
+
+
+def main():
+    folder = sys.argv[1] if len(sys.argv) > 1 else "bin"
+    program = os.path.join(folder, "mdrender")
+    # A program that reads nothing has its share in each count.
+    start = counted(program, "")
+    failed = two_sizes(program, start)
+    wrong, texts = marks(program, start)
+    failed += wrong + large(folder)
+    print(f"{len(KINDS) + texts + len(LARGE) - failed} passed, {failed} failed")
     return 1 if failed else 0
 
 
