@@ -15,7 +15,7 @@ use Rattle.viewspec.specs.Stretch.{Places, from_line, old_line, meeting_line, co
 use Rattle.viewlaws.proofs.Cuts.{begins_within}
 use Rattle.viewlaws.proofs.Splices.{IsEdit, meets, from_above, new_parts, old_parts}
 
-all_pass : {X : Type 0} (t : X → Bool) (xs : List X) → All (λ x. t x ≡ true) xs → filter t xs ≡ xs
+pub all_pass : {X : Type 0} (t : X → Bool) (xs : List X) → All (λ x. t x ≡ true) xs → filter t xs ≡ xs
 all_pass t [] h = refl
 all_pass t (x ∷ xs) h = by (t x) (All-head (λ y. t y ≡ true) x xs h) (all_pass t xs (All-tail (λ y. t y ≡ true) x xs h))
   where
@@ -23,7 +23,7 @@ all_pass t (x ∷ xs) h = by (t x) (All-head (λ y. t y ≡ true) x xs h) (all_p
     by true h rest = ap (λ z. x ∷ z) rest
     by false h rest = cc
 
-none_passes : {X : Type 0} (t : X → Bool) (xs : List X) → All (λ x. t x ≡ false) xs → filter t xs ≡ []
+pub none_passes : {X : Type 0} (t : X → Bool) (xs : List X) → All (λ x. t x ≡ false) xs → filter t xs ≡ []
 none_passes t [] h = refl
 none_passes t (x ∷ xs) h = by (t x) (All-head (λ y. t y ≡ false) x xs h) (none_passes t xs (All-tail (λ y. t y ≡ false) x xs h))
   where
@@ -66,7 +66,7 @@ count_above from to low high bs w a =
     ap (λ z. length z) (none_passes (λ x. nat_le from x && nat_lt x to) bs
     (All-weaker (λ x. (low ≤ x) × (x < high)) (λ x. (nat_le from x && nat_lt x to) ≡ false) (λ x h. let c = h.0 in grind (arith, nat_tests, a, c)) bs w))
 
-count_append : (from to : ℕ) (xs ys : List ℕ) → counted from to (xs ++ ys) ≡ counted from to xs + counted from to ys
+pub count_append : (from to : ℕ) (xs ys : List ℕ) → counted from to (xs ++ ys) ≡ counted from to xs + counted from to ys
 count_append from to xs ys =
     ap (λ z. length z) (filter-append (λ x. nat_le from x && nat_lt x to) xs ys)
     ∙ length-append (filter (λ x. nat_le from x && nat_lt x to) xs) (filter (λ x. nat_le from x && nat_lt x to) ys)

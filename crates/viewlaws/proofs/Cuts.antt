@@ -15,7 +15,7 @@ use Rattle.blockspec.specs.UnitTree.{FoundUnit}
 use Rattle.blocklaws.proofs.BeginLaws.{begins_next, document_only, document_stays}
 use Rattle.blocklaws.proofs.DocumentLaws.{document_units, document_meets, map_length}
 
-abbrev begins_in : List FoundUnit → List ℕ
+abbrev pub begins_in : List FoundUnit → List ℕ
 begins_in us = map (λ f. f.begin) us
 
 pub no_units : (e : EntityTable) → units e [] ≡ []
@@ -24,7 +24,7 @@ no_units e = refl
 
 -- ---- first lines lie within the document
 
-abbrev Within : List BlockLine → List ℕ → Type 0
+abbrev pub Within : List BlockLine → List ℕ → Type 0
 Within ls begins = All (λ b. b < length ls) begins
 
 within_next : (xs : List BlockLine) (l : BlockLine) (t : Bool) (bs : List ℕ) → Within xs bs → Within (xs ++ l ∷ []) (if t then bs ++ length xs ∷ [] else bs)
@@ -47,11 +47,14 @@ within_more e xs (y ∷ ys) h =
     (within_more e (xs ++ y ∷ []) ys
     (subst (λ z. Within (xs ++ y ∷ []) z) (sym (begins_next e xs y)) (within_next xs y (begins_unit xs y) (begins_in (units_of e xs)) h)))
 
+pub begins_of_within : (e : EntityTable) (ls : List BlockLine) → Within ls (begins_in (units_of e ls))
+begins_of_within e ls = within_more e [] ls (subst (λ z. Within [] (begins_in z)) (sym (no_units e)) (All-nil (λ b. b < 0)))
+
 pub begins_within : (e : EntityTable) (lines : List (List ℕ)) → All (λ b. b < length lines) (begins e lines)
 begins_within e lines =
     let ls = map document_line lines in
     subst (λ z. All (λ b. b < z) (begins e lines)) (map_length document_line lines)
-    (subst (λ z. All (λ b. b < length ls) (begins_in z)) (sym (document_units e lines)) (within_more e [] ls (subst (λ z. Within [] (begins_in z)) (sym (no_units e)) (All-nil (λ b. b < 0)))))
+    (subst (λ z. All (λ b. b < length ls) (begins_in z)) (sym (document_units e lines)) (begins_of_within e ls))
 
 -- ---- a document in two parts
 

@@ -1,8 +1,12 @@
 pub mod Cuts
 pub mod Splices
+pub mod StretchReadings
+pub mod UnitTiles
 pub mod Depths
 pub mod Counts
 pub mod Readings
 pub mod Definitions
 pub mod PutLines
 pub mod TooDeep
+pub mod UnaskedTexts
+pub mod ReadingBegins

@@ -1,9 +1,10 @@
 //! What an edit or a new prelude does to labels, and to the texts that asked for them.
 
-ghost use Rattle.std.specs.Prelude.{◌≡◌, ◌+◌, ◌≤◌, ℕ, None, true, false, List, length, map, take, drop, option_map};
+ghost use Rattle.std.specs.Prelude.{◌≡◌, ◌==◌, ◌+◌, ◌≤◌, ℕ, [], None, true, false, List, length, map, take, drop, option_map};
 ghost use Rattle.std.specs.List.{list_any};
 ghost use Rattle.mdtext.specs.EntityTable.{EntityTable};
 ghost use Rattle.inlinespec.specs.LinkTails.{Table};
+ghost use Rattle.inlinespec.specs.TextTree.{asked, inl};
 ghost use Rattle.viewspec.specs.Calls.{edit, put};
 ghost use Rattle.viewspec.specs.Changes.{asks_changed, places};
 ghost use Rattle.viewspec.specs.LabelTable.{defined_in, first_of_four, table, target_defined};
@@ -60,4 +61,11 @@ pub fn too_deep_units_asked()
         → list_any (is_deep limit) (map (reading_of entities old) texts) ≡ false
         → list_any (is_deep limit) (map (reading_of entities new) texts) ≡ true
         → list_any (asks_changed old new) (map (reading_of entities new) texts) ≡ true }
+{}
+
+/// A text in which no bracket closes asks for no label, and reads the same whatever labels are defined.
+pub fn unbracketed_texts_ask_for_none()
+    ensures asks { (entities : EntityTable) (labels : Table) (text : List ℕ) → list_any (λ byte. byte == 93) text ≡ false → asked entities labels text ≡ [] }
+    ensures reads { (entities : EntityTable) (one other : Table) (text : List ℕ) → list_any (λ byte. byte == 93) text ≡ false
+        → inl entities one text ≡ inl entities other text }
 {}

@@ -1,0 +1,2 @@
+pub mod ReadStretch
+pub mod UnitTiles
