@@ -9,18 +9,18 @@ use Rattle.mdpair.specs.Matches.{matches}
 use Rattle.mdpair.proofs.OrderedMatches.{AreOrdered, matches_ordered}
 use Rattle.inlinespec.specs.InlineTree.{Inlines, inline, code, raw, soft, hard}
 use Rattle.inlinespec.specs.InlineEvents.{InlineSpan, Event, CodeSpan, RawHtml, SoftBreak, HardBreak, Enter, Leave, written, within, in_front, with_byte, closed, rows_of}
-use Rattle.inlinelaws.proofs.TreeEvents.{AreSome, some_rows}
+use Rattle.inlinelaws.proofs.TreeEvents.{some_more, some_rows}
 use Rattle.inlinespec.specs.Settled.{span_by, Piece, Made, Run, Opening, runs_of, taken, ends, begins, bracket_text, settled_from, settled}
 
 -- how many rows there are
 unfoldable pub rows : List Event → ℕ
 rows es = length (rows_of es)
 
-same_rows : (f : Inlines → Inlines) (rs : List Inlines) → length (in_front f rs) ≡ length rs
+pub same_rows : (f : Inlines → Inlines) (rs : List Inlines) → length (in_front f rs) ≡ length rs
 same_rows f [] = refl
 same_rows f (r ∷ rs) = refl
 
-closed_rows : (span : InlineSpan) (rs : List Inlines) → 1 < length rs → length (closed span rs) + 1 ≡ length rs
+pub closed_rows : (span : InlineSpan) (rs : List Inlines) → 1 < length rs → length (closed span rs) + 1 ≡ length rs
 closed_rows span [] h = absurd (omega arith)
 closed_rows span (r ∷ []) h = absurd (omega arith)
 closed_rows span (r ∷ s ∷ rs) h = omega arith
@@ -205,14 +205,9 @@ pub bracket_balanced : (image : Bool) → IsBalanced (bracket_text image)
 bracket_balanced true = written_balanced (codes "![")
 bracket_balanced false = written_balanced (codes "[")
 
-some_length : (rs : List Inlines) → AreSome rs → 0 < length rs
-unfolding AreSome
-some_length [] h = absurd h
-some_length (r ∷ rs) h = omega arith
-
 rows_some : (es : List Event) → 0 < rows es
 unfolding rows
-rows_some es = some_length (rows_of es) (some_rows es)
+rows_some es = some_more (rows_of es) (some_rows es)
 
 balanced_front : (es more rest : List Event) → IsBalanced es → rows ((es ++ more) ++ rest) ≡ rows (more ++ rest)
 unfolding IsBalanced

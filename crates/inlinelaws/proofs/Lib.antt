@@ -1,11 +1,13 @@
 pub mod AskedLabels
 pub mod BalancedEvents
+pub mod DeepestSpans
 pub mod FrontEnds
 pub mod ItemEnds
 pub mod JoinedTrees
 pub mod NestedParts
 pub mod OneReading
 pub mod OpenSpans
+pub mod PairedSpans
 pub mod ReadingBalanced
 pub mod TailEnds
 pub mod TreeEvents

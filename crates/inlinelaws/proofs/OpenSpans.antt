@@ -5,7 +5,7 @@ use Rattle.inlinespec.specs.InlineEvents.{InlineSpan, Emphasis, StrongEmphasis, 
 use Rattle.inlinespec.specs.Nesting.{nest, nest_of}
 
 -- the deepest of these rows, each in as many spans as rows follow it
-deepest : List Inlines → ℕ
+unfoldable pub deepest : List Inlines → ℕ
 deepest [] = 0
 deepest (row ∷ rows) = max (nest row + length rows) (deepest rows)
 

@@ -1,5 +1,5 @@
 -- In the events of a reading each span that begins also ends.
-use Rattle.std.proofs.Common.{◌≡◌, ℕ, zero, suc, ◌+◌, ◌-◌, ◌<◌, Bool, true, false, List, [], ◌∷◌, ◌++◌, length, take, drop, reverse, Option, Some, None, IfSome, sym, subst, arith}
+use Rattle.std.proofs.Common.{◌≡◌, ℕ, zero, suc, ◌+◌, ◌-◌, Bool, true, false, List, [], ◌∷◌, ◌++◌, length, take, drop, reverse, Option, Some, None, IfSome, sym, subst}
 use Rattle.std.specs.Prelude.{if◌then◌else◌, slice_index}
 use Rattle.std.proofs.lemmas.Grind.{reverse_onto}
 use Rattle.mdtext.specs.EntityTable.{EntityTable}
@@ -11,7 +11,6 @@ use Rattle.mdscan.specs.Escapes.{begins_escape}
 use Rattle.mdscan.specs.RawHtml.{raw_html}
 use Rattle.mdpair.specs.declared.runs.DelimiterRun.{DelimiterRun}
 use Rattle.mdpair.specs.Neighbours.{run_at}
-use Rattle.inlinespec.specs.InlineTree.{Inlines}
 use Rattle.inlinespec.specs.LabelMap.{LinkTarget}
 use Rattle.inlinespec.specs.AutolinkText.{autolink_text, autolink_target}
 use Rattle.inlinespec.specs.CodeSpans.{backticks, code_content, code_inside}
@@ -21,9 +20,11 @@ use Rattle.inlinespec.specs.Lexing.{Kind, Leaf, Delimiters, OpenBracket, CloseBr
 use Rattle.inlinespec.specs.LinkTails.{Table, LinkTail, Direct, ByLabel, NoLabel, link_tail_at}
 use Rattle.inlinespec.specs.Settled.{Piece, Made, Run, Opening, settled}
 use Rattle.inlinespec.specs.TextReading.{Opened, opened_with, nearest_opener, is_live, Deed, Adds, Spends, Links, closing_bracket, looked_up, by_link_tail, closing, item_by, item_at, spent, span_to, linked, after_deed, items_from, reading, pieces_after}
+use Rattle.inlinespec.specs.SpanEnds.{EndSpans}
 use Rattle.inlinespec.specs.TextTree.{events_of}
-use Rattle.inlinelaws.proofs.TreeEvents.{AreSome, some_rows}
+use Rattle.inlinelaws.proofs.TreeEvents.{some_more, some_rows}
 use Rattle.inlinelaws.proofs.BalancedEvents.{IsBalanced, written_balanced, code_balanced, raw_balanced, soft_balanced, hard_balanced, within_balanced, AreBalanced, bracket_balanced, settled_balanced, rows}
+use Rattle.inlinelaws.proofs.PairedSpans.{spans_paired}
 
 -- leaves
 
@@ -207,14 +208,13 @@ reverse_balanced (p ∷ ps) h =
     let parts = apart p ps h in
     subst AreBalanced (sym (reverse_onto ps p [])) (joined_balanced (reverse ps) (p ∷ []) (reverse_balanced ps parts.1) parts.0)
 
-some_more : (rs : List Inlines) → AreSome rs → 0 < length rs
-unfolding AreSome
-some_more [] h = absurd h
-some_more (r ∷ rs) h = omega arith
-
 pub reading_balanced : (entities : EntityTable) (table : Table) (text : List ℕ) (rest : List Event) → length (rows_of (events_of (reading entities table text) ++ rest)) ≡ length (rows_of rest)
 unfolding IsBalanced rows
 reading_balanced entities table text rest =
     let pieces = pieces_after (reading entities table text) [] in
     let made = pieces_balanced entities table text text 0 0 [] nothing_balanced in
     settled_balanced (reverse pieces) (reverse_balanced pieces made) rest (some_more (rows_of rest) (some_rows rest))
+
+-- Spans begin and end in pairs.
+pub reading_paired : (entities : EntityTable) (table : Table) (text : List ℕ) → EndSpans 0 (events_of (reading entities table text))
+reading_paired entities table text = spans_paired (events_of (reading entities table text)) (reading_balanced entities table text)

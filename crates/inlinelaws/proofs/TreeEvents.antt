@@ -1,5 +1,5 @@
 -- A tree whose texts are joined is the tree of its events.
-use Rattle.std.proofs.Common.{◌≡◌, ℕ, false, List, [], ◌∷◌, ◌++◌, refl, sym, ap, ◌∙◌, append_assoc, append-nil, arith}
+use Rattle.std.proofs.Common.{◌≡◌, ℕ, ◌<◌, false, List, [], ◌∷◌, ◌++◌, length, refl, sym, ap, ◌∙◌, append_assoc, append-nil, arith}
 use Rattle.inlinespec.specs.InlineTree.{Inline, Inlines, no_inlines, inline, text, code, raw, soft, hard, emph, strong, strike, link, image}
 use Rattle.inlinespec.specs.InlineEvents.{InlineSpan, Emphasis, StrongEmphasis, Strikethrough, LinkTo, ImageOf, Event, Byte, CodeSpan, RawHtml, SoftBreak, HardBreak, Enter, Leave, written, within, span_tree, with_byte, in_front, closed, with_event, rows_of, first_row, tree_of, tree_events, inline_events}
 use Rattle.inlinespec.specs.JoinedTexts.{begins_with_text, IsApart, AreJoined, IsJoinedInside}
@@ -55,6 +55,11 @@ pub some_rows : (es : List Event) → AreSome (rows_of es)
 unfolding AreSome rows_of
 some_rows [] = tt
 some_rows (e ∷ es) = some_after e (rows_of es) (some_rows es)
+
+pub some_more : (rs : List Inlines) → AreSome rs → 0 < length rs
+unfolding AreSome
+some_more [] h = absurd h
+some_more (r ∷ rs) h = omega arith
 
 -- texts
 

@@ -5,6 +5,7 @@ ghost use Rattle.mdtext.specs.EntityTable.{EntityTable};
 ghost use Rattle.inlinespec.specs.InlineEvents.{Event, rows_of};
 ghost use Rattle.inlinespec.specs.JoinedTexts.{AreJoined};
 ghost use Rattle.inlinespec.specs.LinkTails.{Table};
+ghost use Rattle.inlinespec.specs.SpanEnds.{EndSpans};
 ghost use Rattle.inlinespec.specs.TextReading.{Item, IsReading, reading};
 ghost use Rattle.inlinespec.specs.TextTree.{events_of, inl, asked, Agree};
 
@@ -30,4 +31,9 @@ pub fn texts_are_joined()
 pub fn spans_end()
     ensures { (entities : EntityTable) (table : Table) (text : List ℕ) (rest : List Event)
         → length (rows_of (events_of (reading entities table text) ++ rest)) ≡ length (rows_of rest) }
+{}
+
+/// In a text's reading spans begin and end in pairs.
+pub fn spans_are_paired()
+    ensures { (entities : EntityTable) (table : Table) (text : List ℕ) → EndSpans 0 (events_of (reading entities table text)) }
 {}

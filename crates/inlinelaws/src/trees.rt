@@ -5,6 +5,7 @@ ghost use Rattle.inlinespec.specs.InlineEvents.{Event, rows_of, first_row, tree_
 ghost use Rattle.inlinespec.specs.InlineTree.{Inlines};
 ghost use Rattle.inlinespec.specs.JoinedTexts.{AreJoined};
 ghost use Rattle.inlinespec.specs.Nesting.{nest, IsPartOf};
+ghost use Rattle.inlinespec.specs.SpanEnds.{EndSpans, most_open};
 
 /// Spans lie no deeper in a part than in the whole.
 pub fn parts_nest_no_deeper()
@@ -21,4 +22,9 @@ pub fn events_make_the_tree()
 pub fn open_spans_nest()
     ensures { (front rest : List Event) → length (rows_of (front ++ rest)) ≡ 1
         → nest (first_row (rows_of rest)) + length (rows_of rest) ≤ 1 + nest (tree_of (front ++ rest)) }
+{}
+
+/// Where spans begin and end in pairs, as in a reading (`spans_are_paired`), their tree is as deep as there are spans open at once, at most.
+pub fn a_tree_is_as_deep_as_spans_are_open()
+    ensures { (events : List Event) → EndSpans 0 events → nest (tree_of events) ≡ most_open 0 events }
 {}

@@ -3,3 +3,5 @@ pub mod SplitText
 pub mod UnitsGathered
 pub mod UnitsWritten
 pub mod PageTargets
+pub mod ReadLines
+pub mod WholeTexts

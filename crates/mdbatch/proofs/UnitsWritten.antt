@@ -4,33 +4,35 @@ use Rattle.std.proofs.lemmas.List.{map-append, length-map}
 use Rattle.std.proofs.lemmas.List.Elements.{All-append, All-push}
 use Rattle.std.proofs.lemmas.List.Folds.{concat-append}
 use Rattle.std.specs.List.{concat}
-use Rattle.inlinespec.specs.InlineTree.{Inlines}
+use Rattle.mdtext.specs.EntityTable.{EntityTable}
+use Rattle.inlinespec.specs.LinkTails.{Table}
+use Rattle.inlinespec.specs.TextTree.{inl}
 use Rattle.blockspec.specs.UnitTree.{UnitTree, FoundUnit}
 use Rattle.mdinline.specs.ParsedText.{ParsedText}
 use Rattle.mdhtml.specs.declared.options.Options.{Options}
-use Rattle.mdhtml.specs.InlineHtml.{inlines_html}
 use Rattle.mdhtml.specs.BlockHtml.{blocks_html, texts_html}
-use Rattle.mdhtml.specs.WrittenUnits.{WritesUnit}
+use Rattle.mdhtml.specs.WrittenUnits.{read_html, written_unit}
 use Rattle.mdview.specs.HeldUnit.{ReadUnit, unit_piece}
 use Rattle.mdbatch.specs.BatchHtml.{AppendsUnit, AppendsUnits, UnitsHtml, IsRead, found_part, read_part}
 
-abbrev reading : Inlines → ParsedText
-reading tree = record { tree = tree; asked = [] }
+-- a text as it reads, with the labels left out
+abbrev read_as : EntityTable → Table → List ℕ → ParsedText
+read_as entities table text = record { tree = inl entities table text; asked = [] }
 
-shown_same : (options : Options) (trees : List Inlines) → map (inlines_html options) trees ≡ texts_html options (map reading trees)
-shown_same options [] = refl
-shown_same options (tree ∷ trees) = ap (λ texts. inlines_html options tree ∷ texts) (shown_same options trees)
+shown_same : (options : Options) (entities : EntityTable) (table : Table) (texts : List (List ℕ)) →
+    map (read_html options entities table) texts ≡ texts_html options (map (read_as entities table) texts)
+shown_same options entities table [] = refl
+shown_same options entities table (text ∷ texts) = ap (λ shown. read_html options entities table text ∷ shown) (shown_same options entities table texts)
 
--- A unit that is written from trees is one whose texts read so.
-pub appended : {options mine : Options} (unit : UnitTree) (old new : List ℕ) → options ≡ mine → WritesUnit options unit old new → AppendsUnit mine unit old new
-appended {options} {mine} unit old new same writes =
-    let readings = map reading writes.are.trees in
-    record {
-      readings = readings;
-      all = length-map writes.are.trees reading ∙ writes.are.all;
-      written = writes.written ∙ ap (λ (o : Options). old ++ blocks_html o writes.texts false unit.blocks []) same
-          ∙ ap (λ texts. old ++ blocks_html mine texts false unit.blocks []) (writes.are.shown ∙ ap (λ (o : Options). map (inlines_html o) writes.are.trees) same ∙ shown_same mine writes.are.trees);
-    }
+-- A unit that is written as its texts read is one whose texts were read.
+pub appended : {options mine : Options} (entities : EntityTable) (table : Table) (unit : UnitTree) (old new : List ℕ) → options ≡ mine →
+    new ≡ old ++ written_unit options entities table unit → AppendsUnit mine unit old new
+appended {options} {mine} entities table unit old new same writes = record {
+  readings = map (read_as entities table) unit.texts;
+  all = length-map unit.texts (read_as entities table);
+  written = writes ∙ ap (λ (o : Options). old ++ written_unit o entities table unit) same
+      ∙ ap (λ texts. old ++ blocks_html mine texts false unit.blocks []) (shown_same mine entities table unit.texts);
+}
 
 -- nothing is written yet
 pub none_written : (options : Options) (old : List ℕ) → AppendsUnits options [] old old
@@ -74,6 +76,10 @@ written_behind options front kept old mid new before after =
     }
 
 -- what stands behind the empty text is the HTML of the units
-pub all_written : (options : Options) (found : List FoundUnit) (old html : List ℕ) → old ≡ [] → AppendsUnits options found old html → UnitsHtml options html
-all_written options found old html none writes =
-    record { units = writes.units; all = writes.all; written = writes.written ∙ ap (λ l. l ++ concat (map (unit_piece options) writes.units)) none }
+pub all_written : (options : Options) (found : List FoundUnit) (old html : List ℕ) → old ≡ [] → AppendsUnits options found old html → UnitsHtml options found html
+all_written options found old html none writes = record {
+  units = writes.units;
+  are = writes.are;
+  all = writes.all;
+  written = writes.written ∙ ap (λ l. l ++ concat (map (unit_piece options) writes.units)) none;
+}

@@ -1,8 +1,12 @@
 -- What each end of the reading of a whole text says.
-use Rattle.std.specs.Prelude.{◌≡◌, ℕ, List, [], ◌++◌, Some, None, Result, Ok, Err, length, map, string_bytes, String}
+use Rattle.std.specs.Prelude.{◌≡◌, ℕ, List, ◌++◌, Option, Some, None, Result, Ok, Err, length, map, string_bytes, String}
 use Rattle.std.specs.Global.{Global}
 use Rattle.std.specs.List.{All, concat}
-use Rattle.mdtext.specs.Lines.{text_lines}
+use Rattle.mdtext.specs.EntityTable.{EntityTable}
+use Rattle.blockspec.specs.BlockUnits.{units}
+use Rattle.blockspec.specs.Nesting.{first_too_deep}
+use Rattle.mdblock.specs.declared.faults.BlockFault.{BlockFault}
+use Rattle.mdblock.specs.declared.faults.BlockFault.TheVariants as block
 use Rattle.blockspec.specs.UnitTree.{UnitTree, FoundUnit}
 use Rattle.mdinline.specs.ParsedText.{ParsedText}
 use Rattle.mdhtml.specs.declared.options.Options.{Options}
@@ -10,7 +14,6 @@ use Rattle.mdview.specs.declared.fault.EditFault.{EditFault}
 use Rattle.mdview.specs.declared.fault.EditFault.TheVariants.{OutOfRange, BreakInLine, TooManyLines, TooLarge, NestedTooDeep, InlineTooDeep, NoMemory, NotDefinitions}
 use Rattle.mdview.specs.Edit.{refusal}
 use Rattle.mdview.specs.HeldUnit.{ReadUnit, html_of, unit_piece}
-use Rattle.mdbatch.specs.TextLabels.{with_units}
 
 -- each text of the unit was read
 abbrev pub IsRead : ReadUnit → Type 0
@@ -36,32 +39,41 @@ pub record AppendsUnits (options : Options) (found : List FoundUnit) (old new : 
   pub all : All IsRead units
   pub written : new ≡ old ++ concat (map (unit_piece options) units)
 
--- the unit has no text that waits for a label, and defines none
-abbrev pub OwesNothing : UnitTree → Type 0
-OwesNothing unit = (unit.texts ≡ []) × (unit.definitions ≡ [])
-
--- of all units the first ones are written, the others are kept, and the labels that all define are those of the kept ones
-pub record Gathers (options : Options) (all : List FoundUnit) (html : List ℕ) (kept : List FoundUnit) : Type 0 where
-  pub front : List FoundUnit
-  pub order : all ≡ front ++ kept
-  pub written : AppendsUnits options front [] html
-  pub labels : with_units [] all ≡ with_units [] kept
-
--- the pieces of some units that were read, one after the other
-pub record UnitsHtml (options : Options) (html : List ℕ) : Type 0 where
+-- the pieces of these units, whose texts were read, one after the other
+pub record UnitsHtml (options : Options) (found : List FoundUnit) (html : List ℕ) : Type 0 where
   pub units : List ReadUnit
+  pub are : map read_part units ≡ map found_part found
   pub all : All IsRead units
   pub written : html ≡ concat (map (unit_piece options) units)
 
--- What each end says of the lines of the text; there is no other. A refusal that is due is the answer, whatever the memory; where none is, the text was read
--- and this is the HTML of its units, or the reading met a limit or want of memory.
-abbrev pub TextHtml : Result (String Global) EditFault → Options → List ℕ → Type 0
-TextHtml (Ok html) options text = (refusal (text_lines text) ≡ None) × UnitsHtml options (string_bytes html)
-TextHtml (Err TooManyLines) options text = refusal (text_lines text) ≡ Some TooManyLines
-TextHtml (Err TooLarge) options text = refusal (text_lines text) ≡ Some TooLarge
-TextHtml (Err (NestedTooDeep line)) options text = refusal (text_lines text) ≡ None
-TextHtml (Err (InlineTooDeep line)) options text = refusal (text_lines text) ≡ None
-TextHtml (Err NoMemory) options text = refusal (text_lines text) ≡ None
-TextHtml (Err (OutOfRange lines)) options text = ⊥
-TextHtml (Err (BreakInLine index)) options text = ⊥
-TextHtml (Err (NotDefinitions line)) options text = ⊥
+-- the fault of an edit for a fault of the reader in a line; behind no fault a line is read
+abbrev pub fault_of : BlockFault → ℕ → EditFault
+fault_of block.NestedTooDeep line = NestedTooDeep line
+fault_of block.NoMemory line = NoMemory
+fault_of block.Failed line = NoMemory
+
+-- a fault of the reading of a text in which this line, if any, begins a container too many
+abbrev pub IsFaultOf : Option ℕ → EditFault → Type 0
+IsFaultOf deep (NestedTooDeep line) = deep ≡ Some line
+IsFaultOf deep (InlineTooDeep line) = deep ≡ None
+IsFaultOf deep NoMemory = Unit {0}
+IsFaultOf deep TooManyLines = ⊥
+IsFaultOf deep TooLarge = ⊥
+IsFaultOf deep (OutOfRange lines) = ⊥
+IsFaultOf deep (BreakInLine index) = ⊥
+IsFaultOf deep (NotDefinitions line) = ⊥
+
+-- What each end says of the text whose lines are these; there is no other. A refusal of its lines or bytes is the answer where it is due, whatever the memory;
+-- where none is, a line on which a container begins too deep is the answer, or a unit with spans too deep, or memory was refused, or no container is too deep
+-- and this is the HTML of all its units.
+abbrev pub TextHtml : Result (String Global) EditFault → EntityTable → Options → List (List ℕ) → Type 0
+TextHtml (Ok html) entities options lines =
+    (refusal lines ≡ None) × UnitsHtml options (units entities lines) (string_bytes html) × (first_too_deep options.max_containers lines ≡ None)
+TextHtml (Err TooManyLines) entities options lines = refusal lines ≡ Some TooManyLines
+TextHtml (Err TooLarge) entities options lines = refusal lines ≡ Some TooLarge
+TextHtml (Err (NestedTooDeep line)) entities options lines = (refusal lines ≡ None) × (first_too_deep options.max_containers lines ≡ Some line)
+TextHtml (Err (InlineTooDeep line)) entities options lines = (refusal lines ≡ None) × (first_too_deep options.max_containers lines ≡ None)
+TextHtml (Err NoMemory) entities options lines = refusal lines ≡ None
+TextHtml (Err (OutOfRange count)) entities options lines = ⊥
+TextHtml (Err (BreakInLine index)) entities options lines = ⊥
+TextHtml (Err (NotDefinitions line)) entities options lines = ⊥

@@ -1,2 +1,3 @@
 pub mod BatchHtml
+pub mod GatheredUnits
 pub mod TextLabels

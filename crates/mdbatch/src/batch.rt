@@ -1,22 +1,25 @@
 //! From a whole text to its HTML.
-ghost use Rattle.std.specs.Prelude.{List, [], ◌≡◌, ◌++◌, ◌≤◌, true, IfErr, IfOk, OnOk, length, string_bytes};
+ghost use Rattle.std.specs.Prelude.{ℕ, List, [], ◌≡◌, ◌++◌, ◌≤◌, true, None, IfErr, IfOk, OnOk, length, string_bytes};
+ghost use Rattle.std.specs.List.{All};
 ghost use Rattle.blockspec.specs.UnitTree.{FoundUnit};
-ghost use Rattle.mdtext.specs.Lines.{split_lines};
+ghost use Rattle.mdtext.specs.Lines.{split_lines, text_lines};
+ghost use Rattle.blockspec.specs.BlockUnits.{units};
+ghost use Rattle.blockspec.specs.Nesting.{first_too_deep};
 ghost use Rattle.mdhtml.specs.Limits.{HasLimits};
 ghost use Rattle.mdhtml.specs.BlockHtml.{ends_line};
 ghost use Rattle.mdhtml.specs.WrittenUnits.{options_of};
 ghost use Rattle.mdview.specs.Document.{size_of};
-ghost use Rattle.mdview.specs.ReadingEnd.{OfReading};
-ghost use Rattle.mdbatch.specs.BatchHtml.{AppendsUnits, Gathers, TextHtml, UnitsHtml};
+ghost use Rattle.mdview.specs.ReadingEnd.{OfTexts};
+ghost use Rattle.mdbatch.specs.BatchHtml.{AppendsUnits, IsFaultOf, TextHtml, UnitsHtml};
+ghost use Rattle.mdbatch.specs.GatheredUnits.{EndsLine, Gathers, HasGathered, IsWoven, IsWrittenTo};
 
-use crate::labels::labels_of;
+use crate::gathered::{Gathered, Waiting};
 use crate::limits::within_limits;
 use crate::page_labels::PageLabels;
-use crate::units::{Gathered, gathered_units};
-use mdblock::Found;
+use crate::units::gathered_units;
 use mdhtml::{Options, UnitWriter};
 use mdinline::InlineFault;
-use mdtext::{Entities, after_mark, clean_line, is_clean};
+use mdtext::{Entities, NoMemory, after_mark, clean_line, is_clean};
 use mdview::{EditFault, Prelude};
 use std::alloc::Global;
 
@@ -33,7 +36,7 @@ pub fn to_html(
     prelude: &Prelude,
 ) -> Result<String, EditFault>
     requires { HasLimits options.now }
-    ensures { TextHtml result options.now text.now }
+    ensures { TextHtml result entities.now options.now (text_lines text.now) }
 {
     let text = after_mark(text);
     within_limits(text)?;
@@ -55,14 +58,15 @@ fn clean_html(
     requires limits { HasLimits options.now }
     requires few { length (split_lines text.now) ≤ 1000000 }
     requires small { size_of (split_lines text.now) ≤ 16777216 }
-    ensures html { IfOk result (λ html. UnitsHtml options.now (string_bytes html)) }
-    ensures fault { IfErr result OfReading }
+    ensures html { IfOk result (λ html. UnitsHtml options.now (units entities.now (split_lines text.now)) (string_bytes html)) }
+    ensures nesting { OnOk result (first_too_deep options.now.max_containers (split_lines text.now) ≡ None) }
+    ensures fault { IfErr result (IsFaultOf (first_too_deep options.now.max_containers (split_lines text.now))) }
 {
     let gathered = gathered_units(alloc, text, entities, options)?;
     whole_html(alloc, gathered, entities, options, prelude)
 }
 
-/// Writes the units that are kept behind the HTML of those that are written.
+/// Writes the units that wait, each at its place, under the labels of the whole text.
 fn whole_html(
     alloc: Global,
     gathered: Gathered,
@@ -71,40 +75,66 @@ fn whole_html(
     prelude: &Prelude,
 ) -> Result<String, EditFault>
     requires limits { HasLimits options.now }
-    requires ends_line { ends_line (string_bytes gathered.html) ≡ true }
-    ensures html { (all : List FoundUnit) → Gathers options.now all (string_bytes gathered.html) gathered.units.items
-        → IfOk result (λ html. AppendsUnits options.now all [] (string_bytes html)) }
-    ensures fault { IfErr result OfReading }
+    requires gathered { HasGathered options.now gathered }
+    ensures html { (all : List FoundUnit) → Gathers options.now all gathered → IfOk result (λ html. AppendsUnits options.now all [] (string_bytes html)) }
+    ensures fault { IfErr result OfTexts }
 {
-    let Gathered { mut html, units } = gathered;
-    let own = labels_of(alloc, &units)?;
-    let labels = PageLabels { own: &own, prelude };
+    let Gathered {
+        waiting,
+        html,
+        labels,
+        too_deep,
+    } = gathered;
+    let labels = PageLabels {
+        own: &labels,
+        prelude,
+    };
     let mut writer = UnitWriter::new(alloc, entities, options);
-    append_units(&mut writer, units, &labels, &mut html)?;
-    Ok(html)
+    let mut out = String::new(alloc);
+    append_waiting(&mut writer, waiting, &labels, &mut out)?;
+    if let Some(line) = too_deep {
+        return Err(EditFault::InlineTooDeep { line });
+    }
+    put_behind(html, &mut out)?;
+    Ok(out)
 }
 
-/// Appends the HTML of the units, whose texts are read under these labels; each is let go as soon as it is written.
-fn append_units<'a>(
+/// Appends the units that wait, each with the HTML before it; each is let go as soon as it is written.
+fn append_waiting<'a>(
     writer: &mut UnitWriter<'a>,
-    units: Vec<Found>,
+    waiting: Vec<Waiting>,
     labels: &'a PageLabels<'a>,
     out: &mut String,
 ) -> Result<(), EditFault>
-    requires { ends_line (string_bytes out.old) ≡ true }
-    ensures html { OnOk result (AppendsUnits (options_of writer.old) units.items (string_bytes out.old) (string_bytes out.new)) }
-    ensures fault { IfErr result OfReading }
+    requires out { ends_line (string_bytes out.old) ≡ true }
+    requires lines { All EndsLine waiting.items }
+    ensures html { (all : List FoundUnit) (html : List ℕ) → IsWoven (options_of writer.old) all waiting.items html
+        → OnOk result (IsWrittenTo (options_of writer.old) all [] html (string_bytes out.old) (string_bytes out.new)) }
+    ensures fault { IfErr result OfTexts }
 {
-    for found in units {
-        if let Err(fault) = writer.append_unit(found.unit(), labels, out) {
-            return Err(fault_in_unit(fault, found.begin()));
+    for waits in waiting {
+        put_behind(waits.before, out)?;
+        if let Err(fault) = writer.append_unit(waits.found.unit(), labels, out) {
+            return Err(fault_in_unit(fault, waits.found.begin()));
         }
     }
     Ok(())
 }
 
+/// Puts HTML behind other HTML. Where none stands yet, the HTML that comes brings its room.
+fn put_behind(html: String, out: &mut String) -> Result<(), NoMemory>
+    ensures { OnOk result (string_bytes out.new ≡ string_bytes out.old ++ string_bytes html) }
+{
+    if out.is_empty() {
+        *out = html;
+        return Ok(());
+    }
+    out.push_str(&html)?;
+    Ok(())
+}
+
 fn fault_in_unit(fault: InlineFault, begin: usize) -> EditFault
-    ensures { OfReading result }
+    ensures { OfTexts result }
 {
     match fault {
         InlineFault::TooDeep => EditFault::InlineTooDeep { line: begin },

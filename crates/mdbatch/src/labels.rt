@@ -1,25 +1,15 @@
 //! The link labels that a text defines.
-ghost use Rattle.std.specs.Prelude.{◌≡◌, IfOk, OnOk, [], map};
+ghost use Rattle.std.specs.Prelude.{◌≡◌, OnOk, map};
 ghost use Rattle.mdleaf.specs.LinkDefinition.{definition_of};
-ghost use Rattle.mdbatch.specs.TextLabels.{with_definitions, with_units};
+ghost use Rattle.mdbatch.specs.TextLabels.{with_definitions};
 
-use mdblock::{Definition, Found};
+use mdblock::Definition;
 use mdinline::LabelTable;
 use mdtext::NoMemory;
 use std::alloc::Global;
 
-/// Where the labels of the units lead: the first definition of a label counts (CommonMark 4.7).
-pub(crate) fn labels_of(alloc: Global, units: &[Found]) -> Result<LabelTable, NoMemory>
-    ensures { IfOk result (λ labels. labels ≡ with_units [] units.now) }
-{
-    let mut labels = LabelTable::new(alloc);
-    for found in units {
-        add_definitions(alloc, &mut labels, found.unit().definitions())?;
-    }
-    Ok(labels)
-}
-
-fn add_definitions(
+/// Adds these definitions to the labels of those before them: the first definition of a label counts (CommonMark 4.7).
+pub(crate) fn add_definitions(
     alloc: Global,
     labels: &mut LabelTable,
     definitions: &[Definition],

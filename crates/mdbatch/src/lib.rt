@@ -2,6 +2,7 @@
 #![tactic(auto)]
 
 mod batch;
+mod gathered;
 mod labels;
 mod limits;
 mod page_labels;

@@ -1,19 +1,25 @@
 -- The HTML of the texts of a unit, one after the other.
-use Rattle.std.proofs.Common.{◌≡◌, ℕ, ◌+◌, List, [], ◌∷◌, ◌++◌, String, Global, string_bytes, map, refl, sym, ap, ◌∙◌, arith, length-append}
-use Rattle.std.proofs.lemmas.List.{map-append}
-use Rattle.inlinespec.specs.InlineTree.{Inlines}
-use Rattle.mdhtml.specs.declared.options.Options.{Options}
-use Rattle.mdhtml.specs.InlineHtml.{inlines_html}
-use Rattle.mdhtml.specs.WrittenUnits.{AreTexts}
+use Rattle.std.proofs.Common.{◌≡◌, ◌<◌, ◌≤◌, ◌+◌, ℕ, suc, List, [], ◌∷◌, ◌++◌, String, Global, string_bytes, map, drop, get_or, length, sym, ap, ◌∙◌, add-one, append_assoc, append-nil, drop-cons}
+use Rattle.std.proofs.lemmas.List.{map-append, drop_all}
 
-pub no_texts : (o : Options) (texts : List (String Global)) → texts ≡ [] → AreTexts o 0 (map string_bytes texts)
-no_texts o texts e = record { trees = []; all = refl; shown = ap (map string_bytes) e }
+module _ (shown : List ℕ → List ℕ) (texts : List (String Global)) where
+  -- the HTML of the texts from a place on
+  abbrev pub rest : ℕ → List (List ℕ)
+  rest i = map shown (map string_bytes (drop i texts))
 
-pub texts_more : (o : Options) (n : ℕ) (texts new : List (String Global)) (html : String Global) (tree : Inlines) → AreTexts o n (map string_bytes texts)
-    → new ≡ texts ++ html ∷ [] → string_bytes html ≡ inlines_html o tree → AreTexts o (n + 1) (map string_bytes new)
-texts_more o n texts new html tree t e h = record {
-  trees = t.trees ++ tree ∷ [];
-  all = omega (arith, length-append t.trees (tree ∷ []), t.all);
-  shown = ap (map string_bytes) e ∙ map-append string_bytes texts (html ∷ []) ∙ ap (λ xs. xs ++ string_bytes html ∷ []) t.shown
-      ∙ ap (λ h. map (inlines_html o) t.trees ++ h ∷ []) h ∙ sym (map-append (inlines_html o) t.trees (tree ∷ []));
-}
+  pub none_yet : (done : List (String Global)) → done ≡ [] → map string_bytes done ++ rest 0 ≡ rest 0
+  none_yet done e = ap (λ xs. map string_bytes xs ++ rest 0) e
+
+  pub text_more : (i : ℕ) (text html : String Global) (done new : List (String Global)) → i < length texts → text ≡ get_or texts i text
+      → new ≡ done ++ html ∷ [] → string_bytes html ≡ shown (string_bytes text) → map string_bytes done ++ rest i ≡ rest 0 → map string_bytes new ++ rest (i + 1) ≡ rest 0
+  text_more i text html done new lt is pushed e h =
+      ap (λ xs. map string_bytes xs ++ rest (i + 1)) pushed
+      ∙ ap (λ xs. xs ++ rest (i + 1)) (map-append string_bytes done (html ∷ []))
+      ∙ append_assoc (map string_bytes done) (string_bytes html ∷ []) (rest (i + 1))
+      ∙ ap (λ x. map string_bytes done ++ x ∷ rest (i + 1)) e
+      ∙ ap (λ k. map string_bytes done ++ shown (string_bytes text) ∷ rest k) (add-one i)
+      ∙ ap (λ t. map string_bytes done ++ shown (string_bytes t) ∷ rest (suc i)) is
+      ∙ ap (λ xs. map string_bytes done ++ map shown (map string_bytes xs)) (sym (drop-cons texts i text lt)) ∙ h
+
+  pub all_texts : (i : ℕ) (done : List (String Global)) → length texts ≤ i → map string_bytes done ++ rest i ≡ rest 0 → map string_bytes done ≡ rest 0
+  all_texts i done past h = sym (append-nil (map string_bytes done)) ∙ sym (ap (λ xs. map string_bytes done ++ map shown (map string_bytes xs)) (drop_all i texts past)) ∙ h

@@ -3,13 +3,20 @@ use Rattle.std.proofs.Common.{◌≡◌, ℕ, zero, suc, Bool, true, false, List
 use Rattle.std.specs.Prelude.{◌<◌}
 use Rattle.std.proofs.Common.{arith}
 use Rattle.std.proofs.lemmas.Grind.{flat_map-append}
+use Rattle.mdtext.specs.EntityTable.{EntityTable}
 use Rattle.mdtext.specs.Escaped.{escaped, escaped_byte}
 use Rattle.inlinespec.specs.InlineTree.{Inline, Inlines, no_inlines, inline, text, code, raw, soft, hard, emph, strong, strike, link, image}
 use Rattle.inlinespec.specs.InlineEvents.{InlineSpan, Emphasis, StrongEmphasis, Strikethrough, LinkTo, ImageOf, Event, Byte, CodeSpan, RawHtml, SoftBreak, HardBreak, Enter, Leave, span_tree, with_byte, in_front, closed, rows_of, first_row, tree_of}
+use Rattle.inlinespec.specs.LinkTails.{Table}
 use Rattle.inlinespec.specs.SpanEnds.{EndSpans}
+use Rattle.inlinespec.specs.TextReading.{reading}
+use Rattle.inlinespec.specs.TextTree.{events_of, inl}
+use Rattle.inlinelaws.proofs.PairedSpans.{rows_by}
+use Rattle.inlinelaws.proofs.ReadingBalanced.{reading_paired}
 use Rattle.mdhtml.specs.declared.options.Options.{Options}
 use Rattle.mdhtml.specs.InlineHtml.{link_open, image_begins, image_ends, alt, alts, inline_html, inlines_html}
-use Rattle.mdhtml.specs.InlineWriting.{SpanEnd, EndTag, EndImage, NoTag, Writing, writing, shows, shown_in, span_begins, span_ends, ended, ends_by, all_end_by, all_end, after_event, after_events}
+use Rattle.mdhtml.specs.InlineWriting.{SpanEnd, EndTag, EndImage, NoTag, Writing, writing, shows, shown_in, span_begins, span_ends, ends_by, after_events}
+use Rattle.mdhtml.specs.WrittenUnits.{read_html}
 use Rattle.mdhtml.proofs.WrittenEvents.{shows_nothing, shows_more, tags_whole}
 
 -- inlines where they stand, in an image or not
@@ -109,29 +116,7 @@ span_front o w span (r ∷ s ∷ rows) some =
     finished_front o w (one_html o w.in_image (span_tree span r)) s (inline (span_tree span r) s) rows (row_front o w.in_image (span_tree span r) s)
     ∙ ap (λ v. finished o v (s ∷ rows)) (sym (span_whole o w span r))
 
-same_rows : (f : Inlines → Inlines) (rows : List Inlines) → length (in_front f rows) ≡ length rows
-same_rows f [] = refl
-same_rows f (r ∷ rows) = refl
-
-closed_rows : (span : InlineSpan) (rows : List Inlines) (n : ℕ) → length rows ≡ suc (suc n) → length (closed span rows) ≡ suc n
-closed_rows span [] n h = omega (arith, h)
-closed_rows span (r ∷ []) n h = omega (arith, h)
-closed_rows span (r ∷ s ∷ rows) n h = omega (arith, h)
-
--- so many rows as spans are spans, and one more
-rows_by : (es : List Event) (n : ℕ) → EndSpans n es → length (rows_of es) ≡ suc n
-unfolding rows_of
-rows_by [] n h = ap suc (sym h)
-rows_by (Byte b ∷ es) n h = same_rows (with_byte b) (rows_of es) ∙ rows_by es n h
-rows_by (CodeSpan s ∷ es) n h = same_rows (inline (code s)) (rows_of es) ∙ rows_by es n h
-rows_by (RawHtml s ∷ es) n h = same_rows (inline (raw s)) (rows_of es) ∙ rows_by es n h
-rows_by (SoftBreak ∷ es) n h = same_rows (inline soft) (rows_of es) ∙ rows_by es n h
-rows_by (HardBreak ∷ es) n h = same_rows (inline hard) (rows_of es) ∙ rows_by es n h
-rows_by (Enter span ∷ es) n h = closed_rows span (rows_of es) n (rows_by es (suc n) h)
-rows_by (Leave ∷ es) zero h = absurd h
-rows_by (Leave ∷ es) (suc n) h = ap suc (rows_by es n h)
-
--- how many spans are spans behind an event
+-- how many spans are open behind an event
 
 begun_where : (o : Options) (html : List ℕ) (ends : List SpanEnd) (in_image : Bool) (span : InlineSpan)
     → length (span_begins o (writing html ends in_image) span).ends ≡ suc (length ends)
@@ -200,73 +185,8 @@ pub tree_shown : (o : Options) (w : Writing) (es : List Event) → w.ends ≡ []
     → after_events o w es ≡ shows w (row_html o w.in_image (tree_of es))
 tree_shown o w es none h = events_shown o w es 0 (ap length none) h ∙ one_row o w (rows_of es) (rows_by es 0 h)
 
--- Whatever events come: those that end a span that did not begin are left out, and what is open at the end ends there.
-
-completed : ℕ → List Event → List Event
-completed n (Byte b ∷ es) = Byte b ∷ completed n es
-completed n (CodeSpan s ∷ es) = CodeSpan s ∷ completed n es
-completed n (RawHtml s ∷ es) = RawHtml s ∷ completed n es
-completed n (SoftBreak ∷ es) = SoftBreak ∷ completed n es
-completed n (HardBreak ∷ es) = HardBreak ∷ completed n es
-completed n (Enter span ∷ es) = Enter span ∷ completed (suc n) es
-completed zero (Leave ∷ es) = completed zero es
-completed (suc n) (Leave ∷ es) = Leave ∷ completed n es
-completed zero [] = []
-completed (suc n) [] = Leave ∷ completed n []
-
-completed_ends : (n : ℕ) (es : List Event) → EndSpans n (completed n es)
-unfolding completed
-completed_ends n (Byte b ∷ es) = completed_ends n es
-completed_ends n (CodeSpan s ∷ es) = completed_ends n es
-completed_ends n (RawHtml s ∷ es) = completed_ends n es
-completed_ends n (SoftBreak ∷ es) = completed_ends n es
-completed_ends n (HardBreak ∷ es) = completed_ends n es
-completed_ends n (Enter span ∷ es) = completed_ends (suc n) es
-completed_ends zero (Leave ∷ es) = completed_ends zero es
-completed_ends (suc n) (Leave ∷ es) = completed_ends n es
-completed_ends zero [] = refl
-completed_ends (suc n) [] = completed_ends n []
-
-ended_ends : (w : Writing) (end : SpanEnd) → (ended w end).ends ≡ w.ends
-ended_ends w (EndTag tag) = refl
-ended_ends w (EndImage title) = refl
-ended_ends w NoTag = refl
-
-end_first : (w : Writing) (ends : List SpanEnd) → w.ends ≡ ends → all_end_by w ends ≡ all_end (span_ends w)
-unfolding all_end_by
-end_first w [] e = sym (ap (λ ends. all_end (ends_by w ends)) e ∙ ap (all_end_by w) e)
-end_first w (end ∷ ends) e =
-    sym (ap (all_end_by (span_ends w)) (ap (λ es. (ends_by w es).ends) e ∙ ended_ends (writing w.html ends w.in_image) end))
-
--- to end all is to end the last and then all
-pub end_once : (w : Writing) → all_end w ≡ all_end (span_ends w)
-end_once w = end_first w w.ends refl
-
-none_open : (ends : List SpanEnd) → length ends ≡ 0 → ends ≡ []
-none_open [] h = refl
-none_open (end ∷ ends) h = absurd (omega (arith, h))
-
-pub none_to_end : (w : Writing) → w.ends ≡ [] → all_end w ≡ w
-unfolding all_end_by
-none_to_end w e = ap (all_end_by w) e
-
-completed_written : (o : Options) (n : ℕ) (es : List Event) (w : Writing) → length w.ends ≡ n → after_events o w (completed n es) ≡ all_end (after_events o w es)
-unfolding after_events completed
-completed_written o n (Byte b ∷ es) w e = completed_written o n es (after_event o w (Byte b)) e
-completed_written o n (CodeSpan s ∷ es) w e = completed_written o n es (after_event o w (CodeSpan s)) e
-completed_written o n (RawHtml s ∷ es) w e = completed_written o n es (after_event o w (RawHtml s)) e
-completed_written o n (SoftBreak ∷ es) w e = completed_written o n es (after_event o w SoftBreak) e
-completed_written o n (HardBreak ∷ es) w e = completed_written o n es (after_event o w HardBreak) e
-completed_written o n (Enter span ∷ es) w e = completed_written o (suc n) es (span_begins o w span) (begun_open o w span ∙ ap suc e)
-completed_written o zero (Leave ∷ es) w e =
-    completed_written o zero es w e ∙ ap (λ v. all_end (after_events o v es)) (sym (ap (ends_by w) (none_open w.ends e)))
-completed_written o (suc n) (Leave ∷ es) w e = completed_written o n es (span_ends w) (left_open w n e)
-completed_written o zero [] w e = sym (none_to_end w (none_open w.ends e))
-completed_written o (suc n) [] w e = completed_written o n [] (span_ends w) (left_open w n e) ∙ sym (end_once w)
-
--- what is written of events is the HTML of a tree, once all spans have ended
-pub tree_closed : (o : Options) (w : Writing) (es : List Event) → w.ends ≡ []
-    → (tree : Inlines) × (all_end (after_events o w es) ≡ shows w (row_html o w.in_image tree))
-tree_closed o w es none =
-    let whole = completed 0 es in
-    (tree_of whole, sym (completed_written o 0 es w (ap length none)) ∙ tree_shown o w whole none (completed_ends 0 es))
+-- The HTML of a text that is read, with nothing written before.
+pub read_shown : (o : Options) (entities : EntityTable) (table : Table) (s : List ℕ)
+    → (after_events o (writing [] [] false) (events_of (reading entities table s))).html ≡ read_html o entities table s
+unfolding inl
+read_shown o entities table s = ap (λ w. w.html) (tree_shown o (writing [] [] false) (events_of (reading entities table s)) refl (reading_paired entities table s))

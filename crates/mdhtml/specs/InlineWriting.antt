@@ -55,14 +55,6 @@ ends_by w (end ∷ ends) = ended (writing w.html ends w.in_image) end
 abbrev pub span_ends : Writing → Writing
 span_ends w = ends_by w w.ends
 
--- these spans end, one after the other, and so does each that is open
-unfoldable pub all_end_by : Writing → List SpanEnd → Writing
-all_end_by w [] = w
-all_end_by w (end ∷ ends) = all_end_by (span_ends w) ends
-
-abbrev pub all_end : Writing → Writing
-all_end w = all_end_by w w.ends
-
 abbrev pub after_event : Options → Writing → Event → Writing
 after_event o w (Byte b) = shows w (escaped_byte b)
 after_event o w (CodeSpan s) = shows w (shown_in w.in_image (escaped s) (wrapped (codes "code") (escaped s)))

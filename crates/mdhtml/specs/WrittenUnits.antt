@@ -1,6 +1,8 @@
 -- Units whose HTML is written while their texts are read.
-use Rattle.std.specs.Prelude.{◌≡◌, ℕ, List, [], ◌++◌, false, length, map}
-use Rattle.inlinespec.specs.InlineTree.{Inlines}
+use Rattle.std.specs.Prelude.{ℕ, List, [], false, map}
+use Rattle.mdtext.specs.EntityTable.{EntityTable}
+use Rattle.inlinespec.specs.LinkTails.{Table}
+use Rattle.inlinespec.specs.TextTree.{inl}
 use Rattle.blockspec.specs.UnitTree.{UnitTree}
 use Rattle.mdhtml.specs.declared.options.Options.{Options}
 use Rattle.mdhtml.specs.declared.unit_writer.UnitWriter.{UnitWriter}
@@ -11,14 +13,14 @@ use Rattle.mdhtml.specs.BlockHtml.{blocks_html}
 abbrev pub options_of : UnitWriter → Options
 options_of writer = writer.options
 
--- these are the HTML of so many trees, one for each text
-pub record AreTexts (options : Options) (count : ℕ) (texts : List (List ℕ)) : Type 0 where
-  pub trees : List Inlines
-  pub all : length trees ≡ count
-  pub shown : texts ≡ map (inlines_html options) trees
+-- the entities with which it reads texts
+abbrev pub entities_of : UnitWriter → EntityTable
+entities_of writer = writer.reader.entities.now
 
--- behind the text so far stands the HTML of the unit, with a tree for each of its texts
-pub record WritesUnit (options : Options) (unit : UnitTree) (old new : List ℕ) : Type 0 where
-  pub texts : List (List ℕ)
-  pub are : AreTexts options (length unit.texts) texts
-  pub written : new ≡ old ++ blocks_html options texts false unit.blocks []
+-- the HTML of a text, as it reads under a table of labels
+abbrev pub read_html : Options → EntityTable → Table → List ℕ → List ℕ
+read_html options entities table text = inlines_html options (inl entities table text)
+
+-- the HTML of a unit whose texts are read under a table of labels
+abbrev pub written_unit : Options → EntityTable → Table → UnitTree → List ℕ
+written_unit options entities table unit = blocks_html options (map (read_html options entities table) unit.texts) false unit.blocks []

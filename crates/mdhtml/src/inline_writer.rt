@@ -164,7 +164,7 @@ impl InlineSink for InlineWriter {
 
 impl InlineWriter {
     ghost use Rattle.mdhtml.specs.held.InlineWriter.{end_of, writing_of};
-    ghost use Rattle.mdhtml.specs.InlineWriting.{begins, ended, all_end};
+    ghost use Rattle.mdhtml.specs.InlineWriting.{begins, ended};
 
     /// Ends a span that is open no more.
     fn end(&mut self, span: OpenSpan) -> Result<(), NoMemory>
@@ -179,17 +179,6 @@ impl InlineWriter {
                 self.in_image = false;
             }
             OpenSpan::Alternative => {}
-        }
-        Ok(())
-    }
-
-    /// Ends each span that is open.
-    pub(crate) fn end_all(&mut self) -> Result<(), NoMemory>
-        ensures options { self.new.options ≡ self.old.options }
-        ensures ended { OnOk result (writing_of self.new ≡ all_end (writing_of self.old)) }
-    {
-        while let Some(span) = self.spans.pop() {
-            self.end(span)?;
         }
         Ok(())
     }

@@ -1,9 +1,7 @@
 //! The HTML of units, written while their texts are read: no tree of a text is made.
 
 ghost use Rattle.std.specs.Prelude.{◌≡◌, ◌++◌, ◌∷◌, [], ◌≤◌, IfOk, OnOk, true, length, map, string_bytes};
-ghost use Rattle.inlinespec.specs.InlineTree.{Inlines};
 ghost use Rattle.mdhtml.specs.BlockHtml.{ends_line};
-ghost use Rattle.mdhtml.specs.InlineHtml.{inlines_html};
 ghost use Rattle.mdhtml.specs.Limits.{HasLimits};
 
 use crate::inline_writer::InlineWriter;
@@ -14,6 +12,7 @@ use mdblock::Unit;
 use mdinline::{InlineFault, Labels, TextReader, Unasked};
 use mdtext::{Entities, NoMemory};
 use std::alloc::Global;
+use std::mem;
 
 /// Writes the HTML of units with no tree of their texts, and keeps from one unit to the next what it needs for them.
 #[derive(Drop)]
@@ -29,25 +28,26 @@ pub struct UnitWriter<'a> {
 }
 
 impl<'a> UnitWriter<'a> {
-    ghost use Rattle.mdhtml.specs.WrittenUnits.{options_of, AreTexts, WritesUnit};
+    ghost use Rattle.mdhtml.specs.WrittenUnits.{entities_of, options_of, read_html, written_unit};
 
     /// A writer of units whose texts are read with these entities. Takes no memory.
     pub fn new(alloc: Global, entities: &'a Entities, options: &Options) -> UnitWriter<'a>
         requires { HasLimits options.now }
-        ensures { options_of result ≡ options.now }
+        ensures options { options_of result ≡ options.now }
+        ensures entities { entities_of result ≡ entities.now }
     {
         UnitWriter {
             alloc,
             options: *options,
-            reader: TextReader::new(alloc, entities, options.max_spans),
+            reader: TextReader::new(alloc, entities),
             writer: InlineWriter::new(alloc, *options),
             texts: Vec::new(alloc),
             spare: Vec::new(alloc),
         }
     }
 
-    /// Appends to a text that is empty or ends with LF the HTML of a unit whose texts are read under these labels, and leaves it so. `TooDeep` where more
-    /// spans lie in one another than the options allow. After a fault a beginning of the unit may stand there.
+    /// Appends to a text that is empty or ends with LF the HTML of a unit whose texts are read under these labels, and leaves it so: each text as the
+    /// definition reads it. `TooDeep` where more spans lie in one another than the options allow. After a fault a beginning of the unit may stand there.
     pub fn append_unit<L: Labels>(
         &mut self,
         unit: &Unit,
@@ -55,9 +55,11 @@ impl<'a> UnitWriter<'a> {
         out: &mut String,
     ) -> Result<(), InlineFault>
         requires { ends_line (string_bytes out.old) ≡ true }
-        ensures html { OnOk result (WritesUnit (options_of self.old) unit.now (string_bytes out.old) (string_bytes out.new)) }
+        ensures html { OnOk result (string_bytes out.new
+            ≡ string_bytes out.old ++ written_unit (options_of self.old) (entities_of self.old) (L.target labels.now) unit.now) }
         ensures ends_line { OnOk result (ends_line (string_bytes out.new) ≡ true) }
         ensures options { options_of self.new ≡ options_of self.old }
+        ensures entities { entities_of self.new ≡ entities_of self.old }
     {
         self.write_texts(unit.texts(), labels)?;
         append_blocks(
@@ -71,8 +73,10 @@ impl<'a> UnitWriter<'a> {
 
     /// Reads the texts of a unit, and holds their HTML.
     fn write_texts<L: Labels>(&mut self, texts: &[String], labels: &'a L) -> Result<(), InlineFault>
-        ensures texts { OnOk result (AreTexts (options_of self.old) (length texts.now) (map string_bytes self.new.texts.items)) }
+        ensures texts { OnOk result (map string_bytes self.new.texts.items
+            ≡ map (read_html (options_of self.old) (entities_of self.old) (L.target labels.now)) (map string_bytes texts.now)) }
         ensures options { options_of self.new ≡ options_of self.old }
+        ensures entities { entities_of self.new ≡ entities_of self.old }
     {
         self.let_go()?;
         for text in texts {
@@ -86,6 +90,7 @@ impl<'a> UnitWriter<'a> {
     fn let_go(&mut self) -> Result<(), NoMemory>
         ensures texts { OnOk result (self.new.texts.items ≡ []) }
         ensures options { options_of self.new ≡ options_of self.old }
+        ensures entities { entities_of self.new ≡ entities_of self.old }
     {
         while let Some(html) = self.texts.pop() {
             self.spare.push(html)?;
@@ -94,18 +99,24 @@ impl<'a> UnitWriter<'a> {
     }
 
     fn text_html<L: Labels>(&mut self, text: &str, labels: &'a L) -> Result<String, InlineFault>
-        ensures html { IfOk result (λ html. (tree : Inlines) × (string_bytes html ≡ inlines_html (options_of self.old) tree)) }
+        ensures html { IfOk result (λ html. string_bytes html ≡ read_html (options_of self.old) (entities_of self.old) (L.target labels.now) text.now) }
         ensures texts { self.new.texts ≡ self.old.texts }
         ensures options { options_of self.new ≡ options_of self.old }
+        ensures entities { entities_of self.new ≡ entities_of self.old }
     {
         let room = match self.spare.pop() {
             Some(room) => room,
             None => String::with_capacity(self.alloc, text.len())?,
         };
-        self.writer.begin_text(self.options, room);
-        self.reader
-            .read_into(text, labels, &mut Unasked, &mut self.writer)?;
-        self.writer.end_all()?;
-        Ok(self.writer.take_html())
+        let unused = InlineWriter::new(self.alloc, self.options);
+        let mut writer = mem::replace(&mut self.writer, unused);
+        writer.begin_text(self.options, room);
+        let limit = self.options.max_spans;
+        let mut written = self
+            .reader
+            .read_into(text, labels, &mut Unasked, writer, limit)?;
+        let html = written.take_html();
+        self.writer = written;
+        Ok(html)
     }
 }

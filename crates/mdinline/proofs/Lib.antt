@@ -6,7 +6,9 @@ pub mod ClosingItems
 pub mod CodeTokens
 pub mod FoundLeaves
 pub mod HandedTokens
+pub mod JoinedRows
 pub mod LastStrings
+pub mod LimitedLeaves
 pub mod LongTagEnds
 pub mod Marks
 pub mod NearestOpeners
@@ -14,6 +16,7 @@ pub mod PaddedCode
 pub mod PairedMatches
 pub mod PlainTokens
 pub mod ReadAsked
+pub mod ReadDepth
 pub mod ReadHanded
 pub mod ReadHolding
 pub mod ReadLeaf
@@ -23,6 +26,7 @@ pub mod ReadPaired
 pub mod ReadPending
 pub mod ReadState
 pub mod ReadSteps
+pub mod ReadTree
 pub mod RunTokens
 pub mod SeenInlines
 pub mod SignItems

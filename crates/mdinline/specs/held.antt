@@ -4,7 +4,9 @@ pub mod Brackets
 pub mod FoundLinks
 pub mod KnownText
 pub mod LeafEvents
+pub mod LimitedSinks
 pub mod LongTags
+pub mod OpenSpans
 pub mod PairedRuns
 pub mod PlainText
 pub mod ReadMarks

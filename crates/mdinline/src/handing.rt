@@ -1,6 +1,6 @@
 //! What was read of a text, handed to what takes its inlines.
 
-ghost use Rattle.std.specs.Prelude.{◌≡◌, ◌+◌, ◌-◌, ◌<◌, ◌≤◌, [], ◌∷◌, ◌++◌, ℕ, List, All, IfOk, IfSome, OnOk, length, replicate, string_bytes};
+ghost use Rattle.std.specs.Prelude.{◌≡◌, [], ◌∷◌, ◌++◌, All, IfOk, IfSome, OnOk, replicate, string_bytes};
 ghost use Rattle.mdtext.specs.Escaped.{escaped};
 ghost use Rattle.mdtext.specs.Referents.{referent_text};
 ghost use Rattle.mdscan.specs.Spans.{IsSpanOf, part};
@@ -15,7 +15,6 @@ ghost use Rattle.mdinline.specs.held.LeafEvents.{paired_events, token_events, to
 
 use crate::character_references::{append_without_references, push_referent};
 use crate::emphasis::text_of;
-use crate::faults::InlineFault;
 use crate::sinks::InlineSink;
 use crate::tokens::{Begun, Goal, PairedRun, Token};
 use mdpair::DelimiterChar;
@@ -30,8 +29,6 @@ pub(crate) struct Source<'t> {
     pub entities: &'t Entities,
     /// The spans that begin at the runs.
     pub begun: &'t [Begun],
-    /// How many spans may lie in one another.
-    pub limit: usize,
 }
 
 /// Room for texts that are made, kept from text to text.
@@ -56,59 +53,32 @@ pub(crate) fn hand_out<S: InlineSink>(
     tokens: &[Token<'_>],
     scratch: &mut Scratch,
     sink: &mut S,
-) -> Result<(), InlineFault>
+) -> Result<(), NoMemory>
     requires { All (IsTokenOf source.now.text.now) tokens.now }
     ensures { OnOk result (S.takes sink.old (tokens_events source.now.entities.now source.now.text.now source.now.begun.now tokens.now) sink.new) }
 {
-    let mut depth = 0;
     for token in tokens {
-        depth = hand(source, *token, depth, scratch, sink)?;
+        hand(source, *token, scratch, sink)?;
     }
     Ok(())
 }
 
-/// Hands one token out, inside of so many spans; answers how many are open behind it.
+/// Hands one token out.
 fn hand<S: InlineSink>(
     source: &Source<'_>,
     token: Token<'_>,
-    depth: usize,
     scratch: &mut Scratch,
     sink: &mut S,
-) -> Result<usize, InlineFault>
+) -> Result<(), NoMemory>
     requires { IsTokenOf source.now.text.now token }
     ensures { OnOk result (S.takes sink.old (token_events source.now.entities.now source.now.text.now source.now.begun.now token.entry) sink.new) }
 {
     match token {
-        Token::Paired(run) => hand_run(source, run, depth, sink),
-        Token::Enter { is_image, goal } => {
-            let depth = deeper(source, depth)?;
-            hand_goal(source, is_image, goal, scratch, sink)?;
-            Ok(depth)
-        }
-        Token::Leave => {
-            sink.leave()?;
-            Ok(depth.saturating_sub(1))
-        }
-        Token::Autolink { .. } => {
-            deeper(source, depth)?;
-            hand_leaf(source, token, scratch, sink)?;
-            Ok(depth)
-        }
-        _ => {
-            hand_leaf(source, token, scratch, sink)?;
-            Ok(depth)
-        }
+        Token::Paired(run) => hand_run(source, run, sink),
+        Token::Enter { is_image, goal } => hand_goal(source, is_image, goal, scratch, sink),
+        Token::Leave => sink.leave(),
+        _ => hand_leaf(source, token, scratch, sink),
     }
-}
-
-/// One span more, unless too many would lie in one another.
-fn deeper(source: &Source<'_>, depth: usize) -> Result<usize, InlineFault>
-    ensures { IfOk result (λ deep. (deep ≡ depth + 1) × (deep ≤ source.now.limit)) }
-{
-    if depth >= source.limit {
-        return Err(InlineFault::TooDeep);
-    }
-    Ok(depth + 1)
 }
 
 /// Hands out a leaf, or an opening bracket or a run that is text. What begins and ends spans is none of these.
@@ -254,14 +224,14 @@ fn write_part(source: &Source<'_>, span: Option<Span>, out: &mut String) -> Resu
 fn hand_run<S: InlineSink>(
     source: &Source<'_>,
     run: PairedRun,
-    depth: usize,
     sink: &mut S,
-) -> Result<usize, InlineFault>
+) -> Result<(), NoMemory>
     ensures { OnOk result (S.takes sink.old (paired_events source.now.begun.now run) sink.new) }
 {
     end_spans(run.ends, sink)?;
     hand_marks(run.delimiter, run.left, sink)?;
-    begin_spans(source, run, depth.saturating_sub(run.ends), sink)
+    begin_spans(source, run, sink)?;
+    Ok(())
 }
 
 /// Ends so many spans.
@@ -292,20 +262,17 @@ fn hand_marks<S: InlineSink>(
 fn begin_spans<S: InlineSink>(
     source: &Source<'_>,
     run: PairedRun,
-    depth: usize,
     sink: &mut S,
-) -> Result<usize, InlineFault>
+) -> Result<(), NoMemory>
     ensures { OnOk result (S.takes sink.old (begun_events source.now.begun.now run.begins run.outermost) sink.new) }
 {
-    let mut depth = depth;
     let mut place = run.outermost;
     for _ in 0..run.begins {
         let Some(begun) = source.begun.get(place) else {
             break;
         };
-        depth = deeper(source, depth)?;
         sink.enter(begun.kind)?;
         place = begun.inner;
     }
-    Ok(depth)
+    Ok(())
 }

@@ -13,6 +13,7 @@ mod faults;
 mod handing;
 mod inlines;
 mod labels;
+mod limits;
 mod line_breaks;
 mod links;
 mod parsed;

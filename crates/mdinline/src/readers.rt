@@ -1,6 +1,6 @@
 //! The reading of texts (CommonMark 6; GFM Strikethrough (extension)).
 
-ghost use Rattle.std.specs.Prelude.{◌≡◌, ◌+◌, ◌-◌, ◌∷◌, ◌++◌, ◌<◌, ◌≤◌, [], true, ℕ, List, All, IfOk, IfSome, OnOk, drop, length, option_map, slice_index};
+ghost use Rattle.std.specs.Prelude.{◌≡◌, ◌+◌, ◌-◌, ◌∷◌, ◌++◌, ◌<◌, ◌≤◌, [], true, ℕ, List, All, IfOk, IfSome, IsErrOf, OnOk, drop, length, option_map, slice_index};
 ghost use Rattle.std.specs.Str.{IsCharBoundary};
 ghost use Rattle.mdtext.specs.EntityTable.{EntityTable};
 ghost use Rattle.mdscan.specs.Spans.{IsEndAfter};
@@ -8,9 +8,11 @@ ghost use Rattle.mdpair.specs.Matches.{matches};
 ghost use Rattle.mdpair.specs.Neighbours.{run_at};
 ghost use Rattle.inlinespec.specs.InlineEvents.{Event};
 ghost use Rattle.inlinespec.specs.LabelMap.{LinkTarget};
+ghost use Rattle.inlinespec.specs.Nesting.{nest};
 ghost use Rattle.inlinespec.specs.Settled as settled;
 ghost use Rattle.inlinespec.specs.TextReading.{Opened, after_deed, asks_of, closing, item_by, nearest_opener, reading, spent};
-ghost use Rattle.inlinespec.specs.TextTree.{events_of};
+ghost use Rattle.inlinespec.specs.TextTree.{events_of, inl};
+ghost use Rattle.mdinline.specs.declared.faults.InlineFault.TheVariants.{TooDeep};
 ghost use Rattle.mdinline.specs.declared.tokens.Token.TheVariants as kept;
 ghost use Rattle.mdinline.specs.held.Brackets.{AreBracketsOf, IsLinkEnd};
 ghost use Rattle.mdinline.specs.held.FoundLinks.{IsLinkOf};
@@ -28,6 +30,7 @@ use crate::bracket_stack::{Bracket, BracketKind, Opening, bracket_at};
 use crate::faults::InlineFault;
 use crate::handing::{Scratch, Source, hand_leaf, hand_out};
 use crate::labels::Labels;
+use crate::limits::LimitedSink;
 use crate::links::{FoundLink, link_of};
 use crate::pending::Pending;
 use crate::scanner::Scanner;
@@ -43,8 +46,6 @@ use std::alloc::{AllocError, Global};
 pub struct TextReader<'a> {
     alloc: Global,
     entities: &'a Entities,
-    /// How many spans may lie in one another.
-    limit: usize,
     scanner: Scanner,
     /// What was read and not handed out yet.
     pending: Pending<'a>,
@@ -53,17 +54,13 @@ pub struct TextReader<'a> {
 }
 
 impl<'a> TextReader<'a> {
-    /// A reader of texts in which no more than `limit` spans may lie in one another. Takes no memory.
-    pub fn new(alloc: Global, entities: &'a Entities, limit: usize) -> TextReader<'a>
-        requires least { 1 ≤ limit }
-        requires most { limit ≤ 256 }
-        ensures entities { result.entities.now ≡ entities.now }
-        ensures limit { result.limit ≡ limit }
+    /// A reader of texts. Takes no memory.
+    pub fn new(alloc: Global, entities: &'a Entities) -> TextReader<'a>
+        ensures { result.entities.now ≡ entities.now }
     {
         TextReader {
             alloc,
             entities,
-            limit,
             scanner: Scanner::new(),
             pending: Pending::new(alloc),
             label: Label::new(alloc),
@@ -71,17 +68,41 @@ impl<'a> TextReader<'a> {
         }
     }
 
-    /// Hands the inlines of a text to the sink (CommonMark 6), and tells the labels that are looked up: the events and the labels of the definition's
-    /// reading. `TooDeep` where more than the limit of spans lie in one another. After a fault what the sink has is of no use.
-    pub fn read_into<L: Labels, A: AsksLabels, S: InlineSink>(
+    /// Hands the inlines of a text to a sink (CommonMark 6), answers the sink, and tells the labels that are looked up: the events and the labels of the
+    /// definition's reading. `TooDeep` where more than `limit` spans lie in one another.
+    pub fn read_into<L: Labels, A: AsksLabels, S: InlineSink + Drop>(
+        &mut self,
+        text: &str,
+        labels: &'a L,
+        asked: &mut A,
+        sink: S,
+        limit: usize,
+    ) -> Result<S, InlineFault>
+        ensures takes { IfOk result (λ taken. S.takes sink (events_of (reading self.old.entities.now (L.target labels.now) text.now)) taken) }
+        ensures asks { OnOk result (A.asks asked.old (asks_of (reading self.old.entities.now (L.target labels.now) text.now)) asked.new) }
+        ensures within { OnOk result (nest (inl self.old.entities.now (L.target labels.now) text.now) ≤ limit) }
+        ensures too_deep { IsErrOf result TooDeep → limit < nest (inl self.old.entities.now (L.target labels.now) text.now) }
+        ensures entities { self.new.entities ≡ self.old.entities }
+    {
+        let mut sink = LimitedSink::new(sink, limit);
+        self.read_all(text, labels, asked, &mut sink)?;
+        if sink.is_too_deep() {
+            return Err(InlineFault::TooDeep);
+        }
+        Ok(sink.into_sink())
+    }
+
+    /// Hands all inlines of a text to the sink, and tells the labels that are looked up. After a fault what the sink has is of no use.
+    fn read_all<L: Labels, A: AsksLabels, S: InlineSink>(
         &mut self,
         text: &str,
         labels: &'a L,
         asked: &mut A,
         sink: &mut S,
-    ) -> Result<(), InlineFault>
+    ) -> Result<(), AllocError>
         ensures takes { OnOk result (S.takes sink.old (events_of (reading self.old.entities.now (L.target labels.now) text.now)) sink.new) }
         ensures asks { OnOk result (A.asks asked.old (asks_of (reading self.old.entities.now (L.target labels.now) text.now)) asked.new) }
+        ensures entities { self.new.entities ≡ self.old.entities }
     {
         self.begin();
         let mut at = 0;
@@ -112,7 +133,7 @@ impl<'a> TextReader<'a> {
         labels: &'a L,
         asked: &mut A,
         sink: &mut S,
-    ) -> Result<usize, InlineFault>
+    ) -> Result<usize, AllocError>
         requires whole { IsCharBoundary text.now at }
         requires inside { at < length text.now }
         requires brackets { AreBracketsOf text.now at self.old.pending.openings.unused.items }
@@ -166,7 +187,6 @@ impl<'a> TextReader<'a> {
             text,
             entities: self.entities,
             begun: &[],
-            limit: self.limit,
         };
         hand_leaf(&source, token, &mut self.scratch, sink)?;
         Ok(())
@@ -213,7 +233,7 @@ impl<'a> TextReader<'a> {
         labels: &'a L,
         asked: &mut A,
         sink: &mut S,
-    ) -> Result<usize, InlineFault>
+    ) -> Result<usize, AllocError>
         requires at { IsCharBoundary text.now at }
         requires bracket { IsEndAfter text.now at bracket.end }
         requires mark { slice_index text.now at < 128 }
@@ -254,7 +274,7 @@ impl<'a> TextReader<'a> {
         labels: &'a L,
         asked: &mut A,
         sink: &mut S,
-    ) -> Result<usize, InlineFault>
+    ) -> Result<usize, AllocError>
         requires at { IsCharBoundary text.now at }
         requires after { IsEndAfter text.now at (at + 1) }
         requires mark { slice_index text.now at ≡ 93 }
@@ -291,7 +311,7 @@ impl<'a> TextReader<'a> {
         labels: &'a L,
         asked: &mut A,
         sink: &mut S,
-    ) -> Result<usize, InlineFault>
+    ) -> Result<usize, AllocError>
         requires at { IsCharBoundary text.now at }
         requires after { IsEndAfter text.now at (at + 1) }
         requires mark { slice_index text.now at ≡ 93 }
@@ -331,7 +351,7 @@ impl<'a> TextReader<'a> {
     }
 
     /// Hands out what was read, where nothing is pending any more.
-    fn flush_if_idle<S: InlineSink>(&mut self, text: &str, sink: &mut S) -> Result<(), InlineFault>
+    fn flush_if_idle<S: InlineSink>(&mut self, text: &str, sink: &mut S) -> Result<(), AllocError>
         requires { All (IsTokenOf text.now) self.old.pending.tokens.items }
         ensures tokens { OnOk result (All (IsTokenOf text.now) self.new.pending.tokens.items) }
         ensures takes { OnOk result ((es : List Event) × S.takes sink.old es sink.new × ((handed : List Event) (ps : List settled.Piece)
@@ -399,7 +419,7 @@ impl<'a> TextReader<'a> {
     }
 
     /// Hands out all tokens.
-    fn flush<S: InlineSink>(&mut self, text: &str, sink: &mut S) -> Result<(), InlineFault>
+    fn flush<S: InlineSink>(&mut self, text: &str, sink: &mut S) -> Result<(), AllocError>
         requires { All (IsTokenOf text.now) self.old.pending.tokens.items }
         ensures handed { OnOk result (S.takes sink.old (tokens_events self.old.entities.now text.now self.old.pending.begun.items self.old.pending.tokens.items) sink.new) }
         ensures tokens { OnOk result (self.new.pending.tokens.items ≡ []) }
@@ -413,7 +433,6 @@ impl<'a> TextReader<'a> {
             text,
             entities: self.entities,
             begun: self.pending.begun(),
-            limit: self.limit,
         };
         hand_out(&source, self.pending.tokens(), &mut self.scratch, sink)?;
         self.pending.handed_out();

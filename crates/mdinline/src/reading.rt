@@ -1,7 +1,9 @@
 //! The reading of a text as a tree.
 
-ghost use Rattle.std.specs.Prelude.{◌≡◌, ◌≤◌, IfOk};
-ghost use Rattle.inlinespec.specs.TextTree.{asked};
+ghost use Rattle.std.specs.Prelude.{◌≡◌, ◌<◌, ◌≤◌, IfOk, IsErrOf, OnOk};
+ghost use Rattle.inlinespec.specs.Nesting.{nest};
+ghost use Rattle.inlinespec.specs.TextTree.{asked, inl};
+ghost use Rattle.mdinline.specs.declared.faults.InlineFault.TheVariants.{TooDeep};
 ghost use Rattle.mdtext.specs.Counted.{counted};
 
 use crate::asked::{Asked, AskedSet};
@@ -15,8 +17,9 @@ use std::alloc::Global;
 
 /// Reads an inline text, and counts it.
 ///
-/// Labels that are looked up are asked for, found or not. `TooDeep` where more than `limit` spans (emphasis, strong emphasis, strikethrough, links, images)
-/// lie in one another; the limit is 1 to 256. After a fault nothing is left but the count.
+/// The tree and the labels are the definition's; labels that are looked up are asked for, found or not. `TooDeep` only where more than `limit` spans
+/// (emphasis, strong emphasis, strikethrough, links, images) lie in one another, and no tree where they do; the limit is 1 to 256. After a fault nothing
+/// is left but the count.
 pub fn read<L: Labels, C: Count>(
     alloc: Global,
     text: &str,
@@ -29,12 +32,15 @@ pub fn read<L: Labels, C: Count>(
     requires most { limit ≤ 256 }
     ensures inlines { C.inlines count.new ≡ counted (C.inlines count.old) }
     ensures lines { C.lines count.new ≡ C.lines count.old }
+    ensures tree { IfOk result (λ parsed. parsed.tree ≡ inl entities.now (L.target labels.now) text.now) }
+    ensures within { OnOk result (nest (inl entities.now (L.target labels.now) text.now) ≤ limit) }
+    ensures too_deep { IsErrOf result TooDeep → limit < nest (inl entities.now (L.target labels.now) text.now) }
     ensures asked { IfOk result (λ parsed. parsed.asked ≡ asked entities.now (L.target labels.now) text.now) }
 {
     count.inline();
-    let mut reader = TextReader::new(alloc, entities, limit);
+    let mut reader = TextReader::new(alloc, entities);
     let mut asked = AskedSet::new(alloc);
-    let mut builder = TreeBuilder::new(alloc);
-    reader.read_into(text, labels, &mut asked, &mut builder)?;
-    Ok(Parsed::new(builder.finish()?, asked.finish()?))
+    let builder = TreeBuilder::new(alloc);
+    let built = reader.read_into(text, labels, &mut asked, builder, limit)?;
+    Ok(Parsed::new(built.finish()?, asked.finish()?))
 }

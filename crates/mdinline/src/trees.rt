@@ -2,10 +2,12 @@
 
 ghost use Rattle.std.specs.Prelude.{◌≡◌, ◌+◌, ◌<◌, [], ◌∷◌, ◌++◌, IfOk, OnOk, length, string_bytes};
 ghost use Rattle.inlinespec.specs.CodeSpans.{as_one_line};
-ghost use Rattle.inlinespec.specs.InlineEvents.{Enter, Leave, within, written};
+ghost use Rattle.inlinespec.specs.InlineEvents.{Enter, Leave, span_tree, tree_of, within, written};
+ghost use Rattle.inlinespec.specs.JoinedTexts.{AreJoined};
 ghost use Rattle.inlinespec.specs.LabelMap.{target_of};
-ghost use Rattle.mdinline.specs.held.TreeBuilding.{TreeTakes, built, made_events, open_span, row_events};
 ghost use Rattle.mdinline.specs.SpanKinds.{span_of};
+ghost use Rattle.mdinline.specs.TreeView.{inline_view, inlines_view};
+ghost use Rattle.mdinline.specs.held.TreeBuilding.{IsJoined, IsNoText, TreeTakes, built, made_events, open_span, row_events};
 ghost use Rattle.mdinline.specs.held.TreeTakings.{tree_takes_more, tree_takes_none};
 
 use crate::inlines::Inline;
@@ -44,6 +46,7 @@ impl TreeBuilder {
     pub(crate) fn new(alloc: Global) -> TreeBuilder
         ensures events { built result ≡ [] }
         ensures frames { result.frames.items ≡ [] }
+        ensures joined { IsJoined result }
     {
         TreeBuilder {
             alloc,
@@ -55,7 +58,7 @@ impl TreeBuilder {
 
     /// The tree, where no span is open.
     pub(crate) fn finish(mut self) -> Result<Vec<Inline>, AllocError>
-        ensures { self.frames.items ≡ [] → IfOk result (λ inlines. row_events inlines.items ≡ built self) }
+        ensures { self.frames.items ≡ [] → IsJoined self → IfOk result (λ inlines. inlines_view inlines.items ≡ tree_of (built self)) }
     {
         self.end_text()?;
         Ok(self.last)
@@ -66,6 +69,7 @@ impl TreeBuilder {
         ensures events { OnOk result (built self.new ≡ built self.old) }
         ensures frames { OnOk result (self.new.frames ≡ self.old.frames) }
         ensures text { OnOk result (string_bytes self.new.text ≡ []) }
+        ensures joined { IsJoined self.old → OnOk result (AreJoined (inlines_view self.new.last.items)) }
     {
         if self.text.is_empty() {
             return Ok(());
@@ -79,6 +83,7 @@ impl TreeBuilder {
     fn add_text(&mut self, text: &str) -> Result<(), AllocError>
         ensures events { OnOk result (built self.new ≡ built self.old ++ written text.now) }
         ensures frames { OnOk result (self.new.frames ≡ self.old.frames) }
+        ensures last { self.new.last ≡ self.old.last }
     {
         self.text.push_str(text)?;
         Ok(())
@@ -88,6 +93,7 @@ impl TreeBuilder {
     fn add(&mut self, inline: Inline) -> Result<(), AllocError>
         ensures events { OnOk result (built self.new ≡ built self.old ++ made_events inline) }
         ensures frames { OnOk result (self.new.frames ≡ self.old.frames) }
+        ensures joined { IsNoText (inline_view inline) → IsJoined self.old → OnOk result (IsJoined self.new) }
     {
         self.end_text()?;
         push_inline(&mut self.last, inline)?;
@@ -97,6 +103,7 @@ impl TreeBuilder {
     fn begin(&mut self, span: OpenSpan) -> Result<(), AllocError>
         ensures events { OnOk result (built self.new ≡ built self.old ++ Enter (open_span span) ∷ []) }
         ensures frames { OnOk result (length self.new.frames.items ≡ length self.old.frames.items + 1) }
+        ensures joined { IsJoined self.old → OnOk result (IsJoined self.new) }
     {
         self.end_text()?;
         let before = mem::replace(&mut self.last, Vec::new(self.alloc));
@@ -208,7 +215,8 @@ fn push_inline(inlines: &mut Vec<Inline>, inline: Inline) -> Result<(), AllocErr
 }
 
 fn span_of(span: OpenSpan, inside: Vec<Inline>) -> Inline
-    ensures { made_events result ≡ within (open_span span) (row_events inside.items) }
+    ensures events { made_events result ≡ within (open_span span) (row_events inside.items) }
+    ensures view { inline_view result ≡ span_tree (open_span span) (inlines_view inside.items) }
 {
     match span {
         OpenSpan::Kind(kind) => kind_of(kind, inside),
@@ -218,7 +226,8 @@ fn span_of(span: OpenSpan, inside: Vec<Inline>) -> Inline
 }
 
 fn kind_of(kind: SpanKind, inside: Vec<Inline>) -> Inline
-    ensures { made_events result ≡ within (span_of kind) (row_events inside.items) }
+    ensures events { made_events result ≡ within (span_of kind) (row_events inside.items) }
+    ensures view { inline_view result ≡ span_tree (span_of kind) (inlines_view inside.items) }
 {
     match kind {
         SpanKind::Emph => Inline::Emph(inside),

@@ -2,6 +2,7 @@
 use Rattle.std.proofs.Common.{◌≡◌, ℕ, ◌+◌, Bool, true, false, List, [], ◌∷◌, ◌++◌, Option, Some, None, Err, map, refl, ap, ◌∙◌, cond, ◌&&◌, ◌||◌, eqb, eqb-true, append-nil, length}
 use Rattle.std.specs.List.{list_any}
 use Rattle.mdtext.specs.Lines.{clean_byte, without_nul, without_mark, begins_with_lf, at_front, split_lines, text_lines}
+use Rattle.blockspec.specs.UnitTree.{FoundUnit}
 use Rattle.mdview.specs.declared.fault.EditFault.{EditFault}
 use Rattle.mdview.specs.declared.fault.EditFault.TheVariants.{OutOfRange, BreakInLine, TooManyLines, TooLarge, NestedTooDeep, InlineTooDeep, NoMemory, NotDefinitions}
 use Rattle.mdtool.specs.declared.fault.ToolFault.TheVariants.{Refused}
@@ -112,18 +113,18 @@ refuses empty prelude text reading fault d e answer refused =
     }
 
 -- the HTML of a text is that of a preview with its prelude after the edit that brings it
-pub has_html : (empty : Document) (prelude : HeldPrelude) (text html : List ℕ) → refusal (text_lines text) ≡ None → UnitsHtml empty.options html
-    → HasHtml (beside empty prelude) (text_lines text) html
-has_html empty prelude text html e is =
+pub has_html : (empty : Document) (prelude : HeldPrelude) (found : List FoundUnit) (text html : List ℕ) → refusal (text_lines text) ≡ None
+    → UnitsHtml empty.options found html → HasHtml (beside empty prelude) (text_lines text) html
+has_html empty prelude found text html e is =
     record { pieces = map (unit_piece empty.options) is.units; accepted = accepts empty prelude text is.units e; html_is = is.written }
 
 -- and so is its refusal
-pub is_refused : (empty : Document) (prelude : HeldPrelude) (text : List ℕ) (fault : EditFault) → TextHtml (Err fault) empty.options text
+pub is_refused : (empty : Document) (prelude : HeldPrelude) (text : List ℕ) (fault : EditFault) → TextHtml (Err fault) empty.entities empty.options (text_lines text)
     → WholeHtml (Err (refusal_of fault)) (beside empty prelude) (text_lines text)
 is_refused empty prelude text TooManyLines h = refuses empty prelude text starved TooManyLines _ h refl refl
 is_refused empty prelude text TooLarge h = refuses empty prelude text starved TooLarge _ h refl refl
-is_refused empty prelude text (NestedTooDeep line) h = refuses empty prelude text (nested line) (NestedTooDeep line) _ h refl refl
-is_refused empty prelude text (InlineTooDeep line) h = refuses empty prelude text (too_deep line) (InlineTooDeep line) _ h refl refl
+is_refused empty prelude text (NestedTooDeep line) h = refuses empty prelude text (nested line) (NestedTooDeep line) _ h.0 refl refl
+is_refused empty prelude text (InlineTooDeep line) h = refuses empty prelude text (too_deep line) (InlineTooDeep line) _ h.0 refl refl
 is_refused empty prelude text NoMemory h = tt
 is_refused empty prelude text (OutOfRange lines) h = absurd h
 is_refused empty prelude text (BreakInLine index) h = absurd h

@@ -1,7 +1,11 @@
 -- A tree that is built from left to right, as the events so far (CommonMark 6).
-use Rattle.std.specs.Prelude.{◌≡◌, ℕ, zero, suc, List, [], ◌∷◌, ◌++◌, length, string_bytes}
+use Rattle.std.specs.Prelude.{◌≡◌, ◌<◌, ℕ, zero, suc, false, List, [], ◌∷◌, ◌++◌, All, length, map, string_bytes}
 use Rattle.inlinespec.specs.InlineEvents.{InlineSpan, LinkTo, ImageOf, Event, Enter, Leave, inline_events, tree_events, written}
+use Rattle.inlinespec.specs.InlineTree as tree
+use Rattle.inlinespec.specs.InlineTree.{Inlines, inline, inlines_of, text}
+use Rattle.inlinespec.specs.JoinedTexts.{AreJoined, IsApart, IsJoinedInside, begins_with_text}
 use Rattle.inlinespec.specs.LabelMap.{target_of}
+use Rattle.inlinespec.specs.SpanEnds.{open_after}
 use Rattle.mdinline.specs.TreeView.{inline_view, inlines_view}
 use Rattle.mdinline.specs.SpanKinds.{span_of}
 use Rattle.mdinline.specs.declared.inlines.Inline.{Inline}
@@ -39,17 +43,30 @@ IsOpenFor zero (Leave ∷ es) = ⊥
 IsOpenFor (suc n) (Leave ∷ es) = IsOpenFor n es
 IsOpenFor n (e ∷ es) = IsOpenFor n es
 
--- how many spans are open behind these events
-abbrev pub open_after : ℕ → List Event → ℕ
-open_after n [] = n
-open_after n (Enter span ∷ es) = open_after (suc n) es
-open_after zero (Leave ∷ es) = open_after zero es
-open_after (suc n) (Leave ∷ es) = open_after n es
-open_after n (e ∷ es) = open_after n es
+-- An inline that is no text, and in which texts are joined: a text may stand on either side of it.
+pub record IsNoText (i : tree.Inline) : Type 0 where
+  pub apart : (after : Inlines) → IsApart i after
+  pub front : (after : Inlines) → begins_with_text (inline i after) ≡ false
+  pub inside : IsJoinedInside i
+
+-- a row in which texts are joined, also with a text behind it
+pub record IsOpenRow (is : List Inline) : Type 0 where
+  pub joined : AreJoined (inlines_view is)
+  pub with_text : (s : List ℕ) → 0 < length s → AreJoined (inlines_of (map inline_view is ++ text s ∷ []))
+
+-- in the rows before the spans that are open texts are joined
+abbrev pub AreFramesJoined : List Frame → Type 0
+AreFramesJoined frames = All (λ f. AreJoined (inlines_view f.before.items)) frames
+
+-- What is built so far has its texts joined.
+pub record IsJoined (b : TreeBuilder) : Type 0 where
+  pub before : AreFramesJoined b.frames.items
+  pub last : IsOpenRow b.last.items
 
 pub record IsFurther (es : List Event) (old new : TreeBuilder) : Type 0 where
   pub events : built new ≡ built old ++ es
   pub spans : length new.frames.items ≡ open_after (length old.frames.items) es
+  pub joined : IsJoined old → IsJoined new
 
 -- a tree after these events, where no more spans end than are open
 abbrev pub TreeTakes : TreeBuilder → List Event → TreeBuilder → Type 0

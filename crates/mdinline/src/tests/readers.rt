@@ -12,7 +12,7 @@ fn a_reader_is_used_again(rt: HostRuntime) -> Result<(), Fail> {
     let alloc = rt.alloc();
     let labels = LabelTable::new(alloc);
     let entities = Entities::builtin(alloc)?;
-    let mut reader = TextReader::new(alloc, &entities, 64);
+    let mut reader = TextReader::new(alloc, &entities);
     let rows = [
         ("*a `b <!-- [c", "[Text(\"*a `b <!-- [c\")]"),
         (
@@ -22,14 +22,11 @@ fn a_reader_is_used_again(rt: HostRuntime) -> Result<(), Fail> {
         ("*h*", "[Emph([Text(\"h\")])]"),
     ];
     for (text, want) in rows {
-        let mut tree = TreeBuilder::new(alloc);
         let mut asked = Unasked;
-        if reader
-            .read_into(text, &labels, &mut asked, &mut tree)
-            .is_err()
-        {
+        let empty = TreeBuilder::new(alloc);
+        let Ok(tree) = reader.read_into(text, &labels, &mut asked, empty, 64) else {
             return Err(Fail::from("refused"));
-        }
+        };
         let inlines = tree.finish()?;
         let shown = format!(in alloc; "{inlines:?}")?;
         assert_eq!(rt; shown.as_str(), want, "in {text:?}");

@@ -1,5 +1,10 @@
-use Rattle.std.proofs.Common.{◌∙◌, sym}
+use Rattle.std.proofs.Common.{◌∙◌, ap, map, subst, sym}
+use Rattle.mdtext.specs.Lines.{split_lines, without_nul}
+use Rattle.mdview.specs.Edit.{refusal}
+use Rattle.mdbatch.specs.BatchHtml.{TextHtml}
 use Rattle.mdbatch.proofs.DueRefusals.{clean_within}
+use Rattle.mdbatch.proofs.SplitText.{lines_of_clean}
+use Rattle.mdbatch.proofs.WholeTexts.{text_html}
 use Rattle.mdbatch.proofs.batch.to_html.Goals as goal
 
 pub clean_html-requires-clause-small : goal.clean_html-requires-clause-small
@@ -14,3 +19,20 @@ clean_html-requires-2-clause-few c =
 pub clean_html-requires-2-clause-small : goal.clean_html-requires-2-clause-small
 clean_html-requires-2-clause-small c =
     (clean_within c.after_mark-text.result.now c.deref.result.now (c.deref.ensures ∙ c.in_ok-clean.ensures) c.in_ok-within_limits.ensures.within).1
+
+pub returns-then-is_clean : goal.returns-then-is_clean
+returns-then-is_clean c =
+    let text = c.after_mark-text.result.now in
+    let lines = ap split_lines (sym (c.is_clean.ensures c.if-is_clean.true)) ∙ lines_of_clean text in
+    subst (λ ls. TextHtml c.clean_html.result c.args.entities.now c.args.options.now ls) (lines ∙ ap (λ t. map without_nul (split_lines t)) c.after_mark-text.ensures)
+    (text_html c.clean_html.result c.args.entities.now c.args.options.now (split_lines text) (ap refusal lines ∙ c.in_ok-within_limits.ensures.within)
+    c.clean_html.ensures.html c.clean_html.ensures.nesting c.clean_html.ensures.fault)
+
+pub returns : goal.returns
+returns c =
+    let text = c.after_mark-text.result.now in
+    let clean = c.deref.result.now in
+    let lines = ap split_lines (c.deref.ensures ∙ c.in_ok-clean.ensures) ∙ lines_of_clean text in
+    subst (λ ls. TextHtml c.clean_html-2.result c.args.entities.now c.args.options.now ls) (lines ∙ ap (λ t. map without_nul (split_lines t)) c.after_mark-text.ensures)
+    (text_html c.clean_html-2.result c.args.entities.now c.args.options.now (split_lines clean) (ap refusal lines ∙ c.in_ok-within_limits.ensures.within)
+    c.clean_html-2.ensures.html c.clean_html-2.ensures.nesting c.clean_html-2.ensures.fault)

@@ -1,23 +1,85 @@
-use Rattle.std.proofs.Common.{◌++◌, ap, arith, rules}
+use Rattle.std.proofs.Common.{◌++◌, ◌∙◌, [], ◌∷◌, Err, ap, arith, eqb-true, refl, rules, subst, sym}
+use Rattle.std.proofs.lemmas.List.{nil_from_length}
 use Rattle.std.specs.Option.{option_to_list}
 use Rattle.mdtext.specs.Lines.{split_lines}
+use Rattle.blockspec.specs.BlockUnits.{units}
+use Rattle.blockspec.specs.Nesting.{first_too_deep}
+use Rattle.mdblock.specs.held.ReaderState.{ReaderState}
+use Rattle.mdblock.specs.held.Reads.{handed}
 use Rattle.mdview.specs.Document.{size_of}
+use Rattle.mdbatch.specs.BatchHtml.{IsFaultOf}
+use Rattle.mdbatch.specs.GatheredUnits.{Gathers}
+use Rattle.mdbatch.proofs.ReadLines.{all_fed, fault_is, lines_fed, next_fed, none_deep, none_handed}
 use Rattle.mdbatch.proofs.SplitText.{size_next}
 use Rattle.mdbatch.proofs.units.gathered_units.Goals as goal
+
+pub loop-rest-init : goal.loop-rest-init
+loop-rest-init c = record {
+  text = c.utf8.text;
+  few = search rules;
+  small = c.requires.small;
+  gathers = (
+    [],
+    refl,
+    c.new-reader.ensures.reads,
+    subst (λ units. Gathers c.args.options.now units c.in_ok-gathered.gathered) (sym (none_handed c.args.entities.now)) (c.in_ok-gathered.ensures c.args.options.now),
+  );
+  options = c.new-writer.ensures.options;
+}
+
+pub returns-in-Err-clause-fault : goal.returns-in-Err-clause-fault
+returns-in-Err-clause-fault c =
+    let before = c.loop-rest.invariant.gathers in
+    let limit = c.args.options.now.max_containers in
+    let rest = split_lines c.loop-rest.rest.now in
+    let line = c.split_line.result.0.now in
+    let later = split_lines c.split_line.result.1.now in
+    let fed = c.fed.ensures ∙ ap (λ (r : ReaderState). r.fed) c.in-Err.ensures.fault ∙ lines_fed limit c.args.entities.now c.loop-rest.reader before.0 before.2 in
+    subst (IsFaultOf _) (sym c.fault_in_line.ensures)
+    (fault_is limit (split_lines c.args.text.now) before.0 rest line later c.in-Err.fault c.fed.result before.1 c.split_line.ensures.lines fed
+    (λ is. c.in-Err.ensures.deep (ap Err is) limit c.args.entities.now before.0 before.2))
 
 pub loop-rest-preserved : goal.loop-rest-preserved
 loop-rest-preserved c =
     let before = c.loop-rest.invariant.gathers in
-    let size = size_next c.split_line.result.0.now (split_lines c.split_line.result.1.now) in
+    let limit = c.args.options.now.max_containers in
+    let e = c.args.entities.now in
+    let ls = before.0 in
+    let line = c.split_line.result.0.now in
+    let later = split_lines c.split_line.result.1.now in
+    let size = size_next line later in
+    let options = c.loop-rest.invariant.options in
+    let taken = c.in_ok-take-in-Ok.ensures.gathers (handed e ls) (subst (λ o. Gathers o (handed e ls) c.loop-rest.gathered) (sym options) before.3) in
     record {
       text = search rules;
       few = search rules;
       small = omega (arith, size, ap size_of c.split_line.ensures.lines, c.loop-rest.invariant.small);
-      gathers = (before.0 ++ option_to_list c.in-Ok.found, c.in_ok-write_or_keep-in-Ok.ensures.gathers before.0 before.1);
-      ends_line = search rules;
+      gathers = (
+        ls ++ line ∷ [],
+        next_fed (split_lines c.args.text.now) ls (split_lines c.loop-rest.rest.now) line later before.1 c.split_line.ensures.lines,
+        c.in-Ok.ensures.reads limit e ls before.2,
+        subst (λ units. Gathers c.args.options.now units c.take.new.self) (sym (c.in-Ok.ensures.hands limit e ls before.2))
+            (subst (λ o. Gathers o (handed e ls ++ option_to_list c.in-Ok.found) c.take.new.self) options taken),
+      );
+      options = c.take.ensures.options ∙ options;
     }
 
 pub returns-clause-gathers : goal.returns-clause-gathers
 returns-clause-gathers c =
     let before = c.loop-rest.invariant.gathers in
-    (before.0 ++ option_to_list c.in-Ok-finish.found, c.in_ok-write_or_keep-in-Ok-finish.ensures.gathers before.0 before.1)
+    let limit = c.args.options.now.max_containers in
+    let e = c.args.entities.now in
+    let ls = before.0 in
+    let options = c.loop-rest.invariant.options in
+    let all = all_fed c.args.text.now ls c.loop-rest.rest.now (nil_from_length c.loop-rest.rest.now (eqb-true _ _ (sym c.is_empty.ensures ∙ c.loop-rest-test.false))) before.1 in
+    let taken = c.in_ok-take-in-Ok-finish.ensures.gathers (handed e ls) (subst (λ o. Gathers o (handed e ls) c.loop-rest.gathered) (sym options) before.3) in
+    subst (λ lines. Gathers c.args.options.now (units e lines) c.take-in-Ok-finish.new.self) (sym all)
+    (subst (λ units. Gathers c.args.options.now units c.take-in-Ok-finish.new.self) (sym (c.in-Ok-finish.ensures.hands limit e ls before.2))
+    (subst (λ o. Gathers o (handed e ls ++ option_to_list c.in-Ok-finish.last) c.take-in-Ok-finish.new.self) options taken))
+
+pub returns-clause-nesting : goal.returns-clause-nesting
+returns-clause-nesting c =
+    let before = c.loop-rest.invariant.gathers in
+    let limit = c.args.options.now.max_containers in
+    let all = all_fed c.args.text.now before.0 c.loop-rest.rest.now (nil_from_length c.loop-rest.rest.now (eqb-true _ _ (sym c.is_empty.ensures ∙ c.loop-rest-test.false))) before.1 in
+    ap (first_too_deep limit) all ∙ none_deep limit c.args.entities.now c.loop-rest.reader before.0 before.2

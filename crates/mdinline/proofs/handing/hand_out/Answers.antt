@@ -14,7 +14,7 @@ loop-token-preserved g c =
     let begun = c.args.source.now.begun.now in
     let token = c.token-item.result in (
       so_far.0 ++ token_events entities text begun token,
-      g.met.S.InlineSink.takes_more c.args.sink.now c.loop-token.sink c.hand.new.sink so_far.0 (token_events entities text begun token) so_far.1 c.in_ok-depth.ensures,
+      g.met.S.InlineSink.takes_more c.args.sink.now c.loop-token.sink c.hand.new.sink so_far.0 (token_events entities text begun token) so_far.1 c.in_ok-hand.ensures,
       next_token entities text begun c.args.tokens.now c.loop-token.token-index token so_far.0 (tokens_events entities text begun c.args.tokens.now) c.loop-token-test.true c.token-item.is so_far.2,
     )
 

@@ -1,24 +1,36 @@
-use Rattle.std.proofs.Common.{ap, ◌∙◌, ◌∷◌, ◌++◌, [], Vec, String, Global}
-use Rattle.mdhtml.specs.InlineHtml.{inlines_html}
+use Rattle.std.proofs.Common.{ap, ◌∙◌, ◌∷◌, ◌++◌, [], Vec, String, Global, string_bytes}
+use Rattle.mdtext.specs.EntityTable.{EntityTable}
+use Rattle.mdhtml.specs.WrittenUnits.{entities_of, options_of, read_html}
 use Rattle.mdhtml.specs.declared.options.Options.{Options}
-use Rattle.mdhtml.proofs.TextsWritten.{no_texts, texts_more}
+use Rattle.mdhtml.proofs.TextsWritten.{all_texts, none_yet, text_more}
 use Rattle.mdhtml.proofs.unit_writer.UnitWriter.write_texts.Goals as goal
 
 pub loop-text-init : goal.loop-text-init
 loop-text-init g c = record {
   options = c.in_ok-let_go.ensures.options;
-  texts = no_texts c.args.self.now.options c.let_go.new.self.texts.items c.in_ok-let_go.ensures.texts;
+  entities = c.in_ok-let_go.ensures.entities;
+  texts = none_yet (read_html (options_of c.args.self.now) (entities_of c.args.self.now) (g.L.Labels.target c.args.labels.now)) c.args.texts.now c.let_go.new.self.texts.items c.in_ok-let_go.ensures.texts;
 }
 
 pub loop-text-preserved : goal.loop-text-preserved
 loop-text-preserved g c =
-    let shown = c.in_ok-html.ensures.html in
+    let now = c.in_ok-html.ensures in
+    let was = c.loop-text.invariant in
+    let table = g.L.Labels.target c.args.labels.now in
+    let shown = read_html (options_of c.args.self.now) (entities_of c.args.self.now) table in
     record {
-      options = c.in_ok-html.ensures.options ∙ c.loop-text.invariant.options;
-      texts = texts_more c.args.self.now.options c.loop-text.text-index c.loop-text.self.texts.items c.push.new.self.items c.in_ok-html.html shown.0 c.loop-text.invariant.texts
-          (c.in_ok-push.ensures.items ∙ ap (λ (v : Vec (String Global) Global). v.items ++ c.in_ok-html.html ∷ []) c.in_ok-html.ensures.texts)
-          (shown.1 ∙ ap (λ (o : Options). inlines_html o shown.0) c.loop-text.invariant.options);
+      options = now.options ∙ was.options;
+      entities = now.entities ∙ was.entities;
+      texts = text_more shown c.args.texts.now c.loop-text.text-index c.text-item.result c.in_ok-html.html c.loop-text.self.texts.items c.push.new.self.items
+          c.loop-text-test.true c.text-item.is
+          (c.in_ok-push.ensures.items ∙ ap (λ (v : Vec (String Global) Global). v.items ++ c.in_ok-html.html ∷ []) now.texts)
+          (now.html ∙ ap (λ t. read_html (options_of c.loop-text.self) (entities_of c.loop-text.self) table t) c.deref.ensures
+          ∙ ap (λ (o : Options). read_html o (entities_of c.loop-text.self) table (string_bytes c.text-item.result)) was.options
+          ∙ ap (λ (e : EntityTable). read_html (options_of c.args.self.now) e table (string_bytes c.text-item.result)) was.entities)
+          was.texts;
     }
 
-pub returns-in_err-html-clause-options : goal.returns-in_err-html-clause-options
-returns-in_err-html-clause-options g c = c.in_err-html.ensures.options ∙ c.loop-text.invariant.options
+pub returns-clause-texts : goal.returns-clause-texts
+returns-clause-texts g c =
+    all_texts (read_html (options_of c.args.self.now) (entities_of c.args.self.now) (g.L.Labels.target c.args.labels.now)) c.args.texts.now c.loop-text.text-index c.loop-text.self.texts.items
+    c.loop-text-test.false c.loop-text.invariant.texts

@@ -2,6 +2,7 @@ use Rattle.std.proofs.Common.{◌≡◌, [], ap, sym, ◌∙◌, ◌++◌}
 use Rattle.inlinespec.specs.InlineEvents.{written}
 use Rattle.mdinline.specs.held.TreeBuilding.{built, row_events, spread}
 use Rattle.mdinline.proofs.BuiltRows.{added}
+use Rattle.mdinline.proofs.JoinedRows.{frames_still, row_more}
 use Rattle.mdinline.proofs.trees.TreeBuilder.add.Goals as goal
 
 pub returns-clause-events : goal.returns-clause-events
@@ -13,3 +14,12 @@ returns-clause-events c =
     let before : (front ++ row_events s.last.items) ++ written [] ≡ all = ap (λ t. (front ++ row_events s.last.items) ++ written t) (sym text) ∙ c.in_ok-end_text.ensures.events in
     ap (λ t. (front ++ row_events c.push_inline.new.inlines.items) ++ written t) text
     ∙ added front s.last.items c.push_inline.new.inlines.items c.args.inline all c.in_ok-push_inline.ensures before
+
+pub returns-clause-joined : goal.returns-clause-joined
+returns-clause-joined c = λ apart h.
+    let s = c.end_text.new.self in
+    let now = c.in_ok-end_text.ensures in
+    record {
+      before = frames_still c.args.self.now.frames s.frames now.frames h.before;
+      last = row_more s.last.items c.push_inline.new.inlines.items c.args.inline c.in_ok-push_inline.ensures apart (now.joined h);
+    }

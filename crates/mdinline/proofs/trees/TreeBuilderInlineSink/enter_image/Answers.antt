@@ -8,4 +8,4 @@ use Rattle.mdinline.proofs.trees.TreeBuilderInlineSink.enter_image.Goals as goal
 pub returns : goal.returns
 returns c =
     takes_enter c.args.self.now c.begin.new.self (ImageOf (record { url = c.args.url.now; title = c.args.title.now }))
-    (c.in_ok-begin.ensures.events ∙ ap (λ t. built c.args.self.now ++ Enter (ImageOf t) ∷ []) c.in_ok-target.ensures) c.in_ok-begin.ensures.frames
+    (c.in_ok-begin.ensures.events ∙ ap (λ t. built c.args.self.now ++ Enter (ImageOf t) ∷ []) c.in_ok-target.ensures) c.in_ok-begin.ensures.frames c.in_ok-begin.ensures.joined

@@ -1,0 +1,109 @@
+//! What is read of a whole text before all its labels are known.
+ghost use Rattle.std.specs.Prelude.{List, ◌≡◌, ◌++◌, ◌∷◌, [], IfErr, IfOk, OnOk, string_bytes};
+ghost use Rattle.std.specs.Option.{option_to_list};
+ghost use Rattle.blockspec.specs.UnitTree.{FoundUnit};
+ghost use Rattle.mdhtml.specs.WrittenUnits.{options_of};
+ghost use Rattle.mdhtml.specs.declared.options.Options.{Options};
+ghost use Rattle.mdview.specs.declared.fault.EditFault.TheVariants.{NoMemory};
+ghost use Rattle.mdbatch.specs.GatheredUnits.{Gathers, HasGathered};
+ghost use Rattle.mdbatch.specs.declared.gathered.Waiting.{Waiting};
+
+use crate::labels::add_definitions;
+use mdblock::{Found, Unit};
+use mdhtml::UnitWriter;
+use mdinline::{InlineFault, LabelTable};
+use mdtext::NoMemory;
+use mdview::EditFault;
+use memchr::memchr;
+use std::alloc::Global;
+use std::mem::replace;
+
+/// A unit that waits for the labels of the whole text, and the HTML of the units between the one that waits before it and itself.
+#[derive(Drop)]
+pub(crate) struct Waiting {
+    pub(crate) before: String,
+    pub(crate) found: Found,
+}
+
+/// The units read so far: most of them are written as they are found.
+#[derive(Drop)]
+pub(crate) struct Gathered {
+    pub(crate) waiting: Vec<Waiting>,
+    /// The HTML of the units behind the last one that waits.
+    pub(crate) html: String,
+    /// Where the labels of all units lead.
+    pub(crate) labels: LabelTable,
+    /// The line at which the first unit begins whose spans lie too deep, of those that wait for no label. Behind it no unit is written or kept.
+    pub(crate) too_deep: Option<usize>,
+}
+
+impl Gathered {
+    /// Nothing read yet, and room for so many bytes of HTML.
+    pub(crate) fn new(alloc: Global, room: usize) -> Result<Gathered, NoMemory>
+        ensures { IfOk result (λ gathered. (options : Options) → Gathers options [] gathered) }
+    {
+        Ok(Gathered {
+            waiting: Vec::new(alloc),
+            html: String::with_capacity(alloc, room)?,
+            labels: LabelTable::new(alloc),
+            too_deep: None,
+        })
+    }
+
+    /// Takes the next unit, if there is one.
+    pub(crate) fn take<'a>(
+        &mut self,
+        alloc: Global,
+        found: Option<Found>,
+        writer: &mut UnitWriter<'a>,
+        no_labels: &'a LabelTable,
+    ) -> Result<(), EditFault>
+        requires { HasGathered (options_of writer.old) self.old }
+        ensures gathers { (all : List FoundUnit) → Gathers (options_of writer.old) all self.old
+            → OnOk result (Gathers (options_of writer.old) (all ++ option_to_list found) self.new) }
+        ensures options { options_of writer.new ≡ options_of writer.old }
+        ensures fault { IfErr result (λ fault. fault ≡ NoMemory) }
+    {
+        let Some(found) = found else {
+            return Ok(());
+        };
+        add_definitions(alloc, &mut self.labels, found.unit().definitions())?;
+        if self.too_deep.is_some() {
+            return Ok(());
+        }
+        if may_ask(found.unit()) {
+            self.keep(alloc, found)?;
+            return Ok(());
+        }
+        match writer.append_unit(found.unit(), no_labels, &mut self.html) {
+            Ok(()) => Ok(()),
+            Err(InlineFault::TooDeep) => {
+                self.too_deep = Some(found.begin());
+                Ok(())
+            }
+            Err(InlineFault::NoMemory) => Err(EditFault::NoMemory),
+        }
+    }
+
+    /// The unit waits, behind all that is written so far.
+    fn keep(&mut self, alloc: Global, found: Found) -> Result<(), NoMemory>
+        ensures waits { OnOk result ((w : Waiting) × (self.new.waiting.items ≡ self.old.waiting.items ++ w ∷ []) × (w.found ≡ found) × (w.before ≡ self.old.html)) }
+        ensures html { OnOk result (string_bytes self.new.html ≡ []) }
+        ensures labels { self.new.labels ≡ self.old.labels }
+        ensures too_deep { self.new.too_deep ≡ self.old.too_deep }
+    {
+        let before = replace(&mut self.html, String::new(alloc));
+        self.waiting.push(Waiting { before, found })?;
+        Ok(())
+    }
+}
+
+/// Whether a label may be looked up for a text of the unit: one is looked up only where a bracket closes (CommonMark 6.3).
+fn may_ask(unit: &Unit) -> bool {
+    for text in unit.texts() {
+        if memchr(b']', text.as_bytes()).is_some() {
+            return true;
+        }
+    }
+    false
+}
