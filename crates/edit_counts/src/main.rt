@@ -1,7 +1,9 @@
 //! `edit_counts`: how many lines and inline texts each edit of a script reads, a line for each command.
 #![tactic(auto)]
 
-use mdtool::{ReadFeed, Stop, WriteOut, ended, entities_of, opened, prelude_of, serve_counts, words_of};
+use mdtool::{
+    ReadFeed, Stop, WriteOut, ended, entities_of, opened, prelude_of, serve_counts, words_of,
+};
 use std::process::ExitCode;
 
 fn main(rt: HostRuntime) -> ExitCode {
@@ -16,11 +18,25 @@ fn run(rt: &HostRuntime) -> Result<(), Stop> {
     let end = match &words.file {
         Some(name) => {
             let mut feed = opened(rt, name)?;
-            serve_counts(rt.alloc(), &mut feed, &mut out, entities, words.options, &prelude)
+            serve_counts(
+                rt.alloc(),
+                &mut feed,
+                &mut out,
+                entities,
+                words.options,
+                &prelude,
+            )
         }
         None => {
             let mut feed = ReadFeed::new(rt.stdin());
-            serve_counts(rt.alloc(), &mut feed, &mut out, entities, words.options, &prelude)
+            serve_counts(
+                rt.alloc(),
+                &mut feed,
+                &mut out,
+                entities,
+                words.options,
+                &prelude,
+            )
         }
     };
     end.map_err(Stop::Tool)

@@ -16,11 +16,25 @@ fn run(rt: &HostRuntime) -> Result<(), Stop> {
     let end = match &words.file {
         Some(name) => {
             let mut feed = opened(rt, name)?;
-            serve(rt.alloc(), &mut feed, &mut out, entities, words.options, &prelude)
+            serve(
+                rt.alloc(),
+                &mut feed,
+                &mut out,
+                entities,
+                words.options,
+                &prelude,
+            )
         }
         None => {
             let mut feed = ReadFeed::new(rt.stdin());
-            serve(rt.alloc(), &mut feed, &mut out, entities, words.options, &prelude)
+            serve(
+                rt.alloc(),
+                &mut feed,
+                &mut out,
+                entities,
+                words.options,
+                &prelude,
+            )
         }
     };
     end.map_err(Stop::Tool)

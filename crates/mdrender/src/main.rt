@@ -1,7 +1,9 @@
 //! `mdrender`: writes the HTML of a Markdown text.
 #![tactic(auto)]
 
-use mdtool::{ReadFeed, Stop, ToolFault, WriteOut, convert, ended, entities_of, opened, prelude_of, words_of};
+use mdtool::{
+    ReadFeed, Stop, ToolFault, WriteOut, convert, ended, entities_of, opened, prelude_of, words_of,
+};
 use std::io::BufWriter;
 use std::process::ExitCode;
 
@@ -20,11 +22,25 @@ fn run(rt: &HostRuntime) -> Result<(), Stop> {
     let end = match &words.file {
         Some(name) => {
             let mut feed = opened(rt, name)?;
-            convert(rt.alloc(), &mut feed, &mut out, entities, words.options, &prelude)
+            convert(
+                rt.alloc(),
+                &mut feed,
+                &mut out,
+                entities,
+                words.options,
+                &prelude,
+            )
         }
         None => {
             let mut feed = ReadFeed::new(rt.stdin());
-            convert(rt.alloc(), &mut feed, &mut out, entities, words.options, &prelude)
+            convert(
+                rt.alloc(),
+                &mut feed,
+                &mut out,
+                entities,
+                words.options,
+                &prelude,
+            )
         }
     };
     end.map_err(Stop::Tool)

@@ -174,6 +174,28 @@ impl Preview {
         }
     }
 
+    /// The entities that it was made with.
+    pub fn entities(&self) -> &Entities
+        ensures { result.now ≡ self.now.entities }
+    {
+        &self.entities
+    }
+
+    /// The options that it was made with.
+    pub fn options(&self) -> &Options
+        ensures value { result.now ≡ self.now.options }
+        ensures limits { HasLimits result.now }
+    {
+        &self.options
+    }
+
+    /// The prelude, as other texts take it.
+    pub fn definitions(&self) -> &Prelude
+        ensures { result.now.lines ≡ self.now.prelude }
+    {
+        &self.prelude
+    }
+
     /// Each line of the prelude in order, without its ending, lent without copying.
     pub fn prelude(&self) -> Lines<'_>
         ensures { result ≡ self.now.prelude }

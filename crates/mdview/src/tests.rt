@@ -217,12 +217,16 @@ fn a_prelude_stands_below_the_text(rt: HostRuntime) -> Result<(), Fail> {
     Ok(())
 }
 
+fn blank_lines(alloc: Global, count: usize) -> Result<Vec<&'static str>, AllocError> {
+    vec![in alloc; ""; count]
+}
+
 #[test]
 fn a_refused_prelude_is_not_held(rt: HostRuntime) -> Result<(), Fail> {
     let alloc = rt.alloc();
     let mut preview = preview_of(alloc, ["[foo]", "", "[bar]"].as_slice())?;
     preview.set_prelude(["[foo]: /p"].as_slice(), &mut Tally::new())?;
-    let many = vec![in alloc; ""; 1_000_001]?;
+    let many = blank_lines(alloc, 1_000_001)?;
     let mut count = Tally::new();
     let refused = preview.set_prelude(&many, &mut count);
     assert!(rt; matches!(refused, Err(EditFault::TooManyLines)));
