@@ -59,11 +59,6 @@ next_written options all waits waiting html old mid before new behind last (done
   woven,
 )
 
--- nothing is written of what waits
-pub none_written_to : (options : Options) (all : List FoundUnit) (waiting : List Waiting) (html old : List ℕ) → IsWoven options all waiting html
-    → IsWrittenTo options all waiting html old old
-none_written_to options all waiting html old woven = ([], all, refl, none_written options old, woven)
-
 -- behind those that waited stands what was written behind the last of them
 pub all_written_to : (options : Options) (all : List FoundUnit) (html mid new : List ℕ) → new ≡ mid ++ html → IsWrittenTo options all [] html [] mid
     → AppendsUnits options all [] new
