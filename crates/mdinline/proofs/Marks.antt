@@ -1,10 +1,11 @@
 -- Places beside ASCII bytes.
-use Rattle.std.proofs.Common.{◌≡◌, ℕ, zero, suc, ◌+◌, ◌-◌, ◌<◌, ◌≤◌, true, List, [], ◌∷◌, length, get_or, drop, length-drop, Option, Some, None, IfSome, Result, Ok, Err, IfOk, sym, ap, ◌∙◌, subst, arith}
+use Rattle.std.proofs.Common.{◌≡◌, ℕ, zero, suc, ◌+◌, ◌-◌, ◌<◌, ◌≤◌, true, false, eqb, refl, List, [], ◌∷◌, length, get_or, drop, length-drop, Option, Some, None, IfSome, Result, Ok, Err, IfOk, sym, ap, ◌∙◌, subst, arith}
 use Rattle.std.specs.Prelude.{slice_index}
 use Rattle.std.specs.Str.{IsUtf8, IsCharBoundary}
 use Rattle.std.proofs.lemmas.Str.{IsCharBoundary-after_ascii}
 use Rattle.std.proofs.lemmas.List.{get_or-drop}
 use Rattle.std.proofs.lemmas.Bool.Decides.{nat_tests}
+use Rattle.inlinespec.specs.LineBreaks.{spaces}
 use Rattle.mdscan.specs.Blanks.{begins_with}
 use Rattle.mdscan.specs.Spans.{IsEndAfter, EndsAfterMark, IsEnclosed}
 use Rattle.mdscan.specs.declared.spans.Span.{Span}
@@ -37,6 +38,14 @@ pub mark_there : (mark : ℕ) (text : List ℕ) (k : ℕ) → begins_with mark (
 mark_there mark text k h =
     let f = first_mark mark (drop k text) h in
     (omega (arith, f.0, length-drop k text), ap (λ i. get_or text i 0) (let e : k ≡ k + 0 = omega arith in e) ∙ sym (get_or-drop k text 0 0) ∙ f.1)
+
+-- no space stands before a line feed that stands at a place
+pub none_before_feed : (text : List ℕ) (at : ℕ) → get_or text at 0 ≡ 10 → spaces (drop at text) ≡ 0
+none_before_feed text at e = by (drop at text) (get_or-drop at text 0 0 ∙ ap (λ k. get_or text k 0) (let z : at + 0 ≡ at = omega arith in z) ∙ e)
+  where
+    by : (xs : List ℕ) → get_or xs 0 0 ≡ 10 → spaces xs ≡ 0
+    by [] first = refl
+    by (b ∷ rest) first = let other : eqb b 32 ≡ false = grind (arith, nat_tests, first) in rw other refl
 
 present : (text : List ℕ) (i : ℕ) → 0 < get_or text i 0 → i < length text
 present [] i h = absurd (omega (arith, h))

@@ -44,7 +44,7 @@ plain_bytes [] h = refl
 plain_bytes (b ∷ bs) h = ap₂ ◌++◌ (plain_byte b (h 0 (omega arith))) (plain_bytes bs (λ i lt. h (suc i) (omega (arith, lt))))
 
 -- what is no stop is not escaped
-no_stop : (b : ℕ) → is_stop b ≡ false → is_escaped b ≡ false
+pub no_stop : (b : ℕ) → is_stop b ≡ false → is_escaped b ≡ false
 no_stop b h = grind (arith, nat_tests, h)
 
 in_part : (text : List ℕ) (start end i : ℕ) → i < end - start → end ≤ length text → get_or (take (end - start) (drop start text)) i 0 ≡ get_or text (start + i) 0

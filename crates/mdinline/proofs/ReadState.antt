@@ -210,10 +210,6 @@ pub text_append : (ps qs : List Piece) → as_text (ps ++ qs) ≡ as_text ps ++ 
 text_append [] qs = refl
 text_append (p ∷ ps) qs = text_first p (ps ++ qs) ∙ ap (λ xs. as_text (p ∷ []) ++ xs) (text_append ps qs) ∙ sym (append_assoc (as_text (p ∷ [])) (as_text ps) (as_text qs)) ∙ ap (λ xs. xs ++ as_text qs) (sym (text_first p ps))
 
-back_text_append : (ps qs : List Piece) → text_back (ps ++ qs) ≡ text_back qs ++ text_back ps
-back_text_append [] qs = sym (append-nil (text_back qs))
-back_text_append (p ∷ ps) qs = ap (λ es. es ++ as_text (p ∷ [])) (back_text_append ps qs) ∙ append_assoc (text_back qs) (text_back ps) (as_text (p ∷ []))
-
 pub text_reverse : (ps : List Piece) → as_text (reverse ps) ≡ text_back ps
 text_reverse [] = refl
 text_reverse (p ∷ ps) = ap as_text (reverse_onto ps p []) ∙ text_append (reverse ps) (p ∷ []) ∙ ap (λ es. es ++ as_text (p ∷ [])) (text_reverse ps)

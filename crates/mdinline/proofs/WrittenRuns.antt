@@ -32,6 +32,10 @@ at_other : (entities : EntityTable) (text : List ℕ) (i : ℕ) (b : ℕ) → ge
 unfolding lex
 at_other entities text i b e s = rw (e, s) refl
 
+-- a byte that is text, whatever stands around it
+pub text_there : (entities : EntityTable) (text : List ℕ) (i : ℕ) → is_stop (get_or text i 0) ≡ false → (get_or text i 0 ≡ 32 → ⊥) → lex entities text i ≡ as_written 1 (drop i text)
+text_there entities text i h other = at_other entities text i (get_or text i 0) refl (plain_sign (get_or text i 0) h other)
+
 no_break : (text : List ℕ) → begins_with 10 (drop (spaces text) text) ≡ false → spaced_break text ≡ None
 unfolding spaced_break
 no_break text h = rw h refl

@@ -119,7 +119,8 @@ fn bracket_text(is_image: bool) -> &'static str
     if is_image { "![" } else { "[" }
 }
 
-fn part(text: &str, span: Span) -> &str
+/// The text of a span.
+pub(crate) fn part(text: &str, span: Span) -> &str
     requires { IsSpanOf text.now span }
     ensures { result.now ≡ part text.now span }
 {

@@ -1,9 +1,10 @@
 //! Hard and soft line breaks (CommonMark 6.7, 6.8).
 
-ghost use Rattle.std.specs.Prelude.{◌≡◌, ◌+◌, ◌<◌, ◌≤◌, IfSome, length, drop, slice_index, true};
+ghost use Rattle.std.specs.Prelude.{◌≡◌, ◌+◌, ◌-◌, ◌<◌, ◌≤◌, [], ◌∷◌, IfSome, length, drop, slice_index, true};
 ghost use Rattle.mdtext.specs.EntityTable.{EntityTable};
 ghost use Rattle.mdscan.specs.Spans.{IsEndAfter};
-ghost use Rattle.inlinespec.specs.Lexing.{break_or_written};
+ghost use Rattle.inlinespec.specs.InlineEvents.{SoftBreak};
+ghost use Rattle.inlinespec.specs.Lexing.{as_written, break_or_written, leaf};
 ghost use Rattle.inlinespec.specs.LineBreaks.{spaces, spaced_break};
 ghost use Rattle.mdinline.specs.held.LeafEvents.{IsTokenOf};
 ghost use Rattle.mdinline.specs.held.ReadPending.{is_leaf};
@@ -34,6 +35,16 @@ pub(crate) fn line_break(text: &str, at: usize) -> Option<Found<'static>>
     }
 }
 
+/// Where the soft line break ends whose line feed stands at a place, with no space before it.
+pub(crate) fn soft_break_end(text: &str, at: usize) -> usize
+    requires inside { at < length text.now }
+    requires feed { slice_index text.now at ≡ 10 }
+    ensures end { IsEndAfter text.now at result }
+    ensures value { break_or_written (drop at text.now) (spaced_break (drop at text.now)) ≡ leaf (result - at) (SoftBreak ∷ []) }
+{
+    past_break(text, at, at)
+}
+
 /// The place after the line feed at `feed` and the spaces behind it.
 pub(crate) fn past_break(text: &str, at: usize, feed: usize) -> usize
     requires from { at ≤ feed }
@@ -43,6 +54,19 @@ pub(crate) fn past_break(text: &str, at: usize, feed: usize) -> usize
     ensures value { result ≡ feed + 1 + spaces (drop (feed + 1) text.now) }
 {
     past_marks(text.as_bytes(), feed, b' ')
+}
+
+/// Whether no line feed stands behind the spaces at a place.
+pub(crate) fn are_spaces_alone(text: &str, at: usize) -> bool
+    requires { at < length text.now }
+    ensures { result ≡ true → break_or_written (drop at text.now) (spaced_break (drop at text.now)) ≡ as_written 1 (drop at text.now) }
+{
+    let bytes = text.as_bytes();
+    let feed = past_spaces(bytes, at);
+    if feed >= bytes.len() {
+        return true;
+    }
+    bytes[feed] != b'\n'
 }
 
 /// The place after the spaces at a place.

@@ -1,13 +1,11 @@
 //! The reading of texts (CommonMark 6; GFM Strikethrough (extension)).
 
-ghost use Rattle.std.specs.Prelude.{◌≡◌, ◌+◌, ◌-◌, ◌∷◌, ◌++◌, ◌<◌, ◌≤◌, [], true, ℕ, List, All, IfOk, IfSome, IsErrOf, OnOk, drop, length, option_map, slice_index};
+ghost use Rattle.std.specs.Prelude.{◌≡◌, ◌+◌, ◌-◌, ◌∷◌, ◌++◌, ◌<◌, ◌≤◌, [], true, ℕ, List, All, IfOk, IfSome, IsErrOf, OnOk, length, option_map, slice_index};
 ghost use Rattle.std.specs.Str.{IsCharBoundary};
 ghost use Rattle.mdtext.specs.EntityTable.{EntityTable};
-ghost use Rattle.mdscan.specs.Spans.{IsEndAfter};
-ghost use Rattle.mdpair.specs.Matches.{matches};
+ghost use Rattle.mdscan.specs.Spans.{IsEndAfter, part};
 ghost use Rattle.mdpair.specs.Neighbours.{run_at};
-ghost use Rattle.inlinespec.specs.InlineEvents.{Event};
-ghost use Rattle.inlinespec.specs.LabelMap.{LinkTarget};
+ghost use Rattle.inlinespec.specs.InlineEvents.{Event, SoftBreak, written};
 ghost use Rattle.inlinespec.specs.Nesting.{nest};
 ghost use Rattle.inlinespec.specs.Settled as settled;
 ghost use Rattle.inlinespec.specs.TextReading.{Opened, after_deed, asks_of, closing, item_by, nearest_opener, reading, spent};
@@ -17,7 +15,6 @@ ghost use Rattle.mdinline.specs.declared.tokens.Token.TheVariants as kept;
 ghost use Rattle.mdinline.specs.held.Brackets.{AreBracketsOf, IsLinkEnd};
 ghost use Rattle.mdinline.specs.held.FoundLinks.{IsLinkOf};
 ghost use Rattle.mdinline.specs.held.LeafEvents.{IsGoalOf, IsTokenOf, leaf_events, tokens_events};
-ghost use Rattle.mdinline.specs.held.PairedRuns.{ArePaired};
 ghost use Rattle.mdinline.specs.held.ReadMarks.{marks_back, ones};
 ghost use Rattle.mdinline.specs.held.ReadPending.{HoldsPieces, HoldsTaken, is_leaf};
 ghost use Rattle.mdinline.specs.held.ReadSteps.{AreLeaves, LeadsTo};
@@ -28,13 +25,15 @@ ghost use Rattle.mdinline.specs.held.UnusedOpeners.{AreOpenersOf, IsTaken};
 use crate::asked::AsksLabels;
 use crate::bracket_stack::{Bracket, BracketKind, Opening, bracket_at};
 use crate::faults::InlineFault;
-use crate::handing::{Scratch, Source, hand_leaf, hand_out};
+use crate::handing::{Scratch, Source, hand_leaf, hand_out, part};
 use crate::labels::Labels;
 use crate::limits::LimitedSink;
+use crate::line_breaks::soft_break_end;
 use crate::links::{FoundLink, link_of};
 use crate::pending::Pending;
 use crate::scanner::Scanner;
 use crate::sinks::InlineSink;
+use crate::texts::{begins_text, plain_end};
 use crate::tokens::Token;
 use mdpair::{DelimiterRun, delimiter_run};
 use mdscan::Span;
@@ -44,13 +43,15 @@ use std::alloc::{AllocError, Global};
 /// Reads inline texts, and keeps from one to the next what a text needs.
 #[derive(Drop)]
 pub struct TextReader<'a> {
-    alloc: Global,
+    pub(crate) alloc: Global,
     entities: &'a Entities,
     scanner: Scanner,
     /// What was read and not handed out yet.
     pending: Pending<'a>,
     label: Label,
     scratch: Scratch,
+    /// Room for the text of a tree.
+    pub(crate) words: String,
 }
 
 impl<'a> TextReader<'a> {
@@ -65,6 +66,7 @@ impl<'a> TextReader<'a> {
             pending: Pending::new(alloc),
             label: Label::new(alloc),
             scratch: Scratch::new(alloc),
+            words: String::new(alloc),
         }
     }
 
@@ -147,17 +149,71 @@ impl<'a> TextReader<'a> {
             × IsReadTo self.old.entities.now text.now end (handed ++ es) self.new next))) }
         ensures entities { self.new.entities ≡ self.old.entities }
     {
+        if begins_text(text, at) {
+            let end = plain_end(text, at);
+            self.put_text(text, Span { start: at, end }, sink)?;
+            return Ok(end);
+        }
+        let bytes = text.as_bytes();
+        if bytes[at] == b'\n' {
+            let end = soft_break_end(text, at);
+            self.put_break(sink)?;
+            return Ok(end);
+        }
         if let Some(run) = delimiter_run(text, at) {
             self.run(text, at, run, sink)?;
             return Ok(at + run.length);
         }
-        if let Some(bracket) = bracket_at(text.as_bytes(), at) {
+        if let Some(bracket) = bracket_at(bytes, at) {
             let end = self.bracket(text, at, bracket, labels, asked, sink)?;
             return Ok(end);
         }
         let found = self.scanner.leaf(self.alloc, text, at, self.entities)?;
         self.put(text, found.token, sink)?;
         Ok(found.end)
+    }
+
+    /// Hands text in which HTML escapes nothing to the sink, where nothing is pending before it.
+    fn put_text<S: InlineSink>(
+        &mut self,
+        text: &str,
+        span: Span,
+        sink: &mut S,
+    ) -> Result<(), AllocError>
+        requires token { IsTokenOf text.now (kept.Plain span) }
+        requires tokens { All (IsTokenOf text.now) self.old.pending.tokens.items }
+        ensures tokens { OnOk result (All (IsTokenOf text.now) self.new.pending.tokens.items) }
+        ensures takes { OnOk result ((es : List Event) × S.takes sink.old es sink.new × ((handed : List Event) (ps qs : List settled.Piece)
+            → AreLeaves qs → ones (written (part text.now span)) ≡ marks_back qs → HoldsPieces self.old.entities.now text.now handed self.old.pending ps
+            → HoldsPieces self.old.entities.now text.now (handed ++ es) self.new.pending (qs ++ ps))) }
+        ensures openings { self.new.pending.openings ≡ self.old.pending.openings }
+        ensures scanner { self.new.scanner ≡ self.old.scanner }
+        ensures entities { self.new.entities ≡ self.old.entities }
+    {
+        if !self.pending.is_empty() {
+            self.pending.leaf(Token::Plain(span))?;
+            return Ok(());
+        }
+        sink.plain(part(text, span))?;
+        Ok(())
+    }
+
+    /// Hands a soft line break to the sink, where nothing is pending before it.
+    fn put_break<S: InlineSink>(&mut self, sink: &mut S) -> Result<(), AllocError>
+        ensures tokens { OnOk result ((text : List ℕ) → All (IsTokenOf text) self.old.pending.tokens.items → All (IsTokenOf text) self.new.pending.tokens.items) }
+        ensures takes { OnOk result ((es : List Event) × S.takes sink.old es sink.new × ((text : List ℕ) (handed : List Event) (ps qs : List settled.Piece)
+            → AreLeaves qs → ones (SoftBreak ∷ []) ≡ marks_back qs → HoldsPieces self.old.entities.now text handed self.old.pending ps
+            → HoldsPieces self.old.entities.now text (handed ++ es) self.new.pending (qs ++ ps))) }
+        ensures openings { self.new.pending.openings ≡ self.old.pending.openings }
+        ensures scanner { self.new.scanner ≡ self.old.scanner }
+        ensures entities { self.new.entities ≡ self.old.entities }
+    {
+        if !self.pending.is_empty() {
+            self.pending.leaf(Token::SoftBreak)?;
+            return Ok(());
+        }
+        sink.soft_break()?;
+        Ok(())
     }
 
     /// Hands a leaf to the sink, where nothing is pending before it.

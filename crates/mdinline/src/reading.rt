@@ -14,6 +14,7 @@ use crate::readers::TextReader;
 use crate::trees::TreeBuilder;
 use mdtext::{Count, Entities};
 use std::alloc::Global;
+use std::mem;
 
 /// Reads an inline text, and counts it.
 ///
@@ -37,10 +38,36 @@ pub fn read<L: Labels, C: Count>(
     ensures too_deep { IsErrOf result TooDeep → limit < nest (inl entities.now (L.target labels.now) text.now) }
     ensures asked { IfOk result (λ parsed. parsed.asked ≡ asked entities.now (L.target labels.now) text.now) }
 {
-    count.inline();
     let mut reader = TextReader::new(alloc, entities);
-    let mut asked = AskedSet::new(alloc);
-    let builder = TreeBuilder::new(alloc);
-    let built = reader.read_into(text, labels, &mut asked, builder, limit)?;
-    Ok(Parsed::new(built.finish()?, asked.finish()?))
+    reader.read(text, labels, limit, count)
+}
+
+impl<'a> TextReader<'a> {
+    /// Reads an inline text, and counts it: all as the function `read` does, with memory that is used again for the next text.
+    pub fn read<L: Labels, C: Count>(
+        &mut self,
+        text: &str,
+        labels: &'a L,
+        limit: usize,
+        count: &mut C,
+    ) -> Result<Parsed, InlineFault>
+        requires least { 1 ≤ limit }
+        requires most { limit ≤ 256 }
+        ensures inlines { C.inlines count.new ≡ counted (C.inlines count.old) }
+        ensures lines { C.lines count.new ≡ C.lines count.old }
+        ensures tree { IfOk result (λ parsed. parsed.tree ≡ inl self.old.entities.now (L.target labels.now) text.now) }
+        ensures within { OnOk result (nest (inl self.old.entities.now (L.target labels.now) text.now) ≤ limit) }
+        ensures too_deep { IsErrOf result TooDeep → limit < nest (inl self.old.entities.now (L.target labels.now) text.now) }
+        ensures asked { IfOk result (λ parsed. parsed.asked ≡ asked self.old.entities.now (L.target labels.now) text.now) }
+        ensures entities { self.new.entities ≡ self.old.entities }
+    {
+        count.inline();
+        let mut asked = AskedSet::new(self.alloc);
+        let room = mem::replace(&mut self.words, String::new(self.alloc));
+        let builder = TreeBuilder::new(self.alloc, room);
+        let built = self.read_into(text, labels, &mut asked, builder, limit)?;
+        let (tree, room) = built.finish()?;
+        self.words = room;
+        Ok(Parsed::new(tree, asked.finish()?))
+    }
 }

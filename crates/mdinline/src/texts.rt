@@ -6,12 +6,14 @@ ghost use Rattle.std.specs.Str.{IsCharBoundary};
 ghost use Rattle.mdtext.specs.EntityTable.{EntityTable};
 ghost use Rattle.mdscan.specs.Spans.{IsEndAfter, EndsAfterMark};
 ghost use Rattle.inlinespec.specs.InlineEvents.{written};
-ghost use Rattle.inlinespec.specs.Lexing.{as_written};
+ghost use Rattle.inlinespec.specs.Lexing.{as_written, lex};
+ghost use Rattle.mdinline.specs.declared.tokens.Token.TheVariants as kept;
 ghost use Rattle.mdinline.specs.held.LeafEvents.{IsTokenOf, leaf_events};
 ghost use Rattle.mdinline.specs.held.ReadPending.{is_leaf};
 ghost use Rattle.mdinline.specs.held.PlainText.{IsWritten, is_escaped, is_stop};
 ghost use Rattle.mdinline.specs.held.Recognised.{lexeme_of};
 
+use crate::line_breaks::are_spaces_alone;
 use crate::scanner::{Found, leaf_of};
 use crate::tokens::Token;
 use mdscan::Span;
@@ -59,8 +61,21 @@ pub(crate) fn plain(text: &str, at: usize) -> Found<'static>
     if is_escaped(bytes[at]) {
         return leaf_of(byte_token(text, at), at + 1);
     }
-    let end = text_end(bytes, at);
+    let end = plain_end(text, at);
     leaf_of(Token::Plain(Span { start: at, end }), end)
+}
+
+/// Where the text ends that begins at a place with a byte that HTML does not escape: before the next byte that may begin something else or is escaped, and
+/// before the spaces that stand before a line ending.
+pub(crate) fn plain_end(text: &str, at: usize) -> usize
+    requires whole { IsCharBoundary text.now at }
+    requires inside { at < length text.now }
+    requires first { is_escaped (slice_index text.now at) ≡ false }
+    ensures end { IsEndAfter text.now at result }
+    ensures token { IsTokenOf text.now (kept.Plain (record { start = at; end = result })) }
+    ensures rest { IsWritten text.now (at + 1) result }
+{
+    text_end(text.as_bytes(), at)
 }
 
 fn text_end(text: &[u8], at: usize) -> usize
@@ -149,6 +164,19 @@ fn is_stop(byte: u8) -> bool
                 | b'`'
                 | b'~'
         )
+}
+
+/// Whether text begins at a place with a byte that HTML does not escape, as that byte tells, or with spaces that no line feed follows.
+pub(crate) fn begins_text(text: &str, at: usize) -> bool
+    requires { at < length text.now }
+    ensures first { result ≡ true → is_escaped (slice_index text.now at) ≡ false }
+    ensures value { result ≡ true → (entities : EntityTable) → lex entities text.now at ≡ as_written 1 (drop at text.now) }
+{
+    let byte = text.as_bytes()[at];
+    if byte == b' ' {
+        return are_spaces_alone(text, at);
+    }
+    !is_stop(byte)
 }
 
 /// Where the spaces begin that stand before `end`, and not before `start`.

@@ -42,26 +42,28 @@ pub(crate) struct TreeBuilder {
 }
 
 impl TreeBuilder {
-    /// No inlines yet. Takes no memory.
-    pub(crate) fn new(alloc: Global) -> TreeBuilder
+    /// No inlines yet. What `room` has is let go. Takes no memory.
+    pub(crate) fn new(alloc: Global, room: String) -> TreeBuilder
         ensures events { built result ≡ [] }
         ensures frames { result.frames.items ≡ [] }
         ensures joined { IsJoined result }
     {
+        let mut text = room;
+        text.clear();
         TreeBuilder {
             alloc,
             frames: Vec::new(alloc),
             last: Vec::new(alloc),
-            text: String::new(alloc),
+            text,
         }
     }
 
-    /// The tree, where no span is open.
-    pub(crate) fn finish(mut self) -> Result<Vec<Inline>, AllocError>
-        ensures { self.frames.items ≡ [] → IsJoined self → IfOk result (λ inlines. inlines_view inlines.items ≡ tree_of (built self)) }
+    /// The tree, where no span is open, and the room.
+    pub(crate) fn finish(mut self) -> Result<(Vec<Inline>, String), AllocError>
+        ensures { self.frames.items ≡ [] → IsJoined self → IfOk result (λ done. inlines_view done.0.items ≡ tree_of (built self)) }
     {
         self.end_text()?;
-        Ok(self.last)
+        Ok((self.last, self.text))
     }
 
     /// Appends the text behind what stands last, if there is any.

@@ -23,11 +23,11 @@ fn a_reader_is_used_again(rt: HostRuntime) -> Result<(), Fail> {
     ];
     for (text, want) in rows {
         let mut asked = Unasked;
-        let empty = TreeBuilder::new(alloc);
+        let empty = TreeBuilder::new(alloc, String::new(alloc));
         let Ok(tree) = reader.read_into(text, &labels, &mut asked, empty, 64) else {
             return Err(Fail::from("refused"));
         };
-        let inlines = tree.finish()?;
+        let (inlines, _) = tree.finish()?;
         let shown = format!(in alloc; "{inlines:?}")?;
         assert_eq!(rt; shown.as_str(), want, "in {text:?}");
     }

@@ -1,9 +1,9 @@
-use Rattle.std.proofs.Common.{◌≡◌, ℕ, ◌+◌, ◌<◌, ◌≤◌, false, refl, ap, get_or, length, sym, subst, ◌∙◌, arith}
-use Rattle.mdinline.specs.held.PlainText.{is_escaped, is_stop}
+use Rattle.std.proofs.Common.{refl, ap, get_or, sym, subst, ◌∙◌, arith}
+use Rattle.mdinline.specs.held.PlainText.{is_escaped}
 use Rattle.mdscan.specs.Spans.{IsEndAfter}
 use Rattle.mdinline.proofs.FoundLeaves.{token_kept}
 use Rattle.mdinline.proofs.Marks.{behind}
-use Rattle.mdinline.proofs.PlainTokens.{escaped_mark, plain_part}
+use Rattle.mdinline.proofs.PlainTokens.{escaped_mark}
 use Rattle.mdinline.proofs.texts.plain.Goals as goal
 
 pub returns-then-is_escaped-clause-end : goal.returns-then-is_escaped-clause-end
@@ -17,15 +17,8 @@ returns-then-is_escaped-clause-end c =
       whole = behind text text c.args.at refl c.utf8.text inside (escaped_mark text c.as_bytes-bytes.result.now c.args.at c.as_bytes-bytes.ensures.value (sym c.is_escaped.ensures ∙ c.if-is_escaped.true));
     })
 
+pub plain_end-end-requires-clause-first : goal.plain_end-end-requires-clause-first
+plain_end-end-requires-clause-first c = ap (λ t. is_escaped (get_or t c.args.at 0)) (sym c.as_bytes-bytes.ensures.value) ∙ sym c.is_escaped.ensures ∙ c.if-is_escaped.false
+
 pub returns-clause-token : goal.returns-clause-token
-returns-clause-token c =
-    let text = c.args.text.now in
-    let at = c.args.at in
-    let end = c.text_end-end.result in
-    let same = c.as_bytes-bytes.ensures.value in
-    let within = subst (λ t. end ≤ length t) same c.text_end-end.ensures.within in
-    let rest = subst (λ t. (i : ℕ) → at + 1 ≤ i → i < end → is_stop (get_or t i 0) ≡ false) same c.text_end-end.ensures.plain in
-    let mark = subst (λ t. end < length t → get_or t end 0 < 128) same c.text_end-end.ensures.mark in
-    let first = ap (λ t. is_escaped (get_or t at 0)) (sym same) ∙ sym c.is_escaped.ensures ∙ c.if-is_escaped.false in
-    token_kept text c.leaf_of-2.result _ c.leaf_of-2.ensures.token
-    (record { ordered = omega (arith, c.text_end-end.ensures.later); within = within; starts_whole = c.requires.whole; ends_whole = (within, λ lt big. absurd (omega (arith, mark lt, big))) }, plain_part text at end c.text_end-end.ensures.later within first rest)
+returns-clause-token c = token_kept c.args.text.now c.leaf_of-2.result _ c.leaf_of-2.ensures.token c.plain_end-end.ensures.token

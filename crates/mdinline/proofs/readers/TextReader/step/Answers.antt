@@ -1,24 +1,98 @@
-use Rattle.std.proofs.Common.{◌≡◌, ◌+◌, ◌-◌, ◌<◌, [], ◌∷◌, ◌++◌, false, None, slice_index, refl, sym, subst, arith}
+use Rattle.std.proofs.Common.{◌≡◌, ◌+◌, ◌-◌, ◌<◌, [], ◌∷◌, ◌++◌, false, None, get_or, slice_index, refl, sym, subst, ◌∙◌, arith}
+use Rattle.std.proofs.Math.Logic.{inl, inr}
 use Rattle.mdpair.specs.Neighbours.{run_at}
 use Rattle.inlinespec.specs.Lexing.{Lexeme, Delimiters, lex}
 use Rattle.inlinespec.specs.Settled.{Run}
 use Rattle.inlinespec.specs.TextReading.{after_deed, item_by}
-use Rattle.mdinline.specs.held.KnownText.{KnowsText}
+use Rattle.mdinline.specs.declared.scanner.Found.{Found}
+use Rattle.mdinline.specs.declared.tokens.Token.TheVariants as kept
+use Rattle.mdinline.specs.held.KnownText.{IsPlainAt, KnowsText}
 use Rattle.mdinline.specs.held.PlainText.{is_bracket}
-use Rattle.mdinline.specs.held.Recognised.{bracket_of, kind_of}
+use Rattle.mdinline.specs.held.Recognised.{bracket_of, kind_of, lexeme_of}
 use Rattle.mdinline.specs.held.UnusedOpeners.{AreOpenersOf}
 use Rattle.mdinline.proofs.Marks.{behind_next, same_place}
 use Rattle.mdinline.proofs.ReadHolding.{leaves_unused}
 use Rattle.mdinline.proofs.ReadLeaf.{knows_later, leaf_leads, run_unused}
 use Rattle.mdinline.proofs.ReadSteps.{at_run, leads_lexeme}
+use Rattle.mdinline.proofs.SignItems.{at_feed}
 use Rattle.mdinline.proofs.readers.TextReader.step.Goals as goal
 
 pub bracket-requires-clause-bracket : goal.bracket-requires-clause-bracket
 bracket-requires-clause-bracket g c =
-    behind_next c.args.text.now c.as_bytes.result.now c.args.at c.args.at c.in-Some-bracket_at.bracket.end c.as_bytes.ensures.value c.utf8.text (same_place c.args.at) c.in-Some-bracket_at.ensures.end
+    behind_next c.args.text.now c.as_bytes-bytes.result.now c.args.at c.args.at c.in-Some-bracket_at.bracket.end c.as_bytes-bytes.ensures.value c.utf8.text (same_place c.args.at) c.in-Some-bracket_at.ensures.end
 
 pub bracket-requires-clause-mark : goal.bracket-requires-clause-mark
-bracket-requires-clause-mark g c = subst (λ t. slice_index t c.args.at < 128) c.as_bytes.ensures.value c.in-Some-bracket_at.ensures.mark
+bracket-requires-clause-mark g c = subst (λ t. slice_index t c.args.at < 128) c.as_bytes-bytes.ensures.value c.in-Some-bracket_at.ensures.mark
+
+pub plain_end-end-requires-clause-first : goal.plain_end-end-requires-clause-first
+plain_end-end-requires-clause-first g c = c.begins_text.ensures.first c.if-begins_text.true
+
+pub soft_break_end-end-requires-clause-feed : goal.soft_break_end-end-requires-clause-feed
+soft_break_end-end-requires-clause-feed g c = subst (λ t. get_or t c.args.at 0 ≡ 10) c.as_bytes-bytes.ensures.value c.if-bytes-at-eq10.true
+
+pub returns-then-begins_text-clause-reads : goal.returns-then-begins_text-clause-reads
+returns-then-begins_text-clause-reads g c =
+    let entities = c.args.self.now.entities.now in
+    let table = g.L.Labels.target c.args.labels.now in
+    let text = c.args.text.now in
+    let at = c.args.at in
+    let end = c.plain_end-end.result in
+    let after = c.plain_end-end.ensures.end in
+    let later = after.later in
+    let now = c.in_ok-put_text.ensures in
+    let took = now.takes in
+    let found : Found = record { token = kept.Plain (record { start = at; end = end }); end = end } in
+    let plain : IsPlainAt entities text at found = record { first = c.begins_text.ensures.value c.if-begins_text.true entities; rest = c.plain_end-end.ensures.rest; whole = refl } in (
+      took.0,
+      took.1,
+      λ handed ps h.
+          let led = leaf_leads entities table text at ps found c.requires.inside after (inr plain) in (
+            [],
+            led.made ++ ps,
+            led.leads,
+            g.met.A.AsksLabels.asks_none c.args.asked.now,
+            record {
+              entities_same = rw now.entities refl;
+              knows = subst (KnowsText text end) (sym now.scanner) (knows_later text at end c.args.self.now.scanner (omega (arith, later)) h.knows);
+              unused = subst (AreOpenersOf (led.made ++ ps)) (sym now.openings) (leaves_unused led.made ps c.args.self.now.pending.openings led.plain h.unused);
+              pieces = took.2 handed ps led.made led.plain led.same h.pieces;
+            },
+          ),
+    )
+
+pub returns-then-bytes-at-eq10-clause-tokens : goal.returns-then-bytes-at-eq10-clause-tokens
+returns-then-bytes-at-eq10-clause-tokens g c = c.in_ok-put_break.ensures.tokens c.args.text.now c.requires.tokens
+
+pub returns-then-bytes-at-eq10-clause-reads : goal.returns-then-bytes-at-eq10-clause-reads
+returns-then-bytes-at-eq10-clause-reads g c =
+    let entities = c.args.self.now.entities.now in
+    let table = g.L.Labels.target c.args.labels.now in
+    let text = c.args.text.now in
+    let at = c.args.at in
+    let end = c.soft_break_end-end.result in
+    let after = c.soft_break_end-end.ensures.end in
+    let later = after.later in
+    let now = c.in_ok-put_break.ensures in
+    let took = now.takes in
+    let found : Found = record { token = kept.SoftBreak; end = end } in
+    let feed = subst (λ t. get_or t at 0 ≡ 10) c.as_bytes-bytes.ensures.value c.if-bytes-at-eq10.true in
+    let here : lexeme_of entities text at found ≡ lex entities text at = sym (at_feed entities text at feed ∙ c.soft_break_end-end.ensures.value) in (
+      took.0,
+      took.1,
+      λ handed ps h.
+          let led = leaf_leads entities table text at ps found c.requires.inside after (inl here) in (
+            [],
+            led.made ++ ps,
+            led.leads,
+            g.met.A.AsksLabels.asks_none c.args.asked.now,
+            record {
+              entities_same = rw now.entities refl;
+              knows = subst (KnowsText text end) (sym now.scanner) (knows_later text at end c.args.self.now.scanner (omega (arith, later)) h.knows);
+              unused = subst (AreOpenersOf (led.made ++ ps)) (sym now.openings) (leaves_unused led.made ps c.args.self.now.pending.openings led.plain h.unused);
+              pieces = took.2 text handed ps led.made led.plain led.same h.pieces;
+            },
+          ),
+    )
 
 pub returns-in-Some-clause-reads : goal.returns-in-Some-clause-reads
 returns-in-Some-clause-reads g c =
@@ -58,7 +132,7 @@ returns-in-Some-bracket_at-clause-reads g c =
     let took = now.takes in
     let end = c.in_ok-end.end in
     let later = now.end.later in
-    let lexed : lex entities text at ≡ bracket_of at bracket = subst (λ t. lex entities t at ≡ bracket_of at bracket) c.as_bytes.ensures.value (c.in-Some-bracket_at.ensures.value entities) in (
+    let lexed : lex entities text at ≡ bracket_of at bracket = subst (λ t. lex entities t at ≡ bracket_of at bracket) c.as_bytes-bytes.ensures.value (c.in-Some-bracket_at.ensures.value entities) in (
       took.0,
       took.1,
       λ handed ps h. (
@@ -87,7 +161,7 @@ returns-clause-reads g c =
     let took = now.takes in
     let later = leaf.end.later in
     let no_run : run_at text at ≡ None = sym c.in_default.ensures.value in
-    let no_bracket : is_bracket (lex entities text at).kind ≡ false = subst (λ t. is_bracket (lex entities t at).kind ≡ false) c.as_bytes.ensures.value (c.in_default-bracket_at.ensures.value entities) in (
+    let no_bracket : is_bracket (lex entities text at).kind ≡ false = subst (λ t. is_bracket (lex entities t at).kind ≡ false) c.as_bytes-bytes.ensures.value (c.in_default-bracket_at.ensures.value entities) in (
       took.0,
       took.1,
       λ handed ps h.
