@@ -1,5 +1,5 @@
 -- Closing a level gives the blocks of its lines.
-use Rattle.std.proofs.Common.{Box, Global, Result, Ok, Err, IfOk, ◌≡◌, ℕ, ◌+◌, Bool, true, false, not, ◌&&◌, ◌||◌, List, [], ◌++◌, length, length-append, refl, sym, ◌∙◌, ap, subst}
+use Rattle.std.proofs.Common.{Box, Global, Result, Ok, Err, IfOk, ◌≡◌, ℕ, ◌+◌, Bool, true, false, not, ◌&&◌, ◌||◌, List, ◌++◌, length, length-append, refl, sym, ◌∙◌, ap, subst}
 use Rattle.mdtext.specs.EntityTable.{EntityTable}
 use Rattle.mdleaf.specs.LinkDefinition.{LinkDefinition}
 use Rattle.blockspec.specs.BlockStart.{Quote, Item}

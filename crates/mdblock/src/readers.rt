@@ -82,6 +82,7 @@ impl<'e> Reader<'e> {
     /// Counts the next line, which has no line ending, and reads it. Answers the unit before the one that the line begins.
     ///
     /// A fault stays: from then on the answer is `Failed`, and nothing is handed out.
+    #[inline(always)]
     pub fn line<C: Count>(&mut self, text: &str, count: &mut C) -> Result<Option<Found>, BlockFault>
         requires short { 4 * length text.now < 2 ^ 64 }
         requires few { self.old.fed < usize.MAX }
@@ -103,9 +104,13 @@ impl<'e> Reader<'e> {
             return Err(BlockFault::Failed);
         };
         match held.read(text, self.fed, self.limit) {
-            Ok(found) => {
+            Ok(None) => {
                 self.fed += 1;
-                Ok(found)
+                Ok(None)
+            }
+            Ok(Some(found)) => {
+                self.fed += 1;
+                Ok(Some(found))
             }
             Err(fault) => {
                 self.held = None;
@@ -163,6 +168,7 @@ impl<'e> OpenUnit<'e> {
     }
 
     /// Reads a line before which `fed` lines were read, where so many containers may be open inside one another.
+    #[inline(always)]
     fn read(&mut self, text: &str, fed: usize, limit: usize) -> Result<Option<Found>, BlockFault>
         requires short { 4 * length text.now < 2 ^ 64 }
         requires kept { AreKept self.old }

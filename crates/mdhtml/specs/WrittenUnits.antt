@@ -1,7 +1,9 @@
 -- Units whose HTML is written while their texts are read.
-use Rattle.std.specs.Prelude.{ℕ, List, [], false, map}
+use Rattle.std.specs.Prelude.{ℕ, Bool, List, [], false, map, nat_lt}
+use Rattle.std.specs.List.{list_any}
 use Rattle.mdtext.specs.EntityTable.{EntityTable}
 use Rattle.inlinespec.specs.LinkTails.{Table}
+use Rattle.inlinespec.specs.Nesting.{nest}
 use Rattle.inlinespec.specs.TextTree.{inl}
 use Rattle.blockspec.specs.UnitTree.{UnitTree}
 use Rattle.mdhtml.specs.declared.options.Options.{Options}
@@ -24,3 +26,11 @@ read_html options entities table text = inlines_html options (inl entities table
 -- the HTML of a unit whose texts are read under a table of labels
 abbrev pub written_unit : Options → EntityTable → Table → UnitTree → List ℕ
 written_unit options entities table unit = blocks_html options (map (read_html options entities table) unit.texts) false unit.blocks []
+
+-- a text reads with more spans in one another than the options allow
+abbrev pub is_deep_text : Options → EntityTable → Table → List ℕ → Bool
+is_deep_text options entities table text = nat_lt options.max_spans (nest (inl entities table text))
+
+-- a text of the unit does
+abbrev pub is_deep_unit : Options → EntityTable → Table → UnitTree → Bool
+is_deep_unit options entities table unit = list_any (is_deep_text options entities table) unit.texts

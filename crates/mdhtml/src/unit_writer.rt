@@ -1,6 +1,8 @@
 //! The HTML of units, written while their texts are read: no tree of a text is made.
 
-ghost use Rattle.std.specs.Prelude.{◌≡◌, ◌++◌, ◌∷◌, [], ◌≤◌, IfOk, OnOk, true, length, map, string_bytes};
+ghost use Rattle.std.specs.Prelude.{◌≡◌, ◌++◌, ◌∷◌, [], ◌≤◌, IfOk, IsErrOf, OnOk, false, true, length, map, string_bytes};
+ghost use Rattle.std.specs.List.{list_any};
+ghost use Rattle.mdinline.specs.declared.faults.InlineFault.TheVariants.{TooDeep};
 ghost use Rattle.mdhtml.specs.BlockHtml.{ends_line};
 ghost use Rattle.mdhtml.specs.Limits.{HasLimits};
 
@@ -28,7 +30,7 @@ pub struct UnitWriter<'a> {
 }
 
 impl<'a> UnitWriter<'a> {
-    ghost use Rattle.mdhtml.specs.WrittenUnits.{entities_of, options_of, read_html, written_unit};
+    ghost use Rattle.mdhtml.specs.WrittenUnits.{entities_of, is_deep_text, is_deep_unit, options_of, read_html, written_unit};
 
     /// A writer of units whose texts are read with these entities. Takes no memory.
     pub fn new(alloc: Global, entities: &'a Entities, options: &Options) -> UnitWriter<'a>
@@ -47,7 +49,8 @@ impl<'a> UnitWriter<'a> {
     }
 
     /// Appends to a text that is empty or ends with LF the HTML of a unit whose texts are read under these labels, and leaves it so: each text as the
-    /// definition reads it. `TooDeep` where more spans lie in one another than the options allow. After a fault a beginning of the unit may stand there.
+    /// definition reads it. `TooDeep` where in one of them more spans lie in one another than the options allow. After a fault a beginning of the unit may
+    /// stand there.
     pub fn append_unit<L: Labels>(
         &mut self,
         unit: &Unit,
@@ -58,6 +61,8 @@ impl<'a> UnitWriter<'a> {
         ensures html { OnOk result (string_bytes out.new
             ≡ string_bytes out.old ++ written_unit (options_of self.old) (entities_of self.old) (L.target labels.now) unit.now) }
         ensures ends_line { OnOk result (ends_line (string_bytes out.new) ≡ true) }
+        ensures within { OnOk result (is_deep_unit (options_of self.old) (entities_of self.old) (L.target labels.now) unit.now ≡ false) }
+        ensures too_deep { IsErrOf result TooDeep → is_deep_unit (options_of self.old) (entities_of self.old) (L.target labels.now) unit.now ≡ true }
         ensures options { options_of self.new ≡ options_of self.old }
         ensures entities { entities_of self.new ≡ entities_of self.old }
     {
@@ -75,6 +80,9 @@ impl<'a> UnitWriter<'a> {
     fn write_texts<L: Labels>(&mut self, texts: &[String], labels: &'a L) -> Result<(), InlineFault>
         ensures texts { OnOk result (map string_bytes self.new.texts.items
             ≡ map (read_html (options_of self.old) (entities_of self.old) (L.target labels.now)) (map string_bytes texts.now)) }
+        ensures within { OnOk result (list_any (is_deep_text (options_of self.old) (entities_of self.old) (L.target labels.now)) (map string_bytes texts.now) ≡ false) }
+        ensures too_deep { IsErrOf result TooDeep
+            → list_any (is_deep_text (options_of self.old) (entities_of self.old) (L.target labels.now)) (map string_bytes texts.now) ≡ true }
         ensures options { options_of self.new ≡ options_of self.old }
         ensures entities { entities_of self.new ≡ entities_of self.old }
     {
@@ -100,6 +108,8 @@ impl<'a> UnitWriter<'a> {
 
     fn text_html<L: Labels>(&mut self, text: &str, labels: &'a L) -> Result<String, InlineFault>
         ensures html { IfOk result (λ html. string_bytes html ≡ read_html (options_of self.old) (entities_of self.old) (L.target labels.now) text.now) }
+        ensures within { OnOk result (is_deep_text (options_of self.old) (entities_of self.old) (L.target labels.now) text.now ≡ false) }
+        ensures too_deep { IsErrOf result TooDeep → is_deep_text (options_of self.old) (entities_of self.old) (L.target labels.now) text.now ≡ true }
         ensures texts { self.new.texts ≡ self.old.texts }
         ensures options { options_of self.new ≡ options_of self.old }
         ensures entities { entities_of self.new ≡ entities_of self.old }

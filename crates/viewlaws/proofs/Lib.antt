@@ -10,3 +10,5 @@ pub mod PutLines
 pub mod TooDeep
 pub mod UnaskedTexts
 pub mod ReadingBegins
+pub mod LabelsLead
+pub mod ReadLines
