@@ -1,80 +1,164 @@
 -- Units that are written as they are found, and those that wait.
-use Rattle.std.proofs.Common.{◌≡◌, ℕ, List, [], ◌∷◌, ◌++◌, Option, None, Some, false, true, string_bytes, refl, ap, sym, ◌∙◌, append_assoc, append-nil, arith, subst, length-append}
-use Rattle.std.specs.Prelude.{is_some}
+use Rattle.std.proofs.Common.{◌≡◌, ◌<◌, ◌||◌, ℕ, suc, Bool, List, [], ◌∷◌, ◌++◌, Option, None, Some, false, true, string_bytes, refl, ap, sym, ◌∙◌, append_assoc, append-nil, arith, subst, length-append}
+use Rattle.std.specs.Prelude.{is_some, length, slice_index}
+use Rattle.memchr.specs.Find.{IsFirstByte, is_byte}
 use Rattle.std.proofs.lemmas.Grind.{common_steps}
 use Rattle.mdhtml.specs.BlockHtml.{ends_line}
 use Rattle.blockspec.specs.UnitTree.{FoundUnit}
 use Rattle.inlinespec.specs.LabelMap.{LabelMap}
-use Rattle.mdhtml.specs.declared.options.Options.{Options}
+use Rattle.inlinespec.specs.LinkTails.{Table}
+use Rattle.mdhtml.specs.WrittenUnits.{is_deep_unit}
+use Rattle.mdinline.specs.declared.faults.InlineFault.{InlineFault}
+use Rattle.mdinline.specs.declared.faults.InlineFault.TheVariants as inline
+use Rattle.viewspec.specs.LabelTable.{with_units}
+use Rattle.viewspec.specs.Setting.{Setting}
+use Rattle.mdview.specs.declared.fault.EditFault.{EditFault}
+use Rattle.mdview.specs.declared.fault.EditFault.TheVariants.{OutOfRange, BreakInLine, TooManyLines, TooLarge, NestedTooDeep, InlineTooDeep, NoMemory, NotDefinitions}
+use Rattle.mdbatch.specs.declared.gathered.Gathered.{Gathered}
 use Rattle.mdbatch.specs.declared.gathered.Waiting.{Waiting}
-use Rattle.mdbatch.specs.TextLabels.{with_definitions, with_units}
-use Rattle.mdbatch.specs.BatchHtml.{AppendsUnit, AppendsUnits}
-use Rattle.mdbatch.specs.GatheredUnits.{IsWoven, IsWrittenTo}
-use Rattle.mdbatch.proofs.UnitsWritten.{none_written, one_more, written_behind}
-
-pub labels_behind : (units : List FoundUnit) (labels : LabelMap) (more : List FoundUnit) → with_units labels (units ++ more) ≡ with_units (with_units labels units) more
-labels_behind [] labels more = refl
-labels_behind (found ∷ units) labels more = labels_behind units (with_definitions labels found.unit.definitions) more
+use Rattle.mdview.specs.Preludes.{HeldPrelude}
+use Rattle.mdbatch.specs.TextLabels.{page_table, target_by}
+use Rattle.mdbatch.specs.BatchHtml.{IsTextFault, WritesUnits, deep_line, text_fault_of}
+use Rattle.mdbatch.specs.GatheredUnits.{Gathers, IsCut, IsWoven, IsWrittenTo, closes_bracket}
+use Rattle.mdbatch.proofs.PageTargets.{leads_on_page}
+use Rattle.mdbatch.proofs.UnitsWritten.{deep_behind, deep_in_front, deep_under, moved_behind, none_written, one_deep, written_behind, written_under}
 
 -- a unit is written behind the others
-pub woven_more : (options : Options) (waiting : List Waiting) (all : List FoundUnit) (found : FoundUnit) (old new : List ℕ) → AppendsUnit options found.unit old new
-    → IsWoven options all waiting old → IsWoven options (all ++ found ∷ []) waiting new
-woven_more options [] all found old new last woven = one_more options all found [] old new woven last
-woven_more options (waits ∷ waiting) all found old new last (front, rest, order, written, woven) = (
+pub woven_more : (setting : Setting) (waiting : List Waiting) (all : List FoundUnit) (found : FoundUnit) (old new : List ℕ)
+    → ((labels : Table) → WritesUnits setting labels (found ∷ []) old new) → IsWoven setting all waiting old → IsWoven setting (all ++ found ∷ []) waiting new
+woven_more setting [] all found old new last woven = λ labels. written_behind setting labels all (found ∷ []) [] old new (woven labels) (last labels)
+woven_more setting (waits ∷ waiting) all found old new last (front, rest, order, written, woven) = (
   front,
   rest ++ found ∷ [],
   ap (λ l. l ++ found ∷ []) order ∙ append_assoc front (waits.found ∷ rest) (found ∷ []),
   written,
-  woven_more options waiting rest found old new last woven,
+  woven_more setting waiting rest found old new last woven,
 )
 
 -- a unit waits behind the others
-pub woven_kept : (options : Options) (waiting : List Waiting) (all : List FoundUnit) (last : Waiting) (html new : List ℕ) → string_bytes last.before ≡ html → new ≡ []
-    → IsWoven options all waiting html → IsWoven options (all ++ last.found ∷ []) (waiting ++ last ∷ []) new
-woven_kept options [] all last html new same none woven =
-    (all, [], refl, rw same woven, rw none (none_written options []))
-woven_kept options (waits ∷ waiting) all last html new same none (front, rest, order, written, woven) = (
+pub woven_kept : (setting : Setting) (waiting : List Waiting) (all : List FoundUnit) (last : Waiting) (html new : List ℕ) → string_bytes last.before ≡ html → new ≡ []
+    → IsWoven setting all waiting html → IsWoven setting (all ++ last.found ∷ []) (waiting ++ last ∷ []) new
+woven_kept setting [] all last html new same none woven = (all, [], refl, rw same woven, rw none (λ labels. none_written setting labels []))
+woven_kept setting (waits ∷ waiting) all last html new same none (front, rest, order, written, woven) = (
   front,
   rest ++ last.found ∷ [],
   ap (λ l. l ++ last.found ∷ []) order ∙ append_assoc front (waits.found ∷ rest) (last.found ∷ []),
   written,
-  woven_kept options waiting rest last html new same none woven,
+  woven_kept setting waiting rest last html new same none woven,
 )
 
--- HTML of units stands behind any other as well
-pub moved_behind : (options : Options) (units : List FoundUnit) (html old new : List ℕ) → new ≡ old ++ html → AppendsUnits options units [] html → AppendsUnits options units old new
-moved_behind options units html old new behind writes =
-    record { units = writes.units; are = writes.are; all = writes.all; written = behind ∙ ap (λ l. old ++ l) writes.written }
+-- a unit too deep stands behind those that are written or wait, and any others behind it
+pub cut_more : (setting : Setting) (all : List FoundUnit) (more : FoundUnit) (waiting : List Waiting) (line : ℕ) → IsCut setting all waiting line
+    → IsCut setting (all ++ more ∷ []) waiting line
+cut_more setting all more waiting line cut = record {
+  front = cut.front;
+  deep = cut.deep;
+  rest = cut.rest ++ more ∷ [];
+  order = ap (λ l. l ++ more ∷ []) cut.order ∙ append_assoc cut.front (cut.deep ∷ cut.rest) (more ∷ []);
+  is_deep = cut.is_deep;
+  html = cut.html;
+  woven = cut.woven;
+}
 
--- the first of those that wait is written, with what stands before it
-pub next_written : (options : Options) (all : List FoundUnit) (waits : Waiting) (waiting : List Waiting) (html old mid before new : List ℕ)
-    → before ≡ mid ++ string_bytes waits.before → AppendsUnit options waits.found.unit before new → IsWrittenTo options all (waits ∷ waiting) html old mid
-    → IsWrittenTo options all waiting html old new
-next_written options all waits waiting html old mid before new behind last (done, todo, order, written, (front, rest, parts, writes, woven)) = (
-  (done ++ front) ++ waits.found ∷ [],
-  rest,
-  order ∙ ap (λ l. done ++ l) parts ∙ sym (append_assoc done front (waits.found ∷ rest)) ∙ sym (append_assoc (done ++ front) (waits.found ∷ []) rest),
-  one_more options (done ++ front) waits.found old before new
-      (written_behind options done front old mid before written (moved_behind options front (string_bytes waits.before) mid before behind writes)) last,
-  woven,
-)
+module _ (setting : Setting) (labels : Table) where
+  -- the first of those that wait is written, with what stands before it
+  pub next_written : (all : List FoundUnit) (waits : Waiting) (waiting : List Waiting) (html old mid before new : List ℕ) → before ≡ mid ++ string_bytes waits.before
+      → WritesUnits setting labels (waits.found ∷ []) before new → IsWrittenTo setting labels all (waits ∷ waiting) html old mid
+      → IsWrittenTo setting labels all waiting html old new
+  next_written all waits waiting html old mid before new behind last (done, todo, order, written, (front, rest, parts, writes, woven)) = (
+    (done ++ front) ++ waits.found ∷ [],
+    rest,
+    order ∙ ap (λ l. done ++ l) parts ∙ sym (append_assoc done front (waits.found ∷ rest)) ∙ sym (append_assoc (done ++ front) (waits.found ∷ []) rest),
+    written_behind setting labels (done ++ front) (waits.found ∷ []) old before new
+        (written_behind setting labels done front old mid before written (moved_behind setting labels front (string_bytes waits.before) mid before behind (writes labels))) last,
+    woven,
+  )
 
--- behind those that waited stands what was written behind the last of them
-pub all_written_to : (options : Options) (all : List FoundUnit) (html mid new : List ℕ) → new ≡ mid ++ html → IsWrittenTo options all [] html [] mid
-    → AppendsUnits options all [] new
-all_written_to options all html mid new behind (done, rest, order, written, woven) =
-    rw order (written_behind options done rest [] mid new written (moved_behind options rest html mid new behind woven))
+  -- or it is the first that is too deep
+  pub next_deep : (all : List FoundUnit) (waits : Waiting) (waiting : List Waiting) (html old mid : List ℕ) (line : ℕ) → deep_line setting labels (waits.found ∷ []) ≡ Some line
+      → IsWrittenTo setting labels all (waits ∷ waiting) html old mid → deep_line setting labels all ≡ Some line
+  next_deep all waits waiting html old mid line deep (done, todo, order, written, (front, rest, parts, writes, woven)) =
+      ap (deep_line setting labels) (order ∙ ap (λ l. done ++ l) parts)
+      ∙ deep_behind setting labels done (front ++ waits.found ∷ rest) line written.within
+      (deep_behind setting labels front (waits.found ∷ rest) line (writes labels).within (deep_in_front setting labels (waits.found ∷ []) rest line deep))
+
+  -- behind those that waited stands what was written behind the last of them
+  pub all_written_to : (all : List FoundUnit) (html mid new : List ℕ) → new ≡ mid ++ html → IsWrittenTo setting labels all [] html [] mid → WritesUnits setting labels all [] new
+  all_written_to all html mid new behind (done, rest, order, written, woven) =
+      rw order (written_behind setting labels done rest [] mid new written (moved_behind setting labels rest html mid new behind (woven labels)))
+
+  -- where all before the one too deep are written, it is the first
+  pub cut_is_deep : (all : List FoundUnit) (waiting : List Waiting) (line : ℕ) (cut : IsCut setting all waiting line) (mid : List ℕ)
+      → IsWrittenTo setting labels cut.front [] cut.html [] mid → deep_line setting labels all ≡ Some line
+  cut_is_deep all waiting line cut mid written =
+      ap (deep_line setting labels) cut.order
+      ∙ deep_behind setting labels cut.front (cut.deep ∷ cut.rest) line (all_written_to cut.front cut.html mid (mid ++ cut.html) refl written).within
+      (deep_in_front setting labels (cut.deep ∷ []) cut.rest line (cut.is_deep labels))
+
+  -- and a fault of those before it is one of all
+  pub cut_fault : (all : List FoundUnit) (waiting : List Waiting) (line : ℕ) (cut : IsCut setting all waiting line) (fault : EditFault)
+      → IsTextFault (deep_line setting labels cut.front) fault → IsTextFault (deep_line setting labels all) fault
+  cut_fault all waiting line cut (InlineTooDeep begin) h = ap (deep_line setting labels) cut.order ∙ deep_in_front setting labels cut.front (cut.deep ∷ cut.rest) begin h
+  cut_fault all waiting line cut NoMemory h = tt
+  cut_fault all waiting line cut (NestedTooDeep begin) h = absurd h
+  cut_fault all waiting line cut TooManyLines h = absurd h
+  cut_fault all waiting line cut TooLarge h = absurd h
+  cut_fault all waiting line cut (OutOfRange lines) h = absurd h
+  cut_fault all waiting line cut (BreakInLine index) h = absurd h
+  cut_fault all waiting line cut (NotDefinitions begin) h = absurd h
+
+-- a unit that waited is too deep, and none before it is
+pub unit_fault : (setting : Setting) (labels : Table) (all : List FoundUnit) (waits : Waiting) (waiting : List Waiting) (html old mid : List ℕ) (fault : InlineFault)
+    → (fault ≡ inline.TooDeep → is_deep_unit setting.options setting.entities labels waits.found.unit ≡ true) → IsWrittenTo setting labels all (waits ∷ waiting) html old mid
+    → IsTextFault (deep_line setting labels all) (text_fault_of fault waits.found.begin)
+unit_fault setting labels all waits waiting html old mid inline.TooDeep deep written =
+    next_deep setting labels all waits waiting html old mid waits.found.begin (one_deep setting labels waits.found (deep refl)) written
+unit_fault setting labels all waits waiting html old mid inline.NoMemory deep written = tt
+
+-- ---- under the labels of the whole text
+
+module _ (own : LabelMap) (prelude : HeldPrelude) (s setting : Setting) (all : List FoundUnit) (same : s ≡ setting) (is_own : own ≡ with_units [] all) where
+  leads : (label : List ℕ) → target_by own prelude label ≡ page_table all prelude label
+  leads label = leads_on_page all own prelude label is_own
+
+  pub page_written : (html old mid new : List ℕ) → old ≡ [] → new ≡ mid ++ html → IsWrittenTo s (target_by own prelude) all [] html old mid
+      → WritesUnits setting (page_table all prelude) all [] new
+  page_written html old mid new none behind written =
+      let begun = subst (λ (s : Setting). IsWrittenTo s (target_by own prelude) all [] html [] mid) same (subst (λ old. IsWrittenTo s (target_by own prelude) all [] html old mid) none written) in
+      written_under setting (target_by own prelude) (page_table all prelude) all [] new leads (all_written_to setting (target_by own prelude) all html mid new behind begun)
+
+  fault_led : (fault : EditFault) → IsTextFault (deep_line setting (target_by own prelude) all) fault → IsTextFault (deep_line setting (page_table all prelude) all) fault
+  fault_led fault h = subst (λ deep. IsTextFault deep fault) (deep_under setting (target_by own prelude) (page_table all prelude) all leads) h
+
+  pub waiting_fault : (gathered : Gathered) (fault : EditFault) → Gathers setting all gathered
+      → ((front : List FoundUnit) (html : List ℕ) → IsWoven s front gathered.waiting.items html → IsTextFault (deep_line s (target_by own prelude) front) fault)
+      → IsTextFault (deep_line setting (page_table all prelude) all) fault
+  waiting_fault gathered fault gathers faults = fault_led fault (by gathered.too_deep refl)
+    where
+      of_front : (front : List FoundUnit) (html : List ℕ) → IsWoven setting front gathered.waiting.items html → IsTextFault (deep_line setting (target_by own prelude) front) fault
+      of_front front html woven =
+          subst (λ (s : Setting). IsTextFault (deep_line s (target_by own prelude) front) fault) same
+          (faults front html (subst (λ (s : Setting). IsWoven s front gathered.waiting.items html) (sym same) woven))
+
+      by : (o : Option ℕ) → gathered.too_deep ≡ o → IsTextFault (deep_line setting (target_by own prelude) all) fault
+      by None is = of_front all (string_bytes gathered.html) (gathers.woven is)
+      by (Some line) is =
+          let cut = gathers.cut line is in
+          cut_fault setting (target_by own prelude) all gathered.waiting.items line cut fault (of_front cut.front cut.html cut.woven)
+
+  pub cut_on_page : (waiting : List Waiting) (line : ℕ) (old mid : List ℕ) → old ≡ [] → IsCut setting all waiting line
+      → ((front : List FoundUnit) (html : List ℕ) → IsWoven s front waiting html → IsWrittenTo s (target_by own prelude) front [] html old mid)
+      → deep_line setting (page_table all prelude) all ≡ Some line
+  cut_on_page waiting line old mid none cut writes =
+      let written = writes cut.front cut.html (subst (λ (s : Setting). IsWoven s cut.front waiting cut.html) (sym same) cut.woven) in
+      let begun = subst (λ (s : Setting). IsWrittenTo s (target_by own prelude) cut.front [] cut.html [] mid) same
+      (subst (λ old. IsWrittenTo s (target_by own prelude) cut.front [] cut.html old mid) none written) in
+      sym (deep_under setting (target_by own prelude) (page_table all prelude) all leads) ∙ cut_is_deep setting (target_by own prelude) all waiting line cut mid begun
 
 -- Two texts that are empty or end with LF make one.
 pub lines_joined : (xs ys : List ℕ) → ends_line xs ≡ true → ends_line ys ≡ true → ends_line (xs ++ ys) ≡ true
 lines_joined xs [] h k = subst (λ l. ends_line l ≡ true) (sym (append-nil xs)) h
 lines_joined xs (y ∷ ys) h k = grind (arith, common_steps, length-append)
-
--- the labels of all units with one more
-pub labels_more : (all : List FoundUnit) (found : FoundUnit) (old new : LabelMap) → old ≡ with_units [] all → new ≡ with_definitions old found.unit.definitions
-    → new ≡ with_units [] (all ++ found ∷ [])
-labels_more all found old new before adds =
-    adds ∙ ap (λ labels. with_definitions labels found.unit.definitions) before ∙ sym (labels_behind all [] (found ∷ []))
 
 pub not_none : {A : Type 0} (o : Option ℕ) → is_some o ≡ true → o ≡ None → A
 not_none None h e = cc
@@ -87,3 +171,21 @@ is_none (Some n) h = cc
 pub never_some : (o : Option ℕ) → ((n : ℕ) → o ≡ Some n → ⊥) → o ≡ None
 never_some None never = refl
 never_some (Some n) never = absurd (never n refl)
+
+pub not_both : {A : Type 0} (o : Option ℕ) (n : ℕ) → o ≡ None → o ≡ Some n → A
+not_both None n none some = cc
+not_both (Some m) n none some = cc
+
+fails : (b : Bool) → ¬ (b ≡ true) → b ≡ false
+fails true h = absurd (h refl)
+fails false h = refl
+
+nowhere_closes : (bytes : List ℕ) → ((k : ℕ) → k < length bytes → ¬ (is_byte 93 (slice_index bytes k) ≡ true)) → closes_bracket bytes ≡ false
+nowhere_closes [] h = refl
+nowhere_closes (byte ∷ bytes) h =
+    ap (λ t. t || closes_bracket bytes) (fails (is_byte 93 byte) (h 0 (omega arith))) ∙ nowhere_closes bytes (λ k below. h (suc k) (omega (arith, below)))
+
+-- no bracket is found in the text
+pub none_closes : (found : Option ℕ) (bytes : List ℕ) → is_some found ≡ false → IsFirstByte (is_byte 93) bytes found → closes_bracket bytes ≡ false
+none_closes None bytes none h = nowhere_closes bytes (λ k below. h k (omega arith) below)
+none_closes (Some at) bytes none h = cc

@@ -1,50 +1,42 @@
 -- What each end of the reading of a whole text says.
-use Rattle.std.specs.Prelude.{◌≡◌, ℕ, List, ◌++◌, Option, Some, None, Result, Ok, Err, length, map, string_bytes, String}
+use Rattle.std.specs.Prelude.{◌≡◌, ℕ, List, [], ◌++◌, Option, Some, None, Result, Ok, Err, find, map, option_map, string_bytes, String}
 use Rattle.std.specs.Global.{Global}
-use Rattle.std.specs.List.{All, concat}
-use Rattle.mdtext.specs.EntityTable.{EntityTable}
+use Rattle.std.specs.List.{concat}
+use Rattle.inlinespec.specs.LinkTails.{Table}
+use Rattle.mdinline.specs.declared.faults.InlineFault.{InlineFault}
+use Rattle.mdinline.specs.declared.faults.InlineFault.TheVariants as inline
 use Rattle.blockspec.specs.BlockUnits.{units}
 use Rattle.blockspec.specs.Nesting.{first_too_deep}
 use Rattle.mdblock.specs.declared.faults.BlockFault.{BlockFault}
 use Rattle.mdblock.specs.declared.faults.BlockFault.TheVariants as block
-use Rattle.blockspec.specs.UnitTree.{UnitTree, FoundUnit}
-use Rattle.mdinline.specs.ParsedText.{ParsedText}
-use Rattle.mdhtml.specs.declared.options.Options.{Options}
+use Rattle.blockspec.specs.UnitTree.{FoundUnit}
+use Rattle.viewspec.specs.Refusals.{is_too_deep}
+use Rattle.viewspec.specs.Setting.{Setting}
+use Rattle.viewspec.specs.View.{ViewedUnit, viewed}
 use Rattle.mdview.specs.declared.fault.EditFault.{EditFault}
 use Rattle.mdview.specs.declared.fault.EditFault.TheVariants.{OutOfRange, BreakInLine, TooManyLines, TooLarge, NestedTooDeep, InlineTooDeep, NoMemory, NotDefinitions}
 use Rattle.mdview.specs.Edit.{refusal}
-use Rattle.mdview.specs.HeldUnit.{ReadUnit, html_of, unit_piece}
+use Rattle.mdview.specs.Preludes.{HeldPrelude}
+use Rattle.mdbatch.specs.TextLabels.{page_table}
 
--- each text of the unit was read
-abbrev pub IsRead : ReadUnit → Type 0
-IsRead u = length u.readings ≡ length u.unit.texts
+abbrev pub piece_in : ViewedUnit → List ℕ
+piece_in one = one.piece
 
--- a unit and how many lines it has, of one that was found and of one that was read
-abbrev pub found_part : FoundUnit → ℕ × UnitTree
-found_part found = (found.lines, found.unit)
+abbrev pub begin_in : ViewedUnit → ℕ
+begin_in one = one.begin
 
-abbrev pub read_part : ReadUnit → ℕ × UnitTree
-read_part u = (u.lines, u.unit)
+-- the pieces of these units, each text read under these labels, one after the other
+abbrev pub pieces_of : Setting → Table → List FoundUnit → List ℕ
+pieces_of setting labels found = concat (map piece_in (map (viewed setting labels) found))
 
--- behind the text so far stands the piece of the unit, whose texts were read
-pub record AppendsUnit (options : Options) (unit : UnitTree) (old new : List ℕ) : Type 0 where
-  pub readings : List ParsedText
-  pub all : length readings ≡ length unit.texts
-  pub written : new ≡ old ++ html_of options unit readings
+-- the line at which the first of them begins in which spans lie too deep
+abbrev pub deep_line : Setting → Table → List FoundUnit → Option ℕ
+deep_line setting labels found = option_map begin_in (find (is_too_deep setting.options.max_spans) (map (viewed setting labels) found))
 
--- behind the text so far stand the pieces of these units, one after the other
-pub record AppendsUnits (options : Options) (found : List FoundUnit) (old new : List ℕ) : Type 0 where
-  pub units : List ReadUnit
-  pub are : map read_part units ≡ map found_part found
-  pub all : All IsRead units
-  pub written : new ≡ old ++ concat (map (unit_piece options) units)
-
--- the pieces of these units, whose texts were read, one after the other
-pub record UnitsHtml (options : Options) (found : List FoundUnit) (html : List ℕ) : Type 0 where
-  pub units : List ReadUnit
-  pub are : map read_part units ≡ map found_part found
-  pub all : All IsRead units
-  pub written : html ≡ concat (map (unit_piece options) units)
+-- behind the text so far stand the pieces of these units, in none of which spans lie too deep
+pub record WritesUnits (setting : Setting) (labels : Table) (found : List FoundUnit) (old new : List ℕ) : Type 0 where
+  pub within : deep_line setting labels found ≡ None
+  pub written : new ≡ old ++ pieces_of setting labels found
 
 -- the fault of an edit for a fault of the reader in a line; behind no fault a line is read
 abbrev pub fault_of : BlockFault → ℕ → EditFault
@@ -52,28 +44,64 @@ fault_of block.NestedTooDeep line = NestedTooDeep line
 fault_of block.NoMemory line = NoMemory
 fault_of block.Failed line = NoMemory
 
+-- that for a fault of the reading of the texts of a unit which begins at a line
+abbrev pub text_fault_of : InlineFault → ℕ → EditFault
+text_fault_of inline.TooDeep line = InlineTooDeep line
+text_fault_of inline.NoMemory line = NoMemory
+
 -- a fault of the reading of a text in which this line, if any, begins a container too many
-abbrev pub IsFaultOf : Option ℕ → EditFault → Type 0
-IsFaultOf deep (NestedTooDeep line) = deep ≡ Some line
-IsFaultOf deep (InlineTooDeep line) = deep ≡ None
-IsFaultOf deep NoMemory = Unit {0}
-IsFaultOf deep TooManyLines = ⊥
-IsFaultOf deep TooLarge = ⊥
-IsFaultOf deep (OutOfRange lines) = ⊥
-IsFaultOf deep (BreakInLine index) = ⊥
-IsFaultOf deep (NotDefinitions line) = ⊥
+abbrev pub IsReadFault : (nested : Option ℕ) → EditFault → Type 0
+IsReadFault nested (NestedTooDeep line) = nested ≡ Some line
+IsReadFault nested NoMemory = Unit {0}
+IsReadFault nested (InlineTooDeep line) = ⊥
+IsReadFault nested TooManyLines = ⊥
+IsReadFault nested TooLarge = ⊥
+IsReadFault nested (OutOfRange lines) = ⊥
+IsReadFault nested (BreakInLine index) = ⊥
+IsReadFault nested (NotDefinitions line) = ⊥
+
+-- a fault of the reading of its inline texts, where at this line, if any, the first unit begins in which spans lie too deep
+abbrev pub IsTextFault : (deep : Option ℕ) → EditFault → Type 0
+IsTextFault deep (InlineTooDeep line) = deep ≡ Some line
+IsTextFault deep NoMemory = Unit {0}
+IsTextFault deep (NestedTooDeep line) = ⊥
+IsTextFault deep TooManyLines = ⊥
+IsTextFault deep TooLarge = ⊥
+IsTextFault deep (OutOfRange lines) = ⊥
+IsTextFault deep (BreakInLine index) = ⊥
+IsTextFault deep (NotDefinitions line) = ⊥
+
+-- one of these
+abbrev pub IsFaultOf : (nested deep : Option ℕ) → EditFault → Type 0
+IsFaultOf nested deep (NestedTooDeep line) = nested ≡ Some line
+IsFaultOf nested deep (InlineTooDeep line) = (nested ≡ None) × (deep ≡ Some line)
+IsFaultOf nested deep NoMemory = Unit {0}
+IsFaultOf nested deep TooManyLines = ⊥
+IsFaultOf nested deep TooLarge = ⊥
+IsFaultOf nested deep (OutOfRange lines) = ⊥
+IsFaultOf nested deep (BreakInLine index) = ⊥
+IsFaultOf nested deep (NotDefinitions line) = ⊥
+
+-- the pieces of a text with these lines beside this prelude
+abbrev pub WritesPage : Setting → HeldPrelude → List (List ℕ) → List ℕ → Type 0
+WritesPage setting prelude lines html = WritesUnits setting (page_table (units setting.entities lines) prelude) (units setting.entities lines) [] html
+
+-- the line at which the first of its units begins in which spans lie too deep
+abbrev pub deep_on_page : Setting → HeldPrelude → List (List ℕ) → Option ℕ
+deep_on_page setting prelude lines = deep_line setting (page_table (units setting.entities lines) prelude) (units setting.entities lines)
 
 -- What each end says of the text whose lines are these; there is no other. A refusal of its lines or bytes is the answer where it is due, whatever the memory;
--- where none is, a line on which a container begins too deep is the answer, or a unit with spans too deep, or memory was refused, or no container is too deep
--- and this is the HTML of all its units.
-abbrev pub TextHtml : Result (String Global) EditFault → EntityTable → Options → List (List ℕ) → Type 0
-TextHtml (Ok html) entities options lines =
-    (refusal lines ≡ None) × UnitsHtml options (units entities lines) (string_bytes html) × (first_too_deep options.max_containers lines ≡ None)
-TextHtml (Err TooManyLines) entities options lines = refusal lines ≡ Some TooManyLines
-TextHtml (Err TooLarge) entities options lines = refusal lines ≡ Some TooLarge
-TextHtml (Err (NestedTooDeep line)) entities options lines = (refusal lines ≡ None) × (first_too_deep options.max_containers lines ≡ Some line)
-TextHtml (Err (InlineTooDeep line)) entities options lines = (refusal lines ≡ None) × (first_too_deep options.max_containers lines ≡ None)
-TextHtml (Err NoMemory) entities options lines = refusal lines ≡ None
-TextHtml (Err (OutOfRange count)) entities options lines = ⊥
-TextHtml (Err (BreakInLine index)) entities options lines = ⊥
-TextHtml (Err (NotDefinitions line)) entities options lines = ⊥
+-- where none is, the first line on which a container begins too deep is the answer, or else the first line of the first unit with spans too deep, or memory was
+-- refused, or there is no such line and this is the HTML of all its units.
+abbrev pub TextHtml : Result (String Global) EditFault → Setting → HeldPrelude → List (List ℕ) → Type 0
+TextHtml (Ok html) setting prelude lines =
+    (refusal lines ≡ None) × (first_too_deep setting.options.max_containers lines ≡ None) × WritesPage setting prelude lines (string_bytes html)
+TextHtml (Err TooManyLines) setting prelude lines = refusal lines ≡ Some TooManyLines
+TextHtml (Err TooLarge) setting prelude lines = refusal lines ≡ Some TooLarge
+TextHtml (Err (NestedTooDeep line)) setting prelude lines = (refusal lines ≡ None) × (first_too_deep setting.options.max_containers lines ≡ Some line)
+TextHtml (Err (InlineTooDeep line)) setting prelude lines =
+    (refusal lines ≡ None) × (first_too_deep setting.options.max_containers lines ≡ None) × (deep_on_page setting prelude lines ≡ Some line)
+TextHtml (Err NoMemory) setting prelude lines = refusal lines ≡ None
+TextHtml (Err (OutOfRange count)) setting prelude lines = ⊥
+TextHtml (Err (BreakInLine index)) setting prelude lines = ⊥
+TextHtml (Err (NotDefinitions line)) setting prelude lines = ⊥

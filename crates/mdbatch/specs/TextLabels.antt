@@ -1,23 +1,21 @@
 -- Where the labels of a text lead (CommonMark 4.7).
-use Rattle.std.specs.Prelude.{ℕ, List, [], ◌∷◌, Option}
+use Rattle.std.specs.Prelude.{ℕ, List, Option}
 use Rattle.std.specs.Option.{option_or}
-use Rattle.mdleaf.specs.LinkDefinition.{LinkDefinition}
+use Rattle.blockspec.specs.BlockUnits.{definitions_of}
 use Rattle.blockspec.specs.UnitTree.{FoundUnit}
-use Rattle.inlinespec.specs.LabelMap.{LabelMap, LinkTarget, put_first, target_in}
-use Rattle.mdview.specs.Preludes.{target_beside}
+use Rattle.inlinespec.specs.LabelMap.{LabelMap, LinkTarget, target_in}
+use Rattle.inlinespec.specs.LinkTails.{Table}
+use Rattle.viewspec.specs.LabelTable.{table_of}
+use Rattle.mdview.specs.Preludes.{HeldPrelude, target_beside}
 use Rattle.mdbatch.specs.declared.page_labels.PageLabels.{PageLabels}
 
--- the map with these definitions after those that it has: a label keeps its first target
-abbrev pub with_definitions : LabelMap → List LinkDefinition → LabelMap
-with_definitions labels [] = labels
-with_definitions labels (definition ∷ definitions) =
-    with_definitions (put_first labels definition.label (record { url = definition.url; title = definition.title })) definitions
-
--- the map with the definitions of these units, in order
-abbrev pub with_units : LabelMap → List FoundUnit → LabelMap
-with_units labels [] = labels
-with_units labels (found ∷ units) = with_units (with_definitions labels found.unit.definitions) units
-
 -- the target of a label: where the text defines it, what the text says, and else what the prelude says
+abbrev pub target_by : LabelMap → HeldPrelude → Table
+target_by own prelude label = option_or (target_in own label) (target_beside prelude label)
+
 abbrev pub target_on_page : PageLabels → List ℕ → Option LinkTarget
-target_on_page page label = option_or (target_in page.own.now label) (target_beside page.prelude.now label)
+target_on_page page label = target_by page.own.now page.prelude.now label
+
+-- where labels lead in a text with these units, beside a prelude: of several definitions of a label the first counts
+abbrev pub page_table : List FoundUnit → HeldPrelude → Table
+page_table found prelude label = option_or (table_of (definitions_of found) label) (target_beside prelude label)

@@ -3,15 +3,13 @@ ghost use Rattle.std.specs.Prelude.{ℕ, List, [], ◌≡◌, ◌++◌, ◌≤�
 ghost use Rattle.std.specs.List.{All};
 ghost use Rattle.blockspec.specs.UnitTree.{FoundUnit};
 ghost use Rattle.mdtext.specs.Lines.{split_lines, text_lines};
-ghost use Rattle.blockspec.specs.BlockUnits.{units};
 ghost use Rattle.blockspec.specs.Nesting.{first_too_deep};
 ghost use Rattle.mdhtml.specs.Limits.{HasLimits};
 ghost use Rattle.mdhtml.specs.BlockHtml.{ends_line};
-ghost use Rattle.mdhtml.specs.WrittenUnits.{options_of};
 ghost use Rattle.mdview.specs.Document.{size_of};
-ghost use Rattle.mdview.specs.ReadingEnd.{OfTexts};
-ghost use Rattle.mdbatch.specs.BatchHtml.{AppendsUnits, IsFaultOf, TextHtml, UnitsHtml};
-ghost use Rattle.mdbatch.specs.GatheredUnits.{EndsLine, Gathers, HasGathered, IsWoven, IsWrittenTo};
+ghost use Rattle.mdbatch.specs.BatchHtml.{IsFaultOf, IsTextFault, TextHtml, WritesPage, WritesUnits, deep_line, deep_on_page, text_fault_of};
+ghost use Rattle.mdbatch.specs.GatheredUnits.{EndsLine, Gathers, HasGathered, IsWoven, IsWrittenTo, setting_of};
+ghost use Rattle.mdbatch.specs.TextLabels.{page_table, target_on_page};
 
 use crate::gathered::{Gathered, Waiting};
 use crate::limits::within_limits;
@@ -36,7 +34,7 @@ pub fn to_html(
     prelude: &Prelude,
 ) -> Result<String, EditFault>
     requires { HasLimits options.now }
-    ensures { TextHtml result entities.now options.now (text_lines text.now) }
+    ensures { TextHtml result (record { entities = entities.now; options = options.now }) prelude.now (text_lines text.now) }
 {
     let text = after_mark(text);
     within_limits(text)?;
@@ -58,9 +56,10 @@ fn clean_html(
     requires limits { HasLimits options.now }
     requires few { length (split_lines text.now) ≤ 1000000 }
     requires small { size_of (split_lines text.now) ≤ 16777216 }
-    ensures html { IfOk result (λ html. UnitsHtml options.now (units entities.now (split_lines text.now)) (string_bytes html)) }
+    ensures html { IfOk result (λ html. WritesPage (record { entities = entities.now; options = options.now }) prelude.now (split_lines text.now) (string_bytes html)) }
     ensures nesting { OnOk result (first_too_deep options.now.max_containers (split_lines text.now) ≡ None) }
-    ensures fault { IfErr result (IsFaultOf (first_too_deep options.now.max_containers (split_lines text.now))) }
+    ensures fault { IfErr result (IsFaultOf (first_too_deep options.now.max_containers (split_lines text.now))
+        (deep_on_page (record { entities = entities.now; options = options.now }) prelude.now (split_lines text.now))) }
 {
     let gathered = gathered_units(alloc, text, entities, options)?;
     whole_html(alloc, gathered, entities, options, prelude)
@@ -75,9 +74,11 @@ fn whole_html(
     prelude: &Prelude,
 ) -> Result<String, EditFault>
     requires limits { HasLimits options.now }
-    requires gathered { HasGathered options.now gathered }
-    ensures html { (all : List FoundUnit) → Gathers options.now all gathered → IfOk result (λ html. AppendsUnits options.now all [] (string_bytes html)) }
-    ensures fault { IfErr result OfTexts }
+    requires gathered { HasGathered (record { entities = entities.now; options = options.now }) gathered }
+    ensures html { (all : List FoundUnit) → Gathers (record { entities = entities.now; options = options.now }) all gathered
+        → IfOk result (λ html. WritesUnits (record { entities = entities.now; options = options.now }) (page_table all prelude.now) all [] (string_bytes html)) }
+    ensures fault { (all : List FoundUnit) → Gathers (record { entities = entities.now; options = options.now }) all gathered
+        → IfErr result (IsTextFault (deep_line (record { entities = entities.now; options = options.now }) (page_table all prelude.now) all)) }
 {
     let Gathered {
         waiting,
@@ -108,9 +109,10 @@ fn append_waiting<'a>(
 ) -> Result<(), EditFault>
     requires out { ends_line (string_bytes out.old) ≡ true }
     requires lines { All EndsLine waiting.items }
-    ensures html { (all : List FoundUnit) (html : List ℕ) → IsWoven (options_of writer.old) all waiting.items html
-        → OnOk result (IsWrittenTo (options_of writer.old) all [] html (string_bytes out.old) (string_bytes out.new)) }
-    ensures fault { IfErr result OfTexts }
+    ensures html { (all : List FoundUnit) (html : List ℕ) → IsWoven (setting_of writer.old) all waiting.items html
+        → OnOk result (IsWrittenTo (setting_of writer.old) (target_on_page labels.now) all [] html (string_bytes out.old) (string_bytes out.new)) }
+    ensures fault { (all : List FoundUnit) (html : List ℕ) → IsWoven (setting_of writer.old) all waiting.items html
+        → IfErr result (IsTextFault (deep_line (setting_of writer.old) (target_on_page labels.now) all)) }
 {
     for waits in waiting {
         put_behind(waits.before, out)?;
@@ -134,7 +136,7 @@ fn put_behind(html: String, out: &mut String) -> Result<(), NoMemory>
 }
 
 fn fault_in_unit(fault: InlineFault, begin: usize) -> EditFault
-    ensures { OfTexts result }
+    ensures { result ≡ text_fault_of fault begin }
 {
     match fault {
         InlineFault::TooDeep => EditFault::InlineTooDeep { line: begin },

@@ -1,11 +1,11 @@
 //! What is read of a whole text before all its labels are known.
-ghost use Rattle.std.specs.Prelude.{List, ◌≡◌, ◌++◌, ◌∷◌, [], IfErr, IfOk, OnOk, string_bytes};
+ghost use Rattle.std.specs.Prelude.{List, ◌≡◌, ◌++◌, ◌∷◌, [], IfErr, IfOk, OnOk, false, string_bytes};
+ghost use Rattle.std.specs.List.{list_any};
 ghost use Rattle.std.specs.Option.{option_to_list};
 ghost use Rattle.blockspec.specs.UnitTree.{FoundUnit};
-ghost use Rattle.mdhtml.specs.WrittenUnits.{options_of};
-ghost use Rattle.mdhtml.specs.declared.options.Options.{Options};
+ghost use Rattle.viewspec.specs.Setting.{Setting};
 ghost use Rattle.mdview.specs.declared.fault.EditFault.TheVariants.{NoMemory};
-ghost use Rattle.mdbatch.specs.GatheredUnits.{Gathers, HasGathered};
+ghost use Rattle.mdbatch.specs.GatheredUnits.{Gathers, HasGathered, closes_bracket, setting_of};
 ghost use Rattle.mdbatch.specs.declared.gathered.Waiting.{Waiting};
 
 use crate::labels::add_definitions;
@@ -40,7 +40,7 @@ pub(crate) struct Gathered {
 impl Gathered {
     /// Nothing read yet, and room for so many bytes of HTML.
     pub(crate) fn new(alloc: Global, room: usize) -> Result<Gathered, NoMemory>
-        ensures { IfOk result (λ gathered. (options : Options) → Gathers options [] gathered) }
+        ensures { IfOk result (λ gathered. (setting : Setting) → Gathers setting [] gathered) }
     {
         Ok(Gathered {
             waiting: Vec::new(alloc),
@@ -51,6 +51,7 @@ impl Gathered {
     }
 
     /// Takes the next unit, if there is one.
+    #[inline(always)]
     pub(crate) fn take<'a>(
         &mut self,
         alloc: Global,
@@ -58,15 +59,32 @@ impl Gathered {
         writer: &mut UnitWriter<'a>,
         no_labels: &'a LabelTable,
     ) -> Result<(), EditFault>
-        requires { HasGathered (options_of writer.old) self.old }
-        ensures gathers { (all : List FoundUnit) → Gathers (options_of writer.old) all self.old
-            → OnOk result (Gathers (options_of writer.old) (all ++ option_to_list found) self.new) }
-        ensures options { options_of writer.new ≡ options_of writer.old }
+        requires { HasGathered (setting_of writer.old) self.old }
+        ensures gathers { (all : List FoundUnit) → Gathers (setting_of writer.old) all self.old
+            → OnOk result (Gathers (setting_of writer.old) (all ++ option_to_list found) self.new) }
+        ensures setting { setting_of writer.new ≡ setting_of writer.old }
         ensures fault { IfErr result (λ fault. fault ≡ NoMemory) }
     {
-        let Some(found) = found else {
-            return Ok(());
-        };
+        match found {
+            Some(found) => self.take_unit(alloc, found, writer, no_labels),
+            None => Ok(()),
+        }
+    }
+
+    /// Writes a unit, or has it wait.
+    fn take_unit<'a>(
+        &mut self,
+        alloc: Global,
+        found: Found,
+        writer: &mut UnitWriter<'a>,
+        no_labels: &'a LabelTable,
+    ) -> Result<(), EditFault>
+        requires { HasGathered (setting_of writer.old) self.old }
+        ensures gathers { (all : List FoundUnit) → Gathers (setting_of writer.old) all self.old
+            → OnOk result (Gathers (setting_of writer.old) (all ++ found ∷ []) self.new) }
+        ensures setting { setting_of writer.new ≡ setting_of writer.old }
+        ensures fault { IfErr result (λ fault. fault ≡ NoMemory) }
+    {
         add_definitions(alloc, &mut self.labels, found.unit().definitions())?;
         if self.too_deep.is_some() {
             return Ok(());
@@ -99,8 +117,11 @@ impl Gathered {
 }
 
 /// Whether a label may be looked up for a text of the unit: one is looked up only where a bracket closes (CommonMark 6.3).
-fn may_ask(unit: &Unit) -> bool {
-    for text in unit.texts() {
+fn may_ask(unit: &Unit) -> bool
+    ensures { result ≡ false → list_any closes_bracket unit.now.texts ≡ false }
+{
+    let texts = unit.texts();
+    for text in texts {
         if memchr(b']', text.as_bytes()).is_some() {
             return true;
         }

@@ -1,5 +1,5 @@
 //! The limits on the lines and bytes of a whole text.
-ghost use Rattle.std.specs.Prelude.{◌≡◌, IfErr, OnOk, Some, None, map};
+ghost use Rattle.std.specs.Prelude.{◌≡◌, ◌+◌, ◌*◌, ◌≤◌, IfErr, IsTrue, OnOk, Some, None, map};
 ghost use Rattle.mdtext.specs.Lines.{split_lines, without_nul};
 ghost use Rattle.mdview.specs.Edit.{refusal};
 
@@ -16,14 +16,13 @@ pub(crate) fn within_limits(text: &str) -> Result<(), EditFault>
     ensures within { OnOk result (refusal (map without_nul (split_lines text.now)) ≡ None) }
     ensures beyond { IfErr result (λ fault. refusal (map without_nul (split_lines text.now)) ≡ Some fault) }
 {
-    // A text has no more lines than bytes, and a byte stands for at most three.
-    if text.len() < MAX_LINES {
-        return Ok(());
-    }
     let mut lines: usize = 0;
     let mut size: usize = 0;
     let mut rest = text;
     while !rest.is_empty() {
+        if stays_within(lines, size, rest.len()) {
+            return Ok(());
+        }
         let (line, after) = split_line(rest);
         lines = lines.saturating_add(1);
         size = size.saturating_add(clean_len(line)).saturating_add(1);
@@ -36,4 +35,13 @@ pub(crate) fn within_limits(text: &str) -> Result<(), EditFault>
         return Err(EditFault::TooLarge);
     }
     Ok(())
+}
+
+/// Whether no rest of so many bytes brings the lines and bytes before it beyond the limits: it has no more lines than bytes, and a byte stands for at
+/// most three.
+fn stays_within(lines: usize, size: usize, left: usize) -> bool
+    ensures lines { IsTrue result → lines + left ≤ 1000000 }
+    ensures bytes { IsTrue result → size + 3 * left + 1 ≤ 16777216 }
+{
+    left < MAX_LINES && lines <= MAX_LINES - left && size < MAX_SIZE - 3 * left
 }

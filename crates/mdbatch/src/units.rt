@@ -1,11 +1,12 @@
 //! The units of a whole text.
-ghost use Rattle.std.specs.Prelude.{◌≡◌, ◌≤◌, IfErr, IfOk, None, OnOk, length};
+ghost use Rattle.std.specs.Prelude.{◌≡◌, ◌<◌, ◌≤◌, ◌∷◌, IfErr, IfOk, None, OnOk, length};
+ghost use Rattle.std.specs.Str.{IsUtf8};
 ghost use Rattle.mdtext.specs.Lines.{split_lines};
 ghost use Rattle.blockspec.specs.BlockUnits.{units};
 ghost use Rattle.blockspec.specs.Nesting.{first_too_deep};
 ghost use Rattle.mdhtml.specs.Limits.{HasLimits};
 ghost use Rattle.mdview.specs.Document.{size_of};
-ghost use Rattle.mdbatch.specs.BatchHtml.{IsFaultOf, fault_of};
+ghost use Rattle.mdbatch.specs.BatchHtml.{IsReadFault, fault_of};
 ghost use Rattle.mdbatch.specs.GatheredUnits.{Gathers};
 
 use crate::gathered::Gathered;
@@ -26,9 +27,9 @@ pub(crate) fn gathered_units(
     requires limits { HasLimits options.now }
     requires few { length (split_lines text.now) ≤ 1000000 }
     requires small { size_of (split_lines text.now) ≤ 16777216 }
-    ensures gathers { IfOk result (Gathers options.now (units entities.now (split_lines text.now))) }
+    ensures gathers { IfOk result (Gathers (record { entities = entities.now; options = options.now }) (units entities.now (split_lines text.now))) }
     ensures nesting { OnOk result (first_too_deep options.now.max_containers (split_lines text.now) ≡ None) }
-    ensures fault { IfErr result (IsFaultOf (first_too_deep options.now.max_containers (split_lines text.now))) }
+    ensures fault { IfErr result (IsReadFault (first_too_deep options.now.max_containers (split_lines text.now))) }
 {
     let no_labels = LabelTable::new(alloc);
     let mut writer = UnitWriter::new(alloc, entities, options);
@@ -37,7 +38,7 @@ pub(crate) fn gathered_units(
     let mut count = Tally::new();
     let mut rest = text;
     while !rest.is_empty() {
-        let (line, after) = split_line(rest);
+        let (line, after) = next_line(rest);
         match reader.line(line, &mut count) {
             Ok(found) => gathered.take(alloc, found, &mut writer, &no_labels)?,
             Err(fault) => return Err(fault_in_line(fault, reader.fed())),
@@ -50,6 +51,20 @@ pub(crate) fn gathered_units(
         Err(_) => return Err(EditFault::NoMemory),
     }
     Ok(gathered)
+}
+
+/// The first line of a text that is not empty, and the text after its ending: an empty line at once.
+#[inline(always)]
+fn next_line(text: &str) -> (&str, &str)
+    requires { 0 < length text.now }
+    ensures lines { split_lines text.now ≡ result.0.now ∷ split_lines result.1.now }
+    ensures shorter { length result.1.now < length text.now }
+    ensures text { IsUtf8 result.1.now }
+{
+    match text.strip_prefix('\n') {
+        Some(after) => ("", after),
+        None => split_line(text),
+    }
 }
 
 /// No line is fed after a fault, so none is answered `Failed`.

@@ -1,11 +1,18 @@
-use Rattle.std.proofs.Common.{[], string_bytes, refl}
-use Rattle.std.proofs.lemmas.Result.{IfOk-weaker}
+use Rattle.std.proofs.lemmas.Result.{IfErr-weaker, err_from_is_err_and}
 use Rattle.mdtext.specs.Lines.{split_lines}
 use Rattle.blockspec.specs.BlockUnits.{units}
-use Rattle.mdbatch.proofs.UnitsWritten.{all_written}
+use Rattle.mdbatch.proofs.WholeTexts.{of_reading, of_texts}
 use Rattle.mdbatch.proofs.batch.clean_html.Goals as goal
 
+pub returns-in_err-gathered-clause-fault : goal.returns-in_err-gathered-clause-fault
+returns-in_err-gathered-clause-fault c =
+    let p = err_from_is_err_and c.from_residual.result c.from_residual.ensures.1 in
+    rw (p.1, p.2) (of_reading _ _ c.in_err-gathered.field-0.0 c.in_err-gathered.ensures.fault)
+
 pub returns-clause-html : goal.returns-clause-html
-returns-clause-html c =
-    let all = units c.args.entities.now (split_lines c.args.text.now) in
-    IfOk-weaker c.whole_html.result _ _ (λ html writes. all_written c.args.options.now all [] (string_bytes html) refl writes) (c.whole_html.ensures.html all c.in_ok-gathered.ensures.gathers)
+returns-clause-html c = c.whole_html.ensures.html (units c.args.entities.now (split_lines c.args.text.now)) c.in_ok-gathered.ensures.gathers
+
+pub returns-clause-fault : goal.returns-clause-fault
+returns-clause-fault c =
+    IfErr-weaker c.whole_html.result _ _ (λ fault h. of_texts _ _ fault c.in_ok-gathered.ensures.nesting h)
+    (c.whole_html.ensures.fault (units c.args.entities.now (split_lines c.args.text.now)) c.in_ok-gathered.ensures.gathers)

@@ -24,8 +24,8 @@ pub returns-then-is_clean : goal.returns-then-is_clean
 returns-then-is_clean c =
     let text = c.after_mark-text.result.now in
     let lines = ap split_lines (sym (c.is_clean.ensures c.if-is_clean.true)) ∙ lines_of_clean text in
-    subst (λ ls. TextHtml c.clean_html.result c.args.entities.now c.args.options.now ls) (lines ∙ ap (λ t. map without_nul (split_lines t)) c.after_mark-text.ensures)
-    (text_html c.clean_html.result c.args.entities.now c.args.options.now (split_lines text) (ap refusal lines ∙ c.in_ok-within_limits.ensures.within)
+    subst (λ ls. TextHtml c.clean_html.result (record { entities = c.args.entities.now; options = c.args.options.now }) c.args.prelude.now ls) (lines ∙ ap (λ t. map without_nul (split_lines t)) c.after_mark-text.ensures)
+    (text_html c.clean_html.result (record { entities = c.args.entities.now; options = c.args.options.now }) c.args.prelude.now (split_lines text) (ap refusal lines ∙ c.in_ok-within_limits.ensures.within)
     c.clean_html.ensures.html c.clean_html.ensures.nesting c.clean_html.ensures.fault)
 
 pub returns : goal.returns
@@ -33,6 +33,6 @@ returns c =
     let text = c.after_mark-text.result.now in
     let clean = c.deref.result.now in
     let lines = ap split_lines (c.deref.ensures ∙ c.in_ok-clean.ensures) ∙ lines_of_clean text in
-    subst (λ ls. TextHtml c.clean_html-2.result c.args.entities.now c.args.options.now ls) (lines ∙ ap (λ t. map without_nul (split_lines t)) c.after_mark-text.ensures)
-    (text_html c.clean_html-2.result c.args.entities.now c.args.options.now (split_lines clean) (ap refusal lines ∙ c.in_ok-within_limits.ensures.within)
+    subst (λ ls. TextHtml c.clean_html-2.result (record { entities = c.args.entities.now; options = c.args.options.now }) c.args.prelude.now ls) (lines ∙ ap (λ t. map without_nul (split_lines t)) c.after_mark-text.ensures)
+    (text_html c.clean_html-2.result (record { entities = c.args.entities.now; options = c.args.options.now }) c.args.prelude.now (split_lines clean) (ap refusal lines ∙ c.in_ok-within_limits.ensures.within)
     c.clean_html-2.ensures.html c.clean_html-2.ensures.nesting c.clean_html-2.ensures.fault)

@@ -6,13 +6,15 @@ use Rattle.mdbatch.proofs.DueRefusals.{none_due, too_large, lines_counted, bytes
 use Rattle.mdbatch.proofs.SplitText.{few_lines, small_lines}
 use Rattle.mdbatch.proofs.limits.within_limits.Goals as goal
 
-pub returns-then-text-lt-MAX_LINES-clause-within : goal.returns-then-text-lt-MAX_LINES-clause-within
-returns-then-text-lt-MAX_LINES-clause-within c =
+pub returns-then-stays_within-clause-within : goal.returns-then-stays_within-clause-within
+returns-then-stays_within-clause-within c =
     let text = c.args.text.now in
-    let lines = length-map (split_lines text) without_nul in
-    let few = few_lines text in
-    let small = small_lines text in
-    none_due (map without_nul (split_lines text)) (omega (arith, lines, few, c.if-text-lt-MAX_LINES.true)) (omega (arith, small, c.if-text-lt-MAX_LINES.true))
+    let same = length-map (split_lines text) without_nul in
+    let few = few_lines c.loop-rest.rest.now in
+    let small = small_lines c.loop-rest.rest.now in
+    let lines = c.stays_within.ensures.lines c.if-stays_within.true in
+    let bytes = c.stays_within.ensures.bytes c.if-stays_within.true in
+    none_due (map without_nul (split_lines text)) (omega (arith, same, few, lines, c.loop-rest.invariant.lines)) (omega (arith, small, bytes, c.loop-rest.invariant.bytes))
 
 pub returns-then-size-gt-MAX_SIZE-clause-beyond : goal.returns-then-size-gt-MAX_SIZE-clause-beyond
 returns-then-size-gt-MAX_SIZE-clause-beyond c =

@@ -2,10 +2,9 @@ use denote.Shadow.{shadow}
 use denote.Text.{Utf8}
 use Rattle.std.proofs.Common.{◌≡◌, ◌+◌, ◌≤◌, ℕ, List, ◌++◌, length}
 use Rattle.mdtext.specs.Lines.{split_lines}
-use Rattle.mdhtml.specs.WrittenUnits.{options_of}
 use Rattle.mdview.specs.Document.{size_of}
 use Rattle.mdblock.specs.held.Reads.{Reads, handed}
-use Rattle.mdbatch.specs.GatheredUnits.{Gathers}
+use Rattle.mdbatch.specs.GatheredUnits.{Gathers, setting_of}
 use Rattle.mdbatch.proofs.units.gathered_units.Given as goal
 
 -- the lines that were fed and those to come are within the limits; the units so far are written or wait
@@ -15,8 +14,8 @@ invariant-loop-rest l = record {
   few : l.reader.fed + length (split_lines l.rest) ≤ 1000000;
   small : size_of (split_lines l.rest) ≤ 16777216;
   gathers : (lines : List (List ℕ)) × (split_lines l.text ≡ lines ++ split_lines l.rest) × Reads l.options.max_containers l.entities l.reader lines
-      × Gathers l.options (handed l.entities lines) l.gathered;
-  options : options_of l.writer ≡ l.options;
+      × Gathers (record { entities = l.entities; options = l.options }) (handed l.entities lines) l.gathered;
+  setting : setting_of l.writer ≡ record { entities = l.entities; options = l.options };
 }
 
 abbrev pub decreases-loop-rest : goal.decreases-loop-rest
