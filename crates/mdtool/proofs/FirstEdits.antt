@@ -1,8 +1,12 @@
 -- The edit that brings a whole text is refused where the text is.
 use Rattle.std.proofs.Common.{◌≡◌, ℕ, ◌+◌, Bool, true, false, List, [], ◌∷◌, ◌++◌, Option, Some, None, Err, map, refl, ap, ◌∙◌, cond, ◌&&◌, ◌||◌, eqb, eqb-true, append-nil, length}
-use Rattle.std.specs.List.{list_any}
+use Rattle.std.specs.List.{concat, list_any}
 use Rattle.mdtext.specs.Lines.{clean_byte, without_nul, without_mark, begins_with_lf, at_front, split_lines, text_lines}
+use Rattle.blockspec.specs.BlockUnits.{units}
 use Rattle.blockspec.specs.UnitTree.{FoundUnit}
+use Rattle.inlinespec.specs.LinkTails.{Table}
+use Rattle.viewspec.specs.Setting.{Setting}
+use Rattle.viewspec.specs.View.{reading_of, viewed}
 use Rattle.mdview.specs.declared.fault.EditFault.{EditFault}
 use Rattle.mdview.specs.declared.fault.EditFault.TheVariants.{OutOfRange, BreakInLine, TooManyLines, TooLarge, NestedTooDeep, InlineTooDeep, NoMemory, NotDefinitions}
 use Rattle.mdtool.specs.declared.fault.ToolFault.TheVariants.{Refused}
@@ -13,7 +17,8 @@ use Rattle.mdview.specs.HeldUnit.{ReadUnit, unit_piece}
 use Rattle.mdview.specs.Outcome.{outcome_due}
 use Rattle.mdview.specs.ReadingEnd.{ReadingEnd, read, nested, too_deep, starved}
 use Rattle.viewspec.specs.ChangedPieces.{ChangedPieces}
-use Rattle.mdbatch.specs.BatchHtml.{TextHtml, UnitsHtml}
+use Rattle.mdbatch.specs.BatchHtml.{TextHtml, WritesPage, piece_in}
+use Rattle.mdbatch.specs.TextLabels.{page_table}
 use Rattle.mdtool.specs.Convert.{whole_text, Accepts, Refuses, HasHtml, WholeHtml}
 use Rattle.mdtool.specs.PreludeSet.{beside}
 use Rattle.mdtool.specs.ToolRefusals.{refusal_of}
@@ -112,14 +117,32 @@ refuses empty prelude text reading fault d e answer refused =
       refusal = refused;
     }
 
+-- the units as they read under these labels
+read_units : Setting → Table → List FoundUnit → List ReadUnit
+read_units setting labels found = map (λ one. record { lines = one.lines; unit = one.unit; readings = map (reading_of setting.entities labels) one.unit.texts }) found
+
+pieces_same : (setting : Setting) (labels : Table) (found : List FoundUnit)
+    → map piece_in (map (viewed setting labels) found) ≡ map (unit_piece setting.options) (read_units setting labels found)
+unfolding read_units
+pieces_same setting labels [] = refl
+pieces_same setting labels (one ∷ found) = ap (λ rest. (viewed setting labels one).piece ∷ rest) (pieces_same setting labels found)
+
 -- the HTML of a text is that of a preview with its prelude after the edit that brings it
-pub has_html : (empty : Document) (prelude : HeldPrelude) (found : List FoundUnit) (text html : List ℕ) → refusal (text_lines text) ≡ None
-    → UnitsHtml empty.options found html → HasHtml (beside empty prelude) (text_lines text) html
-has_html empty prelude found text html e is =
-    record { pieces = map (unit_piece empty.options) is.units; accepted = accepts empty prelude text is.units e; html_is = is.written }
+pub has_html : (empty : Document) (prelude : HeldPrelude) (text html : List ℕ) → refusal (text_lines text) ≡ None
+    → WritesPage (record { entities = empty.entities; options = empty.options }) prelude (text_lines text) html → HasHtml (beside empty prelude) (text_lines text) html
+has_html empty prelude text html e is =
+    let setting : Setting = record { entities = empty.entities; options = empty.options } in
+    let found = units empty.entities (text_lines text) in
+    let labels = page_table found prelude in
+    record {
+      pieces = map (unit_piece empty.options) (read_units setting labels found);
+      accepted = accepts empty prelude text (read_units setting labels found) e;
+      html_is = is.written ∙ ap concat (pieces_same setting labels found);
+    }
 
 -- and so is its refusal
-pub is_refused : (empty : Document) (prelude : HeldPrelude) (text : List ℕ) (fault : EditFault) → TextHtml (Err fault) empty.entities empty.options (text_lines text)
+pub is_refused : (empty : Document) (prelude : HeldPrelude) (text : List ℕ) (fault : EditFault)
+    → TextHtml (Err fault) (record { entities = empty.entities; options = empty.options }) prelude (text_lines text)
     → WholeHtml (Err (refusal_of fault)) (beside empty prelude) (text_lines text)
 is_refused empty prelude text TooManyLines h = refuses empty prelude text starved TooManyLines _ h refl refl
 is_refused empty prelude text TooLarge h = refuses empty prelude text starved TooLarge _ h refl refl

@@ -12,3 +12,4 @@ pub mod Splices
 pub mod Committed
 pub mod LineEndings
 pub mod MarkedLaws
+pub mod Definings

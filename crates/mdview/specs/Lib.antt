@@ -5,6 +5,7 @@ pub mod Document
 pub mod Edit
 pub mod Outcome
 pub mod Preludes
+pub mod Defining
 pub mod Run
 pub mod FaultNames
 pub mod NewText

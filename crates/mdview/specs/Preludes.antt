@@ -1,6 +1,9 @@
 -- What is held of a prelude, and how its reading ends.
-use Rattle.std.specs.Prelude.{◌≡◌, ℕ, List, Option, Some, None}
+use Rattle.std.specs.Prelude.{◌≡◌, ℕ, List, [], Option, Some, None}
+use Rattle.mdtext.specs.EntityTable.{EntityTable}
+use Rattle.blockspec.specs.BlockUnits.{units}
 use Rattle.inlinespec.specs.LabelMap.{LabelMap, LinkTarget, target_in}
+use Rattle.viewspec.specs.LabelTable.{with_units}
 use Rattle.mdview.specs.declared.fault.EditFault.{EditFault}
 use Rattle.mdview.specs.declared.fault.EditFault.TheVariants.{OutOfRange, BreakInLine, TooManyLines, TooLarge, NestedTooDeep, InlineTooDeep, NoMemory, NotDefinitions}
 use Rattle.mdview.specs.Edit.{due_of_prelude}
@@ -46,3 +49,18 @@ IsUndefining TooLarge = ⊥
 IsUndefining (OutOfRange lines) = ⊥
 IsUndefining (NestedTooDeep line) = ⊥
 IsUndefining (InlineTooDeep line) = ⊥
+
+-- where a prelude's lines are refused as more than definitions, they are so from this line on
+abbrev pub IsUndefiningAt : Option ℕ → EditFault → Type 0
+IsUndefiningAt first (NotDefinitions line) = first ≡ Some line
+IsUndefiningAt first NoMemory = Unit {0}
+IsUndefiningAt first (OutOfRange lines) = Unit {0}
+IsUndefiningAt first (BreakInLine index) = Unit {0}
+IsUndefiningAt first TooManyLines = Unit {0}
+IsUndefiningAt first TooLarge = Unit {0}
+IsUndefiningAt first (NestedTooDeep line) = Unit {0}
+IsUndefiningAt first (InlineTooDeep line) = Unit {0}
+
+-- the labels of a prelude lead where its lines define, as these entities read them
+abbrev pub IsDefinedBy : EntityTable → HeldPrelude → Type 0
+IsDefinedBy entities prelude = prelude.labels ≡ with_units [] (units entities prelude.lines)

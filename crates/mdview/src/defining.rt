@@ -1,9 +1,16 @@
 //! Reads the lines of a prelude, which are definitions and nothing else.
 
-ghost use Rattle.std.specs.Prelude.{◌≡◌, ◌≤◌, ◌<◌, ◌+◌, ◌*◌, ◌^◌, IfErr, length, map, string_bytes};
+ghost use Rattle.std.specs.Prelude.{List, [], ◌≡◌, ◌≤◌, ◌<◌, ◌+◌, ◌*◌, ◌^◌, ◌∷◌, ◌++◌, IfErr, IfOk, None, OnOk, length, map, string_bytes, take};
+ghost use Rattle.std.specs.Option.{option_to_list};
+ghost use Rattle.blockspec.specs.BlockUnits.{units};
+ghost use Rattle.blockspec.specs.UnitTree.{FoundUnit};
 ghost use Rattle.mdhtml.specs.Limits.{HasLimits};
+ghost use Rattle.mdleaf.specs.LinkDefinition.{definition_of};
+ghost use Rattle.viewspec.specs.LabelTable.{with_definitions, with_units};
+ghost use Rattle.viewspec.specs.Refusals.{undefining_line};
+ghost use Rattle.mdview.specs.Defining.{Defines, EndsAt, fault_of, shown};
 ghost use Rattle.mdview.specs.Document.{size_of};
-ghost use Rattle.mdview.specs.Preludes.{OfDefinitions};
+ghost use Rattle.mdview.specs.Preludes.{OfDefinitions, IsUndefiningAt};
 
 use crate::fault::EditFault;
 use mdblock::{BlockFault, Definition, Found, Reader};
@@ -26,6 +33,9 @@ pub(crate) fn read_definitions<C: Count>(
     requires limits { HasLimits options.now }
     requires few { length lines.now ≤ 1000000 }
     requires small { size_of (map string_bytes lines.now) ≤ 16777216 }
+    ensures defines { IfOk result (λ targets. shown targets.entries ≡ with_units [] (units entities.now (map string_bytes lines.now))) }
+    ensures definitions { OnOk result (undefining_line (record { entities = entities.now; options = options.now }) (map string_bytes lines.now) ≡ None) }
+    ensures undefining { IfErr result (IsUndefiningAt (undefining_line (record { entities = entities.now; options = options.now }) (map string_bytes lines.now))) }
     ensures fault { IfErr result OfDefinitions }
     ensures lines { C.lines count.new ≤ C.lines count.old + length lines.now }
     ensures inlines { C.inlines count.new ≡ C.inlines count.old }
@@ -47,11 +57,12 @@ pub(crate) fn read_definitions<C: Count>(
 }
 
 /// The line of this number, which is no longer than the text.
-#[tactic(auto, using(crate::proofs::Sizes::line_fits))]
+#[tactic(auto, using(crate::proofs::Sizes::line_fits, crate::proofs::Definings::next_line))]
 fn line_at(lines: &[String], i: usize) -> &str
     requires within { i < length lines.now }
     requires small { size_of (map string_bytes lines.now) ≤ 16777216 }
-    ensures { 4 * length result.now < 2 ^ 64 }
+    ensures short { 4 * length result.now < 2 ^ 64 }
+    ensures line { take (i + 1) (map string_bytes lines.now) ≡ take i (map string_bytes lines.now) ++ result.now ∷ [] }
 {
     lines[i].as_str()
 }
@@ -67,7 +78,9 @@ struct Defined {
 
 impl Defined {
     /// Nothing. Takes no memory.
-    fn new(alloc: Global) -> Defined {
+    fn new(alloc: Global) -> Defined
+        ensures { Defines [] result }
+    {
         Defined {
             alloc,
             targets: BTreeMap::new(alloc),
@@ -76,7 +89,9 @@ impl Defined {
     }
 
     /// Takes the definitions of the next unit, if there is one.
-    fn take(&mut self, found: Option<Found>) -> Result<(), NoMemory> {
+    fn take(&mut self, found: Option<Found>) -> Result<(), NoMemory>
+        ensures { (all : List FoundUnit) → Defines all self.old → OnOk result (Defines (all ++ option_to_list found) self.new) }
+    {
         let Some(found) = found else {
             return Ok(());
         };
@@ -87,14 +102,18 @@ impl Defined {
             self.other = Some(found.begin());
             return Ok(());
         }
-        for definition in found.unit().definitions() {
+        let definitions = found.unit().definitions();
+        for definition in definitions {
             self.define(definition)?;
         }
         Ok(())
     }
 
     /// The first definition of a label counts.
-    fn define(&mut self, definition: &Definition) -> Result<(), NoMemory> {
+    fn define(&mut self, definition: &Definition) -> Result<(), NoMemory>
+        ensures labels { OnOk result (shown self.new.targets.entries ≡ with_definitions (shown self.old.targets.entries) (definition_of definition.now ∷ [])) }
+        ensures other { self.new.other ≡ self.old.other }
+    {
         if self.targets.contains_key(&definition.label) {
             return Ok(());
         }
@@ -106,7 +125,7 @@ impl Defined {
 
     /// Where the labels lead, where each unit was one of definitions.
     fn targets(self) -> Result<BTreeMap<Label, Target, Global>, EditFault>
-        ensures { IfErr result OfDefinitions }
+        ensures { EndsAt self.other self.targets result }
     {
         match self.other {
             Some(line) => Err(EditFault::NotDefinitions { line }),
@@ -117,7 +136,7 @@ impl Defined {
 
 /// No line is fed after a fault, so none is answered `Failed`.
 fn fault_in_line(fault: BlockFault, line: usize) -> EditFault
-    ensures { OfDefinitions result }
+    ensures { result ≡ fault_of fault line }
 {
     match fault {
         BlockFault::NestedTooDeep => EditFault::NotDefinitions { line },

@@ -24,6 +24,7 @@ mod resuming;
 mod splice;
 #[cfg(test)]
 mod tests;
+mod text_room;
 mod touched_labels;
 mod update;
 

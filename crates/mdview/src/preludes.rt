@@ -7,7 +7,8 @@ ghost use Rattle.mdhtml.specs.Limits.{HasLimits};
 ghost use Rattle.mdtext.specs.Lines.{without_nul};
 ghost use Rattle.mdview.specs.Document.{size_of};
 ghost use Rattle.mdview.specs.Edit.{due_of_prelude};
-ghost use Rattle.mdview.specs.Preludes.{RefusesPrelude, target_beside};
+ghost use Rattle.mdview.specs.Preludes.{IsDefinedBy, IsUndefiningAt, RefusesPrelude, target_beside};
+ghost use Rattle.viewspec.specs.Refusals.{undefining_line};
 
 use crate::clean::clean_lines;
 use crate::defining::read_definitions;
@@ -70,6 +71,10 @@ impl Prelude {
         requires { HasLimits options.now }
         ensures due { IfOk result (λ _. due_of_prelude (map (λ line. line.now) lines.now) ≡ None) }
         ensures read { IfOk result (λ prelude. prelude.lines ≡ map without_nul (map (λ line. line.now) lines.now)) }
+        ensures defined { IfOk result (IsDefinedBy entities.now) }
+        ensures definitions { OnOk result (undefining_line (record { entities = entities.now; options = options.now }) (map without_nul (map (λ line. line.now) lines.now)) ≡ None) }
+        ensures undefining { IfErr result (IsUndefiningAt (undefining_line (record { entities = entities.now; options = options.now })
+            (map without_nul (map (λ line. line.now) lines.now)))) }
         ensures fault { IfErr result (λ fault. RefusesPrelude fault (map (λ line. line.now) lines.now)) }
         ensures uncounted { IsSome (due_of_prelude (map (λ line. line.now) lines.now)) → count.new ≡ count.old }
         ensures lines { C.lines count.new ≤ C.lines count.old + length lines.now }

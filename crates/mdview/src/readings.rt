@@ -10,19 +10,19 @@ ghost use Rattle.mdview.specs.Update.{Fits, IsWritten};
 use crate::fault::EditFault;
 use crate::held_labels::LabelsAfter;
 use crate::held_units::HeldUnit;
+use crate::text_room::TextRoom;
 use mdblock::{Found, Unit};
-use mdhtml::{Options, unit_html};
-use mdinline::{InlineFault, Parsed, read};
-use mdtext::{Count, Entities};
+use mdhtml::Options;
+use mdinline::{InlineFault, Parsed};
+use mdtext::Count;
 use std::alloc::{AllocError, Global};
 
 /// Reads inline texts under the labels of the text that an edit leaves, and writes HTML. Each text that is read is counted.
 #[derive(Clone, Copy)]
 pub(crate) struct TextReader<'a> {
     pub(crate) alloc: Global,
-    pub(crate) entities: &'a Entities,
     pub(crate) options: &'a Options,
-    pub(crate) labels: LabelsAfter<'a>,
+    pub(crate) labels: &'a LabelsAfter<'a>,
 }
 
 /// A unit that is held, by its number, with what its texts read as after an edit, and its piece then.
@@ -39,6 +39,7 @@ impl<'a> TextReader<'a> {
         &self,
         found: Vec<Found>,
         from: usize,
+        room: &mut TextRoom<'a>,
         count: &mut C,
     ) -> Result<Vec<HeldUnit>, EditFault>
         requires limits { HasLimits self.now.options.now }
@@ -51,7 +52,7 @@ impl<'a> TextReader<'a> {
         let mut units = Vec::with_capacity(self.alloc, found.len())?;
         for one in found {
             let begin = from.saturating_add(one.begin());
-            match self.read_unit(one, count) {
+            match self.read_unit(one, room, count) {
                 Ok(unit) => units.push(unit)?,
                 Err(fault) => return Err(fault_in_unit(fault, begin)),
             }
@@ -59,19 +60,29 @@ impl<'a> TextReader<'a> {
         Ok(units)
     }
 
-    fn read_unit<C: Count>(&self, found: Found, count: &mut C) -> Result<HeldUnit, InlineFault>
+    fn read_unit<C: Count>(
+        &self,
+        found: Found,
+        room: &mut TextRoom<'a>,
+        count: &mut C,
+    ) -> Result<HeldUnit, InlineFault>
         requires limits { HasLimits self.now.options.now }
         ensures unit { IfOk result (λ unit. unit.read.unit ≡ found.unit) }
         ensures piece { IfOk result (IsRendered self.now.options.now) }
         ensures lines { C.lines count.new ≡ C.lines count.old }
         ensures inlines { IfOk result (λ unit. C.inlines count.new ≤ C.inlines count.old + texts_in unit.read.unit) }
     {
-        let inlines = self.read_texts(found.unit(), count)?;
-        let piece = unit_html(self.alloc, found.unit().blocks(), &inlines, self.options)?;
+        let inlines = self.read_texts(found.unit(), room, count)?;
+        let piece = room.unit_html(found.unit().blocks(), &inlines, self.options)?;
         Ok(HeldUnit::new(found, inlines, piece))
     }
 
-    fn read_texts<C: Count>(&self, unit: &Unit, count: &mut C) -> Result<Vec<Parsed>, InlineFault>
+    fn read_texts<C: Count>(
+        &self,
+        unit: &Unit,
+        room: &mut TextRoom<'a>,
+        count: &mut C,
+    ) -> Result<Vec<Parsed>, InlineFault>
         requires limits { HasLimits self.now.options.now }
         ensures all { IfOk result (λ inlines. length inlines.items ≡ length unit.now.texts) }
         ensures lines { C.lines count.new ≡ C.lines count.old }
@@ -80,16 +91,23 @@ impl<'a> TextReader<'a> {
         let texts = unit.texts();
         let mut inlines = Vec::with_capacity(self.alloc, texts.len())?;
         for text in texts {
-            inlines.push(read(
-                self.alloc,
-                text,
-                &self.labels,
-                self.entities,
-                self.options.max_spans,
-                count,
-            )?)?;
+            inlines.push(self.read_text(text, room, count)?)?;
         }
         Ok(inlines)
+    }
+
+    fn read_text<C: Count>(
+        &self,
+        text: &str,
+        room: &mut TextRoom<'a>,
+        count: &mut C,
+    ) -> Result<Parsed, InlineFault>
+        requires limits { HasLimits self.now.options.now }
+        ensures lines { C.lines count.new ≡ C.lines count.old }
+        ensures inlines { C.inlines count.new ≤ C.inlines count.old + 1 }
+    {
+        room.reader
+            .read(text, self.labels, self.options.max_spans, count)
     }
 
     /// Reads again those of the units from number `first` up to `next`, the first of which begins in line `begin` after the edit,
@@ -100,6 +118,7 @@ impl<'a> TextReader<'a> {
         first: usize,
         next: usize,
         begin: usize,
+        room: &mut TextRoom<'a>,
         again: &mut Vec<Again>,
         count: &mut C,
     ) -> Result<(), EditFault>
@@ -119,7 +138,7 @@ impl<'a> TextReader<'a> {
         }
         let mut begin = begin;
         for i in first..next {
-            if let Err(fault) = self.read_if_concerned(units, i, again, count) {
+            if let Err(fault) = self.read_if_concerned(units, i, room, again, count) {
                 return Err(fault_in_unit(fault, begin));
             }
             begin = begin.saturating_add(units[i].lines());
@@ -132,6 +151,7 @@ impl<'a> TextReader<'a> {
         &self,
         units: &[HeldUnit],
         number: usize,
+        room: &mut TextRoom<'a>,
         again: &mut Vec<Again>,
         count: &mut C,
     ) -> Result<(), InlineFault>
@@ -148,7 +168,7 @@ impl<'a> TextReader<'a> {
         if !self.is_concerned(unit) {
             return Ok(());
         }
-        let one = self.again(number, unit, count)?;
+        let one = self.again(number, unit, room, count)?;
         again.push(one)?;
         Ok(())
     }
@@ -165,6 +185,7 @@ impl<'a> TextReader<'a> {
         &self,
         number: usize,
         unit: &HeldUnit,
+        room: &mut TextRoom<'a>,
         count: &mut C,
     ) -> Result<Again, InlineFault>
         requires limits { HasLimits self.now.options.now }
@@ -174,8 +195,8 @@ impl<'a> TextReader<'a> {
         ensures lines { C.lines count.new ≡ C.lines count.old }
         ensures inlines { C.inlines count.new ≤ C.inlines count.old + length unit.now.read.unit.texts }
     {
-        let inlines = self.read_some(unit, count)?;
-        let piece = unit_html(self.alloc, unit.unit().blocks(), &inlines, self.options)?;
+        let inlines = self.read_some(unit, room, count)?;
+        let piece = room.unit_html(unit.unit().blocks(), &inlines, self.options)?;
         Ok(Again {
             unit: number,
             inlines,
@@ -187,6 +208,7 @@ impl<'a> TextReader<'a> {
     fn read_some<C: Count>(
         &self,
         unit: &HeldUnit,
+        room: &mut TextRoom<'a>,
         count: &mut C,
     ) -> Result<Vec<Parsed>, InlineFault>
         requires limits { HasLimits self.now.options.now }
@@ -198,7 +220,7 @@ impl<'a> TextReader<'a> {
         let held = unit.inlines();
         let mut inlines = Vec::with_capacity(self.alloc, texts.len())?;
         for i in 0..texts.len() {
-            inlines.push(self.read_one(&texts[i], &held[i], count)?)?;
+            inlines.push(self.read_one(&texts[i], &held[i], room, count)?)?;
         }
         Ok(inlines)
     }
@@ -207,6 +229,7 @@ impl<'a> TextReader<'a> {
         &self,
         text: &str,
         held: &Parsed,
+        room: &mut TextRoom<'a>,
         count: &mut C,
     ) -> Result<Parsed, InlineFault>
         requires limits { HasLimits self.now.options.now }
@@ -214,14 +237,7 @@ impl<'a> TextReader<'a> {
         ensures inlines { C.inlines count.new ≤ C.inlines count.old + 1 }
     {
         if self.labels.changes.concern(held.asked()) {
-            read(
-                self.alloc,
-                text,
-                &self.labels,
-                self.entities,
-                self.options.max_spans,
-                count,
-            )
+            self.read_text(text, room, count)
         } else {
             Ok(held.copy(self.alloc)?)
         }

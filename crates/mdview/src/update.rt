@@ -17,6 +17,7 @@ use crate::patch::Patch;
 use crate::preludes::Prelude;
 use crate::readings::{Again, TextReader};
 use crate::reparse::{Reparsed, reparse};
+use crate::text_room::TextRoom;
 use mdblock::Found;
 use mdhtml::Options;
 use mdtext::{Count, Entities};
@@ -115,15 +116,16 @@ impl Update {
         ensures units { IfOk result (λ r. length r.units.items ≡ length reparsed.found.items) }
         ensures lines { C.lines count.new ≡ C.lines count.old }
     {
+        let labels = LabelsAfter {
+            held: held.labels,
+            changes: &changes,
+        };
         let reader = TextReader {
             alloc: held.alloc,
-            entities: held.entities,
             options: held.options,
-            labels: LabelsAfter {
-                held: held.labels,
-                changes: &changes,
-            },
+            labels: &labels,
         };
+        let mut room = TextRoom::new(held.alloc, held.entities);
         let Reparsed {
             first,
             next,
@@ -137,9 +139,18 @@ impl Update {
             held.head
         };
         let mut again = Vec::new(held.alloc);
-        reader.read_again(held.units, 0, first, head, &mut again, count)?;
-        let units = reader.read_units(found, from, count)?;
-        reader.read_again(held.units, next, held.units.len(), meet, &mut again, count)?;
+        reader.read_again(held.units, 0, first, head, &mut room, &mut again, count)?;
+        let units = reader.read_units(found, from, &mut room, count)?;
+        reader.read_again(
+            held.units,
+            next,
+            held.units.len(),
+            meet,
+            &mut room,
+            &mut again,
+            count,
+        )?;
+        drop(room);
         Ok(Update {
             first,
             next,

@@ -1,0 +1,47 @@
+//! What the reading of texts and the writing of units use again.
+
+ghost use Rattle.std.specs.Prelude.{◌≡◌, [], false, IfOk, length, string_bytes};
+ghost use Rattle.mdblock.specs.BlockView.{blocks_view};
+ghost use Rattle.mdblock.specs.Positions.{BlocksIn};
+ghost use Rattle.mdhtml.specs.BlockHtml.{blocks_html, texts_html};
+
+use mdblock::Block;
+use mdhtml::{Options, append_unit_html};
+use mdinline::{Parsed, TextReader};
+use mdtext::{Entities, NoMemory};
+use std::alloc::Global;
+
+/// A reader of texts, and room for the HTML of a unit: both are used again for the next one.
+#[derive(Drop)]
+pub(crate) struct TextRoom<'a> {
+    alloc: Global,
+    pub(crate) reader: TextReader<'a>,
+    html: String,
+}
+
+impl<'a> TextRoom<'a> {
+    /// Takes no memory.
+    pub(crate) fn new(alloc: Global, entities: &'a Entities) -> TextRoom<'a> {
+        TextRoom {
+            alloc,
+            reader: TextReader::new(alloc, entities),
+            html: String::new(alloc),
+        }
+    }
+
+    /// The HTML of a unit: of its blocks, whose texts read as `texts`. It takes as much memory as it has bytes.
+    pub(crate) fn unit_html(
+        &mut self,
+        blocks: &[Block],
+        texts: &[Parsed],
+        options: &Options,
+    ) -> Result<String, NoMemory>
+        requires { BlocksIn (length texts.now) (blocks_view blocks.now) }
+        ensures { IfOk result (λ piece. string_bytes piece
+            ≡ blocks_html options.now (texts_html options.now texts.now) false (blocks_view blocks.now) []) }
+    {
+        self.html.clear();
+        append_unit_html(blocks, texts, options, &mut self.html)?;
+        Ok(String::from_str(self.alloc, &self.html)?)
+    }
+}
