@@ -1,0 +1,159 @@
+vim9script
+# The HTML of a Markdown buffer in a window beside it, kept up to date as the text changes: a client of mdpreview (docs/PROTOCOL.md).
+#
+#   :source clients/vim/jirmoans.vim
+#   :Jirmoans                          opens the window, and closes it again
+#
+# g:jirmoans_program names the program, if it is not the mdpreview on the path. Each piece is a run of lines of the HTML's buffer, whose last line is always
+# empty; after a change only the lines of the pieces that the reply names are replaced. One edit is under way at a time.
+
+var text = 0                     # the number of the Markdown buffer; 0 where no preview is open
+var html = 0                     # the number of the HTML's buffer
+var job: job
+var listener = 0
+var held: list<string> = []      # the lines that mdpreview holds
+var sent: list<string> = []      # those that it holds once it has accepted the edit under way
+var sizes: list<number> = []     # how many lines of the HTML each piece has
+var busy = false                 # whether an edit is under way
+var came = ''                    # what came of its reply
+var pieces = 0                   # how many pieces of the reply are still to come
+var behind = [0, 0]              # a piece, and how many lines of the HTML stand before it
+const NONE = ["\n\n"]            # what no text is
+var refused = NONE               # the text that was refused
+
+def Lines(): list<string>
+  var lines = getbufline(text, 1, '$')
+  # An empty buffer has one empty line.
+  return lines == [''] ? [] : lines->mapnew((_, line) => substitute(line, '\r', '', 'g'))
+enddef
+
+# Sends the lines that differ, from the first to the last one.
+def Send()
+  var now = Lines()
+  if busy || now == held || now == refused
+    return
+  endif
+  var [front, tail, most] = [0, 0, min([len(held), len(now)])]
+  while front < most && held[front] ==# now[front]
+    front += 1
+  endwhile
+  while tail < most - front && held[-1 - tail] ==# now[-1 - tail]
+    tail += 1
+  endwhile
+  var added = now->slice(front, len(now) - tail)
+  # Vim keeps U+0000 as a line ending inside of a line.
+  var lines = mapnew(added, (_, line) => substitute(line, '\n', '�', 'g'))
+  [busy, sent] = [true, now]
+  ch_sendraw(job, join([printf('edit %d %d %d', front, len(held) - tail - front, len(added))] + lines, "\n") .. "\n")
+enddef
+
+# How many lines of the HTML stand before a piece.
+def Before(piece: number): number
+  var [at, lines] = behind[0] <= piece ? behind : [0, 0]
+  while at < piece
+    lines += sizes[at]
+    at += 1
+  endwhile
+  behind = [piece, lines]
+  return lines
+enddef
+
+# Replaces `gone` lines of the HTML.
+def Replace(before: number, gone: number, lines: list<string>)
+  if gone > 0
+    deletebufline(html, before + 1, before + gone)
+  endif
+  appendbufline(html, before, lines)
+enddef
+
+def Begin(first: number, removed: number, added: number)
+  var before = Before(first)
+  var gone = 0
+  for size in sizes->slice(first, first + removed)
+    gone += size
+  endfor
+  Replace(before, gone, [])
+  sizes = sizes->slice(0, first) + repeat([0], added) + sizes->slice(first + removed)
+enddef
+
+def Put(piece: number, bytes: string)
+  var lines = bytes == '' ? [] : split(strpart(bytes, 0, len(bytes) - 1), "\n", true)
+  Replace(Before(piece), sizes[piece], lines)
+  sizes[piece] = len(lines)
+enddef
+
+# Vim may tell of a change in the midst of an undo, and so the text is looked at when that is over.
+def Soon()
+  timer_start(0, (_) => Send())
+enddef
+
+# Takes the next line of the reply with what belongs to it, if all of it came.
+def Took(): bool
+  var end = stridx(came, "\n")
+  var words = split(strpart(came, 0, end), ' ')
+  var numbers = words->slice(1)->mapnew((_, word) => str2nr(word))
+  if end < 0 || words[0] ==# 'piece' && len(came) < end + 1 + numbers[1]
+    return false
+  endif
+  if words[0] ==# 'piece'
+    Put(numbers[0], strpart(came, end + 1, numbers[1]))
+    pieces -= 1
+    end += numbers[1]
+  elseif words[0] ==# 'ok'
+    Begin(numbers[0], numbers[1], numbers[2])
+    [held, refused, pieces, behind] = [sent, NONE, numbers[2] + numbers[3], [0, 0]]
+  else
+    refused = sent
+    echohl WarningMsg
+    echomsg 'mdpreview: ' .. join(words)
+    echohl None
+  endif
+  came = strpart(came, end + 1)
+  if pieces == 0
+    busy = false
+    Soon()
+  endif
+  return true
+enddef
+
+def Came(_: channel, bytes: string)
+  came ..= bytes
+  while came != '' && Took()
+  endwhile
+enddef
+
+def Close()
+  if text != 0
+    listener_remove(listener)
+    job_stop(job)
+    execute 'silent! bwipeout!' html
+    text = 0
+  endif
+enddef
+
+def Toggle()
+  if text != 0
+    Close()
+    return
+  endif
+  text = bufnr()
+  execute 'vnew [HTML]'
+  setlocal buftype=nofile bufhidden=wipe noswapfile nobuflisted filetype=html
+  html = bufnr()
+  autocmd BufWipeout <buffer> Close()
+  wincmd p
+  [held, sizes, busy, came, pieces, behind, refused] = [[], [], false, '', 0, [0, 0], NONE]
+  job = job_start([get(g:, 'jirmoans_program', 'mdpreview')], {mode: 'raw', out_cb: Came})
+  listener = listener_add((_, _, _, _, _) => Soon(), text)
+  Send()
+enddef
+
+# For scripts: waits until the HTML is that of the text.
+def g:JirmoansSettle()
+  listener_flush(text)
+  while busy || held != Lines() && refused != Lines()
+    sleep 1m
+  endwhile
+enddef
+
+command! Jirmoans Toggle()
