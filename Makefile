@@ -1,6 +1,7 @@
 # The targets for people and for the gate. `rt` is the command of the Rattle toolchain.
 export RT ?= rt
 PROGRAMS := mdrender mdpreview
+LIBRARY := bin/libjirmoans.a
 # Set where bin/ has the programs of these sources, as behind the gate; then a comparison builds none.
 BUILT ?=
 # What `make run` shows: a text, and a script of edits.
@@ -18,24 +19,30 @@ PART ?= blocks
 # Where `make install` puts things; DESTDIR goes before each of these folders.
 PREFIX ?= /usr/local
 BIN_DIR ?= $(PREFIX)/bin
+LIB_DIR ?= $(PREFIX)/lib
+INCLUDE_DIR ?= $(PREFIX)/include
+PKG_CONFIG_DIR ?= $(LIB_DIR)/pkgconfig
 MAN_DIR ?= $(PREFIX)/share/man/man1
 BASH_COMPLETION_DIR ?= $(PREFIX)/share/bash-completion/completions
 ZSH_COMPLETION_DIR ?= $(PREFIX)/share/zsh/site-functions
 INSTALL ?= install
 
-.PHONY: help run test build check fmt picture bench hostile soak fuzz memory pane_test compare counts rows rows_inlines install uninstall
+.PHONY: help run test build check fmt picture bench hostile soak fuzz memory pane_test vim_test c_library c_memory compare counts rows rows_inlines install uninstall
 
 help:
 	@echo "make run                 runs mdrender on a page and mdpreview on a writer's few edits, and shows what goes in and out (from the sources, unproved, where bin/ is empty); PAGE=FILE and EDITS=FILE show files of yours"
-	@echo "make build               proves every crate and builds the programs into bin/; a line a crate, the log in out/build.log"
-	@echo "make test                the gate: every proof from nothing, the tests and must-fail edits, the example files, endings and completions; the log in out/gate.log"
+	@echo "make build               proves every crate and builds the programs and the library for C into bin/; a line a crate, the log in out/build.log"
+	@echo "make test                the gate: every proof from nothing, the tests and must-fail edits, the example files, endings and completions, the library from C, the client in Vim; the log in out/gate.log"
 	@echo "make check               a quick check of every crate, over what earlier checks kept"
 	@echo "make fmt                 lays out the sources"
 	@echo "make picture             draws docs/preview.svg, the README's picture, from a run of bin/mdpreview"
-	@echo "make install PREFIX=DIR  installs the programs, their man pages and completions for bash and zsh below DIR ($(PREFIX)); DESTDIR is honoured"
+	@echo "make install PREFIX=DIR  installs the programs, their man pages and completions for bash and zsh, and the library with its header below DIR ($(PREFIX)); DESTDIR is honoured"
 	@echo "make uninstall           removes what make install put there"
 	@echo "make bench               measures bin/mdrender beside cmark-gfm and md4c: instructions, times and memory on 22 kinds of texts, of which docs/SPEED.md has a run"
 	@echo "make pane_test           looks at clients/pane in a headless Chromium, and compares the page with mdrender's HTML after each change of a file"
+	@echo "make vim_test            edits a buffer in Vim with clients/vim, and compares the HTML beside it with mdrender's after each change"
+	@echo "make c_library           compiles clients/c and tools/c_calls.c against the library, and runs them beside mdpreview; makes bin/libjirmoans.so, and tries clients/python"
+	@echo "make c_memory            the same C programs under valgrind: no error and no leak"
 	@echo "make hostile             counts the instructions of bin/mdrender on hostile texts at two sizes (valgrind), and says where twice the text takes much more than twice as many; then times large ones"
 	@echo "make soak SECONDS=N      random edits of the repository's own texts through bin/mdpreview, for N seconds ($(SECONDS)): the pieces that a client keeps, html and mdrender's HTML must agree (SEED=$(SEED))"
 	@echo "make fuzz SECONDS=N      random bytes through both programs under a limit on memory, for N seconds ($(SECONDS)): no crash, and no status but 0, 1 and 2 (SEED=$(SEED))"
@@ -49,7 +56,7 @@ run:
 	@tools/show $(PAGE) $(EDITS)
 
 build:
-	@tools/build $(PROGRAMS)
+	@tools/build $(PROGRAMS) jirmoans
 
 test:
 	@tools/gate
@@ -81,6 +88,15 @@ memory: $(if $(BUILT),,build)
 pane_test: $(if $(BUILT),,build)
 	@tools/pane_test.py
 
+vim_test: $(if $(BUILT),,build)
+	@tools/vim_test.py
+
+c_library: $(if $(BUILT),,build)
+	@tools/c_library
+
+c_memory: $(if $(BUILT),,build)
+	@tools/c_library --memory
+
 compare: $(if $(BUILT),,build)
 	@tools/compare $(ORACLE) $(TEXTS) $(SCRIPTS)
 
@@ -88,11 +104,15 @@ counts:
 	@$(if $(BUILT),,$(MAKE) -s build PROGRAMS=edit_counts)
 	@tools/counts $(ORACLE) $(SCRIPTS)
 
-# A program that is not there yet; one that is there is installed as it stands.
-$(PROGRAMS:%=bin/%):
+# What is not there yet; what is there is installed as it stands.
+$(PROGRAMS:%=bin/%) $(LIBRARY):
 	@$(MAKE) -s build
 
-install: $(PROGRAMS:%=bin/%)
+install: $(PROGRAMS:%=bin/%) $(LIBRARY)
+	$(INSTALL) -d "$(DESTDIR)$(LIB_DIR)" "$(DESTDIR)$(INCLUDE_DIR)" "$(DESTDIR)$(PKG_CONFIG_DIR)"
+	$(INSTALL) -m 644 $(LIBRARY) "$(DESTDIR)$(LIB_DIR)"
+	$(INSTALL) -m 644 include/jirmoans.h "$(DESTDIR)$(INCLUDE_DIR)"
+	sed -e 's|@PREFIX@|$(PREFIX)|; s|@LIB_DIR@|$(LIB_DIR)|; s|@INCLUDE_DIR@|$(INCLUDE_DIR)|' include/jirmoans.pc.in > "$(DESTDIR)$(PKG_CONFIG_DIR)/jirmoans.pc"
 	$(INSTALL) -d "$(DESTDIR)$(BIN_DIR)" "$(DESTDIR)$(MAN_DIR)" "$(DESTDIR)$(BASH_COMPLETION_DIR)" "$(DESTDIR)$(ZSH_COMPLETION_DIR)"
 	$(INSTALL) -m 755 $(PROGRAMS:%=bin/%) "$(DESTDIR)$(BIN_DIR)"
 	$(INSTALL) -m 644 $(PROGRAMS:%=docs/man/%.1) "$(DESTDIR)$(MAN_DIR)"
@@ -106,6 +126,7 @@ uninstall:
 	  rm -f "$(DESTDIR)$(BIN_DIR)/$$program" "$(DESTDIR)$(MAN_DIR)/$$program.1" "$(DESTDIR)$(BASH_COMPLETION_DIR)/$$program" || exit 1; \
 	done
 	rm -f "$(DESTDIR)$(ZSH_COMPLETION_DIR)/_mdrender"
+	rm -f "$(DESTDIR)$(LIB_DIR)/libjirmoans.a" "$(DESTDIR)$(INCLUDE_DIR)/jirmoans.h" "$(DESTDIR)$(PKG_CONFIG_DIR)/jirmoans.pc"
 
 rows:
 	@tools/rows $(PART) $(ORACLE) $(CORPUS)
