@@ -5,3 +5,4 @@ pub mod UnitsWritten
 pub mod PageTargets
 pub mod ReadLines
 pub mod WholeTexts
+pub mod PageViews

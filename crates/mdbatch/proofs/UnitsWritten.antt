@@ -112,7 +112,7 @@ all_under e one other [] same = refl
 all_under e one other (text ∷ texts) same =
     ap (λ r. r ∷ map (reading_of e one) texts) (reads_under e one other text same) ∙ ap (λ rs. reading_of e other text ∷ rs) (all_under e one other texts same)
 
-viewed_under : (setting : Setting) (one other : Table) (found : List FoundUnit) → ((label : List ℕ) → one label ≡ other label)
+pub viewed_under : (setting : Setting) (one other : Table) (found : List FoundUnit) → ((label : List ℕ) → one label ≡ other label)
     → map (viewed setting one) found ≡ map (viewed setting other) found
 viewed_under setting one other [] same = refl
 viewed_under setting one other (unit ∷ found) same =

@@ -1,3 +1,4 @@
 pub mod BatchHtml
 pub mod GatheredUnits
 pub mod TextLabels
+pub mod ViewHtml

@@ -7,9 +7,11 @@ ghost use Rattle.blockspec.specs.Nesting.{first_too_deep};
 ghost use Rattle.mdhtml.specs.Limits.{HasLimits};
 ghost use Rattle.mdhtml.specs.BlockHtml.{ends_line};
 ghost use Rattle.mdview.specs.Document.{size_of};
+ghost use Rattle.mdview.specs.Preludes.{IsDefinedBy};
 ghost use Rattle.mdbatch.specs.BatchHtml.{IsFaultOf, IsTextFault, TextHtml, WritesPage, WritesUnits, deep_line, deep_on_page, text_fault_of};
 ghost use Rattle.mdbatch.specs.GatheredUnits.{EndsLine, Gathers, HasGathered, IsWoven, IsWrittenTo, setting_of};
 ghost use Rattle.mdbatch.specs.TextLabels.{page_table, target_on_page};
+ghost use Rattle.mdbatch.specs.ViewHtml.{ViewHtml};
 
 use crate::gathered::{Gathered, Waiting};
 use crate::limits::within_limits;
@@ -34,7 +36,10 @@ pub fn to_html(
     prelude: &Prelude,
 ) -> Result<String, EditFault>
     requires { HasLimits options.now }
-    ensures { TextHtml result (record { entities = entities.now; options = options.now }) prelude.now (text_lines text.now) }
+    ensures html { TextHtml result (record { entities = entities.now; options = options.now }) prelude.now (text_lines text.now) }
+    // With a prelude that these entities read, this is the view of the text.
+    ensures viewed { IsDefinedBy entities.now prelude.now
+        → ViewHtml result (record { entities = entities.now; options = options.now }) (record { lines = text_lines text.now; prelude = prelude.now.lines }) }
 {
     let text = after_mark(text);
     within_limits(text)?;

@@ -12,5 +12,6 @@ pub mod PatchLine
 pub mod ServeRuns
 pub mod ServeEnds
 pub mod Rows
-pub mod FirstEdits
 pub mod PreludeEnds
+pub mod PreludeDue
+pub mod Conversions

@@ -1,39 +1,21 @@
--- The ends of an engine that reads its prelude first.
-use Rattle.std.proofs.Common.{◌≡◌, ℕ, List, [], map, Option, Some, None, Result, Ok, Err, refl, ap, sym, ◌∙◌, inl, inr}
+-- The ends of a script whose prelude is read first.
+use Rattle.std.proofs.Common.{◌≡◌, ℕ, List, Option, Result, Ok, Err, refl, ap, sym, ◌∙◌, inl, inr}
 use Rattle.viewspec.specs.Calls.{set_prelude}
 use Rattle.viewspec.specs.ChangedPieces.{ChangedPieces}
 use Rattle.mdview.specs.declared.fault.EditFault.{EditFault}
 use Rattle.mdview.specs.declared.fault.EditFault.TheVariants.{OutOfRange, BreakInLine, TooManyLines, TooLarge, NestedTooDeep, InlineTooDeep, NotDefinitions}
 use Rattle.mdview.specs.declared.fault.EditFault.TheVariants.{NoMemory as EditNoMemory}
-use Rattle.mdhtml.specs.declared.options.Options.{Options}
-use Rattle.mdtext.specs.Lines.{without_nul}
-use Rattle.mdview.specs.Document.{Document, document, empty}
-use Rattle.mdview.specs.Edit.{due_of_prelude}
-use Rattle.mdview.specs.Outcome.{outcome, outcome_due}
-use Rattle.mdview.specs.Preludes.{HeldPrelude, RefusesPrelude}
-use Rattle.mdview.specs.ReadingEnd.{ReadingEnd, read, undefining, starved, reading_of}
+use Rattle.mdview.specs.Document.{Document}
+use Rattle.mdview.specs.Outcome.{outcome}
+use Rattle.mdview.specs.ReadingEnd.{ReadingEnd, reading_of}
 use Rattle.mdtool.specs.declared.fault.ToolFault.{ToolFault}
 use Rattle.mdtool.specs.declared.fault.ToolFault.TheVariants.{Read, Write, Refused, BadCommand, Truncated, Table, NoMemory}
-use Rattle.mdtool.specs.Convert.{Conversion, ConversionBeside}
-use Rattle.mdtool.specs.PreludeSet.{PreludeSet, Sets, RefusesLines, beside}
+use Rattle.mdtool.specs.PreludeSet.{PreludeSet, Sets}
 use Rattle.mdtool.specs.Serve.{Served, ServedBeside, out_failures_after}
 use Rattle.mdtool.specs.Steps.{failures_after}
 use Rattle.mdtool.specs.ToolRefusals.{refusal_of}
-use Rattle.mdtool.proofs.Devices.{takes_nothing}
 
--- the end of the conversion beside a prelude that is held
-pub converts_beside : {T : Type 0} (r : Result T ToolFault) (old held : Document) (lines : List (List ℕ)) (left left' written written' : Option (List ℕ)) → Sets old lines held
-    → Conversion r held left left' written written' → ConversionBeside r old lines left left' written written'
-converts_beside (Ok answer) old held lines left left' written written' set end = (held, set, end)
-converts_beside (Err Write) old held lines left left' written written' set end = (held, set, end)
-converts_beside (Err (Refused fault)) old held lines left left' written written' set end = inr (held, set, end)
-converts_beside (Err Read) old held lines left left' written written' set end = end
-converts_beside (Err NoMemory) old held lines left left' written written' set end = end
-converts_beside (Err (BadCommand line)) old held lines left left' written written' set end = absurd end
-converts_beside (Err (Truncated line)) old held lines left left' written written' set end = absurd end
-converts_beside (Err (Table fault)) old held lines left left' written written' set end = absurd end
-
--- and of the script
+-- the end of the script beside a prelude that is held
 pub serves_beside : {T : Type 0} (r : Result T ToolFault) (old held : Document) (lines : List (List ℕ)) (left left' written written' : Option (List ℕ)) → Sets old lines held
     → Served r held left left' written written' → ServedBeside r old lines left left' written written'
 serves_beside (Ok answer) old held lines left left' written written' set end = (held, set, end)
@@ -46,16 +28,6 @@ serves_beside (Err (Refused fault)) old held lines left left' written written' s
 serves_beside (Err (Table fault)) old held lines left left' written written' set end = absurd end
 
 -- where the prelude is refused, or memory is, nothing was read or written
-pub prelude_ends_conversion : {T : Type 0} (U : Type 0) (held : T → Document) (fault : ToolFault) (old : Document) (lines : List (List ℕ)) (left written : Option (List ℕ)) → PreludeSet held (Err fault) old lines
-    → ConversionBeside {T = U} (Err fault) old lines left left written written
-prelude_ends_conversion U held (Refused fault) old lines left written end = inl (record { refused = end; unread = refl; unwritten = refl })
-prelude_ends_conversion U held NoMemory old lines left written end = (([], takes_nothing left), refl)
-prelude_ends_conversion U held Read old lines left written end = absurd end
-prelude_ends_conversion U held Write old lines left written end = absurd end
-prelude_ends_conversion U held (BadCommand line) old lines left written end = absurd end
-prelude_ends_conversion U held (Truncated line) old lines left written end = absurd end
-prelude_ends_conversion U held (Table fault) old lines left written end = absurd end
-
 pub prelude_ends_script : {T : Type 0} (U : Type 0) (held : T → Document) (fault : ToolFault) (old : Document) (lines : List (List ℕ)) (left written : Option (List ℕ)) → PreludeSet held (Err fault) old lines
     → ServedBeside {T = U} (Err fault) old lines left left written written
 prelude_ends_script U held (Refused fault) old lines left written end = record { refused = end; unread = refl; unwritten = refl }
@@ -112,34 +84,3 @@ pub refuses_prelude : {T : Type 0} (held : T → Document) (answer : Result Chan
     → ◌≡◌ {A = Result ChangedPieces EditFault × Document} (answer, new) (outcome old (set_prelude lines) (reading_of answer new)) → PreludeSet held (Err (refusal_of fault)) old lines
 refuses_prelude held answer fault old new lines is outcome_is =
     refuses_set held fault old lines (reading_of answer new) (sym (ap (λ p. p.0) outcome_is) ∙ is)
-
--- a prelude that was read alone is one that a preview without lines would hold
-pub sets_alone : (entities : List (List ℕ × List ℕ)) (options : Options) (prelude : HeldPrelude) (lines : List (List ℕ)) → prelude.lines ≡ map without_nul lines → due_of_prelude lines ≡ None
-    → Sets (empty entities options) lines (beside (empty entities options) prelude)
-sets_alone entities options prelude lines is none =
-    let old : Document = empty entities options in
-    let patch : ChangedPieces = record { first = 0; removed = 0; added = 0; again = [] } in
-    let reading : ReadingEnd = read patch 0 [] prelude.labels in
-    record {
-      reading = reading;
-      patch = patch;
-      answer = ap (λ d. (outcome_due d old (set_prelude lines) reading).0) none;
-      holds = ap (λ d. (outcome_due d old (set_prelude lines) reading).1) none
-          ∙ ap (λ ls. document entities options (record { lines = []; prelude = ls }) 0 [] prelude.labels) (sym is);
-    }
-
-refused_by : {T : Type 0} (held : T → Document) (fault : EditFault) (old : Document) (lines : List (List ℕ)) (reading : ReadingEnd) (d : Option EditFault) → due_of_prelude lines ≡ d
-    → (outcome_due d old (set_prelude lines) reading).0 ≡ Err fault → PreludeSet held (Err (refusal_of fault)) old lines
-refused_by held fault old lines reading d is answer =
-    refuses_set held fault old lines reading (ap (λ d. (outcome_due d old (set_prelude lines) reading).0) is ∙ answer)
-
--- and one that is refused alone is refused by a preview
-pub refuses_alone : {T : Type 0} (held : T → Document) (fault : EditFault) (old : Document) (lines : List (List ℕ)) → RefusesPrelude fault lines → PreludeSet held (Err (refusal_of fault)) old lines
-refuses_alone held (BreakInLine index) old lines why = refused_by held (BreakInLine index) old lines starved _ why refl
-refuses_alone held TooManyLines old lines why = refused_by held TooManyLines old lines starved _ why refl
-refuses_alone held TooLarge old lines why = refused_by held TooLarge old lines starved _ why refl
-refuses_alone held (NotDefinitions line) old lines why = refused_by held (NotDefinitions line) old lines (undefining line) _ why refl
-refuses_alone held EditNoMemory old lines why = tt
-refuses_alone held (OutOfRange n) old lines why = absurd why
-refuses_alone held (NestedTooDeep line) old lines why = absurd why
-refuses_alone held (InlineTooDeep line) old lines why = absurd why

@@ -1,21 +1,20 @@
--- What each end of a conversion says.
-use Rattle.std.specs.Prelude.{◌≡◌, ◌⊎◌, ℕ, List, Option, Result, Ok, Err, String, string_bytes}
+-- What each end of a conversion says: a text that is all bytes of a feed, beside the lines of a prelude.
+use Rattle.std.specs.Prelude.{◌≡◌, ◌⊎◌, ℕ, List, Option, Some, None, Result, Ok, Err, String, map, string_bytes}
 use Rattle.std.specs.Global.{Global}
-use Rattle.std.specs.List.{concat}
 use Rattle.std.specs.Str.Lossy.{utf8_lossy}
-use Rattle.mdtext.specs.Lines.{text_lines}
+use Rattle.mdtext.specs.Lines.{text_lines, without_nul}
+use Rattle.viewspec.specs.Calls.{set_prelude, due}
+use Rattle.viewspec.specs.Refusals.{Refusal, refusal}
+use Rattle.viewspec.specs.Setting.{Setting, Source}
+use Rattle.mdview.specs.declared.fault.EditFault.{EditFault}
+use Rattle.mdview.specs.Document.{nothing}
+use Rattle.mdview.specs.FaultReasons.{reason_of}
+use Rattle.mdview.specs.Preludes.{HeldPrelude, IsDefinedBy}
+use Rattle.mdbatch.specs.ViewHtml.{view_html}
 use Rattle.mdtool.specs.declared.fault.ToolFault.{ToolFault}
 use Rattle.mdtool.specs.declared.fault.ToolFault.TheVariants.{Read, Write, Refused, BadCommand, Truncated, Table, NoMemory}
-use Rattle.mdview.specs.declared.fault.EditFault.{EditFault}
 use Rattle.mdtool.specs.Bytes.{Gains, GainsFront}
-use Rattle.mdview.specs.Document.{Document}
 use Rattle.mdtool.specs.Drained.{TakesAll, TakesSome}
-use Rattle.viewspec.specs.Calls.{Call, edit}
-use Rattle.mdview.specs.Outcome.{outcome}
-use Rattle.mdtool.specs.PreludeSet.{Beside, PreludeRefused}
-use Rattle.mdtool.specs.ToolRefusals.{refusal_of}
-use Rattle.mdview.specs.ReadingEnd.{ReadingEnd}
-use Rattle.viewspec.specs.ChangedPieces.{ChangedPieces}
 
 -- the text of all bytes that were left; bytes that are no UTF-8 are read as U+FFFD
 abbrev pub TextRead : Option (List ℕ) → List ℕ → Option (List ℕ) → Type 0
@@ -25,82 +24,78 @@ TextRead left text left' = (bytes : List ℕ) × TakesAll left bytes left' × (t
 abbrev pub LinesRead : Option (List ℕ) → List (List ℕ) → Option (List ℕ) → Type 0
 LinesRead left lines left' = (bytes : List ℕ) × TakesAll left bytes left' × (lines ≡ text_lines (utf8_lossy bytes))
 
--- the edit that puts these lines into a preview without lines
-abbrev pub whole_text : List (List ℕ) → Call
-whole_text lines = edit 0 0 lines
+-- why these lines are refused as a prelude, if they are
+abbrev pub prelude_due : Setting → (prelude : List (List ℕ)) → Option Refusal
+prelude_due setting prelude = due setting nothing (set_prelude prelude)
 
--- the edit is accepted, and these pieces are held behind it, by some reading of the lines
-pub record Accepts (empty : Document) (lines : List (List ℕ)) (pieces : List (List ℕ)) : Type 0 where
-  pub reading : ReadingEnd
-  pub patch : ChangedPieces
-  pub answer : (outcome empty (whole_text lines) reading).0 ≡ Ok patch
-  pub held : (outcome empty (whole_text lines) reading).1.pieces ≡ pieces
+-- a text of these lines with these lines as its prelude, in which U+FFFD stands for each U+0000 (CommonMark 2.3)
+abbrev pub with_prelude : (prelude lines : List (List ℕ)) → Source
+with_prelude prelude lines = record { lines = lines; prelude = map without_nul prelude }
 
--- the edit is refused so, by some reading of the lines
-pub record Refuses (empty : Document) (lines : List (List ℕ)) (fault : EditFault) : Type 0 where
-  pub reading : ReadingEnd
-  pub answer : (outcome empty (whole_text lines) reading).0 ≡ Err fault
-  pub refusal : refusal_of fault ≡ Refused fault
+-- these lines are not refused as a prelude, and this is held of them
+pub record IsPreludeOf (setting : Setting) (prelude : List (List ℕ)) (held : HeldPrelude) : Type 0 where
+  pub stands : prelude_due setting prelude ≡ None
+  pub lines : held.lines ≡ map without_nul prelude
+  pub defined : IsDefinedBy setting.entities held
 
--- the lines are accepted, and these are their pieces, one after the other
-pub record HasHtml (empty : Document) (lines : List (List ℕ)) (html : List ℕ) : Type 0 where
-  pub pieces : List (List ℕ)
-  pub accepted : Accepts empty lines pieces
-  pub html_is : html ≡ concat pieces
+-- what each end of the reading of a prelude says; there is no other
+abbrev pub PreludeRead : Result HeldPrelude ToolFault → Setting → (prelude : List (List ℕ)) → Type 0
+PreludeRead (Ok held) setting prelude = IsPreludeOf setting prelude held
+PreludeRead (Err (Refused fault)) setting prelude = prelude_due setting prelude ≡ Some (reason_of fault)
+PreludeRead (Err NoMemory) setting prelude = Unit {0}
+PreludeRead (Err Read) setting prelude = ⊥
+PreludeRead (Err Write) setting prelude = ⊥
+PreludeRead (Err (BadCommand line)) setting prelude = ⊥
+PreludeRead (Err (Truncated line)) setting prelude = ⊥
+PreludeRead (Err (Table fault)) setting prelude = ⊥
+
+-- the text is not refused, and this is its HTML
+pub record HasHtml (setting : Setting) (source : Source) (html : List ℕ) : Type 0 where
+  pub stands : refusal setting source ≡ None
+  pub html_is : html ≡ view_html setting source
 
 -- what each end of the reading of a whole text says; there is no other
-abbrev pub WholeHtml : Result (String Global) ToolFault → Document → List (List ℕ) → Type 0
-WholeHtml (Ok html) empty lines = HasHtml empty lines (string_bytes html)
-WholeHtml (Err (Refused fault)) empty lines = Refuses empty lines fault
-WholeHtml (Err NoMemory) empty lines = Unit {0}
-WholeHtml (Err Read) empty lines = ⊥
-WholeHtml (Err Write) empty lines = ⊥
-WholeHtml (Err (BadCommand line)) empty lines = ⊥
-WholeHtml (Err (Truncated line)) empty lines = ⊥
-WholeHtml (Err (Table fault)) empty lines = ⊥
+abbrev pub WholeHtml : Result (String Global) ToolFault → Setting → Source → Type 0
+WholeHtml (Ok html) setting source = HasHtml setting source (string_bytes html)
+WholeHtml (Err (Refused fault)) setting source = refusal setting source ≡ Some (reason_of fault)
+WholeHtml (Err NoMemory) setting source = Unit {0}
+WholeHtml (Err Read) setting source = ⊥
+WholeHtml (Err Write) setting source = ⊥
+WholeHtml (Err (BadCommand line)) setting source = ⊥
+WholeHtml (Err (Truncated line)) setting source = ⊥
+WholeHtml (Err (Table fault)) setting source = ⊥
 
--- all bytes were read and their lines accepted, and the pieces were written, one after the other
-pub record Converted (empty : Document) (left left' written written' : Option (List ℕ)) : Type 0 where
-  pub lines : List (List ℕ)
-  pub pieces : List (List ℕ)
-  pub read : LinesRead left lines left'
-  pub accepted : Accepts empty lines pieces
-  pub gains : Gains written (concat pieces) written'
-
--- all bytes were read and their lines accepted, and a beginning of the pieces was written
-pub record Interrupted (empty : Document) (left left' written written' : Option (List ℕ)) : Type 0 where
-  pub lines : List (List ℕ)
-  pub pieces : List (List ℕ)
-  pub read : LinesRead left lines left'
-  pub accepted : Accepts empty lines pieces
-  pub gains : GainsFront written (concat pieces) written'
-
--- all bytes were read, and their lines were refused; nothing was written
-pub record Declined (empty : Document) (left left' written written' : Option (List ℕ)) (fault : EditFault) : Type 0 where
+-- All bytes were read; neither the prelude nor the text that they make is refused, and this is its HTML.
+pub record Reads (setting : Setting) (prelude : List (List ℕ)) (left left' : Option (List ℕ)) (html : List ℕ) : Type 0 where
   pub lines : List (List ℕ)
   pub read : LinesRead left lines left'
-  pub refused : Refuses empty lines fault
-  pub same : written' ≡ written
+  pub prelude_stands : prelude_due setting prelude ≡ None
+  pub has : HasHtml setting (with_prelude prelude lines) html
 
--- what each end says, where a preview without lines holds this; there is no other
-abbrev pub Conversion : {T : Type 0} → Result T ToolFault → Document → Option (List ℕ) → Option (List ℕ) → Option (List ℕ) → Option (List ℕ) → Type 0
-Conversion (Ok answer) empty left left' written written' = Converted empty left left' written written'
-Conversion (Err Write) empty left left' written written' = Interrupted empty left left' written written'
-Conversion (Err (Refused fault)) empty left left' written written' = Declined empty left left' written written' fault
-Conversion (Err Read) empty left left' written written' = TakesSome left left' × (written' ≡ written)
-Conversion (Err NoMemory) empty left left' written written' = TakesSome left left' × (written' ≡ written)
-Conversion (Err (BadCommand line)) empty left left' written written' = ⊥
-Conversion (Err (Truncated line)) empty left left' written written' = ⊥
-Conversion (Err (Table fault)) empty left left' written written' = ⊥
+-- The prelude is refused for this, and no byte was read.
+pub record RefusesFirst (setting : Setting) (prelude : List (List ℕ)) (left left' : Option (List ℕ)) (fault : EditFault) : Type 0 where
+  pub why : prelude_due setting prelude ≡ Some (reason_of fault)
+  pub unread : left' ≡ left
 
--- what each end says where the prelude is read first; there is no other
-abbrev pub ConversionBeside : {T : Type 0} → Result T ToolFault → Document → List (List ℕ) → Option (List ℕ) → Option (List ℕ) → Option (List ℕ) → Option (List ℕ) → Type 0
-ConversionBeside (Ok answer) empty prelude left left' written written' = Beside empty prelude (λ held. Converted held left left' written written')
-ConversionBeside (Err Write) empty prelude left left' written written' = Beside empty prelude (λ held. Interrupted held left left' written written')
-ConversionBeside (Err (Refused fault)) empty prelude left left' written written' =
-    PreludeRefused empty prelude fault left left' written written' ⊎ Beside empty prelude (λ held. Declined held left left' written written' fault)
-ConversionBeside (Err Read) empty prelude left left' written written' = TakesSome left left' × (written' ≡ written)
-ConversionBeside (Err NoMemory) empty prelude left left' written written' = TakesSome left left' × (written' ≡ written)
-ConversionBeside (Err (BadCommand line)) empty prelude left left' written written' = ⊥
-ConversionBeside (Err (Truncated line)) empty prelude left left' written written' = ⊥
-ConversionBeside (Err (Table fault)) empty prelude left left' written written' = ⊥
+-- All bytes were read; the prelude is not refused, and the text that they make is refused for this.
+pub record RefusesText (setting : Setting) (prelude : List (List ℕ)) (left left' : Option (List ℕ)) (fault : EditFault) : Type 0 where
+  pub lines : List (List ℕ)
+  pub read : LinesRead left lines left'
+  pub prelude_stands : prelude_due setting prelude ≡ None
+  pub why : refusal setting (with_prelude prelude lines) ≡ Some (reason_of fault)
+
+-- What each end says; there is no other. At `Ok` the HTML of the text was written, and where writing failed a beginning of it. At any other end nothing was
+-- written: the prelude is refused, or the text; or the feed failed, which is the answer only where the prelude is not refused; or memory was refused.
+abbrev pub Conversion : {T : Type 0} → Result T ToolFault → Setting → (prelude : List (List ℕ)) → (left left' written written' : Option (List ℕ)) → Type 0
+Conversion (Ok answer) setting prelude left left' written written' =
+    (html : List ℕ) × Reads setting prelude left left' html × Gains written html written'
+Conversion (Err Write) setting prelude left left' written written' =
+    (html : List ℕ) × Reads setting prelude left left' html × GainsFront written html written'
+Conversion (Err (Refused fault)) setting prelude left left' written written' =
+    (written' ≡ written) × (RefusesFirst setting prelude left left' fault ⊎ RefusesText setting prelude left left' fault)
+Conversion (Err Read) setting prelude left left' written written' =
+    (written' ≡ written) × (prelude_due setting prelude ≡ None) × TakesSome left left'
+Conversion (Err NoMemory) setting prelude left left' written written' = (written' ≡ written) × TakesSome left left'
+Conversion (Err (BadCommand line)) setting prelude left left' written written' = ⊥
+Conversion (Err (Truncated line)) setting prelude left left' written written' = ⊥
+Conversion (Err (Table fault)) setting prelude left left' written written' = ⊥

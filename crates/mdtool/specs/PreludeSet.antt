@@ -1,19 +1,14 @@
 -- A prelude that is set before anything is read.
-use Rattle.std.specs.Prelude.{◌≡◌, ℕ, List, [], Option, Result, Ok, Err}
+use Rattle.std.specs.Prelude.{◌≡◌, ℕ, List, Option, Result, Ok, Err}
 use Rattle.viewspec.specs.Calls.{set_prelude}
 use Rattle.viewspec.specs.ChangedPieces.{ChangedPieces}
 use Rattle.mdtool.specs.declared.fault.ToolFault.{ToolFault}
 use Rattle.mdtool.specs.declared.fault.ToolFault.TheVariants.{Read, Write, Refused, BadCommand, Truncated, Table, NoMemory}
 use Rattle.mdview.specs.declared.fault.EditFault.{EditFault}
-use Rattle.mdview.specs.Document.{Document, document}
+use Rattle.mdview.specs.Document.{Document}
 use Rattle.mdview.specs.Outcome.{outcome}
-use Rattle.mdview.specs.Preludes.{HeldPrelude}
 use Rattle.mdview.specs.ReadingEnd.{ReadingEnd}
 use Rattle.mdtool.specs.ToolRefusals.{refusal_of}
-
--- what a preview without lines holds beside this prelude
-abbrev pub beside : Document → HeldPrelude → Document
-beside empty prelude = document empty.entities empty.options (record { lines = []; prelude = prelude.lines }) 0 [] prelude.labels
 
 -- these lines are accepted as the prelude, and this is held then, by some reading of them
 pub record Sets (empty : Document) (lines : List (List ℕ)) (held : Document) : Type 0 where

@@ -1,4 +1,5 @@
 -- A refusal as an engine answers it.
+use Rattle.std.specs.Prelude.{◌≡◌}
 use Rattle.mdtool.specs.declared.fault.ToolFault.{ToolFault}
 use Rattle.mdtool.specs.declared.fault.ToolFault.TheVariants.{Refused, NoMemory}
 use Rattle.mdview.specs.declared.fault.EditFault.{EditFault}
@@ -15,3 +16,7 @@ refusal_of TooLarge = Refused TooLarge
 refusal_of (NestedTooDeep line) = Refused (NestedTooDeep line)
 refusal_of (InlineTooDeep line) = Refused (InlineTooDeep line)
 refusal_of (NotDefinitions line) = Refused (NotDefinitions line)
+
+-- the text or the prelude was refused, or memory was
+abbrev pub IsRefusal : ToolFault → Type 0
+IsRefusal tool = (fault : EditFault) × (tool ≡ refusal_of fault)

@@ -1,11 +1,9 @@
 //! Turns a whole text into HTML.
-ghost use Rattle.std.specs.Prelude.{◌≡◌, ◌-◌, ◌^◌, ◌<◌, IfOk, map, string_bytes};
+ghost use Rattle.std.specs.Prelude.{◌≡◌, ◌-◌, ◌^◌, ◌<◌, ℕ, IfErr, IfOk, List, map, string_bytes};
 ghost use Rattle.std.specs.Str.Lossy.{utf8_lossy};
 ghost use Rattle.mdtext.specs.Lines.{text_lines};
-ghost use Rattle.mdtool.specs.Convert.{Conversion, ConversionBeside, TextRead, WholeHtml};
-ghost use Rattle.mdtool.specs.ToolRefusals.{refusal_of};
-ghost use Rattle.mdview.specs.Document.{empty};
-ghost use Rattle.mdtool.specs.PreludeSet.{PreludeSet, beside};
+ghost use Rattle.mdtool.specs.Convert.{Conversion, IsPreludeOf, PreludeRead, TextRead, WholeHtml, with_prelude};
+ghost use Rattle.mdtool.specs.ToolRefusals.{IsRefusal, refusal_of};
 ghost use Rattle.mdtool.specs.Drained.{TakesSome};
 ghost use Rattle.mdtool.specs.Serve.{out_failures_after};
 ghost use Rattle.mdtool.specs.Steps.{Steps, failures_after};
@@ -25,8 +23,8 @@ use std::alloc::{AllocError, Global};
 ///
 /// Bytes that are no UTF-8 are read as U+FFFD, and lines end as CommonMark 2.1 says. Nothing is written before the whole
 /// text was read and accepted: nothing at all after `Refused`, `Read` and `NoMemory`, and after `Write` a beginning of the
-/// HTML. The definitions in the prelude's lines stand below the text's; they are read first, and where they are refused nothing
-/// of the feed was read.
+/// HTML, which is the pieces of the text's view, one after the other. The definitions in the prelude's lines stand below the
+/// text's; they are read first, and where they are refused nothing of the feed was read.
 pub fn convert<R: Feed, W: Out>(
     alloc: Global,
     feed: &mut R,
@@ -38,7 +36,8 @@ pub fn convert<R: Feed, W: Out>(
     requires limits { HasLimits options }
     requires feed { R.failures feed.old < 2 ^ 64 - 1 }
     requires out { W.failures out.old < 2 ^ 64 - 1 }
-    ensures converted { ConversionBeside result (empty entities options) (map string_bytes prelude.now) (R.left feed.old) (R.left feed.new) (W.written out.old) (W.written out.new) }
+    ensures converted { Conversion result (record { entities = entities; options = options }) (map string_bytes prelude.now)
+        (R.left feed.old) (R.left feed.new) (W.written out.old) (W.written out.new) }
     // `Read` is answered where the feed failed, and `Write` where the out did.
     ensures feed { R.failures feed.new ≡ failures_after result (R.failures feed.old) }
     ensures out { W.failures out.new ≡ out_failures_after result (W.failures out.old) }
@@ -59,7 +58,8 @@ fn convert_beside<R: Feed, W: Out>(
     requires limits { HasLimits options.now }
     requires feed { R.failures feed.old < 2 ^ 64 - 1 }
     requires out { W.failures out.old < 2 ^ 64 - 1 }
-    ensures converted { Conversion result (beside (empty entities.now options.now) prelude.now) (R.left feed.old) (R.left feed.new) (W.written out.old) (W.written out.new) }
+    ensures converted { (given : List (List ℕ)) → IsPreludeOf (record { entities = entities.now; options = options.now }) given prelude.now
+        → Conversion result (record { entities = entities.now; options = options.now }) given (R.left feed.old) (R.left feed.new) (W.written out.old) (W.written out.new) }
     ensures feed { R.failures feed.new ≡ failures_after result (R.failures feed.old) }
     ensures out { W.failures out.new ≡ out_failures_after result (W.failures out.old) }
 {
@@ -79,7 +79,7 @@ fn prelude_of(
     options: &Options,
 ) -> Result<Prelude, ToolFault>
     requires { HasLimits options.now }
-    ensures { PreludeSet (beside (empty entities.now options.now)) result (empty entities.now options.now) (map string_bytes lines.now) }
+    ensures { PreludeRead result (record { entities = entities.now; options = options.now }) (map string_bytes lines.now) }
 {
     let lines = lent(alloc, lines)?;
     match Prelude::read(alloc, &lines, entities, options, &mut Tally::new()) {
@@ -120,7 +120,9 @@ fn whole_html(
     prelude: &Prelude,
 ) -> Result<String, ToolFault>
     requires { HasLimits options.now }
-    ensures { WholeHtml result (beside (empty entities.now options.now) prelude.now) (text_lines text.now) }
+    ensures html { (given : List (List ℕ)) → IsPreludeOf (record { entities = entities.now; options = options.now }) given prelude.now
+        → WholeHtml result (record { entities = entities.now; options = options.now }) (with_prelude given (text_lines text.now)) }
+    ensures refusal { IfErr result IsRefusal }
 {
     match to_html(alloc, text, entities, options, prelude) {
         Ok(html) => Ok(html),

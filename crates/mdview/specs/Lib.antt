@@ -8,6 +8,7 @@ pub mod Preludes
 pub mod Defining
 pub mod Run
 pub mod FaultNames
+pub mod FaultReasons
 pub mod NewText
 pub mod LabelTargets
 pub mod Update

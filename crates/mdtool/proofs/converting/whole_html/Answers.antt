@@ -1,18 +1,15 @@
-use Rattle.std.proofs.Common.{sym, subst, Err, string_bytes}
 use Rattle.mdtext.specs.Lines.{text_lines}
-use Rattle.mdview.specs.Document.{Document, empty}
-use Rattle.mdtool.specs.Convert.{WholeHtml}
-use Rattle.mdtool.specs.PreludeSet.{beside}
-use Rattle.mdtool.proofs.FirstEdits.{has_html, is_refused}
+use Rattle.mdtool.proofs.Conversions.{page_html, page_refused}
 use Rattle.mdtool.proofs.converting.whole_html.Goals as goal
 
-pub returns-in-Ok : goal.returns-in-Ok
-returns-in-Ok c =
-    let none : Document = empty c.args.entities.now c.args.options.now in
-    has_html none c.args.prelude.now c.args.text.now (string_bytes c.in-Ok.html) c.in-Ok.ensures.0 c.in-Ok.ensures.2
+pub returns-in-Ok-clause-html : goal.returns-in-Ok-clause-html
+returns-in-Ok-clause-html c = λ given is.
+    page_html c.in-Ok.html (record { entities = c.args.entities.now; options = c.args.options.now }) given (text_lines c.args.text.now) c.args.prelude.now is c.in-Ok.ensures.viewed
 
-pub returns-in-Err : goal.returns-in-Err
-returns-in-Err c =
-    let none : Document = empty c.args.entities.now c.args.options.now in
-    subst (λ fault. WholeHtml (Err fault) (beside none c.args.prelude.now) (text_lines c.args.text.now)) (sym c.refusal.ensures)
-    (is_refused none c.args.prelude.now c.args.text.now c.in-Err.fault c.in-Err.ensures)
+pub returns-in-Err-clause-html : goal.returns-in-Err-clause-html
+returns-in-Err-clause-html c = λ given is.
+    page_refused c.in-Err.fault c.refusal.result (record { entities = c.args.entities.now; options = c.args.options.now }) given (text_lines c.args.text.now) c.args.prelude.now
+    c.refusal.ensures is c.in-Err.ensures.viewed
+
+pub returns-in-Err-clause-refusal : goal.returns-in-Err-clause-refusal
+returns-in-Err-clause-refusal c = (c.in-Err.fault, c.refusal.ensures)

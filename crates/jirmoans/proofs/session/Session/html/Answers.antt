@@ -11,7 +11,7 @@ returns-in-Ok-hold_all c =
     let lines = text_lines c.in_ok-text.text.now in
     let prelude = c.definitions.result.now in
     let read : TextHtml (Ok html) (record { entities = c.entities.result.now; options = c.options.result.now }) prelude lines =
-    subst (λ read. TextHtml read (record { entities = c.entities.result.now; options = c.options.result.now }) prelude lines) c.in-Ok.is c.to_html-html.ensures in
+    subst (λ read. TextHtml read (record { entities = c.entities.result.now; options = c.options.result.now }) prelude lines) c.in-Ok.is c.to_html-html.ensures.html in
     let known : TextHtml (Ok html) (record { entities = preview.entities; options = c.options.result.now }) prelude lines =
     subst (λ entities. TextHtml (Ok html) (record { entities = entities; options = c.options.result.now }) prelude lines) c.entities.ensures read in
     let so : TextHtml (Ok html) (record { entities = preview.entities; options = preview.options }) prelude lines =
@@ -38,7 +38,7 @@ returns-in-Err c =
     let lines = text_lines c.in_ok-text.text.now in
     let prelude = c.definitions.result.now in
     let read : TextHtml (Err fault) (record { entities = c.entities.result.now; options = c.options.result.now }) prelude lines =
-    subst (λ read. TextHtml read (record { entities = c.entities.result.now; options = c.options.result.now }) prelude lines) c.in-Err.is c.to_html-html.ensures in
+    subst (λ read. TextHtml read (record { entities = c.entities.result.now; options = c.options.result.now }) prelude lines) c.in-Err.is c.to_html-html.ensures.html in
     let known : TextHtml (Err fault) (record { entities = preview.entities; options = c.options.result.now }) prelude lines =
     subst (λ entities. TextHtml (Err fault) (record { entities = entities; options = c.options.result.now }) prelude lines) c.entities.ensures read in
     let so : TextHtml (Err fault) (record { entities = preview.entities; options = preview.options }) prelude lines =

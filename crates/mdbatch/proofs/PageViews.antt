@@ -1,0 +1,103 @@
+-- A page beside a prelude is the view of its text with that prelude, where these entities define the prelude.
+use Rattle.std.proofs.Common.{◌≡◌, ℕ, Bool, true, false, List, [], Option, Some, None, Result, Ok, Err, String, map, find, cond, option_map, nat_lt, length, refl, ap, sym, ◌∙◌}
+use Rattle.std.specs.Global.{Global}
+use Rattle.std.specs.List.{concat}
+use Rattle.std.specs.Option.{option_or}
+use Rattle.mdtext.specs.EntityTable.{EntityTable}
+use Rattle.mdleaf.specs.LinkDefinition.{LinkDefinition}
+use Rattle.blockspec.specs.BlockUnits.{definitions_of, units}
+use Rattle.blockspec.specs.FirstDefinitions.{first_definition}
+use Rattle.blockspec.specs.Nesting.{first_too_deep}
+use Rattle.blocklaws.proofs.DocumentLaws.{first_of_both}
+use Rattle.inlinespec.specs.LabelMap.{target_in}
+use Rattle.viewspec.specs.LabelTable.{table, table_of, target_defined}
+use Rattle.viewspec.specs.Refusals.{Refusal, too_many_lines, too_large, nested_too_deep, inline_too_deep, inline_refusal, is_too_deep, nesting_refusal, size_refusal}
+use Rattle.viewspec.specs.Refusals.{refusal as due_refusal}
+use Rattle.viewspec.specs.Setting.{Setting}
+use Rattle.viewspec.specs.View.{ViewedUnit, view, viewed}
+use Rattle.viewlaws.proofs.Cuts.{no_units}
+use Rattle.viewlaws.proofs.LabelsLead.{units_lead}
+use Rattle.mdview.specs.declared.fault.EditFault.{EditFault}
+use Rattle.mdview.specs.declared.fault.EditFault.TheVariants.{OutOfRange, BreakInLine, TooManyLines, TooLarge, NestedTooDeep, InlineTooDeep, NoMemory, NotDefinitions}
+use Rattle.mdview.specs.Document.{size_of}
+use Rattle.mdview.specs.Edit.{refusal}
+use Rattle.mdview.specs.FaultReasons.{reason_of}
+use Rattle.mdview.specs.Preludes.{HeldPrelude, IsDefinedBy}
+use Rattle.mdbatch.specs.BatchHtml.{TextHtml, begin_in, deep_on_page, piece_in}
+use Rattle.mdbatch.specs.TextLabels.{page_table}
+use Rattle.mdbatch.specs.ViewHtml.{ViewHtml}
+use Rattle.mdbatch.proofs.UnitsWritten.{viewed_under}
+
+-- ---- why lines are refused for their number or their bytes
+
+page_choice : (many large : Bool) → option_map reason_of (cond many (Some TooManyLines) (cond large (Some TooLarge) None)) ≡ cond many (Some too_many_lines) (cond large (Some too_large) None)
+page_choice true large = refl
+page_choice false true = refl
+page_choice false false = refl
+
+pub page_size : (lines : List (List ℕ)) → option_map reason_of (refusal lines) ≡ size_refusal lines
+page_size lines = page_choice (nat_lt 1000000 (length lines)) (nat_lt 16777216 (size_of lines))
+
+-- ---- where labels lead
+
+page_both : (a b : Option LinkDefinition) → option_or (option_map target_defined a) (option_map target_defined b) ≡ option_map target_defined (option_or a b)
+page_both None b = refl
+page_both (Some d) b = refl
+
+-- Labels lead on the page as they do in the text with its prelude.
+pub page_leads : (e : EntityTable) (lines : List (List ℕ)) (prelude : HeldPrelude) → IsDefinedBy e prelude → (label : List ℕ)
+    → page_table (units e lines) prelude label ≡ table e (record { lines = lines; prelude = prelude.lines }) label
+page_leads e lines prelude defined label =
+    let own = definitions_of (units e lines) in
+    let beside = definitions_of (units e prelude.lines) in
+    ap (λ labels. option_or (table_of own label) (target_in labels label)) defined
+    ∙ ap (option_or (table_of own label)) (units_lead (units e prelude.lines) [] label)
+    ∙ page_both (first_definition own label) (first_definition beside label)
+    ∙ ap (option_map target_defined) (sym (first_of_both own beside label))
+
+-- ---- what is read under them
+
+page_line : (one : Option ViewedUnit) → option_map inline_too_deep (option_map begin_in one) ≡ option_map (λ (one : ViewedUnit). inline_too_deep one.begin) one
+page_line None = refl
+page_line (Some one) = refl
+
+-- no text is too deep where there is none
+pub page_no_text : (setting : Setting) (prelude : List (List ℕ)) → inline_refusal setting (record { lines = []; prelude = prelude }) ≡ None
+page_no_text setting prelude =
+    ap (λ us. option_map (λ (one : ViewedUnit). inline_too_deep one.begin) (find (is_too_deep setting.options.max_spans)
+    (map (viewed setting (table setting.entities (record { lines = []; prelude = prelude }))) us))) (no_units setting.entities)
+
+module _ (setting : Setting) (lines : List (List ℕ)) (prelude : HeldPrelude) (defined : IsDefinedBy setting.entities prelude) where
+  page_view : map (viewed setting (page_table (units setting.entities lines) prelude)) (units setting.entities lines) ≡ view setting (record { lines = lines; prelude = prelude.lines })
+  page_view =
+      viewed_under setting (page_table (units setting.entities lines) prelude) (table setting.entities (record { lines = lines; prelude = prelude.lines }))
+      (units setting.entities lines) (page_leads setting.entities lines prelude defined)
+
+  page_deep : option_map inline_too_deep (deep_on_page setting prelude lines) ≡ inline_refusal setting (record { lines = lines; prelude = prelude.lines })
+  page_deep =
+      ap (λ us. option_map inline_too_deep (option_map begin_in (find (is_too_deep setting.options.max_spans) us))) page_view
+      ∙ page_line (find (is_too_deep setting.options.max_spans) (view setting (record { lines = lines; prelude = prelude.lines })))
+
+  page_nested : (nested : Option ℕ) → first_too_deep setting.options.max_containers lines ≡ nested
+      → nesting_refusal setting (record { lines = lines; prelude = prelude.lines }) ≡ option_or (option_map nested_too_deep nested) (inline_refusal setting (record { lines = lines; prelude = prelude.lines }))
+  page_nested nested is = ap (λ n. option_or (option_map nested_too_deep n) (inline_refusal setting (record { lines = lines; prelude = prelude.lines }))) is
+
+  page_spans : (deep : Option ℕ) → deep_on_page setting prelude lines ≡ deep → inline_refusal setting (record { lines = lines; prelude = prelude.lines }) ≡ option_map inline_too_deep deep
+  page_spans deep is = sym page_deep ∙ ap (option_map inline_too_deep) is
+
+  page_sized : (size : Option EditFault) → refusal lines ≡ size
+      → due_refusal setting (record { lines = lines; prelude = prelude.lines }) ≡ option_or (option_map reason_of size) (nesting_refusal setting (record { lines = lines; prelude = prelude.lines }))
+  page_sized size is = ap (λ s. option_or s (nesting_refusal setting (record { lines = lines; prelude = prelude.lines }))) (sym (page_size lines) ∙ ap (option_map reason_of) is)
+
+  -- What is said of a page is said of the view.
+  pub page_viewed : (result : Result (String Global) EditFault) → TextHtml result setting prelude lines → ViewHtml result setting (record { lines = lines; prelude = prelude.lines })
+  page_viewed (Ok html) (size, nested, is) =
+      (page_sized None size ∙ page_nested None nested ∙ page_spans None is.within, is.written ∙ ap (λ us. concat (map piece_in us)) page_view)
+  page_viewed (Err TooManyLines) size = page_sized (Some TooManyLines) size
+  page_viewed (Err TooLarge) size = page_sized (Some TooLarge) size
+  page_viewed (Err (NestedTooDeep line)) (size, nested) = page_sized None size ∙ page_nested (Some line) nested
+  page_viewed (Err (InlineTooDeep line)) (size, nested, deep) = page_sized None size ∙ page_nested None nested ∙ page_spans (Some line) deep
+  page_viewed (Err NoMemory) size = sym (page_size lines) ∙ ap (option_map reason_of) size
+  page_viewed (Err (OutOfRange count)) h = absurd h
+  page_viewed (Err (BreakInLine index)) h = absurd h
+  page_viewed (Err (NotDefinitions line)) h = absurd h

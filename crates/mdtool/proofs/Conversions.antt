@@ -1,0 +1,128 @@
+-- The ends of a conversion, from those of its steps.
+use Rattle.std.proofs.Common.{◌≡◌, ℕ, List, [], Option, Some, None, Result, Ok, Err, String, string_bytes, refl, ap, sym, ◌∙◌, subst, inl, inr}
+use Rattle.std.specs.Global.{Global}
+use Rattle.viewspec.specs.Setting.{Setting}
+use Rattle.mdtext.specs.Lines.{text_lines}
+use Rattle.mdview.specs.declared.fault.EditFault.{EditFault}
+use Rattle.mdview.specs.declared.fault.EditFault.TheVariants.{OutOfRange, BreakInLine, TooManyLines, TooLarge, NestedTooDeep, InlineTooDeep, NotDefinitions}
+use Rattle.mdview.specs.declared.fault.EditFault.TheVariants.{NoMemory as EditNoMemory}
+use Rattle.mdview.specs.Preludes.{HeldPrelude, IsDefinedBy}
+use Rattle.mdbatch.specs.ViewHtml.{ViewHtml}
+use Rattle.mdtool.specs.declared.fault.ToolFault.{ToolFault}
+use Rattle.mdtool.specs.declared.fault.ToolFault.TheVariants.{Read, Write, Refused, BadCommand, Truncated, Table, NoMemory}
+use Rattle.mdtool.specs.Bytes.{Gains, GainsFront}
+use Rattle.mdtool.specs.Convert.{Conversion, HasHtml, IsPreludeOf, PreludeRead, Reads, TextRead, WholeHtml, prelude_due, with_prelude}
+use Rattle.mdtool.specs.Drained.{TakesSome}
+use Rattle.mdtool.specs.Serve.{out_failures_after}
+use Rattle.mdtool.specs.Steps.{Steps, failures_after}
+use Rattle.mdtool.specs.ToolRefusals.{IsRefusal, refusal_of}
+use Rattle.mdtool.proofs.Devices.{takes_nothing}
+
+-- ---- the HTML of a text
+
+-- what is said of a text beside what is held is said of it with the prelude's lines
+page_given : (r : Result (String Global) EditFault) (setting : Setting) (given lines : List (List ℕ)) (held : HeldPrelude) → IsPreludeOf setting given held
+    → (IsDefinedBy setting.entities held → ViewHtml r setting (record { lines = lines; prelude = held.lines })) → ViewHtml r setting (with_prelude given lines)
+page_given r setting given lines held is viewed = subst (λ prelude. ViewHtml r setting (record { lines = lines; prelude = prelude })) is.lines (viewed is.defined)
+
+pub page_html : (html : String Global) (setting : Setting) (given lines : List (List ℕ)) (held : HeldPrelude) → IsPreludeOf setting given held
+    → (IsDefinedBy setting.entities held → ViewHtml (Ok html) setting (record { lines = lines; prelude = held.lines })) → WholeHtml (Ok html) setting (with_prelude given lines)
+page_html html setting given lines held is viewed =
+    let h : ViewHtml (Ok html) setting (with_prelude given lines) = page_given (Ok html) setting given lines held is viewed in
+    record { stands = h.0; html_is = h.1 }
+
+page_fault : (fault : EditFault) (setting : Setting) (given lines : List (List ℕ)) → ViewHtml (Err fault) setting (with_prelude given lines)
+    → WholeHtml (Err (refusal_of fault)) setting (with_prelude given lines)
+page_fault TooManyLines setting given lines h = h
+page_fault TooLarge setting given lines h = h
+page_fault (NestedTooDeep line) setting given lines h = h
+page_fault (InlineTooDeep line) setting given lines h = h
+page_fault EditNoMemory setting given lines h = tt
+page_fault (OutOfRange count) setting given lines h = absurd h
+page_fault (BreakInLine index) setting given lines h = absurd h
+page_fault (NotDefinitions line) setting given lines h = absurd h
+
+pub page_refused : (fault : EditFault) (tool : ToolFault) (setting : Setting) (given lines : List (List ℕ)) (held : HeldPrelude) → tool ≡ refusal_of fault → IsPreludeOf setting given held
+    → (IsDefinedBy setting.entities held → ViewHtml (Err fault) setting (record { lines = lines; prelude = held.lines })) → WholeHtml (Err tool) setting (with_prelude given lines)
+page_refused fault tool setting given lines held same is viewed =
+    subst (λ tool. WholeHtml (Err tool) setting (with_prelude given lines)) (sym same) (page_fault fault setting given lines (page_given (Err fault) setting given lines held is viewed))
+
+-- ---- the ends
+
+module _ (setting : Setting) (given : List (List ℕ)) (left left' written : Option (List ℕ)) where
+  -- the text was not read whole
+  pub page_unread : {T : Type 0} (U : Type 0) (fault : ToolFault) (ok : T → Type 0) → prelude_due setting given ≡ None
+      → Steps {T = T} (Err fault) ok (TakesSome left left') (TakesSome left left') → Conversion {T = U} (Err fault) setting given left left' written written
+  page_unread U Read ok stands end = (refl, stands, end)
+  page_unread U NoMemory ok stands end = (refl, end)
+  page_unread U Write ok stands end = absurd end
+  page_unread U (Refused fault) ok stands end = absurd end
+  page_unread U (BadCommand line) ok stands end = absurd end
+  page_unread U (Truncated line) ok stands end = absurd end
+  page_unread U (Table fault) ok stands end = absurd end
+
+  -- it was, and has no HTML
+  pub page_no_html : (U : Type 0) (fault : ToolFault) (text : List ℕ) → prelude_due setting given ≡ None → TextRead left text left'
+      → WholeHtml (Err fault) setting (with_prelude given (text_lines text)) → Conversion {T = U} (Err fault) setting given left left' written written
+  page_no_html U (Refused fault) text stands (bytes, takes, is) end =
+      (refl, inr (record { lines = text_lines text; read = (bytes, takes, ap text_lines is); prelude_stands = stands; why = end }))
+  page_no_html U NoMemory text stands (bytes, takes, is) end = (refl, (bytes, takes.0))
+  page_no_html U Read text stands read end = absurd end
+  page_no_html U Write text stands read end = absurd end
+  page_no_html U (BadCommand line) text stands read end = absurd end
+  page_no_html U (Truncated line) text stands read end = absurd end
+  page_no_html U (Table fault) text stands read end = absurd end
+
+-- it has
+pub page_reads : (setting : Setting) (given : List (List ℕ)) (left left' : Option (List ℕ)) (text html : List ℕ) → prelude_due setting given ≡ None → TextRead left text left'
+    → HasHtml setting (with_prelude given (text_lines text)) html → Reads setting given left left' html
+page_reads setting given left left' text html stands (bytes, takes, is) has = record { lines = text_lines text; read = (bytes, takes, ap text_lines is); prelude_stands = stands; has = has }
+
+-- the prelude was refused, or memory was for it
+pub page_ends_first : (U : Type 0) (fault : ToolFault) (setting : Setting) (given : List (List ℕ)) (left written : Option (List ℕ)) → PreludeRead (Err fault) setting given
+    → Conversion {T = U} (Err fault) setting given left left written written
+page_ends_first U (Refused fault) setting given left written end = (refl, inl (record { why = end; unread = refl }))
+page_ends_first U NoMemory setting given left written end = (refl, ([], takes_nothing left))
+page_ends_first U Read setting given left written end = absurd end
+page_ends_first U Write setting given left written end = absurd end
+page_ends_first U (BadCommand line) setting given left written end = absurd end
+page_ends_first U (Truncated line) setting given left written end = absurd end
+page_ends_first U (Table fault) setting given left written end = absurd end
+
+-- no device failed then
+pub page_feed_stays : (U : Type 0) (fault : ToolFault) (setting : Setting) (given : List (List ℕ)) (failures : ℕ) → PreludeRead (Err fault) setting given
+    → failures ≡ failures_after {T = U} (Err fault) failures
+page_feed_stays U (Refused fault) setting given failures end = refl
+page_feed_stays U NoMemory setting given failures end = refl
+page_feed_stays U Read setting given failures end = absurd end
+page_feed_stays U Write setting given failures end = absurd end
+page_feed_stays U (BadCommand line) setting given failures end = absurd end
+page_feed_stays U (Truncated line) setting given failures end = absurd end
+page_feed_stays U (Table fault) setting given failures end = absurd end
+
+pub page_out_stays : (U : Type 0) (fault : ToolFault) (setting : Setting) (given : List (List ℕ)) (failures : ℕ) → PreludeRead (Err fault) setting given
+    → failures ≡ out_failures_after {T = U} (Err fault) failures
+page_out_stays U (Refused fault) setting given failures end = refl
+page_out_stays U NoMemory setting given failures end = refl
+page_out_stays U Read setting given failures end = absurd end
+page_out_stays U Write setting given failures end = absurd end
+page_out_stays U (BadCommand line) setting given failures end = absurd end
+page_out_stays U (Truncated line) setting given failures end = absurd end
+page_out_stays U (Table fault) setting given failures end = absurd end
+
+-- and none where the text was
+page_refusal_stays : (U : Type 0) (fault : EditFault) (failures : ℕ) → (failures_after {T = U} (Err (refusal_of fault)) failures ≡ failures) × (out_failures_after {T = U} (Err (refusal_of fault)) failures ≡ failures)
+page_refusal_stays U TooManyLines failures = (refl, refl)
+page_refusal_stays U TooLarge failures = (refl, refl)
+page_refusal_stays U (NestedTooDeep line) failures = (refl, refl)
+page_refusal_stays U (InlineTooDeep line) failures = (refl, refl)
+page_refusal_stays U EditNoMemory failures = (refl, refl)
+page_refusal_stays U (OutOfRange count) failures = (refl, refl)
+page_refusal_stays U (BreakInLine index) failures = (refl, refl)
+page_refusal_stays U (NotDefinitions line) failures = (refl, refl)
+
+pub page_feed_refused : (U : Type 0) (tool : ToolFault) (failures : ℕ) → IsRefusal tool → failures ≡ failures_after {T = U} (Err tool) failures
+page_feed_refused U tool failures (fault, is) = sym (ap (λ t. failures_after {T = U} (Err t) failures) is ∙ (page_refusal_stays U fault failures).0)
+
+pub page_out_refused : (U : Type 0) (tool : ToolFault) (failures : ℕ) → IsRefusal tool → failures ≡ out_failures_after {T = U} (Err tool) failures
+page_out_refused U tool failures (fault, is) = sym (ap (λ t. out_failures_after {T = U} (Err t) failures) is ∙ (page_refusal_stays U fault failures).1)
