@@ -1,0 +1,103 @@
+//! The edits and preludes that are tried.
+
+use crate::changes::{Change, try_changes};
+use std::alloc::{AllocError, Global};
+
+/// Lines with a link, a paragraph and a definition.
+const LINKED: &str = "[foo]\n\nx\n\n[foo]: /a\n";
+
+/// Makes each of the scripts of a preview of its own.
+pub fn try_scripts(alloc: Global, said: &mut String) -> Result<(), AllocError> {
+    try_definitions(alloc, said)?;
+    try_preludes(alloc, said)?;
+    try_table(alloc, said)?;
+    try_depth(alloc, said)
+}
+
+/// A definition is changed, another is put above it, and taken away again.
+fn try_definitions(alloc: Global, said: &mut String) -> Result<(), AllocError> {
+    let linked = Change::Edit {
+        at: 0,
+        del: 0,
+        add: LINKED,
+    };
+    let changed = Change::Edit {
+        at: 4,
+        del: 1,
+        add: "[foo]: /b\n",
+    };
+    try_changes(alloc, &[linked, changed], said)?;
+    let linked = Change::Edit {
+        at: 0,
+        del: 0,
+        add: LINKED,
+    };
+    let above = Change::Edit {
+        at: 0,
+        del: 0,
+        add: "[foo]: /c\n\n",
+    };
+    let away = Change::Edit {
+        at: 0,
+        del: 2,
+        add: "",
+    };
+    try_changes(alloc, &[linked, above, away], said)
+}
+
+/// A definition comes in a prelude, one of the text stands before it, and a prelude with another block is refused.
+fn try_preludes(alloc: Global, said: &mut String) -> Result<(), AllocError> {
+    let changes = [
+        Change::Edit {
+            at: 0,
+            del: 0,
+            add: "[foo]\n",
+        },
+        Change::Prelude("[foo]: /p\n"),
+        Change::Edit {
+            at: 1,
+            del: 0,
+            add: "\n[foo]: /a\n",
+        },
+        Change::Prelude(""),
+        Change::Prelude("x\n"),
+    ];
+    try_changes(alloc, &changes, said)
+}
+
+/// A paragraph's first line is taken away, so that the others are a table.
+fn try_table(alloc: Global, said: &mut String) -> Result<(), AllocError> {
+    let changes = [
+        Change::Edit {
+            at: 0,
+            del: 0,
+            add: "foo\n| a |\n| - |\n| b |\n",
+        },
+        Change::Edit {
+            at: 0,
+            del: 1,
+            add: "",
+        },
+    ];
+    try_changes(alloc, &changes, said)
+}
+
+/// A definition would make a link in as many spans as may be, so that it is refused.
+fn try_depth(alloc: Global, said: &mut String) -> Result<(), AllocError> {
+    let opened = "*a ".repeat(alloc, 64)?;
+    let closed = " a*".repeat(alloc, 64)?;
+    let text = format!(in alloc; "{opened}[k]{closed}\n\nx\n\n")?;
+    let changes = [
+        Change::Edit {
+            at: 0,
+            del: 0,
+            add: &text,
+        },
+        Change::Edit {
+            at: 4,
+            del: 0,
+            add: "[k]: /u\n",
+        },
+    ];
+    try_changes(alloc, &changes, said)
+}
