@@ -46,7 +46,7 @@ help:
 	@echo "make hostile             counts the instructions of bin/mdrender on hostile texts at two sizes (valgrind), and says where twice the text takes much more than twice as many; then times large ones"
 	@echo "make soak SECONDS=N      random edits of the repository's own texts through bin/mdpreview, for N seconds ($(SECONDS)): the pieces that a client keeps, html and mdrender's HTML must agree (SEED=$(SEED))"
 	@echo "make fuzz SECONDS=N      random bytes through both programs under a limit on memory, for N seconds ($(SECONDS)): no crash, and no status but 0, 1 and 2 (SEED=$(SEED))"
-	@echo "make memory              refuses each growth of memory of both programs in turn, over the examples and random scripts of edits (SEED=$(SEED); a C compiler is needed)"
+	@echo "make memory              refuses each growth of memory in turn: of each call of the libraries, and of both programs over the examples and random scripts of edits (SEED=$(SEED); a C compiler is needed)"
 	@echo "make rows ORACLE=DIR CORPUS=DIR  proves rows of the definitions of PART=$(PART) from the standards' examples in CORPUS, with what ORACLE/oracle.py says of them"
 	@echo "make compare ORACLE=DIR  builds, and runs DIR/compare on the programs, with TEXTS=$(TEXTS) random texts and SCRIPTS=$(SCRIPTS) random edit scripts"
 	@echo "make counts ORACLE=DIR   compares what each edit of SCRIPTS=$(SCRIPTS) random edit scripts reads with what DIR/oracle.py allows"
@@ -82,7 +82,8 @@ soak: $(if $(BUILT),,build)
 fuzz: $(if $(BUILT),,build)
 	@tools/fuzz.py --seconds $(SECONDS) --seed $(SEED)
 
-memory: $(if $(BUILT),,build)
+memory:
+	@$(if $(BUILT),,$(MAKE) -s build PROGRAMS="$(PROGRAMS) refused_growths")
 	@tools/memory.py --seed $(SEED)
 
 pane_test: $(if $(BUILT),,build)
