@@ -18,6 +18,8 @@ MOST = 2.3
 # What a text may take, in seconds of the processor's time, and what two readings of as many lines as there may be.
 LONGEST, TWICE_ALL_LINES = 1.0, 5.0
 MARKS = "*_~[]()!<>&\\`-+#|:="
+# The C library copies some sizes by one instruction that moves many bytes, on some processors. Then copies of other sizes would count for much more: so it does not.
+WORD_BY_WORD = {"GLIBC_TUNABLES": "glibc.cpu.x86_rep_movsb_threshold=1000000000"}
 # How often a mark stands in a text, and in those whose instructions are counted.
 OFTEN, LESS_OFTEN = 100_000, 5_000
 
@@ -163,6 +165,7 @@ def large(folder):
 def main():
     folder = sys.argv[1] if len(sys.argv) > 1 else "bin"
     program = os.path.join(folder, "mdrender")
+    os.environ.update(WORD_BY_WORD)
     # A program that reads nothing has its share in each count.
     start = counted(program, "")
     failed = two_sizes(program, start)

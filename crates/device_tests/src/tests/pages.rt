@@ -1,5 +1,7 @@
 //! Whole texts.
 
+ghost use Rattle.std.specs.Prelude.{◌<◌};
+
 use super::{OPTIONS, Run};
 use mdtext::Entities;
 use mdtool::{MemoryFeed, MemoryOut, ToolFault, convert};

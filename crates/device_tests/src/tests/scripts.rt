@@ -1,5 +1,7 @@
 //! Scripts.
 
+ghost use Rattle.std.specs.Prelude.{◌<◌};
+
 use super::{OPTIONS, Run};
 use mdtext::Entities;
 use mdtool::{MemoryFeed, MemoryOut, ToolFault, serve};
