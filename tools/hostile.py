@@ -1,6 +1,7 @@
 #!/usr/bin/env python3
 """Counts the instructions of mdrender on hostile texts at two sizes, the second twice the first, and says where the count more than doubles. Then each mark of
-Markdown 100,000 times, alone, behind a letter, and by turns with each other mark; and some large texts: none may take a second, or end but as it should.
+Markdown 100,000 times, alone, behind a letter, and by turns with each other mark; and some large texts: none may take a second, or end but as it should. At last texts
+that are as large as they may be.
 
 usage: tools/hostile.py [FOLDER OF THE PROGRAMS]
 """
@@ -15,8 +16,8 @@ import bench
 
 # More than this many times the instructions for twice the text is not linear.
 MOST = 2.3
-# What a text may take, in seconds of the processor's time, and what two readings of as many lines as there may be.
-LONGEST, TWICE_ALL_LINES = 1.0, 5.0
+# What a text may take, in seconds of the processor's time, and what one may that is as large as a text may be.
+LONGEST, LONGEST_OF_LARGEST = 1.0, 15.0
 MARKS = "*_~[]()!<>&\\`-+#|:="
 # The C library copies some sizes by one instruction that moves many bytes, on some processors. Then copies of other sizes would count for much more: so it does not.
 WORD_BY_WORD = {"GLIBC_TUNABLES": "glibc.cpu.x86_rep_movsb_threshold=1000000000"}
@@ -74,7 +75,6 @@ KINDS = [
 ]
 
 
-ALL_LINES = "one paragraph of all lines, and an edit in it"
 LARGE = [
     ("definitions of one label", "50,000 definitions", "mdrender", lambda: "[a]: /u\n" * 50_000 + "\n[a]\n", "done"),
     ("a row of a table", "100,000 cells", "mdrender", lambda: "a|b\n-|-\n" + "1|" * 100_000 + "\n", "done"),
@@ -87,7 +87,18 @@ LARGE = [
     ("strong emphasis in itself", "129 `*` on either side", "mdrender", lambda: "*" * 129 + "a" + "*" * 129, "refused InlineTooDeep 0"),
     ("an edit that claims lines", "999,999,999 lines", "mdpreview", lambda: "edit 0 0 999999999\na\n", "script ends inside the edit of line 1"),
     ("an edit that takes lines", "999,999,999 lines", "mdpreview", lambda: "edit 0 999999999 0\n", "done"),
-    (ALL_LINES, "1,000,000 lines", "mdpreview", lambda: "edit 0 0 1000000\n" + "a\n" * 1_000_000 + "edit 500000 1 1\nb\n", "done"),
+]
+# Texts as large as they may be: they go through mdrender, and through mdpreview as a first edit, without and with an edit of the line in their middle.
+LARGEST = [
+    ("one paragraph", "1,000,000 lines", lambda: "a\n" * 1_000_000),
+    ("paragraphs", "1,000,000 lines", lambda: "a\n\n" * 500_000),
+    ("one list", "1,000,000 lines", lambda: "- a\n" * 1_000_000),
+    ("one table", "1,000,000 lines", lambda: "a|b\n-|-\n" + "1|2\n" * 999_998),
+    ("definitions of as many labels", "1,000,000 lines", lambda: "".join(f"[l{n}]: /u\n" for n in range(1_000_000))),
+    ("one line of words", "16,777,212 bytes", lambda: "word" * 4_194_303 + "\n"),
+    ("one line of `*a* `", "16,777,212 bytes", lambda: "*a* " * 4_194_303 + "\n"),
+    ("one line of `[`", "16,777,212 bytes", lambda: "[" * 16_777_212 + "\n"),
+    ("one line of `<`", "16,777,212 bytes", lambda: "<" * 16_777_212 + "\n"),
 ]
 
 
@@ -157,8 +168,24 @@ def large(folder):
     print("|---|---|--:|---|")
     for name, size, program, make, wanted in LARGE:
         seconds, end = timed(os.path.join(folder, program), make())
-        failed += seconds > (TWICE_ALL_LINES if name == ALL_LINES else LONGEST) or end != wanted
+        failed += seconds > LONGEST or end != wanted
         print(f"| {name} | {size} | {1000 * seconds:.0f} | {end} |", flush=True)
+    return failed
+
+
+def largest(folder):
+    """The texts that are as large as may be, in milliseconds. Answers how many do not end as they should, or take too long."""
+    failed = 0
+    print("\n| Text | Size | `mdrender` | a first edit | a first edit and one more |")
+    print("|---|---|--:|--:|--:|")
+    for name, size, make in LARGEST:
+        text = make()
+        lines = text.count("\n")
+        first = f"edit 0 0 {lines}\n{text}"
+        ends = [timed(os.path.join(folder, "mdrender"), text)]
+        ends += [timed(os.path.join(folder, "mdpreview"), script) for script in (first, f"{first}edit {lines // 2} 1 1\nb\n")]
+        failed += any(seconds > LONGEST_OF_LARGEST or end != "done" for seconds, end in ends)
+        print(f"| {name} | {size} | " + " | ".join(f"{1000 * seconds:,.0f}" for seconds, _ in ends) + " |", flush=True)
     return failed
 
 
@@ -170,8 +197,8 @@ def main():
     start = counted(program, "")
     failed = two_sizes(program, start)
     wrong, texts = marks(program, start)
-    failed += wrong + large(folder)
-    print(f"{len(KINDS) + texts + len(LARGE) - failed} passed, {failed} failed")
+    failed += wrong + large(folder) + largest(folder)
+    print(f"{len(KINDS) + texts + len(LARGE) + len(LARGEST) - failed} passed, {failed} failed")
     return 1 if failed else 0
 
 
