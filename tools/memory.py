@@ -1,9 +1,9 @@
 #!/usr/bin/env python3
-"""memory.py [--calls] [--scripts N] [--edits N] [--seed S] [--bin DIR]: each growth of memory refused in turn, in bin/refused_growths, bin/mdrender and bin/mdpreview.
+"""memory.py [--scripts N] [--edits N] [--seed S] [--bin DIR]: each growth of memory refused in turn, in bin/refused_growths, bin/mdrender and bin/mdpreview.
 
 A program runs as often as it asks for memory; in each run one of these growths is refused, by a library that is loaded before C's (refuse_memory.c; a C compiler is
 needed). refused_growths makes each call of the libraries that takes memory: it must write what it always does, and where the growth was refused inside a call a line
-more, that all was as before. With --calls that is all. Then come the examples' texts and scripts, and N random scripts of edits (3, of 40 edits each). mdpreview must
+more, that all was as before. Then come the examples' texts and scripts, and N random scripts of edits (3, of 40 edits each). mdpreview must
 answer `refused NoMemory 0` to one command, and all others as if that command had not been sent; or end with status 1 and `no memory`, with a beginning of its replies
 written; or go on as ever. mdrender must write all or nothing, and say `no memory`. The last line is 'N passed, M failed', over the growths."""
 import argparse
@@ -148,8 +148,6 @@ def random_script(seed, edits):
 def subjects(options, loaded):
     """What is run: a name and a program with its input."""
     yield "each call", Calls(options.bin, loaded)
-    if options.calls:
-        return
     for name in sorted(glob.glob(os.path.join(ROOT, "examples", "*.script"))):
         if not os.path.exists(name.removesuffix(".script") + ".status"):
             with open(name, "rb") as file:
@@ -171,7 +169,6 @@ def growths(subject, folder):
 
 def main():
     parser = argparse.ArgumentParser(description="Each growth of memory refused in turn.")
-    parser.add_argument("--calls", action="store_true")
     parser.add_argument("--scripts", type=int, default=3)
     parser.add_argument("--edits", type=int, default=40)
     parser.add_argument("--seed", type=int, default=1)

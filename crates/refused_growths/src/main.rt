@@ -1,5 +1,5 @@
 //! `refused_growths`: makes the calls that take memory, and prints what they answer. Where a growth of memory is refused inside a call, it says so and whether
-//! all is as before, and makes the call again: its answer must then be the one that it always is. `tools/memory.py --calls` refuses each growth in turn.
+//! all is as before, and makes the call again: its answer must then be the one that it always is. `tools/memory.py` refuses each growth in turn.
 #![tactic(auto)]
 
 mod blocks;
