@@ -17,7 +17,7 @@ use Rattle.viewspec.specs.Stretch.{Places, from_line, old_line, meeting_line}
 use Rattle.viewlaws.proofs.Cuts.{IsCut, begins_before_end, rest_of}
 use Rattle.viewlaws.proofs.Splices.{IsEdit, meets, from_cut, from_above}
 
-none_too_deep : (limit : ℕ) → first_too_deep limit [] ≡ None
+pub none_too_deep : (limit : ℕ) → first_too_deep limit [] ≡ None
 unfolding first_deep deep_within all_of cut_from
 none_too_deep zero = refl
 none_too_deep (suc limit) = refl
@@ -68,7 +68,7 @@ deep_cut e limit lines n (inr (inl h)) =
     ∙ ap (λ z. option_or (first_too_deep limit (take z lines)) (moved_on z (first_too_deep limit (drop z lines)))) (sym h)
 deep_cut e limit lines n (inr (inr w)) = deep_inside e limit lines n w
 
-neither : (o : Option ℕ) (n : ℕ) (r : Option ℕ) → option_or o (moved_on n r) ≡ None → (o ≡ None) × (r ≡ None)
+pub neither : (o : Option ℕ) (n : ℕ) (r : Option ℕ) → option_or o (moved_on n r) ≡ None → (o ≡ None) × (r ≡ None)
 neither None n None h = (refl, refl)
 neither None n (Some k) h = cc
 neither (Some k) n r h = cc

@@ -12,3 +12,6 @@ pub mod UnaskedTexts
 pub mod ReadingBegins
 pub mod LabelsLead
 pub mod ReadLines
+pub mod TileSplices
+pub mod StretchEnds
+pub mod UnitPlaces

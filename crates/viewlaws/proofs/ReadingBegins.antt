@@ -1,5 +1,5 @@
 -- Where reading begins, and how many units stand before it, by the first lines of the units in three parts.
-use Rattle.std.proofs.Common.{◌≡◌, ℕ, ◌+◌, ◌<◌, ◌≤◌, ◌&&◌, Bool, true, false, List, [], ◌∷◌, ◌++◌, length, refl, sym, ◌∙◌, ap, subst, arith, nat_lt, max, length-append}
+use Rattle.std.proofs.Common.{◌≡◌, ℕ, ◌<◌, ◌≤◌, ◌&&◌, true, false, List, [], ◌∷◌, ◌++◌, length, ◌∙◌, ap, subst, arith, nat_lt, max}
 use Rattle.std.specs.Prelude.{nat_le, if◌then◌else◌}
 use Rattle.std.specs.List.{All, filter, fold}
 use Rattle.std.proofs.lemmas.Bool.Decides.{nat_tests}
@@ -13,7 +13,7 @@ use Rattle.viewlaws.proofs.Counts.{all_pass, count_append, none_passes}
 use Rattle.viewlaws.proofs.StretchReadings.{Ascends, begins_ascend}
 
 -- all members in front of one are smaller
-below_next : (front : List ℕ) (from : ℕ) (back : List ℕ) → Ascends (front ++ from ∷ back) → All (λ b. b < from) front
+pub below_next : (front : List ℕ) (from : ℕ) (back : List ℕ) → Ascends (front ++ from ∷ back) → All (λ b. b < from) front
 below_next [] from back h = All-nil (λ b. b < from)
 below_next (x ∷ front) from back h =
     All-cons (λ b. b < from) x front (here front h.0) (below_next front from back h.1)
@@ -23,17 +23,17 @@ below_next (x ∷ front) from back h =
     here (y ∷ ys) w = here ys (All-tail (λ y. x < y) y (ys ++ from ∷ back) w)
 
 -- the greatest of some numbers and one that is not smaller
-greatest_is : (xs : List ℕ) (a n : ℕ) → a ≤ n → All (λ b. b < n) xs → fold max a (xs ++ n ∷ []) ≡ n
+pub greatest_is : (xs : List ℕ) (a n : ℕ) → a ≤ n → All (λ b. b < n) xs → fold max a (xs ++ n ∷ []) ≡ n
 greatest_is [] a n h w = grind (arith, nat_tests, h)
 greatest_is (x ∷ xs) a n h w =
     let small = All-head (λ b. b < n) x xs w in
     let next : max a x ≤ n = grind (arith, nat_tests, h, small) in
     greatest_is xs (max a x) n next (All-tail (λ b. b < n) x xs w)
 
-passes_below : (at : ℕ) (xs : List ℕ) → All (λ b. b < at) xs → filter (λ b. nat_lt b at) xs ≡ xs
+pub passes_below : (at : ℕ) (xs : List ℕ) → All (λ b. b < at) xs → filter (λ b. nat_lt b at) xs ≡ xs
 passes_below at xs w = all_pass (λ b. nat_lt b at) xs (All-weaker (λ b. b < at) (λ b. nat_lt b at ≡ true) (λ b h. grind (arith, nat_tests, h)) xs w)
 
-passes_above : (at : ℕ) (xs : List ℕ) → All (λ b. at ≤ b) xs → filter (λ b. nat_lt b at) xs ≡ []
+pub passes_above : (at : ℕ) (xs : List ℕ) → All (λ b. at ≤ b) xs → filter (λ b. nat_lt b at) xs ≡ []
 passes_above at xs w = none_passes (λ b. nat_lt b at) xs (All-weaker (λ b. at ≤ b) (λ b. nat_lt b at ≡ false) (λ b h. grind (arith, nat_tests, h)) xs w)
 
 -- the greatest below a place, where the members behind it stand at that place or later

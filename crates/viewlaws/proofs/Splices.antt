@@ -40,7 +40,7 @@ kept_by p xs x w = (
   All-contains (λ y. p y ≡ true) (filter p xs) x (filter_passes p xs) w,
 )
 
-found_is : {X : Type 0} (p : X → Bool) (xs : List X) (x : X) → find p xs ≡ Some x → Contains xs x × (p x ≡ true)
+pub found_is : {X : Type 0} (p : X → Bool) (xs : List X) (x : X) → find p xs ≡ Some x → Contains xs x × (p x ≡ true)
 found_is p [] x h = cc
 found_is p (y ∷ ys) x h = by (p y) refl (λ k. found_is p ys x k) h
   where
@@ -63,10 +63,10 @@ pub record IsEdit (e : EntityTable) (old new : List (List ℕ)) (p : Places) : T
   pub back : drop (p.at + p.come) new ≡ drop (p.at + p.gone) old
 
 -- Reading begins with the first line, or with the beginning of a unit above the edit.
-abbrev BeginsAbove : EntityTable → List (List ℕ) → Places → Type 0
+abbrev pub BeginsAbove : EntityTable → List (List ℕ) → Places → Type 0
 BeginsAbove e old p = (from_line p ≡ 0) ⊎ ((from_line p < p.at) × Contains (begins e old) (from_line p))
 
-begins_above : (e : EntityTable) (old new : List (List ℕ)) (p : Places) → IsEdit e old new p → BeginsAbove e old p
+pub begins_above : (e : EntityTable) (old new : List (List ℕ)) (p : Places) → IsEdit e old new p → BeginsAbove e old p
 begins_above e old new p w = by (greatest (filter (λ b. nat_lt b p.at) p.old_begins) 0)
   where
     by : (from_line p ≡ 0) ⊎ Contains (filter (λ b. nat_lt b p.at) p.old_begins) (from_line p) → BeginsAbove e old p
@@ -84,12 +84,12 @@ from_above e old new p w = by (begins_above e old new p w)
     by (inr h) = let s = h.0 in omega (arith, s)
 
 -- Reading ends at the end of the text, or at a line behind the edit at which a unit begins in both texts.
-abbrev MeetsBehind : EntityTable → (old new : List (List ℕ)) → Places → Type 0
+abbrev pub MeetsBehind : EntityTable → (old new : List (List ℕ)) → Places → Type 0
 MeetsBehind e old new p =
     (meeting_line p ≡ length new)
     ⊎ ((p.at + p.come ≤ meeting_line p) × Contains (begins e new) (meeting_line p) × Contains (begins e old) (old_line p (meeting_line p)))
 
-meets_behind : (e : EntityTable) (old new : List (List ℕ)) (p : Places) → IsEdit e old new p → MeetsBehind e old new p
+pub meets_behind : (e : EntityTable) (old new : List (List ℕ)) (p : Places) → IsEdit e old new p → MeetsBehind e old new p
 meets_behind e old new p w = by (find (is_meeting p) p.new_begins) refl
   where
     by : (o : Option ℕ) → find (is_meeting p) p.new_begins ≡ o → MeetsBehind e old new p

@@ -1,9 +1,8 @@
 -- What a reader that is fed the lines of a stretch tells: where units begin, and with that where the stretch ends.
-use Rattle.std.proofs.Common.{◌≡◌, ℕ, suc, ◌+◌, ◌-◌, ◌<◌, ◌≤◌, ◌⊎◌, inl, inr, Bool, true, false, List, [], ◌∷◌, ◌++◌, length, map, take, drop, Option, Some, None, refl, sym, ◌∙◌, ap, subst, append_assoc, arith, length-append, nat_lt, max}
+use Rattle.std.proofs.Common.{◌≡◌, ℕ, ◌+◌, ◌<◌, ◌⊎◌, inl, inr, Bool, true, false, List, [], ◌∷◌, ◌++◌, length, map, drop, Some, None, refl, sym, ◌∙◌, ap, subst, append_assoc, arith, length-append}
 use Rattle.std.specs.Prelude.{Contains, cond, if◌then◌else◌}
-use Rattle.std.specs.List.{All, filter, find, fold}
+use Rattle.std.specs.List.{All, find}
 use Rattle.std.specs.Option.{unwrap_or}
-use Rattle.std.proofs.lemmas.Bool.Decides.{nat_tests}
 use Rattle.std.proofs.lemmas.List.{append-nil, map-append}
 use Rattle.std.proofs.Math.Seq.{take-append_seam, drop-append_seam}
 use Rattle.std.proofs.lemmas.List.Elements.{All-nil, All-cons, All-head, All-tail, All-push, All-contains, Contains-append_cases, Contains-append_left, Contains-append_right, Contains-push}
@@ -16,7 +15,7 @@ use Rattle.blocklaws.proofs.BeginLaws.{begins_next}
 use Rattle.blocklaws.proofs.DocumentLaws.{document_units, map_length}
 use Rattle.mdblock.specs.held.Reads.{last_of}
 use Rattle.viewlaws.specs.ReadStretch.{IsReadStretch}
-use Rattle.viewspec.specs.Stretch.{Places, from_line, is_meeting, meeting_line}
+use Rattle.viewspec.specs.Stretch.{Places, is_meeting, meeting_line}
 use Rattle.viewlaws.proofs.Cuts.{IsCut, beginning_kept, begins_in, begins_of_within, begins_within, no_units, units_cut}
 use Rattle.viewlaws.proofs.Splices.{IsEdit}
 
@@ -101,7 +100,7 @@ last_pushed [] n = refl
 last_pushed (x ∷ []) n = refl
 last_pushed (x ∷ y ∷ ys) n = last_pushed (y ∷ ys) n
 
-last_is_there : (xs : List ℕ) (n : ℕ) → last_of xs ≡ Some n → Contains xs n
+pub last_is_there : (xs : List ℕ) (n : ℕ) → last_of xs ≡ Some n → Contains xs n
 last_is_there [] n e = cc
 last_is_there (x ∷ []) n e = let same : x ≡ n = ap (λ o. unwrap_or o x) e in subst (λ z. Contains (x ∷ []) z) same (Contains-push [] x)
 last_is_there (x ∷ y ∷ ys) n e = Contains-append_right (x ∷ []) (y ∷ ys) n (last_is_there (y ∷ ys) n e)

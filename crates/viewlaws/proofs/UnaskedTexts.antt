@@ -1,6 +1,6 @@
 -- In a text in which no bracket closes no label is looked up.
 use Rattle.std.proofs.Common.{◌≡◌, ℕ, zero, suc, ◌+◌, ◌-◌, Bool, true, false, ◌==◌, ◌||◌, take, drop, List, [], ◌∷◌, ◌++◌, Option, Some, None, refl, sym, ap, ◌∙◌, subst, cond, eqb, arith}
-use Rattle.std.specs.Prelude.{get_or, slice_index, if◌then◌else◌}
+use Rattle.std.specs.Prelude.{get_or, slice_index}
 use Rattle.std.specs.List.{list_any}
 use Rattle.std.proofs.lemmas.Bool.{or_parts}
 use Rattle.std.proofs.lemmas.List.{drop-drop, get_or-drop}
@@ -19,7 +19,7 @@ use Rattle.inlinespec.specs.Lexing.{Kind, Leaf, Delimiters, OpenBracket, CloseBr
 use Rattle.inlinespec.specs.LineBreaks.{LineBreak, spaced_break, backslash_break}
 use Rattle.inlinespec.specs.LinkTails.{Table}
 use Rattle.inlinespec.specs.Settled.{Piece}
-use Rattle.inlinespec.specs.TextReading.{item_by, item_at, after_deed, items_from, reading, asks_of}
+use Rattle.inlinespec.specs.TextReading.{item_by, item_at, after_deed, items_from, asks_of}
 use Rattle.inlinespec.specs.TextTree.{inl, asked, Agree, as_set}
 use Rattle.inlinelaws.proofs.AskedLabels.{same_inl}
 

@@ -1,12 +1,11 @@
 -- The units of a document lie one behind the other: where each ends the next one begins, and the last one ends with the document.
 use Rattle.std.proofs.Common.{◌≡◌, ℕ, ◌+◌, ◌-◌, ◌<◌, ◌≤◌, List, [], ◌∷◌, length, map, refl, sym, ◌∙◌, ap, subst, arith}
 use Rattle.std.specs.List.{All}
-use Rattle.std.proofs.lemmas.List.Elements.{All-nil, All-cons, All-head, All-tail, All-weaker}
+use Rattle.std.proofs.lemmas.List.Elements.{All-head, All-tail, All-weaker}
 use Rattle.mdtext.specs.EntityTable.{EntityTable}
 use Rattle.blockspec.specs.BlockLine.{document_line}
 use Rattle.blockspec.specs.BlockUnits.{begins, found_units, groups, next_begin, units}
 use Rattle.blockspec.specs.ListGroups.{Group}
-use Rattle.blockspec.specs.UnitTree.{FoundUnit}
 use Rattle.viewlaws.specs.UnitTiles.{begins_from, front_of, lines_of}
 use Rattle.viewlaws.proofs.Cuts.{begins_in, begins_within}
 use Rattle.viewlaws.proofs.StretchReadings.{Ascends, begins_ascend}
