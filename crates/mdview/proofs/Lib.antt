@@ -13,3 +13,9 @@ pub mod Committed
 pub mod LineEndings
 pub mod MarkedLaws
 pub mod Definings
+pub mod HeldTiles
+pub mod ReadStretches
+pub mod EditPlaces
+pub mod Reparses
+pub mod UnitSizes
+pub mod Replacing

@@ -2,7 +2,7 @@
 use Rattle.std.specs.Prelude.{ℕ, List, [], ◌+◌, length, map, sum_by}
 use Rattle.inlinespec.specs.LabelMap.{LabelMap}
 use Rattle.mdhtml.specs.declared.options.Options.{Options}
-use Rattle.viewspec.specs.Setting.{Source}
+use Rattle.viewspec.specs.Setting.{Setting, Source}
 use Rattle.mdview.specs.HeldUnit.{ReadUnit, unit_piece}
 
 -- the entities and options that it was made with, its lines, those of its prelude, how many of its lines stand before the first unit, its units,
@@ -36,6 +36,10 @@ nothing = record { lines = []; prelude = [] }
 
 abbrev pub source_of : Document → Source
 source_of held = record { lines = held.lines; prelude = held.prelude }
+
+-- what it reads texts with
+abbrev pub setting_of : Document → Setting
+setting_of held = record { entities = held.entities; options = held.options }
 
 -- what a preview holds that was just made
 abbrev pub empty : List (List ℕ × List ℕ) → Options → Document

@@ -6,6 +6,7 @@ pub mod Edit
 pub mod Outcome
 pub mod Preludes
 pub mod Defining
+pub mod HeldBlocks
 pub mod Run
 pub mod FaultNames
 pub mod FaultReasons

@@ -1,6 +1,7 @@
 //! The lines that an edit would leave, where they stand.
 
-ghost use Rattle.std.specs.Prelude.{◌≡◌, ◌<◌, ◌≤◌, ◌+◌, ◌-◌, [], IfSome, get_or, length, map, string_bytes};
+ghost use Rattle.std.specs.Prelude.{◌≡◌, ◌<◌, ◌≤◌, ◌+◌, ◌-◌, [], Some, None, get_or, if◌then◌else◌, length, map, nat_le, string_bytes};
+ghost use Rattle.mdview.specs.HeldBlocks.{old_lines};
 ghost use Rattle.mdview.specs.Lists.{replaced};
 ghost use Rattle.mdview.specs.NewText.{lines_of};
 
@@ -22,7 +23,11 @@ impl<'a> NewText<'a> {
         added: &'a [String],
     ) -> NewText<'a>
         requires { at + del ≤ length lines.now }
-        ensures { lines_of result ≡ replaced (map string_bytes lines.now) at del (map string_bytes added.now) }
+        ensures new { lines_of result ≡ replaced (map string_bytes lines.now) at del (map string_bytes added.now) }
+        ensures old { old_lines result ≡ map string_bytes lines.now }
+        ensures at { length result.front.now ≡ at }
+        ensures gone { length result.gone.now ≡ del }
+        ensures come { length result.added.now ≡ length added.now }
     {
         NewText {
             front: &lines[..at],
@@ -55,7 +60,12 @@ impl<'a> NewText<'a> {
     }
 
     /// The number that a line behind the edit has in the text before it.
-    pub(crate) fn old_line(&self, i: usize) -> Option<usize> {
+    pub(crate) fn old_line(&self, i: usize) -> Option<usize>
+        requires old { length (old_lines self.now) ≤ 1000000 }
+        requires new { i ≤ 1000000 }
+        ensures { result ≡ (if nat_le (length self.now.front.now + length self.now.added.now) i
+            then Some ((i - (length self.now.front.now + length self.now.added.now)) + (length self.now.front.now + length self.now.gone.now)) else None) }
+    {
         let behind = i
             .checked_sub(self.front.len())?
             .checked_sub(self.added.len())?;
@@ -67,7 +77,8 @@ impl<'a> NewText<'a> {
 
     /// The first line that the edit touches.
     pub(crate) fn at(&self) -> usize
-        ensures { result ≤ length (lines_of self.now) }
+        ensures within { result ≤ length (lines_of self.now) }
+        ensures at { result ≡ length self.now.front.now }
     {
         self.front.len()
     }

@@ -1,7 +1,12 @@
 ghost use Rattle.std.specs.Prelude.{if◌then◌else◌, nat_lt, None, Some, ◌≡◌, ◌≤◌, ◌+◌, IfOk, IfErr, OnOk};
 ghost use Rattle.std.specs.Prelude.{List, [], map, length, slice_get, get_or, IsSome, option_map, string_bytes};
 ghost use Rattle.mdhtml.specs.Limits.{HasLimits};
-ghost use Rattle.mdview.specs.Document.{empty, size_of};
+ghost use Rattle.blockspec.specs.BlockUnits.{begins, units};
+ghost use Rattle.blockspec.specs.Nesting.{first_too_deep};
+ghost use Rattle.blockspec.specs.UnitTree.{FoundUnit};
+ghost use Rattle.viewspec.specs.Changes.{lines_due, patch_of};
+ghost use Rattle.mdview.specs.Document.{empty, setting_of, size_of, source_of};
+ghost use Rattle.mdview.specs.HeldBlocks.{IsDeepAt};
 ghost use Rattle.mdview.specs.Edit.{call_of, due, due_of_prelude, put};
 ghost use Rattle.mdview.specs.Preludes.{IsUndefining};
 ghost use Rattle.viewspec.specs.Calls.{set_prelude};
@@ -51,9 +56,11 @@ pub struct Preview {
 }
 
 impl Model for Preview {
-    ghost use Rattle.std.specs.Prelude.{◌≡◌, ◌≤◌, map, length, string_bytes};
+    ghost use Rattle.std.specs.Prelude.{◌≡◌, ◌≤◌, None, map, length, string_bytes};
     ghost use Rattle.mdhtml.specs.Limits.{HasLimits};
     ghost use Rattle.mdview.specs.Document.{Document, size_of};
+    ghost use Rattle.blockspec.specs.Nesting.{first_too_deep};
+    ghost use Rattle.mdview.specs.HeldBlocks.{HoldsUnits};
     ghost use Rattle.mdview.specs.HeldUnit.{IsRendered, piece_of, read_of, read_unit_code};
     ghost use Rattle.mdview.specs.LabelTargets.{leading};
     ghost use Rattle.inlinespec.specs.LabelMap.{map_code};
@@ -76,7 +83,9 @@ impl Model for Preview {
     } };
 
     ghost invariant = { λ p. (p.size ≡ size_of (map string_bytes p.lines.items)) × (p.size ≤ 16777216) × (length p.lines.items ≤ 1000000)
-        × All (IsRendered p.options) p.units.items × HasLimits p.options };
+        × All (IsRendered p.options) p.units.items × HasLimits p.options
+        × HoldsUnits p.entities (map string_bytes p.lines.items) p.head (map read_of p.units.items)
+        × (first_too_deep p.options.max_containers (map string_bytes p.lines.items) ≡ None) };
 }
 
 impl Preview {
@@ -128,14 +137,16 @@ impl Preview {
 
     /// How many units the text has.
     pub fn units(&self) -> usize
-        ensures { result ≡ length self.now.pieces }
+        ensures held { result ≡ length self.now.pieces }
+        ensures value { result ≡ length (units self.now.entities self.now.lines) }
     {
         self.units.len()
     }
 
     /// The unit of this number; nothing where the text has fewer.
     pub fn unit(&self, i: usize) -> Option<&Unit>
-        ensures { option_map (λ unit. unit.now) result ≡ option_map (λ (u : ReadUnit). u.unit) (slice_get self.now.units i) }
+        ensures value { option_map (λ unit. unit.now) result ≡ option_map (λ (found : FoundUnit). found.unit) (slice_get (units self.now.entities self.now.lines) i) }
+        ensures held { option_map (λ unit. unit.now) result ≡ option_map (λ (u : ReadUnit). u.unit) (slice_get self.now.units i) }
     {
         match self.units.get(i) {
             Some(unit) => Some(unit.unit()),
@@ -165,7 +176,8 @@ impl Preview {
 
     /// The number of the first line of the unit of this number; nothing where the text has fewer units.
     pub fn first_line(&self, i: usize) -> Option<usize>
-        ensures { result ≡ (if nat_lt i (length self.now.units) then Some (first_line self.now.head self.now.units i) else None) }
+        ensures value { result ≡ slice_get (begins self.now.entities self.now.lines) i }
+        ensures held { result ≡ (if nat_lt i (length self.now.units) then Some (first_line self.now.head self.now.units i) else None) }
     {
         if i < self.units.len() {
             Some(begin_of(&self.units, self.head, i))
@@ -266,7 +278,15 @@ impl Preview {
         // The patch takes the old pieces to the new ones, and the units that it does not bring are held as they were.
         ensures patch { IfOk result (λ patch. Brings patch self.old.pieces self.new.pieces) }
         ensures units { IfOk result (λ patch. Brings patch self.old.units self.new.units) }
-        // What was read is counted, and nothing is read where a refusal is due.
+        // The line on which a container begins too deep is named, whatever the memory; there is none where a text is accepted.
+        ensures nesting { OnOk result (first_too_deep self.old.options.max_containers (put self.old.lines (call_of at del (map (λ line. line.now) add.now))) ≡ None) }
+        ensures deep { IfErr result (IsDeepAt (first_too_deep self.old.options.max_containers (put self.old.lines (call_of at del (map (λ line. line.now) add.now))))) }
+        // The units that give way, and those that come.
+        ensures places { IfOk result (λ patch. let due = patch_of (setting_of self.old) (source_of self.old) (call_of at del (map (λ line. line.now) add.now)) in
+            (patch.first ≡ due.first) × (patch.removed ≡ due.removed) × (patch.added ≡ due.added)) }
+        // What was read is counted: the lines from the last unit that begins above the edit to where a unit begins in both texts, at most. Nothing is read where a
+        // refusal is due.
+        ensures stretch { C.lines count.new ≤ C.lines count.old + lines_due (setting_of self.old) (source_of self.old) (call_of at del (map (λ line. line.now) add.now)) }
         ensures lines { C.lines count.new ≤ C.lines count.old + length (put self.old.lines (call_of at del (map (λ line. line.now) add.now))) }
         ensures inlines { OnOk result (C.inlines count.new ≤ C.inlines count.old + texts_of self.new.units) }
         ensures uncounted { IsSome (due self.old.lines (call_of at del (map (λ line. line.now) add.now))) → count.new ≡ count.old }

@@ -6,6 +6,8 @@ ghost use Rattle.mdhtml.specs.Limits.{HasLimits};
 ghost use Rattle.mdview.specs.ReadingEnd.{OfTexts};
 ghost use Rattle.mdview.specs.HeldUnit.{HeldUnit, IsRendered, html_of, texts_of, read_of, unit_in, texts_before, texts_in};
 ghost use Rattle.mdview.specs.Update.{Fits, IsWritten};
+ghost use Rattle.viewlaws.specs.UnitTiles.{tile_of};
+ghost use Rattle.mdview.specs.HeldBlocks.{tile_in};
 
 use crate::fault::EditFault;
 use crate::held_labels::LabelsAfter;
@@ -45,6 +47,7 @@ impl<'a> TextReader<'a> {
         requires limits { HasLimits self.now.options.now }
         ensures fault { IfErr result OfTexts }
         ensures all { IfOk result (λ units. length units.items ≡ length found.items) }
+        ensures tiles { IfOk result (λ units. map tile_in (map read_of units.items) ≡ map tile_of found.items) }
         ensures pieces { IfOk result (λ units. All (IsRendered self.now.options.now) units.items) }
         ensures lines { C.lines count.new ≡ C.lines count.old }
         ensures inlines { IfOk result (λ units. C.inlines count.new ≤ C.inlines count.old + texts_of (map read_of units.items)) }
@@ -68,6 +71,7 @@ impl<'a> TextReader<'a> {
     ) -> Result<HeldUnit, InlineFault>
         requires limits { HasLimits self.now.options.now }
         ensures unit { IfOk result (λ unit. unit.read.unit ≡ found.unit) }
+        ensures tile { IfOk result (λ unit. tile_in unit.read ≡ tile_of found) }
         ensures piece { IfOk result (IsRendered self.now.options.now) }
         ensures lines { C.lines count.new ≡ C.lines count.old }
         ensures inlines { IfOk result (λ unit. C.inlines count.new ≤ C.inlines count.old + texts_in unit.read.unit) }

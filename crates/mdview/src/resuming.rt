@@ -1,6 +1,12 @@
 //! Where an edit begins to read, and where what it reads meets the units that are held.
 
-ghost use Rattle.std.specs.Prelude.{◌≡◌, ◌≤◌, ◌<◌, IfSome, length, map};
+ghost use Rattle.std.specs.Prelude.{◌≡◌, ◌≤◌, ◌<◌, ℕ, List, IfSome, is_some, true, length, map, max, nat_eq, nat_lt};
+ghost use Rattle.std.specs.List.{filter, fold, list_any};
+ghost use Rattle.mdtext.specs.EntityTable.{EntityTable};
+ghost use Rattle.blockspec.specs.BlockUnits.{begins};
+ghost use Rattle.viewspec.specs.Stretch.{count_between};
+ghost use Rattle.viewlaws.specs.UnitTiles.{IsAhead, begins_from};
+ghost use Rattle.mdview.specs.HeldBlocks.{lines_in};
 ghost use Rattle.mdview.specs.HeldUnit.{first_line, read_of};
 
 use crate::held_units::HeldUnit;
@@ -23,6 +29,11 @@ pub(crate) struct Resume {
 pub(crate) fn resume_at(units: &[HeldUnit], head: usize, at: usize) -> Resume
     ensures from { result.from ≤ at }
     ensures unit { result.start.unit ≤ length units.now }
+    // Of units of some lines that begin where those before them end.
+    ensures resumed { (e : EntityTable) (lines : List (List ℕ)) → length lines ≤ 1000000 → length (begins e lines) ≡ length units.now
+        → begins e lines ≡ begins_from head (map lines_in units.now)
+        → (result.from ≡ fold max 0 (filter (λ begin. nat_lt begin at) (begins e lines))) × (result.start.unit ≡ count_between 0 result.from (begins e lines))
+        × IsAhead (map lines_in units.now) (begins e lines) result.start.unit result.start.line result.from }
 {
     let mut resume = Resume {
         from: 0,
@@ -80,6 +91,11 @@ impl<'a> UnitCursor<'a> {
         ensures same { self.new.units.now ≡ self.old.units.now }
         ensures forward { self.old.next.unit ≤ self.new.next.unit }
         ensures unit { IfSome result (λ unit. (unit ≡ self.new.next.unit) × (unit < length self.new.units.now)) }
+        ensures ahead { (e : EntityTable) (lines : List (List ℕ)) (low : ℕ) → length lines ≤ 1000000 → low ≤ line
+            → IsAhead (map lines_in self.old.units.now) (begins e lines) self.old.next.unit self.old.next.line low
+            → IsAhead (map lines_in self.old.units.now) (begins e lines) self.new.next.unit self.new.next.line line
+            × (is_some result ≡ list_any (nat_eq line) (begins e lines)) }
+        ensures here { is_some result ≡ true → self.new.next.line ≡ line }
     {
         while self.next.unit < self.units.len() && self.next.line < line {
             let unit = &self.units[self.next.unit];

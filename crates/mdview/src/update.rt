@@ -1,6 +1,10 @@
 //! What an edit or a new prelude changes, made before anything of the preview is.
 
-ghost use Rattle.std.specs.Prelude.{◌≡◌, ◌≤◌, ◌+◌, [], IfErr, IfOk, OnOk, length, map};
+ghost use Rattle.std.specs.Prelude.{◌≡◌, ◌≤◌, ◌+◌, [], IfErr, IfOk, None, OnOk, if◌then◌else◌, length, map, nat_eq};
+ghost use Rattle.blockspec.specs.Nesting.{first_too_deep};
+ghost use Rattle.viewspec.specs.Stretch.{lines_read};
+ghost use Rattle.viewlaws.specs.UnitTiles.{front_of, tile_of};
+ghost use Rattle.mdview.specs.HeldBlocks.{HoldsUnits, IsDeepAt, IsReplacing, old_lines, places_of, tile_in};
 ghost use Rattle.mdhtml.specs.Limits.{HasLimits};
 ghost use Rattle.mdview.specs.Document.{size_of};
 ghost use Rattle.mdview.specs.NewText.{lines_of};
@@ -59,7 +63,14 @@ impl Update {
         requires limits { HasLimits held.now.options.now }
         requires few { length (lines_of text) ≤ 1000000 }
         requires small { size_of (lines_of text) ≤ 16777216 }
+        requires old { length (old_lines text) ≤ 1000000 }
+        requires held { HoldsUnits held.now.entities.now (old_lines text) held.now.head (map read_of held.now.units.now) }
+        requires fits { first_too_deep held.now.options.now.max_containers (old_lines text) ≡ None }
         ensures fault { IfErr result OfReading }
+        ensures deep { IfErr result (IsDeepAt (first_too_deep held.now.options.now.max_containers (lines_of text.entry))) }
+        ensures fits { OnOk result (first_too_deep held.now.options.now.max_containers (lines_of text.entry) ≡ None) }
+        ensures replacing { IfOk result (IsReplacing held.now.entities.now text.entry) }
+        ensures stretch { C.lines count.new ≤ C.lines count.old + lines_read (places_of held.now.entities.now text.entry) }
         ensures inlines { IfOk result (λ r. C.inlines count.new + texts_before r.next held.now.units.now
             ≤ C.inlines count.old + texts_before r.first held.now.units.now + texts_of (map read_of r.units.items)
             + texts_before (length held.now.units.now) held.now.units.now) }
@@ -114,6 +125,8 @@ impl Update {
         ensures fit { IfOk result (IsFitFor held.now.options.now (map unit_in held.now.units.now)) }
         ensures place { IfOk result (λ r. (r.first ≡ reparsed.first) × (r.next ≡ reparsed.next)) }
         ensures units { IfOk result (λ r. length r.units.items ≡ length reparsed.found.items) }
+        ensures tiles { IfOk result (λ r. map tile_in (map read_of r.units.items) ≡ map tile_of reparsed.found.items) }
+        ensures head { IfOk result (λ r. r.head ≡ (if nat_eq reparsed.from 0 then front_of reparsed.meet reparsed.found.items else held.now.head)) }
         ensures lines { C.lines count.new ≡ C.lines count.old }
     {
         let labels = LabelsAfter {
@@ -193,7 +206,9 @@ impl Update {
 }
 
 /// How many lines stand before the first unit of a text of which these were found from its front up to line `meet`.
-fn head_of(found: &[Found], meet: usize) -> usize {
+fn head_of(found: &[Found], meet: usize) -> usize
+    ensures { result ≡ front_of meet found.now }
+{
     match found.first() {
         Some(one) => one.begin(),
         None => meet,

@@ -1,12 +1,11 @@
-use Rattle.std.proofs.Common.{◌≡◌, ◌+◌, ◌++◌, ◌∙◌, [], ◌∷◌, Err, List, ℕ, ap, arith, length, map, refl, string_bytes, subst, sym, take}
+use Rattle.std.proofs.Common.{◌≡◌, ◌+◌, ◌∙◌, Err, ap, arith, map, refl, string_bytes, subst, sym, take}
 use Rattle.std.proofs.lemmas.List.{length-map}
-use Rattle.blockspec.specs.BlockUnits.{units}
 use Rattle.mdblock.specs.held.Reads.{Reads, handed}
 use Rattle.viewspec.specs.Setting.{Setting}
 use Rattle.viewlaws.proofs.ReadLines.{none_deep, none_handed}
 use Rattle.mdview.specs.Defining.{Defines}
 use Rattle.mdview.specs.Preludes.{IsUndefiningAt}
-use Rattle.mdview.proofs.Definings.{all_lines, definitions_alone, labels_defined, undefined, undefined_at}
+use Rattle.mdview.proofs.Definings.{all_lines, definitions_alone, undefined, undefined_at}
 use Rattle.mdview.proofs.defining.read_definitions.Goals as goal
 
 pub loop-line-init : goal.loop-line-init

@@ -2,7 +2,16 @@ use Rattle.std.proofs.Common.{◌≡◌, ℕ, ◌-◌, ◌^◌, ◌<◌, List, m
 use Rattle.std.specs.List.{All}
 use Rattle.std.proofs.lemmas.List.{length-map}
 use Rattle.mdtext.specs.Lines.{without_nul}
-use Rattle.mdview.specs.Document.{Document}
+use Rattle.blockspec.specs.Nesting.{first_too_deep}
+use Rattle.viewspec.specs.Changes.{places}
+use Rattle.viewspec.specs.Stretch.{lines_read}
+use Rattle.viewlaws.proofs.Counts.{spliced as units_spliced}
+use Rattle.mdview.specs.Document.{Document, setting_of, source_of}
+use Rattle.mdview.specs.HeldBlocks.{HoldsUnits, IsReplacing, old_lines, places_of}
+use Rattle.mdview.specs.NewText.{lines_of}
+use Rattle.mdview.proofs.EditPlaces.{patch_numbers, same_places}
+use Rattle.mdview.proofs.HeldTiles.{holds_behind}
+use Rattle.mdview.proofs.ReadStretches.{is_edit}
 use Rattle.viewspec.specs.Calls.{Call}
 use Rattle.mdview.specs.Edit.{call_of, put}
 use Rattle.mdview.specs.HeldUnit.{HeldUnit, IsRendered, unit_in, piece_of, read_of, unit_piece}
@@ -37,7 +46,27 @@ invariant_of-self-2 g c =
     let small = c.in_ok-size.ensures.small in
     let size = c.in_ok-size.ensures.ok.1 in
     let rendered = committed_rendered options units r fit c.self.invariant.3 in
-    rw lines (size, rw size small.1, omega (arith, small.0, ap length lines), subst (All (IsRendered options)) (sym held) rendered, c.self.invariant.4)
+    let text = c.new-text.result in
+    let e = c.self.inside.entities in
+    let held_lines = c.self.inside.lines.items in
+    let come = c.in_ok-new_lines.new_lines.items in
+    let text_old : old_lines text ≡ map string_bytes held_lines = c.new-text.ensures.old ∙ ap (map string_bytes) c.deref-2.ensures.value in
+    let text_new : lines_of text ≡ put c.args.self.now.lines call =
+    c.new-text.ensures.new
+    ∙ ap (λ xs. replaced (map string_bytes xs) c.args.at c.args.del (map string_bytes c.deref-3.result.now)) c.deref-2.ensures.value
+    ∙ ap (λ xs. replaced (map string_bytes held_lines) c.args.at c.args.del (map string_bytes xs)) c.deref-3.ensures.value
+    ∙ ap (λ xs. replaced xs c.args.at c.args.del (map string_bytes come)) was
+    ∙ ap (λ xs. replaced c.args.self.now.lines c.args.at c.args.del xs) added in
+    let p = places_of e text in
+    let new = lines_of text in
+    let rep = c.in_ok-update.ensures.replacing in
+    let before = subst (λ ls. HoldsUnits e ls c.self.inside.head (map read_of units)) (sym text_old) c.self.invariant.5 in
+    let behind = holds_behind e (old_lines text) new p (units_spliced e (old_lines text) new p (is_edit e text)) c.self.inside.head r.head r.first r.next units r.units.items r.again.items
+    before fit.order rep.first rep.next rep.head rep.units in
+    let holds = subst (λ (us : List HeldUnit). HoldsUnits e (put c.args.self.now.lines call) r.head (map read_of us)) (sym held)
+    (subst (λ ls. HoldsUnits e ls r.head (map read_of (replaced (all_renewed units r.again.items) r.first (r.next - r.first) r.units.items))) text_new behind) in
+    let fits = sym (ap (first_too_deep options.max_containers) text_new) ∙ c.in_ok-update.ensures.fits in
+    rw lines (size, rw size small.1, omega (arith, small.0, ap length lines), subst (All (IsRendered options)) (sym held) rendered, c.self.invariant.4, holds, fits)
 
 pub returns-clause-outcome : goal.returns-clause-outcome
 returns-clause-outcome g c =
@@ -106,3 +135,130 @@ returns-clause-inlines g c =
     let texts = committed_texts units r.units.items r.again.items r.first r.next fit.order in
     let counted = rw c.deref.ensures.value at c.in_ok-update.ensures.inlines in
     rw held (omega (arith, texts, counted))
+
+pub returns-in_err-reserve-clause-stretch : goal.returns-in_err-reserve-clause-stretch
+returns-in_err-reserve-clause-stretch g c =
+    let add : List (List ℕ) = map (λ line. line.now) c.args.add.now in
+    let call : Call = call_of c.args.at c.args.del add in
+    let was : map string_bytes c.self.inside.lines.items ≡ c.args.self.now.lines = ap (λ d. d.lines) c.self.view_is in
+    let added : map string_bytes c.in_ok-new_lines.new_lines.items ≡ map without_nul add = c.in_ok-new_lines.ensures in
+    let text = c.new-text.result in
+    let e = c.self.inside.entities in
+    let held_lines = c.self.inside.lines.items in
+    let come = c.in_ok-new_lines.new_lines.items in
+    let text_old : old_lines text ≡ map string_bytes held_lines = c.new-text.ensures.old ∙ ap (map string_bytes) c.deref-2.ensures.value in
+    let text_new : lines_of text ≡ put c.args.self.now.lines call =
+    c.new-text.ensures.new
+    ∙ ap (λ xs. replaced (map string_bytes xs) c.args.at c.args.del (map string_bytes c.deref-3.result.now)) c.deref-2.ensures.value
+    ∙ ap (λ xs. replaced (map string_bytes held_lines) c.args.at c.args.del (map string_bytes xs)) c.deref-3.ensures.value
+    ∙ ap (λ xs. replaced xs c.args.at c.args.del (map string_bytes come)) was
+    ∙ ap (λ xs. replaced c.args.self.now.lines c.args.at c.args.del xs) added in
+    let old : Document = c.args.self.now in
+    let entities : e ≡ old.entities = ap (λ (d : Document). d.entities) c.self.view_is in
+    let many : length text.added.now ≡ length add =
+    c.new-text.ensures.come ∙ ap (λ xs. length xs) c.deref-3.ensures.value ∙ sym (length-map come string_bytes) ∙ ap (λ xs. length xs) added ∙ length-map add without_nul in
+    let same : places_of old.entities text ≡ places (setting_of old) (source_of old) call =
+    same_places (setting_of old) (source_of old) text c.args.at c.args.del add (text_old ∙ was) text_new c.new-text.ensures.at c.new-text.ensures.gone many in
+    omega (arith, c.of.ensures.stretch, ap lines_read (ap (λ z. places_of z text) entities ∙ same))
+
+pub returns-in_err-reserve-2-clause-stretch : goal.returns-in_err-reserve-2-clause-stretch
+returns-in_err-reserve-2-clause-stretch g c =
+    let add : List (List ℕ) = map (λ line. line.now) c.args.add.now in
+    let call : Call = call_of c.args.at c.args.del add in
+    let was : map string_bytes c.self.inside.lines.items ≡ c.args.self.now.lines = ap (λ d. d.lines) c.self.view_is in
+    let added : map string_bytes c.in_ok-new_lines.new_lines.items ≡ map without_nul add = c.in_ok-new_lines.ensures in
+    let text = c.new-text.result in
+    let e = c.self.inside.entities in
+    let held_lines = c.self.inside.lines.items in
+    let come = c.in_ok-new_lines.new_lines.items in
+    let text_old : old_lines text ≡ map string_bytes held_lines = c.new-text.ensures.old ∙ ap (map string_bytes) c.deref-2.ensures.value in
+    let text_new : lines_of text ≡ put c.args.self.now.lines call =
+    c.new-text.ensures.new
+    ∙ ap (λ xs. replaced (map string_bytes xs) c.args.at c.args.del (map string_bytes c.deref-3.result.now)) c.deref-2.ensures.value
+    ∙ ap (λ xs. replaced (map string_bytes held_lines) c.args.at c.args.del (map string_bytes xs)) c.deref-3.ensures.value
+    ∙ ap (λ xs. replaced xs c.args.at c.args.del (map string_bytes come)) was
+    ∙ ap (λ xs. replaced c.args.self.now.lines c.args.at c.args.del xs) added in
+    let old : Document = c.args.self.now in
+    let entities : e ≡ old.entities = ap (λ (d : Document). d.entities) c.self.view_is in
+    let many : length text.added.now ≡ length add =
+    c.new-text.ensures.come ∙ ap (λ xs. length xs) c.deref-3.ensures.value ∙ sym (length-map come string_bytes) ∙ ap (λ xs. length xs) added ∙ length-map add without_nul in
+    let same : places_of old.entities text ≡ places (setting_of old) (source_of old) call =
+    same_places (setting_of old) (source_of old) text c.args.at c.args.del add (text_old ∙ was) text_new c.new-text.ensures.at c.new-text.ensures.gone many in
+    omega (arith, c.of.ensures.stretch, ap lines_read (ap (λ z. places_of z text) entities ∙ same))
+
+pub returns-in_err-make_room-clause-stretch : goal.returns-in_err-make_room-clause-stretch
+returns-in_err-make_room-clause-stretch g c =
+    let add : List (List ℕ) = map (λ line. line.now) c.args.add.now in
+    let call : Call = call_of c.args.at c.args.del add in
+    let was : map string_bytes c.self.inside.lines.items ≡ c.args.self.now.lines = ap (λ d. d.lines) c.self.view_is in
+    let added : map string_bytes c.in_ok-new_lines.new_lines.items ≡ map without_nul add = c.in_ok-new_lines.ensures in
+    let text = c.new-text.result in
+    let e = c.self.inside.entities in
+    let held_lines = c.self.inside.lines.items in
+    let come = c.in_ok-new_lines.new_lines.items in
+    let text_old : old_lines text ≡ map string_bytes held_lines = c.new-text.ensures.old ∙ ap (map string_bytes) c.deref-2.ensures.value in
+    let text_new : lines_of text ≡ put c.args.self.now.lines call =
+    c.new-text.ensures.new
+    ∙ ap (λ xs. replaced (map string_bytes xs) c.args.at c.args.del (map string_bytes c.deref-3.result.now)) c.deref-2.ensures.value
+    ∙ ap (λ xs. replaced (map string_bytes held_lines) c.args.at c.args.del (map string_bytes xs)) c.deref-3.ensures.value
+    ∙ ap (λ xs. replaced xs c.args.at c.args.del (map string_bytes come)) was
+    ∙ ap (λ xs. replaced c.args.self.now.lines c.args.at c.args.del xs) added in
+    let old : Document = c.args.self.now in
+    let entities : e ≡ old.entities = ap (λ (d : Document). d.entities) c.self.view_is in
+    let many : length text.added.now ≡ length add =
+    c.new-text.ensures.come ∙ ap (λ xs. length xs) c.deref-3.ensures.value ∙ sym (length-map come string_bytes) ∙ ap (λ xs. length xs) added ∙ length-map add without_nul in
+    let same : places_of old.entities text ≡ places (setting_of old) (source_of old) call =
+    same_places (setting_of old) (source_of old) text c.args.at c.args.del add (text_old ∙ was) text_new c.new-text.ensures.at c.new-text.ensures.gone many in
+    omega (arith, c.of.ensures.stretch, ap lines_read (ap (λ z. places_of z text) entities ∙ same))
+
+pub returns-clause-stretch : goal.returns-clause-stretch
+returns-clause-stretch g c =
+    let add : List (List ℕ) = map (λ line. line.now) c.args.add.now in
+    let call : Call = call_of c.args.at c.args.del add in
+    let was : map string_bytes c.self.inside.lines.items ≡ c.args.self.now.lines = ap (λ d. d.lines) c.self.view_is in
+    let added : map string_bytes c.in_ok-new_lines.new_lines.items ≡ map without_nul add = c.in_ok-new_lines.ensures in
+    let text = c.new-text.result in
+    let e = c.self.inside.entities in
+    let held_lines = c.self.inside.lines.items in
+    let come = c.in_ok-new_lines.new_lines.items in
+    let text_old : old_lines text ≡ map string_bytes held_lines = c.new-text.ensures.old ∙ ap (map string_bytes) c.deref-2.ensures.value in
+    let text_new : lines_of text ≡ put c.args.self.now.lines call =
+    c.new-text.ensures.new
+    ∙ ap (λ xs. replaced (map string_bytes xs) c.args.at c.args.del (map string_bytes c.deref-3.result.now)) c.deref-2.ensures.value
+    ∙ ap (λ xs. replaced (map string_bytes held_lines) c.args.at c.args.del (map string_bytes xs)) c.deref-3.ensures.value
+    ∙ ap (λ xs. replaced xs c.args.at c.args.del (map string_bytes come)) was
+    ∙ ap (λ xs. replaced c.args.self.now.lines c.args.at c.args.del xs) added in
+    let old : Document = c.args.self.now in
+    let entities : e ≡ old.entities = ap (λ (d : Document). d.entities) c.self.view_is in
+    let many : length text.added.now ≡ length add =
+    c.new-text.ensures.come ∙ ap (λ xs. length xs) c.deref-3.ensures.value ∙ sym (length-map come string_bytes) ∙ ap (λ xs. length xs) added ∙ length-map add without_nul in
+    let same : places_of old.entities text ≡ places (setting_of old) (source_of old) call =
+    same_places (setting_of old) (source_of old) text c.args.at c.args.del add (text_old ∙ was) text_new c.new-text.ensures.at c.new-text.ensures.gone many in
+    omega (arith, c.of.ensures.stretch, ap lines_read (ap (λ z. places_of z text) entities ∙ same))
+
+pub returns-clause-places : goal.returns-clause-places
+returns-clause-places g c =
+    let add : List (List ℕ) = map (λ line. line.now) c.args.add.now in
+    let call : Call = call_of c.args.at c.args.del add in
+    let was : map string_bytes c.self.inside.lines.items ≡ c.args.self.now.lines = ap (λ d. d.lines) c.self.view_is in
+    let added : map string_bytes c.in_ok-new_lines.new_lines.items ≡ map without_nul add = c.in_ok-new_lines.ensures in
+    let text = c.new-text.result in
+    let e = c.self.inside.entities in
+    let held_lines = c.self.inside.lines.items in
+    let come = c.in_ok-new_lines.new_lines.items in
+    let text_old : old_lines text ≡ map string_bytes held_lines = c.new-text.ensures.old ∙ ap (map string_bytes) c.deref-2.ensures.value in
+    let text_new : lines_of text ≡ put c.args.self.now.lines call =
+    c.new-text.ensures.new
+    ∙ ap (λ xs. replaced (map string_bytes xs) c.args.at c.args.del (map string_bytes c.deref-3.result.now)) c.deref-2.ensures.value
+    ∙ ap (λ xs. replaced (map string_bytes held_lines) c.args.at c.args.del (map string_bytes xs)) c.deref-3.ensures.value
+    ∙ ap (λ xs. replaced xs c.args.at c.args.del (map string_bytes come)) was
+    ∙ ap (λ xs. replaced c.args.self.now.lines c.args.at c.args.del xs) added in
+    let old : Document = c.args.self.now in
+    let entities : e ≡ old.entities = ap (λ (d : Document). d.entities) c.self.view_is in
+    let many : length text.added.now ≡ length add =
+    c.new-text.ensures.come ∙ ap (λ xs. length xs) c.deref-3.ensures.value ∙ sym (length-map come string_bytes) ∙ ap (λ xs. length xs) added ∙ length-map add without_nul in
+    let same : places_of old.entities text ≡ places (setting_of old) (source_of old) call =
+    same_places (setting_of old) (source_of old) text c.args.at c.args.del add (text_old ∙ was) text_new c.new-text.ensures.at c.new-text.ensures.gone many in
+    let r = c.in_ok-update.update in
+    patch_numbers (setting_of old) (source_of old) text c.args.at c.args.del add r c.in_ok-patch.patch same (subst (λ z. IsReplacing z text r) entities c.in_ok-update.ensures.replacing)
+    c.in_ok-patch.ensures

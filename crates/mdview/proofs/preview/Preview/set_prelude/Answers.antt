@@ -8,8 +8,10 @@ use Rattle.mdview.specs.Document.{Document}
 use Rattle.mdview.specs.HeldUnit.{HeldUnit, IsRendered, unit_in, piece_of, read_of, unit_piece}
 use Rattle.mdview.specs.LabelTargets.{leading}
 use Rattle.mdview.specs.Outcome.{edited}
-use Rattle.mdview.specs.Update.{IsFitFor}
+use Rattle.mdview.specs.HeldBlocks.{HoldsUnits}
+use Rattle.mdview.specs.Update.{IsFitFor, all_renewed}
 use Rattle.mdview.proofs.Committed.{committed_brings, committed_rendered, pieces_are}
+use Rattle.mdview.proofs.HeldTiles.{holds_still}
 use Rattle.mdview.proofs.Outcomes.{accepted_is_outcome}
 use Rattle.mdview.proofs.RenewedUnits.{renewed_trees}
 use Rattle.mdview.proofs.preview.Preview.set_prelude.Goals as goal
@@ -21,7 +23,18 @@ invariant_of-self-2 g c =
     let options = c.self.inside.options in
     let fit : IsFitFor options (map unit_in units) r = subst (λ (us : List HeldUnit). IsFitFor options (map unit_in us) r) c.deref.ensures.value c.in_ok-renewal.ensures.fit in
     let rendered = committed_rendered options units r fit c.self.invariant.3 in
-    (c.self.invariant.0, c.self.invariant.1, c.self.invariant.2, subst (All (IsRendered options)) (sym c.commit.ensures) rendered, c.self.invariant.4)
+    let p = c.self.inside in
+    let none = c.in_ok-renewal.ensures.none in
+    let still : c.commit.new.held.items ≡ all_renewed units r.again.items = c.commit.ensures ∙ (rw (none.0, none.1, none.2) refl) in (
+      c.self.invariant.0,
+      c.self.invariant.1,
+      c.self.invariant.2,
+      subst (All (IsRendered options)) (sym c.commit.ensures) rendered,
+      c.self.invariant.4,
+      subst (λ (us : List HeldUnit). HoldsUnits p.entities (map string_bytes p.lines.items) p.head (map read_of us)) (sym still)
+          (holds_still p.entities (map string_bytes p.lines.items) p.head units r.again.items c.self.invariant.5),
+      c.self.invariant.6,
+    )
 
 pub returns-clause-outcome : goal.returns-clause-outcome
 returns-clause-outcome g c =

@@ -1,11 +1,18 @@
-use Rattle.std.proofs.Common.{◌≡◌, ◌-◌, ◌≤◌, length}
+use Rattle.std.proofs.Common.{◌≡◌, ◌-◌, ◌≤◌, ℕ, List, length, map}
+use Rattle.mdtext.specs.EntityTable.{EntityTable}
+use Rattle.blockspec.specs.BlockUnits.{begins}
+use Rattle.viewlaws.specs.UnitTiles.{IsAhead}
+use Rattle.mdview.specs.HeldBlocks.{lines_in}
 use Rattle.mdview.proofs.resuming.UnitCursor.unit_at.Given as goal
 
--- the cursor goes on
+-- the cursor goes on, past units that begin above the line
 abbrev pub invariant-loop-self : goal.invariant-loop-self
 invariant-loop-self l = record {
   same : l.self.units.now ≡ l.fn.self.units.now;
   forward : l.fn.self.next.unit ≤ l.self.next.unit;
+  ahead : (e : EntityTable) (lines : List (List ℕ)) (low : ℕ) → length lines ≤ 1000000 → low ≤ l.line
+      → IsAhead (map lines_in l.fn.self.units.now) (begins e lines) l.fn.self.next.unit l.fn.self.next.line low
+      → IsAhead (map lines_in l.fn.self.units.now) (begins e lines) l.self.next.unit l.self.next.line l.line;
 }
 
 -- the units that are not passed

@@ -1,0 +1,149 @@
+-- What a reader is fed that reads a text from one line on, and where the text of an edit is cut.
+use Rattle.std.proofs.Common.{◌≡◌, ℕ, ◌+◌, ◌-◌, ◌<◌, ◌≤◌, ◌⊎◌, inl, inr, Bool, true, false, List, [], ◌∷◌, ◌++◌, Option, Some, None, length, map, take, drop, get_or, refl, ap, ◌∙◌, sym, subst, arith, append_assoc, length-append, nat_lt, string_bytes}
+use Rattle.std.specs.Prelude.{Contains, nat_eq}
+use Rattle.std.specs.List.{find}
+use Rattle.std.specs.Option.{unwrap_or}
+use Rattle.std.proofs.lemmas.Bool.Decides.{nat_tests}
+use Rattle.std.proofs.lemmas.List.{drop-append-le, length-drop, length-map, length-take-le, take-append-drop, take_more}
+use Rattle.std.proofs.Math.Seq.{drop-append_seam, drop-length, take-append_seam}
+use Rattle.mdtext.specs.EntityTable.{EntityTable}
+use Rattle.blockspec.specs.BlockUnits.{begins}
+use Rattle.mdblock.specs.held.Reads.{last_of, open_begin}
+use Rattle.viewspec.specs.Stretch.{Places, from_line, is_meeting, meeting_line}
+use Rattle.viewlaws.specs.ReadStretch.{IsReadStretch}
+use Rattle.viewlaws.proofs.Cuts.{IsCut}
+use Rattle.viewlaws.proofs.Splices.{IsEdit, found_is, from_cut}
+use Rattle.viewlaws.proofs.StretchReadings.{stretch_begins}
+use Rattle.mdview.specs.HeldBlocks.{old_lines, places_of}
+use Rattle.mdview.specs.NewText.{lines_of as new_lines}
+use Rattle.mdview.specs.declared.new_text.NewText.{NewText}
+
+-- ---- an edit's two texts
+
+is_edit_of : (e : EntityTable) (front gone come back : List (List ℕ)) (at del add : ℕ) → length front ≡ at → length gone ≡ del → length come ≡ add
+    → IsEdit e (front ++ gone ++ back) (front ++ come ++ back)
+    (record { old_begins = begins e (front ++ gone ++ back); new_begins = begins e (front ++ come ++ back); new_lines = length (front ++ come ++ back); at = at; gone = del; come = add })
+is_edit_of e front gone come back at del add a d c = record {
+  olds = refl;
+  news = refl;
+  lines = refl;
+  fits = omega (arith, old_size, a, d);
+  sizes = omega (arith, old_size, new_size, d, c);
+  front = front_is come ∙ sym (front_is gone);
+  back = ap (λ n. drop n (front ++ come ++ back)) (let half = length-append front come in let is : at + add ≡ length (front ++ come) = omega (arith, half, a, c) in is)
+      ∙ drop-append_seam (front ++ come) back
+      ∙ sym (ap (λ n. drop n (front ++ gone ++ back)) (let half = length-append front gone in let is : at + del ≡ length (front ++ gone) = omega (arith, half, a, d) in is)
+      ∙ drop-append_seam (front ++ gone) back);
+}
+  where
+    old_size : length (front ++ gone ++ back) ≡ (length front + length gone) + length back
+    old_size = let whole = length-append (front ++ gone) back in let half = length-append front gone in omega (arith, whole, half)
+
+    new_size : length (front ++ come ++ back) ≡ (length front + length come) + length back
+    new_size = let whole = length-append (front ++ come) back in let half = length-append front come in omega (arith, whole, half)
+
+    front_is : (middle : List (List ℕ)) → take at (front ++ middle ++ back) ≡ front
+    front_is middle = ap (take at) (append_assoc front middle back) ∙ ap (λ n. take n (front ++ (middle ++ back))) (sym a) ∙ take-append_seam front (middle ++ back)
+
+pub is_edit : (e : EntityTable) (text : NewText) → IsEdit e (old_lines text) (new_lines text) (places_of e text)
+is_edit e text =
+    is_edit_of e (map string_bytes text.front.now) (map string_bytes text.gone.now) (map string_bytes text.added.now) (map string_bytes text.back.now)
+    (length text.front.now) (length text.gone.now) (length text.added.now) (length-map text.front.now string_bytes) (length-map text.gone.now string_bytes) (length-map text.added.now string_bytes)
+
+-- ---- the lines from one on
+
+pub stretch_next : (new : List (List ℕ)) (from line : ℕ) (d : List ℕ) → from ≤ line → line < length new
+    → drop from (take (line + 1) new) ≡ drop from (take line new) ++ get_or new line d ∷ []
+stretch_next new from line d order below =
+    let size = length-take-le line new (omega (arith, below)) in
+    ap (drop from) (take_more new line d below) ∙ drop-append-le from (take line new) (get_or new line d ∷ []) (omega (arith, order, size))
+
+pub stretch_size : (new : List (List ℕ)) (from line : ℕ) → line ≤ length new → length (drop from (take line new)) ≡ line - from
+stretch_size new from line below = let a = length-drop from (take line new) in let b = length-take-le line new below in omega (arith, a, b)
+
+pub stretch_none : (new : List (List ℕ)) (from : ℕ) → from ≤ length new → drop from (take from new) ≡ []
+stretch_none new from below = ap (λ n. drop n (take from new)) (sym (length-take-le from new below)) ∙ drop-length (take from new)
+
+-- the lines behind those that were read
+pub stretch_rest : (new : List (List ℕ)) (from line : ℕ) (d : List ℕ) → from ≤ line → line < length new
+    → drop from new ≡ (drop from (take line new) ++ get_or new line d ∷ []) ++ drop (line + 1) new
+stretch_rest new from line d order below =
+    let size = length-take-le (line + 1) new (omega (arith, below)) in
+    ap (drop from) (sym (take-append-drop (line + 1) new))
+    ∙ drop-append-le from (take (line + 1) new) (drop (line + 1) new) (omega (arith, order, size))
+    ∙ ap (λ z. z ++ drop (line + 1) new) (stretch_next new from line d order below)
+
+stretch_order : (new : List (List ℕ)) (from line : ℕ) (d : List ℕ) → from ≤ line → line < length new
+    → new ≡ (take from new ++ (drop from (take line new) ++ get_or new line d ∷ [])) ++ drop (line + 1) new
+stretch_order new from line d order below =
+    sym (take-append-drop from new) ∙ ap (λ z. take from new ++ z) (stretch_rest new from line d order below)
+    ∙ sym (append_assoc (take from new) (drop from (take line new) ++ get_or new line d ∷ []) (drop (line + 1) new))
+
+-- ---- what the reader tells of a line
+
+is_read_stretch : (e : EntityTable) (old new : List (List ℕ)) (p : Places) → IsEdit e old new p → (line : ℕ) (d : List ℕ) → from_line p ≤ line → line < length new
+    → IsReadStretch e new (take (from_line p) new) (drop (from_line p) (take line new)) (get_or new line d) (drop (line + 1) new)
+is_read_stretch e old new p w line d order below = record {
+  order = stretch_order new (from_line p) line d order below;
+  cut = by (from_cut e old new p w new w.front);
+}
+  where
+    size : length (take (from_line p) new) ≡ from_line p
+    size = length-take-le (from_line p) new (omega (arith, order, below))
+
+    by : IsCut e new (from_line p) → (length (take (from_line p) new) ≡ 0) ⊎ Contains (begins e new) (length (take (from_line p) new))
+    by (inl h) = inl (size ∙ h)
+    by (inr (inl h)) = absurd (omega (arith, h, order, below))
+    by (inr (inr h)) = inr (subst (λ z. Contains (begins e new) z) (sym size) h)
+
+-- A unit of the new text begins in the last line that was read exactly where the reader's last unit does.
+pub tells_begin : (e : EntityTable) (old new : List (List ℕ)) (p : Places) → IsEdit e old new p → (line : ℕ) (d : List ℕ) → from_line p ≤ line → line < length new
+    → (Contains (begins e new) line → open_begin e (drop (from_line p) (take line new) ++ get_or new line d ∷ []) ≡ Some (line - from_line p))
+    × (open_begin e (drop (from_line p) (take line new) ++ get_or new line d ∷ []) ≡ Some (line - from_line p) → Contains (begins e new) line)
+tells_begin e old new p w line d order below =
+    (λ c. s.0 (subst (λ z. Contains (begins e new) z) (sym place) c) ∙ ap (λ z. Some z) size, λ h. subst (λ z. Contains (begins e new) z) place (s.1 (h ∙ ap (λ z. Some z) (sym size))))
+  where
+    from : ℕ
+    from = from_line p
+
+    ls : List (List ℕ)
+    ls = drop from (take line new)
+
+    size : length ls ≡ line - from
+    size = stretch_size new from line (omega (arith, below))
+
+    place : length (take from new) + length ls ≡ line
+    place = let a = length-take-le from new (omega (arith, order, below)) in omega (arith, a, size, order)
+
+    s : (Contains (begins e new) (length (take from new) + length ls) → last_of (begins e (ls ++ get_or new line d ∷ [])) ≡ Some (length ls))
+        × (last_of (begins e (ls ++ get_or new line d ∷ [])) ≡ Some (length ls) → Contains (begins e new) (length (take from new) + length ls))
+    s = stretch_begins e new (take from new) ls (get_or new line d) (drop (line + 1) new) (is_read_stretch e old new p w line d order below)
+
+-- No unit begins in both texts up to a line: reading goes on to it at least.
+pub meets_later : (e : EntityTable) (old new : List (List ℕ)) (p : Places) → IsEdit e old new p → (line : ℕ) → line ≤ length new
+    → ((before : ℕ) → Contains (begins e new) before → before < line → is_meeting p before ≡ false) → line ≤ meeting_line p
+meets_later e old new p w line below none = by (find (is_meeting p) p.new_begins) refl
+  where
+    later : (m : ℕ) → Contains (begins e new) m → is_meeting p m ≡ true → (t : Bool) → nat_lt m line ≡ t → line ≤ m
+    later m c is true t = absurd (no (sym is ∙ none m c (grind (arith, nat_tests, t))))
+      where
+        no : true ≡ false → ⊥
+        no h = cc
+    later m c is false t = grind (arith, nat_tests, t)
+
+    by : (o : Option ℕ) → find (is_meeting p) p.new_begins ≡ o → line ≤ meeting_line p
+    by None h = let is : meeting_line p ≡ length new = ap (λ z. unwrap_or z p.new_lines) h ∙ w.lines in omega (arith, is, below)
+    by (Some m) h =
+        let is : meeting_line p ≡ m = ap (λ z. unwrap_or z p.new_lines) h in
+        let f = found_is (is_meeting p) p.new_begins m h in
+        let k = later m (subst (λ bs. Contains bs m) w.news f.0) f.1 (nat_lt m line) refl in
+        omega (arith, is, k)
+
+-- one line more at which none does
+pub none_more : (e : EntityTable) (new : List (List ℕ)) (p : Places) (line : ℕ) → ((before : ℕ) → Contains (begins e new) before → before < line → is_meeting p before ≡ false)
+    → (Contains (begins e new) line → is_meeting p line ≡ false) → (before : ℕ) → Contains (begins e new) before → before < line + 1 → is_meeting p before ≡ false
+none_more e new p line none here before c small = by (nat_eq before line) refl
+  where
+    by : (t : Bool) → nat_eq before line ≡ t → is_meeting p before ≡ false
+    by true t = let same : before ≡ line = grind (arith, nat_tests, t) in ap (is_meeting p) same ∙ here (subst (λ z. Contains (begins e new) z) same c)
+    by false t = none before c (grind (arith, nat_tests, t, small))

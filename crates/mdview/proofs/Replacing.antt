@@ -1,0 +1,50 @@
+-- What an edit brings, by what was read.
+use Rattle.std.proofs.Common.{◌≡◌, ℕ, Bool, true, false, List, Result, Ok, Err, arith, drop, length, map, refl, ap, ◌∙◌, sym, take, if◌then◌else◌}
+use Rattle.std.specs.Prelude.{IfOk, nat_eq}
+use Rattle.std.proofs.lemmas.Bool.Decides.{nat_tests}
+use Rattle.mdtext.specs.EntityTable.{EntityTable}
+use Rattle.blockspec.specs.BlockUnits.{units}
+use Rattle.viewspec.specs.Stretch.{Places, from_line}
+use Rattle.viewlaws.specs.UnitTiles.{front_of, tile_of}
+use Rattle.viewlaws.proofs.TileSplices.{front_kept, front_read}
+use Rattle.mdview.specs.HeldBlocks.{HoldsUnits, IsReplacing, IsReread, old_lines, places_of, tile_in}
+use Rattle.mdview.specs.HeldUnit.{ReadUnit, read_of}
+use Rattle.mdview.specs.NewText.{lines_of}
+use Rattle.mdview.specs.declared.fault.EditFault.{EditFault}
+use Rattle.mdview.specs.declared.new_text.NewText.{NewText}
+use Rattle.mdview.specs.declared.reparse.Reparsed.{Reparsed}
+use Rattle.mdview.specs.declared.update.Update.{Update}
+use Rattle.mdview.proofs.ReadStretches.{is_edit}
+
+module _ (e : EntityTable) (text : NewText) (was : ℕ) (held : List ReadUnit) (reparsed : Reparsed) (w : HoldsUnits e (old_lines text) was held) (r : IsReread e text reparsed) where
+  head_behind : (head : ℕ) → head ≡ (if nat_eq reparsed.from 0 then front_of reparsed.meet reparsed.found.items else was)
+      → head ≡ front_of (length (lines_of text)) (units e (lines_of text))
+  head_behind head is = is ∙ by (nat_eq reparsed.from 0) refl
+    where
+      p : Places
+      p = places_of e text
+
+      by : (t : Bool) → nat_eq reparsed.from 0 ≡ t → (if t then front_of reparsed.meet reparsed.found.items else was) ≡ front_of (length (lines_of text)) (units e (lines_of text))
+      by true h =
+          let from : reparsed.from ≡ 0 = grind (arith, nat_tests, h) in
+          ap (front_of reparsed.meet) (r.found ∙ ap (λ n. units e (drop n (take reparsed.meet (lines_of text)))) from)
+          ∙ ap (λ n. front_of n (units e (take n (lines_of text)))) r.meet
+          ∙ sym (front_read e (old_lines text) (lines_of text) p (is_edit e text))
+      by false h =
+          let inside : from_line p ≡ 0 → ⊥ = λ none. let from = r.from in let zero : reparsed.from ≡ 0 = from ∙ none in clash zero h in
+          w.before ∙ sym (front_kept e (old_lines text) (lines_of text) p (is_edit e text) inside)
+        where
+          clash : reparsed.from ≡ 0 → nat_eq reparsed.from 0 ≡ false → ⊥
+          clash zero other = grind (arith, nat_tests, zero, other)
+
+  pub replacing : (result : Result Update EditFault) → IfOk result (λ u. (u.first ≡ reparsed.first) × (u.next ≡ reparsed.next))
+      → IfOk result (λ u. map tile_in (map read_of u.units.items) ≡ map tile_of reparsed.found.items)
+      → IfOk result (λ u. u.head ≡ (if nat_eq reparsed.from 0 then front_of reparsed.meet reparsed.found.items else was)) → IfOk result (IsReplacing e text)
+  replacing (Ok update) place tiles head = record {
+    first = place.0 ∙ r.first;
+    next = place.1 ∙ r.next;
+    head = head_behind update.head head;
+    units = tiles ∙ ap (map tile_of) (r.found ∙ ap (λ n. units e (drop n (take reparsed.meet (lines_of text)))) r.from
+        ∙ ap (λ n. units e (drop (from_line (places_of e text)) (take n (lines_of text)))) r.meet);
+  }
+  replacing (Err fault) place tiles head = tt

@@ -1,0 +1,319 @@
+use Rattle.std.proofs.Common.{rules, ◌≡◌, ◌≤◌, ◌<◌, ◌+◌, ◌-◌, ◌++◌, ◌∷◌, ℕ, List, Some, [], Err, false, inl, inr, ap, arith, drop, get_or, length, map, refl, subst, sym, take, ◌∙◌}
+use Rattle.std.specs.Prelude.{Contains}
+use Rattle.std.specs.Option.{option_to_list}
+use Rattle.blockspec.specs.BlockUnits.{begins, units}
+use Rattle.blockspec.specs.Nesting.{first_too_deep}
+use Rattle.mdblock.specs.held.Reads.{Reads, handed, open_begin}
+use Rattle.mdtext.specs.EntityTable.{EntityTable}
+use Rattle.viewspec.specs.Stretch.{from_line, is_meeting}
+use Rattle.viewlaws.specs.UnitTiles.{IsAhead}
+use Rattle.viewlaws.proofs.ReadLines.{none_deep}
+use Rattle.viewlaws.proofs.Splices.{from_above}
+use Rattle.viewlaws.proofs.UnitPlaces.{ahead_later}
+use Rattle.mdview.specs.HeldBlocks.{IsDeepAt, is_at, line_before, lines_in, old_lines, places_of}
+use Rattle.mdview.specs.NewText.{lines_of}
+use Rattle.mdview.specs.declared.resuming.UnitStart.{UnitStart}
+use Rattle.mdview.proofs.EditPlaces.{begins_many}
+use Rattle.mdview.proofs.ReadStretches.{is_edit}
+use Rattle.mdview.proofs.Reparses.{ReadAbove, begin_told, begins_reading, deep_at, deep_told, ended, few_read, found_all, met_all, met_told, new_fits, next_ends, next_is, in_new, read_first, read_next, unmet_told}
+use Rattle.mdview.proofs.reparse.reparse.Goals as goal
+
+pub loop-line-init : goal.loop-line-init
+loop-line-init g c =
+    let e = c.args.held.now.entities.now in
+    let text = c.args.text in
+    let new = lines_of text in
+    let p = places_of e text in
+    let limit = c.args.held.now.options.now.max_containers in
+    let r = c.resume_at-from.result in
+    let s = begins_reading e text c.args.held.now.head c.args.held.now.units.now c.at.result r.from r.start.unit r.start.line c.requires.held c.requires.old c.at.ensures.at c.resume_at-from.ensures.resumed in
+    record {
+      fed = search rules;
+      lines = search rules;
+      inlines = search rules;
+      same = search rules;
+      forward = search rules;
+      above = subst (λ n. ReadAbove limit e new p c.new-reader.result c.new-found.result.items n) (sym s.0)
+          (read_first limit e (old_lines text) new p (is_edit e text) c.new-reader.result c.new-found.result.items c.new-reader.ensures.reads c.new-found.ensures.items);
+      ahead = subst (λ (next : UnitStart). IsAhead (map lines_in c.args.held.now.units.now) p.old_begins next.unit next.line (line_before p r.from)) (sym c.at-cursor.ensures.1) s.2;
+    }
+
+pub returns-in_err-push_some-in-Ok-clause-stretch : goal.returns-in_err-push_some-in-Ok-clause-stretch
+returns-in_err-push_some-in-Ok-clause-stretch g c =
+    let e = c.args.held.now.entities.now in
+    let text = c.args.text in
+    let old = old_lines text in
+    let new = lines_of text in
+    let p = places_of e text in
+    let limit = c.args.held.now.options.now.max_containers in
+    let r = c.resume_at-from.result in
+    let s = begins_reading e text c.args.held.now.head c.args.held.now.units.now c.at.result r.from r.start.unit r.start.line c.requires.held c.requires.old c.at.ensures.at c.resume_at-from.ensures.resumed in
+    let line = c.loop-line.line in
+    let inv = c.loop-line.invariant in
+    let below : line < length new = omega (arith, c.loop-line-test.true, c.len-line-end.ensures) in
+    let order : from_line p ≤ line = omega (arith, s.0, c.loop-line.auto.line) in
+    let few = few_read limit e old new p (is_edit e text) c.loop-line.reader c.loop-line.found.items line (omega (arith, below)) inv.above in
+    omega (arith, few, inv.lines, c.line-in-loop-line.ensures.lines, s.0)
+
+pub returns-in-Err-clause-stretch : goal.returns-in-Err-clause-stretch
+returns-in-Err-clause-stretch g c =
+    let e = c.args.held.now.entities.now in
+    let text = c.args.text in
+    let old = old_lines text in
+    let new = lines_of text in
+    let p = places_of e text in
+    let limit = c.args.held.now.options.now.max_containers in
+    let r = c.resume_at-from.result in
+    let s = begins_reading e text c.args.held.now.head c.args.held.now.units.now c.at.result r.from r.start.unit r.start.line c.requires.held c.requires.old c.at.ensures.at c.resume_at-from.ensures.resumed in
+    let line = c.loop-line.line in
+    let inv = c.loop-line.invariant in
+    let below : line < length new = omega (arith, c.loop-line-test.true, c.len-line-end.ensures) in
+    let order : from_line p ≤ line = omega (arith, s.0, c.loop-line.auto.line) in
+    let few = few_read limit e old new p (is_edit e text) c.loop-line.reader c.loop-line.found.items line (omega (arith, below)) inv.above in
+    omega (arith, few, inv.lines, c.line-in-loop-line.ensures.lines, s.0)
+
+pub returns-in-Some-clause-stretch : goal.returns-in-Some-clause-stretch
+returns-in-Some-clause-stretch g c =
+    let e = c.args.held.now.entities.now in
+    let text = c.args.text in
+    let old = old_lines text in
+    let new = lines_of text in
+    let p = places_of e text in
+    let limit = c.args.held.now.options.now.max_containers in
+    let r = c.resume_at-from.result in
+    let s = begins_reading e text c.args.held.now.head c.args.held.now.units.now c.at.result r.from r.start.unit r.start.line c.requires.held c.requires.old c.at.ensures.at c.resume_at-from.ensures.resumed in
+    let line = c.loop-line.line in
+    let inv = c.loop-line.invariant in
+    let below : line < length new = omega (arith, c.loop-line-test.true, c.len-line-end.ensures) in
+    let order : from_line p ≤ line = omega (arith, s.0, c.loop-line.auto.line) in
+    let few = few_read limit e old new p (is_edit e text) c.loop-line.reader c.loop-line.found.items line (omega (arith, below)) inv.above in
+    omega (arith, few, inv.lines, c.line-in-loop-line.ensures.lines, s.0)
+
+pub returns-in-Err-clause-deep : goal.returns-in-Err-clause-deep
+returns-in-Err-clause-deep g c =
+    let e = c.args.held.now.entities.now in
+    let text = c.args.text in
+    let old = old_lines text in
+    let new = lines_of text in
+    let p = places_of e text in
+    let limit = c.args.held.now.options.now.max_containers in
+    let r = c.resume_at-from.result in
+    let s = begins_reading e text c.args.held.now.head c.args.held.now.units.now c.at.result r.from r.start.unit r.start.line c.requires.held c.requires.old c.at.ensures.at c.resume_at-from.ensures.resumed in
+    let line = c.loop-line.line in
+    let inv = c.loop-line.invariant in
+    let below : line < length new = omega (arith, c.loop-line-test.true, c.len-line-end.ensures) in
+    let order : from_line p ≤ line = omega (arith, s.0, c.loop-line.auto.line) in
+    subst (IsDeepAt (first_too_deep limit new)) (sym c.fault_in_line.ensures.value)
+    (deep_told (first_too_deep limit new) c.in-Err.fault line
+    (λ is. deep_at limit e old new p (is_edit e text) c.requires.fits c.loop-line.reader c.loop-line.found.items line [] order below
+    (λ (limit : ℕ) (e : EntityTable) (ls : List (List ℕ)) (h : Reads limit e c.loop-line.reader ls).
+    subst (λ t. first_too_deep limit (ls ++ t ∷ []) ≡ Some (length ls)) c.line.ensures (c.in-Err.ensures.deep (ap Err is) limit e ls h))
+    inv.above))
+
+pub returns-in-Some-clause-fits : goal.returns-in-Some-clause-fits
+returns-in-Some-clause-fits g c =
+    let e = c.args.held.now.entities.now in
+    let text = c.args.text in
+    let old = old_lines text in
+    let new = lines_of text in
+    let p = places_of e text in
+    let limit = c.args.held.now.options.now.max_containers in
+    let r = c.resume_at-from.result in
+    let s = begins_reading e text c.args.held.now.head c.args.held.now.units.now c.at.result r.from r.start.unit r.start.line c.requires.held c.requires.old c.at.ensures.at c.resume_at-from.ensures.resumed in
+    let line = c.loop-line.line in
+    let inv = c.loop-line.invariant in
+    let below : line < length new = omega (arith, c.loop-line-test.true, c.len-line-end.ensures) in
+    let order : from_line p ≤ line = omega (arith, s.0, c.loop-line.auto.line) in
+    let is = c.line.ensures in
+    let reads = λ (limit : ℕ) (e : EntityTable) (ls : List (List ℕ)) (h : Reads limit e c.loop-line.reader ls).
+    subst (λ t. Reads limit e c.line-in-loop-line.new.self (ls ++ t ∷ [])) is (c.in-Ok.ensures.reads limit e ls h) in
+    let hands = λ (limit : ℕ) (e : EntityTable) (ls : List (List ℕ)) (h : Reads limit e c.loop-line.reader ls).
+    subst (λ t. handed e (ls ++ t ∷ []) ≡ handed e ls ++ option_to_list c.in-Ok.unit) is (c.in-Ok.ensures.hands limit e ls h) in
+    let ls = drop (from_line p) (take line new) in
+    let begun = is_at (line - r.from) (open_begin e (ls ++ get_or new line [] ∷ [])) in
+    let told = begin_told limit e old new p (is_edit e text) line [] order below begun (ap (λ n. is_at (line - n) (open_begin e (ls ++ get_or new line [] ∷ []))) s.0) in
+    let ahead = subst (λ us. IsAhead (map lines_in us) p.old_begins c.loop-line.cursor.next.unit c.loop-line.cursor.next.line (line_before p line)) (sym inv.same) inv.ahead in
+    let both = met_told begun (is_meeting p line) (c.in-Some.ensures.met limit e (ls ++ get_or new line [] ∷ []) (reads limit e ls inv.above.reads) ahead) in
+    let m = met_all limit e old new p (is_edit e text) c.requires.fits c.loop-line.reader c.line-in-loop-line.new.self c.loop-line.found.items c.push_some.new.found.items c.in-Ok.unit line []
+    order below reads hands c.in_ok-push_some-in-Ok.ensures (told.0 both.0) both.1 inv.above in
+    m.2
+
+pub returns-in-Some-clause-read : goal.returns-in-Some-clause-read
+returns-in-Some-clause-read g c =
+    let e = c.args.held.now.entities.now in
+    let text = c.args.text in
+    let old = old_lines text in
+    let new = lines_of text in
+    let p = places_of e text in
+    let limit = c.args.held.now.options.now.max_containers in
+    let r = c.resume_at-from.result in
+    let s = begins_reading e text c.args.held.now.head c.args.held.now.units.now c.at.result r.from r.start.unit r.start.line c.requires.held c.requires.old c.at.ensures.at c.resume_at-from.ensures.resumed in
+    let line = c.loop-line.line in
+    let inv = c.loop-line.invariant in
+    let below : line < length new = omega (arith, c.loop-line-test.true, c.len-line-end.ensures) in
+    let order : from_line p ≤ line = omega (arith, s.0, c.loop-line.auto.line) in
+    let is = c.line.ensures in
+    let reads = λ (limit : ℕ) (e : EntityTable) (ls : List (List ℕ)) (h : Reads limit e c.loop-line.reader ls).
+    subst (λ t. Reads limit e c.line-in-loop-line.new.self (ls ++ t ∷ [])) is (c.in-Ok.ensures.reads limit e ls h) in
+    let hands = λ (limit : ℕ) (e : EntityTable) (ls : List (List ℕ)) (h : Reads limit e c.loop-line.reader ls).
+    subst (λ t. handed e (ls ++ t ∷ []) ≡ handed e ls ++ option_to_list c.in-Ok.unit) is (c.in-Ok.ensures.hands limit e ls h) in
+    let ls = drop (from_line p) (take line new) in
+    let begun = is_at (line - r.from) (open_begin e (ls ++ get_or new line [] ∷ [])) in
+    let told = begin_told limit e old new p (is_edit e text) line [] order below begun (ap (λ n. is_at (line - n) (open_begin e (ls ++ get_or new line [] ∷ []))) s.0) in
+    let ahead = subst (λ us. IsAhead (map lines_in us) p.old_begins c.loop-line.cursor.next.unit c.loop-line.cursor.next.line (line_before p line)) (sym inv.same) inv.ahead in
+    let both = met_told begun (is_meeting p line) (c.in-Some.ensures.met limit e (ls ++ get_or new line [] ∷ []) (reads limit e ls inv.above.reads) ahead) in
+    let m = met_all limit e old new p (is_edit e text) c.requires.fits c.loop-line.reader c.line-in-loop-line.new.self c.loop-line.found.items c.push_some.new.found.items c.in-Ok.unit line []
+    order below reads hands c.in_ok-push_some-in-Ok.ensures (told.0 both.0) both.1 inv.above in
+    let sizes = map lines_in c.loop-line.cursor.units.now in
+    let cursor = c.met_at.new.cursor in
+    record {
+      from = s.0;
+      meet = sym m.0;
+      first = s.1;
+      next = c.in-Some.ensures.unit.0
+          ∙ next_is limit e old new p (is_edit e text) sizes cursor.next.unit cursor.next.line line both.1 m.0 (c.in-Some.ensures.here refl) (c.in-Some.ensures.ahead e ahead);
+      found = m.1 ∙ ap (λ n. units e (drop n (take line new))) (sym s.0);
+    }
+
+pub loop-line-preserved : goal.loop-line-preserved
+loop-line-preserved g c =
+    let e = c.args.held.now.entities.now in
+    let text = c.args.text in
+    let old = old_lines text in
+    let new = lines_of text in
+    let p = places_of e text in
+    let limit = c.args.held.now.options.now.max_containers in
+    let r = c.resume_at-from.result in
+    let s = begins_reading e text c.args.held.now.head c.args.held.now.units.now c.at.result r.from r.start.unit r.start.line c.requires.held c.requires.old c.at.ensures.at c.resume_at-from.ensures.resumed in
+    let line = c.loop-line.line in
+    let inv = c.loop-line.invariant in
+    let below : line < length new = omega (arith, c.loop-line-test.true, c.len-line-end.ensures) in
+    let order : from_line p ≤ line = omega (arith, s.0, c.loop-line.auto.line) in
+    let is = c.line.ensures in
+    let reads = λ (limit : ℕ) (e : EntityTable) (ls : List (List ℕ)) (h : Reads limit e c.loop-line.reader ls).
+    subst (λ t. Reads limit e c.line-in-loop-line.new.self (ls ++ t ∷ [])) is (c.in-Ok.ensures.reads limit e ls h) in
+    let hands = λ (limit : ℕ) (e : EntityTable) (ls : List (List ℕ)) (h : Reads limit e c.loop-line.reader ls).
+    subst (λ t. handed e (ls ++ t ∷ []) ≡ handed e ls ++ option_to_list c.in-Ok.unit) is (c.in-Ok.ensures.hands limit e ls h) in
+    let ls = drop (from_line p) (take line new) in
+    let begun = is_at (line - r.from) (open_begin e (ls ++ get_or new line [] ∷ [])) in
+    let told = begin_told limit e old new p (is_edit e text) line [] order below begun (ap (λ n. is_at (line - n) (open_begin e (ls ++ get_or new line [] ∷ []))) s.0) in
+    let ahead = subst (λ us. IsAhead (map lines_in us) p.old_begins c.loop-line.cursor.next.unit c.loop-line.cursor.next.line (line_before p line)) (sym inv.same) inv.ahead in
+    let unmet = unmet_told begun (is_meeting p line) (c.in_default.ensures.met limit e (ls ++ get_or new line [] ∷ []) (reads limit e ls inv.above.reads) ahead) in
+    let not_here : Contains (begins e new) line → is_meeting p line ≡ false = λ there. elim unmet [ inl h ↦ absurd (told.1 h there) | inr h ↦ h ] in
+    let sizes = map lines_in c.args.held.now.units.now in
+    let later : line_before p line ≤ line_before p (line + 1) = omega arith in
+    let moved = c.met_at.new.cursor in
+    record {
+      fed = search rules;
+      lines = omega (arith, inv.lines, c.line-in-loop-line.ensures.lines, c.loop-line.auto.line);
+      inlines = c.line-in-loop-line.ensures.inlines ∙ inv.inlines;
+      same = search rules;
+      forward = search rules;
+      above = read_next limit e old new p (is_edit e text) c.loop-line.reader c.line-in-loop-line.new.self c.loop-line.found.items c.push_some.new.found.items c.in-Ok.unit line []
+          order below reads hands c.in_ok-push_some-in-Ok.ensures not_here inv.above;
+      ahead = ahead_later sizes p.old_begins moved.next.unit moved.next.line (line_before p line) (line_before p (line + 1)) later
+          (subst (λ us. IsAhead (map lines_in us) p.old_begins moved.next.unit moved.next.line (line_before p line)) inv.same (c.met_at.ensures.ahead e ahead));
+    }
+
+pub returns-in_err-push_some-in-Ok-finish-clause-stretch : goal.returns-in_err-push_some-in-Ok-finish-clause-stretch
+returns-in_err-push_some-in-Ok-finish-clause-stretch g c =
+    let e = c.args.held.now.entities.now in
+    let text = c.args.text in
+    let old = old_lines text in
+    let new = lines_of text in
+    let p = places_of e text in
+    let limit = c.args.held.now.options.now.max_containers in
+    let r = c.resume_at-from.result in
+    let s = begins_reading e text c.args.held.now.head c.args.held.now.units.now c.at.result r.from r.start.unit r.start.line c.requires.held c.requires.old c.at.ensures.at c.resume_at-from.ensures.resumed in
+    let line = c.loop-line.line in
+    let inv = c.loop-line.invariant in
+    let from = from_above e old new p (is_edit e text) in
+    let within = in_new limit e old new p (is_edit e text) in
+    let last : line ≡ length new = omega (arith, c.loop-line.auto.line-end, c.loop-line-test.false, c.len-line-end.ensures, s.0, from, within) in
+    let above = subst (λ n. ReadAbove limit e new p c.loop-line.reader c.loop-line.found.items n) last inv.above in
+    let few = few_read limit e old new p (is_edit e text) c.loop-line.reader c.loop-line.found.items (length new) (omega arith) above in
+    omega (arith, few, inv.lines, s.0, last)
+
+pub returns-in-Err-finish-clause-stretch : goal.returns-in-Err-finish-clause-stretch
+returns-in-Err-finish-clause-stretch g c =
+    let e = c.args.held.now.entities.now in
+    let text = c.args.text in
+    let old = old_lines text in
+    let new = lines_of text in
+    let p = places_of e text in
+    let limit = c.args.held.now.options.now.max_containers in
+    let r = c.resume_at-from.result in
+    let s = begins_reading e text c.args.held.now.head c.args.held.now.units.now c.at.result r.from r.start.unit r.start.line c.requires.held c.requires.old c.at.ensures.at c.resume_at-from.ensures.resumed in
+    let line = c.loop-line.line in
+    let inv = c.loop-line.invariant in
+    let from = from_above e old new p (is_edit e text) in
+    let within = in_new limit e old new p (is_edit e text) in
+    let last : line ≡ length new = omega (arith, c.loop-line.auto.line-end, c.loop-line-test.false, c.len-line-end.ensures, s.0, from, within) in
+    let above = subst (λ n. ReadAbove limit e new p c.loop-line.reader c.loop-line.found.items n) last inv.above in
+    let few = few_read limit e old new p (is_edit e text) c.loop-line.reader c.loop-line.found.items (length new) (omega arith) above in
+    omega (arith, few, inv.lines, s.0, last)
+
+pub returns-clause-stretch : goal.returns-clause-stretch
+returns-clause-stretch g c =
+    let e = c.args.held.now.entities.now in
+    let text = c.args.text in
+    let old = old_lines text in
+    let new = lines_of text in
+    let p = places_of e text in
+    let limit = c.args.held.now.options.now.max_containers in
+    let r = c.resume_at-from.result in
+    let s = begins_reading e text c.args.held.now.head c.args.held.now.units.now c.at.result r.from r.start.unit r.start.line c.requires.held c.requires.old c.at.ensures.at c.resume_at-from.ensures.resumed in
+    let line = c.loop-line.line in
+    let inv = c.loop-line.invariant in
+    let from = from_above e old new p (is_edit e text) in
+    let within = in_new limit e old new p (is_edit e text) in
+    let last : line ≡ length new = omega (arith, c.loop-line.auto.line-end, c.loop-line-test.false, c.len-line-end.ensures, s.0, from, within) in
+    let above = subst (λ n. ReadAbove limit e new p c.loop-line.reader c.loop-line.found.items n) last inv.above in
+    let few = few_read limit e old new p (is_edit e text) c.loop-line.reader c.loop-line.found.items (length new) (omega arith) above in
+    omega (arith, few, inv.lines, s.0, last)
+
+pub returns-clause-fits : goal.returns-clause-fits
+returns-clause-fits g c =
+    let e = c.args.held.now.entities.now in
+    let text = c.args.text in
+    let old = old_lines text in
+    let new = lines_of text in
+    let p = places_of e text in
+    let limit = c.args.held.now.options.now.max_containers in
+    let r = c.resume_at-from.result in
+    let s = begins_reading e text c.args.held.now.head c.args.held.now.units.now c.at.result r.from r.start.unit r.start.line c.requires.held c.requires.old c.at.ensures.at c.resume_at-from.ensures.resumed in
+    let line = c.loop-line.line in
+    let inv = c.loop-line.invariant in
+    let from = from_above e old new p (is_edit e text) in
+    let within = in_new limit e old new p (is_edit e text) in
+    let last : line ≡ length new = omega (arith, c.loop-line.auto.line-end, c.loop-line-test.false, c.len-line-end.ensures, s.0, from, within) in
+    let above = subst (λ n. ReadAbove limit e new p c.loop-line.reader c.loop-line.found.items n) last inv.above in
+    let meet = ended limit e old new p (is_edit e text) c.loop-line.reader c.loop-line.found.items above in
+    new_fits limit e old new p (is_edit e text) c.requires.fits (length new) meet (none_deep limit e c.loop-line.reader (drop (from_line p) (take (length new) new)) above.reads)
+
+pub returns-clause-read : goal.returns-clause-read
+returns-clause-read g c =
+    let e = c.args.held.now.entities.now in
+    let text = c.args.text in
+    let old = old_lines text in
+    let new = lines_of text in
+    let p = places_of e text in
+    let limit = c.args.held.now.options.now.max_containers in
+    let r = c.resume_at-from.result in
+    let s = begins_reading e text c.args.held.now.head c.args.held.now.units.now c.at.result r.from r.start.unit r.start.line c.requires.held c.requires.old c.at.ensures.at c.resume_at-from.ensures.resumed in
+    let line = c.loop-line.line in
+    let inv = c.loop-line.invariant in
+    let from = from_above e old new p (is_edit e text) in
+    let within = in_new limit e old new p (is_edit e text) in
+    let last : line ≡ length new = omega (arith, c.loop-line.auto.line-end, c.loop-line-test.false, c.len-line-end.ensures, s.0, from, within) in
+    let above = subst (λ n. ReadAbove limit e new p c.loop-line.reader c.loop-line.found.items n) last inv.above in
+    let meet = ended limit e old new p (is_edit e text) c.loop-line.reader c.loop-line.found.items above in
+    let units_are = found_all limit e old new p (is_edit e text) c.loop-line.found.items c.push_some-in-Ok-finish.new.found.items c.in-Ok-finish.unit c.loop-line.reader
+    c.in_ok-push_some-in-Ok-finish.ensures c.in-Ok-finish.ensures.hands above in
+    record {
+      from = s.0;
+      meet = c.len.ensures ∙ sym meet;
+      first = s.1;
+      next = next_ends limit e old new p (is_edit e text) (length c.args.held.now.units.now) (sym (begins_many e old c.args.held.now.head c.args.held.now.units.now c.requires.held)) meet;
+      found = units_are ∙ ap (λ n. units e (drop n (take (length new) new))) (sym s.0) ∙ ap (λ n. units e (drop r.from (take n new))) (sym c.len.ensures);
+    }

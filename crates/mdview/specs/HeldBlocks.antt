@@ -1,0 +1,85 @@
+-- The blocks that a preview holds: they are the units of its lines.
+use Rattle.std.specs.Prelude.{◌≡◌, ◌+◌, ◌-◌, ℕ, Bool, false, List, ◌++◌, Option, Some, None, drop, length, map, nat_eq, string_bytes, take}
+use Rattle.mdtext.specs.EntityTable.{EntityTable}
+use Rattle.blockspec.specs.BlockUnits.{begins, units}
+use Rattle.blockspec.specs.UnitTree.{UnitTree}
+use Rattle.mdblock.specs.declared.faults.BlockFault.{BlockFault}
+use Rattle.mdblock.specs.declared.faults.BlockFault.TheVariants as block
+use Rattle.viewspec.specs.Stretch.{Places, from_line, meeting_line, units_before, units_removed}
+use Rattle.viewlaws.specs.UnitTiles.{front_of, tile_of}
+use Rattle.mdview.specs.NewText.{lines_of as new_lines}
+use Rattle.mdview.specs.declared.new_text.NewText.{NewText}
+use Rattle.mdview.specs.declared.reparse.Reparsed.{Reparsed}
+use Rattle.mdview.specs.declared.fault.EditFault.{EditFault}
+use Rattle.mdview.specs.declared.fault.EditFault.TheVariants.{OutOfRange, BreakInLine, TooManyLines, TooLarge, NestedTooDeep, InlineTooDeep, NoMemory, NotDefinitions}
+use Rattle.mdview.specs.declared.update.Update.{Update}
+use Rattle.mdview.specs.HeldUnit.{HeldUnit, ReadUnit, read_of}
+use Rattle.mdview.specs.NewText.{lines_of as new_lines}
+
+-- a unit that is held without its place: how many lines it has, and the unit
+abbrev pub tile_in : ReadUnit → ℕ × UnitTree
+tile_in u = (u.lines, u.unit)
+
+abbrev pub lines_in : HeldUnit → ℕ
+lines_in u = u.read.lines
+
+-- these are the units of these lines, so many of which stand before the first one
+pub record HoldsUnits (e : EntityTable) (lines : List (List ℕ)) (head : ℕ) (held : List ReadUnit) : Type 0 where
+  pub before : head ≡ front_of (length lines) (units e lines)
+  pub tiles : map tile_in held ≡ map tile_of (units e lines)
+
+-- the lines before an edit: those in front, those that it takes away, and those behind
+abbrev pub old_lines : NewText → List (List ℕ)
+old_lines text = map string_bytes text.front.now ++ map string_bytes text.gone.now ++ map string_bytes text.back.now
+
+-- where an edit begins and ends, and the first lines of the units of both texts
+abbrev pub places_of : EntityTable → NewText → Places
+places_of e text = record {
+  old_begins = begins e (old_lines text);
+  new_begins = begins e (new_lines text);
+  new_lines = length (new_lines text);
+  at = length text.front.now;
+  gone = length text.gone.now;
+  come = length text.added.now;
+}
+
+-- the number that a line had before the edit; a line that is not behind the edit has that of the first one behind it
+abbrev pub line_before : Places → ℕ → ℕ
+line_before p line = (line - (p.at + p.come)) + (p.at + p.gone)
+
+-- what was read: the units of the lines from where reading begins to the meeting line, and of which old units these take the place
+pub record IsReread (e : EntityTable) (text : NewText) (r : Reparsed) : Type 0 where
+  pub from : r.from ≡ from_line (places_of e text)
+  pub meet : r.meet ≡ meeting_line (places_of e text)
+  pub first : r.first ≡ units_before (places_of e text)
+  pub next : r.next ≡ units_before (places_of e text) + units_removed (places_of e text)
+  pub found : r.found.items ≡ units e (drop r.from (take r.meet (new_lines text)))
+
+-- what it brings: units that take the place of old ones, and how many lines stand before the first unit then
+pub record IsReplacing (e : EntityTable) (text : NewText) (update : Update) : Type 0 where
+  pub first : update.first ≡ units_before (places_of e text)
+  pub next : update.next ≡ units_before (places_of e text) + units_removed (places_of e text)
+  pub head : update.head ≡ front_of (length (new_lines text)) (units e (new_lines text))
+  pub units : map tile_in (map read_of update.units.items) ≡ map tile_of (units e (drop (from_line (places_of e text)) (take (meeting_line (places_of e text)) (new_lines text))))
+
+-- the line on which a container begins too deep in these lines is named
+abbrev pub IsDeepAt : Option ℕ → EditFault → Type 0
+IsDeepAt first (NestedTooDeep line) = first ≡ Some line
+IsDeepAt first NoMemory = Unit {0}
+IsDeepAt first (InlineTooDeep line) = first ≡ None
+IsDeepAt first (NotDefinitions line) = Unit {0}
+IsDeepAt first (OutOfRange lines) = Unit {0}
+IsDeepAt first (BreakInLine index) = Unit {0}
+IsDeepAt first TooManyLines = Unit {0}
+IsDeepAt first TooLarge = Unit {0}
+
+-- the fault of an edit for a fault of the reader in a line; behind no fault a line is read
+abbrev pub fault_in : BlockFault → ℕ → EditFault
+fault_in block.NestedTooDeep line = NestedTooDeep line
+fault_in block.NoMemory line = NoMemory
+fault_in block.Failed line = NoMemory
+
+-- a unit begins in this line
+abbrev pub is_at : ℕ → Option ℕ → Bool
+is_at line None = false
+is_at line (Some begin) = nat_eq begin line
