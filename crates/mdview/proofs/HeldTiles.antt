@@ -9,16 +9,13 @@ use Rattle.viewspec.specs.Stretch.{Places, from_line, meeting_line, units_before
 use Rattle.viewlaws.specs.UnitTiles.{front_of, tile_of}
 use Rattle.viewlaws.proofs.Cuts.{no_units}
 use Rattle.viewlaws.proofs.TileSplices.{tiles_spliced}
-use Rattle.mdview.specs.HeldBlocks.{HoldsUnits, tile_in}
+use Rattle.mdview.specs.HeldBlocks.{HoldsUnits, held_tile, tile_in}
 use Rattle.mdview.specs.HeldUnit.{HeldUnit, read_of}
 use Rattle.mdview.specs.Lists.{replaced}
 use Rattle.mdview.specs.Update.{all_renewed, map_at, renewed}
 use Rattle.mdview.specs.declared.readings.Again.{Again}
 use Rattle.mdview.proofs.MemberChanges.{map_changed}
 use Rattle.mdview.proofs.Sizes.{map_replaced}
-
-abbrev pub held_tile : HeldUnit → ℕ × UnitTree
-held_tile u = tile_in (read_of u)
 
 tiles_read : (held : List HeldUnit) → map tile_in (map read_of held) ≡ map held_tile held
 tiles_read [] = refl

@@ -8,6 +8,16 @@ pub mod MemberChanges
 pub mod RenewedUnits
 pub mod Targets
 pub mod Texts
+pub mod ReadTexts
+pub mod Concerns
+pub mod ReadParts
+pub mod EditTexts
+pub mod CommittedTexts
+pub mod HeldReadings
+pub mod HeldViews
+pub mod NoneAsking
+pub mod FoundTexts
+pub mod UnitsBetween
 pub mod Splices
 pub mod Committed
 pub mod LineEndings
@@ -19,3 +29,6 @@ pub mod EditPlaces
 pub mod Reparses
 pub mod UnitSizes
 pub mod Replacing
+pub mod ToldLaws
+pub mod Elsewhere
+pub mod LedByUnits

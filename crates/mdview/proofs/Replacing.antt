@@ -17,7 +17,7 @@ use Rattle.mdview.specs.declared.update.Update.{Update}
 use Rattle.mdview.proofs.ReadStretches.{is_edit}
 
 module _ (e : EntityTable) (text : NewText) (was : ℕ) (held : List ReadUnit) (reparsed : Reparsed) (w : HoldsUnits e (old_lines text) was held) (r : IsReread e text reparsed) where
-  head_behind : (head : ℕ) → head ≡ (if nat_eq reparsed.from 0 then front_of reparsed.meet reparsed.found.items else was)
+  pub head_behind : (head : ℕ) → head ≡ (if nat_eq reparsed.from 0 then front_of reparsed.meet reparsed.found.items else was)
       → head ≡ front_of (length (lines_of text)) (units e (lines_of text))
   head_behind head is = is ∙ by (nat_eq reparsed.from 0) refl
     where

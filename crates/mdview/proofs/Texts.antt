@@ -7,6 +7,10 @@ use Rattle.std.proofs.lemmas.Option.{slice_get-map, slice_get-get_or}
 use Rattle.mdhtml.specs.declared.options.Options.{Options}
 use Rattle.mdview.specs.declared.readings.Again.{Again}
 use Rattle.mdview.specs.HeldUnit.{HeldUnit, ReadUnit, unit_in, read_of, texts_in, texts_of, html_of}
+use Rattle.mdtext.specs.EntityTable.{EntityTable}
+use Rattle.inlinespec.specs.LinkTails.{Table}
+use Rattle.viewlaws.specs.UnitTexts.{readings_under}
+use Rattle.mdview.specs.HeldTexts.{IsReread}
 use Rattle.mdview.specs.Update.{Fits, IsWritten}
 
 pub texts_more : (units : List HeldUnit) (u : HeldUnit) → texts_of (map read_of (units ++ u ∷ [])) ≡ texts_of (map read_of units) + texts_in u.read.unit
@@ -31,3 +35,9 @@ pub written_at : (options : Options) (units : List HeldUnit) (one : Again) (i : 
 written_at options units one i u below is at piece =
     let here : slice_get (map unit_in units) one.unit ≡ Some (unit_in u) = ap (slice_get (map unit_in units)) is ∙ found_at units i u below ∙ ap (λ v. Some (unit_in v)) (sym at) in
     rw here piece
+
+pub reread_at : (e : EntityTable) (labels : Table) (units : List HeldUnit) (one : Again) (i : ℕ) (u : HeldUnit) → i < length units → one.unit ≡ i → u ≡ get_or units i u
+    → one.inlines.items ≡ readings_under e labels u.read.unit → IsReread e labels (map unit_in units) one
+reread_at e labels units one i u below is at read =
+    let here : slice_get (map unit_in units) one.unit ≡ Some (unit_in u) = ap (slice_get (map unit_in units)) is ∙ found_at units i u below ∙ ap (λ v. Some (unit_in v)) (sym at) in
+    rw here read

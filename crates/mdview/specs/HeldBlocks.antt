@@ -20,6 +20,9 @@ use Rattle.mdview.specs.NewText.{lines_of as new_lines}
 abbrev pub tile_in : ReadUnit → ℕ × UnitTree
 tile_in u = (u.lines, u.unit)
 
+abbrev pub held_tile : HeldUnit → ℕ × UnitTree
+held_tile u = tile_in (read_of u)
+
 abbrev pub lines_in : HeldUnit → ℕ
 lines_in u = u.read.lines
 

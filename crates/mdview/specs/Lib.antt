@@ -1,4 +1,5 @@
 pub mod HeldUnit
+pub mod HeldTexts
 pub mod ReadingEnd
 pub mod Lists
 pub mod Document
@@ -12,5 +13,6 @@ pub mod FaultNames
 pub mod FaultReasons
 pub mod NewText
 pub mod LabelTargets
+pub mod ToldLabels
 pub mod Update
 pub mod MarkedPieces

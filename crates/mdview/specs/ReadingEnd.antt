@@ -40,6 +40,17 @@ OfReading (BreakInLine index) = ⊥
 OfReading TooManyLines = ⊥
 OfReading TooLarge = ⊥
 
+-- a fault that the reading of blocks gave
+abbrev pub OfBlocks : EditFault → Type 0
+OfBlocks (NestedTooDeep line) = Unit {0}
+OfBlocks NoMemory = Unit {0}
+OfBlocks (InlineTooDeep line) = ⊥
+OfBlocks (NotDefinitions line) = ⊥
+OfBlocks (OutOfRange lines) = ⊥
+OfBlocks (BreakInLine index) = ⊥
+OfBlocks TooManyLines = ⊥
+OfBlocks TooLarge = ⊥
+
 -- a fault that the reading of inline texts gave
 abbrev pub OfTexts : EditFault → Type 0
 OfTexts (InlineTooDeep line) = Unit {0}

@@ -1,10 +1,11 @@
 //! Puts what an edit made in the place of what is held. None of it takes memory.
 
-ghost use Rattle.std.specs.Prelude.{◌≡◌, ◌+◌, ◌-◌, ◌≤◌, length, map};
+ghost use Rattle.std.specs.Prelude.{◌≡◌, ℕ, List, ◌+◌, ◌-◌, ◌≤◌, length, map};
 ghost use Rattle.std.specs.List.{All};
 ghost use Rattle.std.specs.Vec.{vec_len, vec_capacity};
 ghost use Rattle.mdview.specs.Lists.{replaced};
 ghost use Rattle.mdview.specs.HeldUnit.{unit_in};
+ghost use Rattle.mdview.specs.LabelTargets.{HasRoom, led_after, target_held};
 ghost use Rattle.mdview.specs.Update.{Fits, all_renewed, map_at, renewed};
 
 use crate::held_labels::HeldLabels;
@@ -19,7 +20,9 @@ pub(crate) fn commit(held: &mut Vec<HeldUnit>, labels: &mut HeldLabels, update: 
     requires within { update.next ≤ length held.old.items }
     requires fits { All (Fits (map unit_in held.old.items)) update.again.items }
     requires room { vec_len held.old + vec_len update.units ≤ vec_capacity held.old }
-    ensures { held.new.items ≡ replaced (all_renewed held.old.items update.again.items) update.first (update.next - update.first) update.units.items }
+    requires labels { HasRoom labels.old update.changes }
+    ensures led { (label : List ℕ) → target_held labels.new label ≡ led_after labels.old update.changes label }
+    ensures units { held.new.items ≡ replaced (all_renewed held.old.items update.again.items) update.first (update.next - update.first) update.units.items }
 {
     let Update {
         first,

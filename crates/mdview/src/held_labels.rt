@@ -1,7 +1,8 @@
 //! Where the labels of a text lead, now and after an edit.
 
-ghost use Rattle.std.specs.Prelude.{◌≡◌, []};
-ghost use Rattle.mdview.specs.LabelTargets.{leading, target_held, target_after};
+ghost use Rattle.std.specs.Prelude.{◌≡◌, ◌∷◌, [], ℕ, List, None, OnOk, ◌||◌, false, is_some, true};
+ghost use Rattle.std.specs.Str.{bytes_eq};
+ghost use Rattle.mdview.specs.LabelTargets.{HasRoom, at, changed, leading, target_held, target_after};
 
 use crate::label_changes::LabelChanges;
 use mdinline::Labels;
@@ -29,7 +30,8 @@ impl Labels for HeldLabels {
 impl HeldLabels {
     /// No label leads anywhere. Takes no memory.
     pub(crate) fn new(alloc: Global) -> HeldLabels
-        ensures { leading result.targets.entries ≡ [] }
+        ensures led { leading result.targets.entries ≡ [] }
+        ensures none { (q : List ℕ) → target_held result q ≡ None }
     {
         HeldLabels {
             targets: BTreeMap::new(alloc),
@@ -42,7 +44,9 @@ impl HeldLabels {
         alloc: Global,
         changes: &LabelChanges,
     ) -> Result<(), NoMemory>
-        ensures { leading self.new.targets.entries ≡ leading self.old.targets.entries }
+        ensures led { leading self.new.targets.entries ≡ leading self.old.targets.entries }
+        ensures room { OnOk result (HasRoom self.new changes.now) }
+        ensures same { (q : List ℕ) → target_held self.new q ≡ target_held self.old q }
     {
         for label in changes.labels() {
             self.make_room_for(alloc, label)?;
@@ -51,7 +55,9 @@ impl HeldLabels {
     }
 
     fn make_room_for(&mut self, alloc: Global, label: &Label) -> Result<(), NoMemory>
-        ensures { leading self.new.targets.entries ≡ leading self.old.targets.entries }
+        ensures led { leading self.new.targets.entries ≡ leading self.old.targets.entries }
+        ensures room { OnOk result ((q : List ℕ) → is_some (at q self.new.targets.entries) ≡ bytes_eq q label.now || is_some (at q self.old.targets.entries)) }
+        ensures same { (q : List ℕ) → target_held self.new q ≡ target_held self.old q }
     {
         if !self.targets.contains_key(label) {
             self.targets.insert(label.copy(alloc)?, None)?;
@@ -60,7 +66,11 @@ impl HeldLabels {
     }
 
     /// Lets a label lead elsewhere, or nowhere. It takes no memory: room was made before.
-    pub(crate) fn set(&mut self, label: &Label, target: Option<Target>) {
+    pub(crate) fn set(&mut self, label: &Label, target: Option<Target>)
+        requires room { is_some (at label.now self.old.targets.entries) ≡ true }
+        ensures led { (q : List ℕ) → target_held self.new q ≡ changed (at q ((label.now, target) ∷ [])) (target_held self.old q) }
+        ensures room { (q : List ℕ) → bytes_eq q label.now ≡ false → is_some (at q self.new.targets.entries) ≡ is_some (at q self.old.targets.entries) }
+    {
         match target {
             None => {
                 self.targets.remove(label);

@@ -1,7 +1,15 @@
 //! What an edit or a new prelude changes of where labels lead.
 
-ghost use Rattle.std.specs.Prelude.{◌≡◌, ◌≤◌, length, option_copied};
-ghost use Rattle.mdview.specs.LabelTargets.{at};
+ghost use Rattle.std.specs.Prelude.{◌≡◌, ◌≤◌, ◌++◌, ℕ, List, IfOk, None, drop, is_some, length, map, option_copied, take, true};
+ghost use Rattle.std.specs.BTreeMap.{keys};
+ghost use Rattle.std.specs.Cmp.Lexicographic.{slice_cmp};
+ghost use Rattle.std.specs.List.{list_any};
+ghost use Rattle.std.specs.Map.Iter.{ShowsInOrder, deref};
+ghost use Rattle.std.specs.Option.{option_to_list};
+ghost use Rattle.std.specs.Ordering.{eq_by_cmp, nat_cmp};
+ghost use Rattle.std.specs.Set.{is_member};
+ghost use Rattle.mdview.specs.HeldUnit.{unit_in};
+ghost use Rattle.mdview.specs.LabelTargets.{HasRoom, IsElsewhere, Leads, LeadsAfter, at, led_after, target_held};
 
 use crate::held_labels::HeldLabels;
 use crate::preludes::Prelude;
@@ -25,15 +33,20 @@ impl LabelChanges {
     pub(crate) fn of(held: &HeldText<'_>, reparsed: &Reparsed) -> Result<LabelChanges, NoMemory>
         requires first { reparsed.now.first ≤ reparsed.now.next }
         requires next { reparsed.now.next ≤ length held.now.units.now }
+        requires led { Leads held.now.labels.now (map unit_in held.now.units.now) held.now.prelude.now }
+        ensures led { IfOk result (LeadsAfter held.now.labels.now
+            (take reparsed.now.first (map unit_in held.now.units.now) ++ map (λ found. found.unit) reparsed.now.found.items ++ drop reparsed.now.next (map unit_in held.now.units.now))
+            held.now.prelude.now) }
+        ensures elsewhere { IfOk result (IsElsewhere held.now.labels.now) }
     {
         let mut touched = TouchedLabels::new(held.alloc);
         touched.touch_held(&held.units[reparsed.first..reparsed.next])?;
         touched.touch_found(&reparsed.found)?;
-        if !touched.is_empty() {
-            touched.define_held(&held.units[..reparsed.first])?;
-            touched.define_found(&reparsed.found)?;
-            touched.define_held(&held.units[reparsed.next..])?;
-        }
+        touched.define_all(
+            &held.units[..reparsed.first],
+            &reparsed.found,
+            &held.units[reparsed.next..],
+        )?;
         Ok(LabelChanges {
             targets: touched.changed(held.labels, held.prelude)?,
         })
@@ -43,13 +56,15 @@ impl LabelChanges {
     pub(crate) fn of_prelude(
         held: &HeldText<'_>,
         prelude: &Prelude,
-    ) -> Result<LabelChanges, NoMemory> {
+    ) -> Result<LabelChanges, NoMemory>
+        requires led { Leads held.now.labels.now (map unit_in held.now.units.now) held.now.prelude.now }
+        ensures led { IfOk result (LeadsAfter held.now.labels.now (map unit_in held.now.units.now) prelude.now) }
+        ensures elsewhere { IfOk result (IsElsewhere held.now.labels.now) }
+    {
         let mut touched = TouchedLabels::new(held.alloc);
         touched.touch_prelude(held.prelude)?;
         touched.touch_prelude(prelude)?;
-        if !touched.is_empty() {
-            touched.define_held(held.units)?;
-        }
+        touched.define_all(held.units, &[], &[])?;
         Ok(LabelChanges {
             targets: touched.changed(held.labels, prelude)?,
         })
@@ -63,29 +78,47 @@ impl LabelChanges {
     }
 
     /// The labels that lead elsewhere after the edit.
-    pub(crate) fn labels(&self) -> Keys<'_, Label, Option<Target>> {
+    pub(crate) fn labels(&self) -> Keys<'_, Label, Option<Target>>
+        ensures rest { result ≡ keys self.now.targets }
+        ensures runs { ShowsInOrder (deref {X = List ℕ}) }
+        ensures has { (label : List ℕ) → is_some (at label self.now.targets.entries) ≡ is_member (eq_by_cmp (slice_cmp nat_cmp)) result label }
+    {
         self.targets.keys()
     }
 
     /// Whether each label leads where it led.
-    pub(crate) fn is_empty(&self) -> bool {
+    pub(crate) fn is_empty(&self) -> bool
+        ensures { result ≡ true → (label : List ℕ) → at label self.now.targets.entries ≡ None }
+    {
         self.targets.is_empty()
     }
 
     /// Whether a label was asked for that leads elsewhere after the edit.
-    pub(crate) fn concern(&self, asked: &Asked) -> bool {
+    pub(crate) fn concern(&self, asked: &Asked) -> bool
+        ensures { result ≡ list_any (λ label. is_some (at label self.now.targets.entries)) asked.now }
+    {
         for i in 0..asked.len() {
-            if let Some(label) = asked.get(i)
-                && self.targets.contains_key(label)
-            {
+            if self.concerns_some(asked.get(i)) {
                 return true;
             }
         }
         false
     }
 
-    /// Lets the labels lead where they do after the edit. It takes no memory.
-    pub(crate) fn commit(self, held: &mut HeldLabels) {
+    fn concerns_some(&self, label: Option<&Label>) -> bool
+        ensures { result ≡ list_any (λ label. is_some (at label self.now.targets.entries)) (option_to_list (option_copied label.entry)) }
+    {
+        match label {
+            Some(label) => self.targets.contains_key(label),
+            None => false,
+        }
+    }
+
+    /// Lets the labels lead where they do after the edit. It takes no memory: room was made before.
+    pub(crate) fn commit(self, held: &mut HeldLabels)
+        requires room { HasRoom held.old self }
+        ensures { (label : List ℕ) → target_held held.new label ≡ led_after held.old self label }
+    {
         for (label, target) in self.targets {
             held.set(&label, target);
         }

@@ -1,6 +1,7 @@
 //! A prelude: definitions that are handed in beside a text.
 
-ghost use Rattle.std.specs.Prelude.{◌≡◌, ◌≤◌, ◌+◌, [], None, Some, IfErr, IfOk, IsSome, OnOk, length, map, option_map, string_bytes};
+ghost use Rattle.std.specs.Prelude.{◌≡◌, ◌≤◌, ◌+◌, [], ℕ, List, None, Some, IfErr, IfOk, IsSome, OnOk, length, map, option_map, string_bytes};
+ghost use Rattle.std.specs.Map.Iter.{ShowsInOrder, deref};
 ghost use Rattle.std.specs.Option.{option_or};
 ghost use Rattle.inlinespec.specs.LabelMap.{target_in, target_of};
 ghost use Rattle.mdhtml.specs.Limits.{HasLimits};
@@ -94,7 +95,10 @@ impl Prelude {
     }
 
     /// The labels that the prelude defines.
-    pub(crate) fn labels(&self) -> Keys<'_, Label, Target> {
+    pub(crate) fn labels(&self) -> Keys<'_, Label, Target>
+        ensures rest { result ≡ map (λ e. e.0) self.now.labels }
+        ensures runs { ShowsInOrder (deref {X = List ℕ}) }
+    {
         self.targets.keys()
     }
 }

@@ -4,7 +4,8 @@ ghost use Rattle.mdhtml.specs.Limits.{HasLimits};
 ghost use Rattle.blockspec.specs.BlockUnits.{begins, units};
 ghost use Rattle.blockspec.specs.Nesting.{first_too_deep};
 ghost use Rattle.blockspec.specs.UnitTree.{FoundUnit};
-ghost use Rattle.viewspec.specs.Changes.{lines_due, patch_of};
+ghost use Rattle.viewspec.specs.Changes.{lines_due, patch_of, texts_read};
+ghost use Rattle.viewspec.specs.View.{ViewedUnit, view};
 ghost use Rattle.mdview.specs.Document.{empty, setting_of, size_of, source_of};
 ghost use Rattle.mdview.specs.HeldBlocks.{IsDeepAt};
 ghost use Rattle.mdview.specs.Edit.{call_of, due, due_of_prelude, put};
@@ -61,6 +62,7 @@ impl Model for Preview {
     ghost use Rattle.mdview.specs.Document.{Document, size_of};
     ghost use Rattle.blockspec.specs.Nesting.{first_too_deep};
     ghost use Rattle.mdview.specs.HeldBlocks.{HoldsUnits};
+    ghost use Rattle.mdview.specs.HeldTexts.{HoldsTexts};
     ghost use Rattle.mdview.specs.HeldUnit.{IsRendered, piece_of, read_of, read_unit_code};
     ghost use Rattle.mdview.specs.LabelTargets.{leading};
     ghost use Rattle.inlinespec.specs.LabelMap.{map_code};
@@ -85,7 +87,8 @@ impl Model for Preview {
     ghost invariant = { λ p. (p.size ≡ size_of (map string_bytes p.lines.items)) × (p.size ≤ 16777216) × (length p.lines.items ≤ 1000000)
         × All (IsRendered p.options) p.units.items × HasLimits p.options
         × HoldsUnits p.entities (map string_bytes p.lines.items) p.head (map read_of p.units.items)
-        × (first_too_deep p.options.max_containers (map string_bytes p.lines.items) ≡ None) };
+        × (first_too_deep p.options.max_containers (map string_bytes p.lines.items) ≡ None)
+        × HoldsTexts (record { entities = p.entities; options = p.options }) (map string_bytes p.lines.items) p.prelude p.labels p.units.items };
 }
 
 impl Preview {
@@ -217,7 +220,9 @@ impl Preview {
 
     /// The HTML of each unit, in order, lent without copying.
     pub fn pieces(&self) -> Pieces<'_>
-        ensures { result ≡ self.now.pieces }
+        ensures held { result ≡ self.now.pieces }
+        // After any calls: those of the whole text, read from nothing.
+        ensures value { result ≡ map (λ (v : ViewedUnit). v.piece) (view (setting_of self.now) (source_of self.now)) }
     {
         Pieces::new(&self.units)
     }
@@ -288,7 +293,7 @@ impl Preview {
         // refusal is due.
         ensures stretch { C.lines count.new ≤ C.lines count.old + lines_due (setting_of self.old) (source_of self.old) (call_of at del (map (λ line. line.now) add.now)) }
         ensures lines { C.lines count.new ≤ C.lines count.old + length (put self.old.lines (call_of at del (map (λ line. line.now) add.now))) }
-        ensures inlines { OnOk result (C.inlines count.new ≤ C.inlines count.old + texts_of self.new.units) }
+        ensures inlines { C.inlines count.new ≤ C.inlines count.old + texts_read (setting_of self.old) (source_of self.old) (call_of at del (map (λ line. line.now) add.now)) }
         ensures uncounted { IsSome (due self.old.lines (call_of at del (map (λ line. line.now) add.now))) → count.new ≡ count.old }
     {
         let size = self.accept(at, del, add)?;

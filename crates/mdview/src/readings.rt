@@ -1,13 +1,19 @@
 //! What inline texts read as after an edit, and the HTML of units.
 
-ghost use Rattle.std.specs.Prelude.{◌≡◌, ◌+◌, ◌≤◌, ◌<◌, IfOk, IfErr, OnOk, length, map, string_bytes};
-ghost use Rattle.std.specs.List.{All};
+ghost use Rattle.std.specs.Prelude.{◌≡◌, ◌+◌, ◌≤◌, ◌<◌, ◌^◌, ◌++◌, ◌∷◌, [], None, Some, IfOk, IfErr, IsErrOf, OnOk, false, if◌then◌else◌, length, map, option_map, slice_get, string_bytes, sum_by, true};
+ghost use Rattle.std.specs.List.{All, list_any};
 ghost use Rattle.mdhtml.specs.Limits.{HasLimits};
-ghost use Rattle.mdview.specs.ReadingEnd.{OfTexts};
-ghost use Rattle.mdview.specs.HeldUnit.{HeldUnit, IsRendered, html_of, texts_of, read_of, unit_in, texts_before, texts_in};
-ghost use Rattle.mdview.specs.Update.{Fits, IsWritten};
+ghost use Rattle.mdinline.specs.declared.faults.InlineFault.TheVariants.{TooDeep};
+ghost use Rattle.viewspec.specs.Changes.{asks_changed};
+ghost use Rattle.viewspec.specs.Refusals.{is_deep};
+ghost use Rattle.viewspec.specs.View.{reading_of};
+ghost use Rattle.viewlaws.specs.UnitTexts.{asking_in, asking_texts, asking_units, deep_found, deep_from, is_deep_under, readings_under, trees_in};
 ghost use Rattle.viewlaws.specs.UnitTiles.{tile_of};
-ghost use Rattle.mdview.specs.HeldBlocks.{tile_in};
+ghost use Rattle.mdview.specs.HeldUnit.{HeldUnit, IsRendered, html_of, read_of, unit_in, texts_in};
+ghost use Rattle.mdview.specs.Update.{Fits, IsWritten};
+ghost use Rattle.mdview.specs.HeldBlocks.{held_tile, lines_in, tile_in};
+ghost use Rattle.mdview.specs.HeldTexts.{IsReadUnder, IsReread, IsShallow, IsTextFault, between, entities_in, labels_before, labels_behind, line_on, number_again, text_fault_in};
+ghost use Rattle.mdview.specs.LabelTargets.{IsElsewhere};
 
 use crate::fault::EditFault;
 use crate::held_labels::LabelsAfter;
@@ -45,12 +51,15 @@ impl<'a> TextReader<'a> {
         count: &mut C,
     ) -> Result<Vec<HeldUnit>, EditFault>
         requires limits { HasLimits self.now.options.now }
-        ensures fault { IfErr result OfTexts }
         ensures all { IfOk result (λ units. length units.items ≡ length found.items) }
         ensures tiles { IfOk result (λ units. map tile_in (map read_of units.items) ≡ map tile_of found.items) }
         ensures pieces { IfOk result (λ units. All (IsRendered self.now.options.now) units.items) }
+        ensures read { IfOk result (λ units. All (IsReadUnder (entities_in room.old) (labels_behind self.now)) units.items) }
+        ensures shallow { OnOk result (deep_found self.now.options.now.max_spans (entities_in room.old) (labels_behind self.now) found.items ≡ None) }
+        ensures deep { IfErr result (IsTextFault (option_map (line_on from) (deep_found self.now.options.now.max_spans (entities_in room.old) (labels_behind self.now) found.items))) }
+        ensures room { entities_in room.new ≡ entities_in room.old }
         ensures lines { C.lines count.new ≡ C.lines count.old }
-        ensures inlines { IfOk result (λ units. C.inlines count.new ≤ C.inlines count.old + texts_of (map read_of units.items)) }
+        ensures inlines { C.inlines count.new ≤ C.inlines count.old + sum_by texts_in (trees_in found.items) }
     {
         let mut units = Vec::with_capacity(self.alloc, found.len())?;
         for one in found {
@@ -73,8 +82,12 @@ impl<'a> TextReader<'a> {
         ensures unit { IfOk result (λ unit. unit.read.unit ≡ found.unit) }
         ensures tile { IfOk result (λ unit. tile_in unit.read ≡ tile_of found) }
         ensures piece { IfOk result (IsRendered self.now.options.now) }
+        ensures read { IfOk result (IsReadUnder (entities_in room.old) (labels_behind self.now)) }
+        ensures shallow { OnOk result (is_deep_under self.now.options.now.max_spans (entities_in room.old) (labels_behind self.now) found.unit ≡ false) }
+        ensures deep { IsErrOf result TooDeep → is_deep_under self.now.options.now.max_spans (entities_in room.old) (labels_behind self.now) found.unit ≡ true }
+        ensures room { entities_in room.new ≡ entities_in room.old }
         ensures lines { C.lines count.new ≡ C.lines count.old }
-        ensures inlines { IfOk result (λ unit. C.inlines count.new ≤ C.inlines count.old + texts_in unit.read.unit) }
+        ensures inlines { C.inlines count.new ≤ C.inlines count.old + texts_in found.unit }
     {
         let inlines = self.read_texts(found.unit(), room, count)?;
         let piece = room.unit_html(found.unit().blocks(), &inlines, self.options)?;
@@ -89,6 +102,10 @@ impl<'a> TextReader<'a> {
     ) -> Result<Vec<Parsed>, InlineFault>
         requires limits { HasLimits self.now.options.now }
         ensures all { IfOk result (λ inlines. length inlines.items ≡ length unit.now.texts) }
+        ensures readings { IfOk result (λ inlines. inlines.items ≡ readings_under (entities_in room.old) (labels_behind self.now) unit.now) }
+        ensures shallow { OnOk result (is_deep_under self.now.options.now.max_spans (entities_in room.old) (labels_behind self.now) unit.now ≡ false) }
+        ensures deep { IsErrOf result TooDeep → is_deep_under self.now.options.now.max_spans (entities_in room.old) (labels_behind self.now) unit.now ≡ true }
+        ensures room { entities_in room.new ≡ entities_in room.old }
         ensures lines { C.lines count.new ≡ C.lines count.old }
         ensures inlines { C.inlines count.new ≤ C.inlines count.old + length unit.now.texts }
     {
@@ -107,6 +124,10 @@ impl<'a> TextReader<'a> {
         count: &mut C,
     ) -> Result<Parsed, InlineFault>
         requires limits { HasLimits self.now.options.now }
+        ensures reading { IfOk result (λ parsed. parsed ≡ reading_of (entities_in room.old) (labels_behind self.now) text.now) }
+        ensures shallow { OnOk result (is_deep self.now.options.now.max_spans (reading_of (entities_in room.old) (labels_behind self.now) text.now) ≡ false) }
+        ensures deep { IsErrOf result TooDeep → is_deep self.now.options.now.max_spans (reading_of (entities_in room.old) (labels_behind self.now) text.now) ≡ true }
+        ensures room { entities_in room.new ≡ entities_in room.old }
         ensures lines { C.lines count.new ≡ C.lines count.old }
         ensures inlines { C.inlines count.new ≤ C.inlines count.old + 1 }
     {
@@ -129,13 +150,24 @@ impl<'a> TextReader<'a> {
         requires limits { HasLimits self.now.options.now }
         requires order { first ≤ next }
         requires within { next ≤ length units.now }
+        requires elsewhere { IsElsewhere self.now.labels.now.held.now self.now.labels.now.changes.now }
+        requires read { All (IsReadUnder (entities_in room.old) (labels_before self.now)) units.now }
+        requires shallow { All (IsShallow self.now.options.now.max_spans (entities_in room.old) (labels_before self.now)) units.now }
+        requires near { begin + sum_by lines_in (between first next units.now) < 2 ^ 64 }
+        requires reread { All (IsReread (entities_in room.old) (labels_behind self.now) (map unit_in units.now)) again.old.items }
         requires fits { All (Fits (map unit_in units.now)) again.old.items }
         requires written { All (IsWritten self.now.options.now (map unit_in units.now)) again.old.items }
         ensures fits { OnOk result (All (Fits (map unit_in units.now)) again.new.items) }
         ensures written { OnOk result (All (IsWritten self.now.options.now (map unit_in units.now)) again.new.items) }
-        ensures fault { IfErr result OfTexts }
+        ensures numbers { OnOk result (map number_again again.new.items ≡ map number_again again.old.items
+            ++ asking_units (entities_in room.old) (labels_before self.now) (labels_behind self.now) first (map unit_in (between first next units.now))) }
+        ensures reread { OnOk result (All (IsReread (entities_in room.old) (labels_behind self.now) (map unit_in units.now)) again.new.items) }
+        ensures shallow { OnOk result (deep_from self.now.options.now.max_spans (entities_in room.old) (labels_behind self.now) begin (map held_tile (between first next units.now)) ≡ None) }
+        ensures deep { IfErr result (IsTextFault (deep_from self.now.options.now.max_spans (entities_in room.old) (labels_behind self.now) begin (map held_tile (between first next units.now)))) }
+        ensures room { entities_in room.new ≡ entities_in room.old }
         ensures lines { C.lines count.new ≡ C.lines count.old }
-        ensures inlines { OnOk result (C.inlines count.new + texts_before first units.now ≤ C.inlines count.old + texts_before next units.now) }
+        ensures inlines { C.inlines count.new ≤ C.inlines count.old
+            + asking_texts (entities_in room.old) (labels_before self.now) (labels_behind self.now) (map unit_in (between first next units.now)) }
     {
         if self.labels.changes.is_empty() {
             return Ok(());
@@ -161,12 +193,24 @@ impl<'a> TextReader<'a> {
     ) -> Result<(), InlineFault>
         requires limits { HasLimits self.now.options.now }
         requires within { number < length units.now }
+        requires elsewhere { IsElsewhere self.now.labels.now.held.now self.now.labels.now.changes.now }
+        requires read { All (IsReadUnder (entities_in room.old) (labels_before self.now)) units.now }
+        requires shallow { All (IsShallow self.now.options.now.max_spans (entities_in room.old) (labels_before self.now)) units.now }
+        requires reread { All (IsReread (entities_in room.old) (labels_behind self.now) (map unit_in units.now)) again.old.items }
         requires fits { All (Fits (map unit_in units.now)) again.old.items }
         requires written { All (IsWritten self.now.options.now (map unit_in units.now)) again.old.items }
         ensures fits { OnOk result (All (Fits (map unit_in units.now)) again.new.items) }
         ensures written { OnOk result (All (IsWritten self.now.options.now (map unit_in units.now)) again.new.items) }
+        ensures numbers { OnOk result ((u : HeldUnit) → slice_get units.now number ≡ Some u → map number_again again.new.items ≡ map number_again again.old.items
+            ++ asking_units (entities_in room.old) (labels_before self.now) (labels_behind self.now) number (u.read.unit ∷ [])) }
+        ensures reread { OnOk result (All (IsReread (entities_in room.old) (labels_behind self.now) (map unit_in units.now)) again.new.items) }
+        ensures shallow { OnOk result ((u : HeldUnit) → slice_get units.now number ≡ Some u → IsShallow self.now.options.now.max_spans (entities_in room.old) (labels_behind self.now) u) }
+        ensures deep { IsErrOf result TooDeep → (u : HeldUnit) → slice_get units.now number ≡ Some u
+            → is_deep_under self.now.options.now.max_spans (entities_in room.old) (labels_behind self.now) u.read.unit ≡ true }
+        ensures room { entities_in room.new ≡ entities_in room.old }
         ensures lines { C.lines count.new ≡ C.lines count.old }
-        ensures inlines { C.inlines count.new + texts_before number units.now ≤ C.inlines count.old + texts_before (number + 1) units.now }
+        ensures inlines { (u : HeldUnit) → slice_get units.now number ≡ Some u
+            → C.inlines count.new ≤ C.inlines count.old + asking_in (entities_in room.old) (labels_before self.now) (labels_behind self.now) u.read.unit }
     {
         let unit = &units[number];
         if !self.is_concerned(unit) {
@@ -178,11 +222,16 @@ impl<'a> TextReader<'a> {
     }
 
     /// Whether a text of the unit asked for a label that leads elsewhere after the edit.
-    fn is_concerned(&self, unit: &HeldUnit) -> bool {
-        let changes = self.labels.changes;
-        unit.inlines()
-            .iter()
-            .any(|parsed| changes.concern(parsed.asked()))
+    fn is_concerned(&self, unit: &HeldUnit) -> bool
+        requires { IsElsewhere self.now.labels.now.held.now self.now.labels.now.changes.now }
+        ensures { result ≡ list_any (asks_changed (labels_before self.now) (labels_behind self.now)) unit.now.read.readings }
+    {
+        for parsed in unit.inlines() {
+            if self.labels.changes.concern(parsed.asked()) {
+                return true;
+            }
+        }
+        false
     }
 
     fn again<C: Count>(
@@ -193,11 +242,18 @@ impl<'a> TextReader<'a> {
         count: &mut C,
     ) -> Result<Again, InlineFault>
         requires limits { HasLimits self.now.options.now }
+        requires elsewhere { IsElsewhere self.now.labels.now.held.now self.now.labels.now.changes.now }
+        requires read { IsReadUnder (entities_in room.old) (labels_before self.now) unit.now }
+        requires shallow { IsShallow self.now.options.now.max_spans (entities_in room.old) (labels_before self.now) unit.now }
         ensures unit { IfOk result (λ again. again.unit ≡ number) }
         ensures all { IfOk result (λ again. length again.inlines.items ≡ length unit.now.read.unit.texts) }
         ensures piece { IfOk result (λ again. string_bytes again.piece ≡ html_of self.now.options.now unit.now.read.unit again.inlines.items) }
+        ensures readings { IfOk result (λ again. again.inlines.items ≡ readings_under (entities_in room.old) (labels_behind self.now) unit.now.read.unit) }
+        ensures shallow { OnOk result (IsShallow self.now.options.now.max_spans (entities_in room.old) (labels_behind self.now) unit.now) }
+        ensures deep { IsErrOf result TooDeep → is_deep_under self.now.options.now.max_spans (entities_in room.old) (labels_behind self.now) unit.now.read.unit ≡ true }
+        ensures room { entities_in room.new ≡ entities_in room.old }
         ensures lines { C.lines count.new ≡ C.lines count.old }
-        ensures inlines { C.inlines count.new ≤ C.inlines count.old + length unit.now.read.unit.texts }
+        ensures inlines { C.inlines count.new ≤ C.inlines count.old + asking_in (entities_in room.old) (labels_before self.now) (labels_behind self.now) unit.now.read.unit }
     {
         let inlines = self.read_some(unit, room, count)?;
         let piece = room.unit_html(unit.unit().blocks(), &inlines, self.options)?;
@@ -216,9 +272,16 @@ impl<'a> TextReader<'a> {
         count: &mut C,
     ) -> Result<Vec<Parsed>, InlineFault>
         requires limits { HasLimits self.now.options.now }
+        requires elsewhere { IsElsewhere self.now.labels.now.held.now self.now.labels.now.changes.now }
+        requires read { IsReadUnder (entities_in room.old) (labels_before self.now) unit.now }
+        requires shallow { IsShallow self.now.options.now.max_spans (entities_in room.old) (labels_before self.now) unit.now }
         ensures all { IfOk result (λ inlines. length inlines.items ≡ length unit.now.read.unit.texts) }
+        ensures readings { IfOk result (λ inlines. inlines.items ≡ readings_under (entities_in room.old) (labels_behind self.now) unit.now.read.unit) }
+        ensures shallow { OnOk result (IsShallow self.now.options.now.max_spans (entities_in room.old) (labels_behind self.now) unit.now) }
+        ensures deep { IsErrOf result TooDeep → is_deep_under self.now.options.now.max_spans (entities_in room.old) (labels_behind self.now) unit.now.read.unit ≡ true }
+        ensures room { entities_in room.new ≡ entities_in room.old }
         ensures lines { C.lines count.new ≡ C.lines count.old }
-        ensures inlines { C.inlines count.new ≤ C.inlines count.old + length unit.now.read.unit.texts }
+        ensures inlines { C.inlines count.new ≤ C.inlines count.old + asking_in (entities_in room.old) (labels_before self.now) (labels_behind self.now) unit.now.read.unit }
     {
         let texts = unit.unit().texts();
         let held = unit.inlines();
@@ -237,8 +300,15 @@ impl<'a> TextReader<'a> {
         count: &mut C,
     ) -> Result<Parsed, InlineFault>
         requires limits { HasLimits self.now.options.now }
+        requires elsewhere { IsElsewhere self.now.labels.now.held.now self.now.labels.now.changes.now }
+        requires held { held.now ≡ reading_of (entities_in room.old) (labels_before self.now) text.now }
+        requires shallow { is_deep self.now.options.now.max_spans held.now ≡ false }
+        ensures reading { IfOk result (λ parsed. parsed ≡ reading_of (entities_in room.old) (labels_behind self.now) text.now) }
+        ensures shallow { OnOk result (is_deep self.now.options.now.max_spans (reading_of (entities_in room.old) (labels_behind self.now) text.now) ≡ false) }
+        ensures deep { IsErrOf result TooDeep → is_deep self.now.options.now.max_spans (reading_of (entities_in room.old) (labels_behind self.now) text.now) ≡ true }
+        ensures room { entities_in room.new ≡ entities_in room.old }
         ensures lines { C.lines count.new ≡ C.lines count.old }
-        ensures inlines { C.inlines count.new ≤ C.inlines count.old + 1 }
+        ensures inlines { C.inlines count.new ≤ C.inlines count.old + (if asks_changed (labels_before self.now) (labels_behind self.now) held.now then 1 else 0) }
     {
         if self.labels.changes.concern(held.asked()) {
             self.read_text(text, room, count)
@@ -249,7 +319,7 @@ impl<'a> TextReader<'a> {
 }
 
 fn fault_in_unit(fault: InlineFault, begin: usize) -> EditFault
-    ensures { OfTexts result }
+    ensures { result ≡ text_fault_in fault begin }
 {
     match fault {
         InlineFault::TooDeep => EditFault::InlineTooDeep { line: begin },

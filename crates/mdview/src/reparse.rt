@@ -13,7 +13,7 @@ ghost use Rattle.mdview.specs.HeldBlocks.{HoldsUnits, IsDeepAt, IsReread, fault_
 ghost use Rattle.mdview.specs.HeldUnit.{read_of};
 ghost use Rattle.mdview.specs.Document.{size_of};
 ghost use Rattle.mdview.specs.NewText.{lines_of};
-ghost use Rattle.mdview.specs.ReadingEnd.{OfReading};
+ghost use Rattle.mdview.specs.ReadingEnd.{OfBlocks};
 
 use crate::fault::EditFault;
 use crate::new_text::NewText;
@@ -47,7 +47,7 @@ pub(crate) fn reparse<C: Count>(
     requires old { length (old_lines text) ≤ 1000000 }
     requires held { HoldsUnits held.now.entities.now (old_lines text) held.now.head (map read_of held.now.units.now) }
     requires fits { first_too_deep held.now.options.now.max_containers (old_lines text) ≡ None }
-    ensures fault { IfErr result OfReading }
+    ensures fault { IfErr result OfBlocks }
     ensures deep { IfErr result (IsDeepAt (first_too_deep held.now.options.now.max_containers (lines_of text.entry))) }
     ensures fits { OnOk result (first_too_deep held.now.options.now.max_containers (lines_of text.entry) ≡ None) }
     ensures read { IfOk result (IsReread held.now.entities.now text.entry) }
@@ -101,7 +101,7 @@ fn push_some(found: &mut Vec<Found>, unit: Option<Found>) -> Result<(), AllocErr
 
 /// No line is fed after a fault, so none is answered `Failed`.
 fn fault_in_line(fault: BlockFault, line: usize) -> EditFault
-    ensures reading { OfReading result }
+    ensures reading { OfBlocks result }
     ensures value { result ≡ fault_in fault line }
 {
     match fault {

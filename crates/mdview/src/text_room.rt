@@ -4,6 +4,7 @@ ghost use Rattle.std.specs.Prelude.{◌≡◌, [], false, IfOk, length, string_b
 ghost use Rattle.mdblock.specs.BlockView.{blocks_view};
 ghost use Rattle.mdblock.specs.Positions.{BlocksIn};
 ghost use Rattle.mdhtml.specs.BlockHtml.{blocks_html, texts_html};
+ghost use Rattle.mdview.specs.HeldTexts.{entities_in};
 
 use mdblock::Block;
 use mdhtml::{Options, append_unit_html};
@@ -21,7 +22,9 @@ pub(crate) struct TextRoom<'a> {
 
 impl<'a> TextRoom<'a> {
     /// Takes no memory.
-    pub(crate) fn new(alloc: Global, entities: &'a Entities) -> TextRoom<'a> {
+    pub(crate) fn new(alloc: Global, entities: &'a Entities) -> TextRoom<'a>
+        ensures { entities_in result ≡ entities.now }
+    {
         TextRoom {
             alloc,
             reader: TextReader::new(alloc, entities),
@@ -37,8 +40,9 @@ impl<'a> TextRoom<'a> {
         options: &Options,
     ) -> Result<String, NoMemory>
         requires { BlocksIn (length texts.now) (blocks_view blocks.now) }
-        ensures { IfOk result (λ piece. string_bytes piece
+        ensures piece { IfOk result (λ piece. string_bytes piece
             ≡ blocks_html options.now (texts_html options.now texts.now) false (blocks_view blocks.now) []) }
+        ensures room { entities_in self.new ≡ entities_in self.old }
     {
         self.html.clear();
         append_unit_html(blocks, texts, options, &mut self.html)?;

@@ -1,5 +1,14 @@
 //! The labels that an edit or a new prelude touches, and where they lead after it.
 
+ghost use Rattle.std.specs.Prelude.{◌≡◌, ◌∷◌, ◌++◌, [], ℕ, List, IfOk, None, OnOk, map, option_copied, option_map, true};
+ghost use Rattle.std.specs.Option.{option_or};
+ghost use Rattle.inlinespec.specs.LabelMap.{target_of};
+ghost use Rattle.mdleaf.specs.LinkDefinition.{definition_of};
+ghost use Rattle.viewspec.specs.Changes.{is_same_target};
+ghost use Rattle.mdview.specs.HeldUnit.{unit_in};
+ghost use Rattle.mdview.specs.LabelTargets.{definitions_by};
+ghost use Rattle.mdview.specs.ToldLabels.{Sees, Touches, elsewhere_in, labels_by, labels_in, said_in, told, told_in};
+
 use crate::held_labels::HeldLabels;
 use crate::held_units::HeldUnit;
 use crate::preludes::{Prelude, or_beside};
@@ -19,32 +28,44 @@ pub(crate) struct TouchedLabels {
 
 impl TouchedLabels {
     /// No label. Takes no memory.
-    pub(crate) fn new(alloc: Global) -> TouchedLabels {
+    pub(crate) fn new(alloc: Global) -> TouchedLabels
+        ensures { (label : List ℕ) → told result label ≡ None }
+    {
         TouchedLabels {
             alloc,
             targets: BTreeMap::new(alloc),
         }
     }
 
-    pub(crate) fn is_empty(&self) -> bool {
+    fn is_empty(&self) -> bool
+        ensures { result ≡ true → (label : List ℕ) → told self.now label ≡ None }
+    {
         self.targets.is_empty()
     }
 
-    pub(crate) fn touch_held(&mut self, units: &[HeldUnit]) -> Result<(), NoMemory> {
+    /// The labels that units define which go.
+    pub(crate) fn touch_held(&mut self, units: &[HeldUnit]) -> Result<(), NoMemory>
+        ensures { OnOk result (Touches (labels_by (map unit_in units.now)) self.old self.new) }
+    {
         for unit in units {
             self.touch(unit.unit())?;
         }
         Ok(())
     }
 
-    pub(crate) fn touch_found(&mut self, found: &[Found]) -> Result<(), NoMemory> {
+    /// The labels that units define which come.
+    pub(crate) fn touch_found(&mut self, found: &[Found]) -> Result<(), NoMemory>
+        ensures { OnOk result (Touches (labels_by (map (λ one. one.unit) found.now)) self.old self.new) }
+    {
         for one in found {
             self.touch(one.unit())?;
         }
         Ok(())
     }
 
-    fn touch(&mut self, unit: &Unit) -> Result<(), NoMemory> {
+    fn touch(&mut self, unit: &Unit) -> Result<(), NoMemory>
+        ensures { OnOk result (Touches (labels_in unit.now.definitions) self.old self.new) }
+    {
         for definition in unit.definitions() {
             self.touch_label(&definition.label)?;
         }
@@ -52,28 +73,55 @@ impl TouchedLabels {
     }
 
     /// The labels that a prelude defines which goes or comes.
-    pub(crate) fn touch_prelude(&mut self, prelude: &Prelude) -> Result<(), NoMemory> {
+    pub(crate) fn touch_prelude(&mut self, prelude: &Prelude) -> Result<(), NoMemory>
+        ensures { OnOk result (Touches (map (λ e. e.0) prelude.now.labels) self.old self.new) }
+    {
         for label in prelude.labels() {
             self.touch_label(label)?;
         }
         Ok(())
     }
 
-    fn touch_label(&mut self, label: &Label) -> Result<(), NoMemory> {
+    fn touch_label(&mut self, label: &Label) -> Result<(), NoMemory>
+        ensures { OnOk result (Touches (label.now ∷ []) self.old self.new) }
+    {
         if !self.targets.contains_key(label) {
             self.targets.insert(label.copy(self.alloc)?, None)?;
         }
         Ok(())
     }
 
-    pub(crate) fn define_held(&mut self, units: &[HeldUnit]) -> Result<(), NoMemory> {
+    /// Where the labels lead by the units of the text after the edit, in their order: those in front, those that were found, and those
+    /// behind.
+    pub(crate) fn define_all(
+        &mut self,
+        front: &[HeldUnit],
+        found: &[Found],
+        back: &[HeldUnit],
+    ) -> Result<(), NoMemory>
+        ensures { OnOk result (Sees (definitions_by (map unit_in front.now ++ map (λ one. one.unit) found.now ++ map unit_in back.now)) self.old self.new) }
+    {
+        if self.is_empty() {
+            return Ok(());
+        }
+        self.define_held(front)?;
+        self.define_found(found)?;
+        self.define_held(back)?;
+        Ok(())
+    }
+
+    fn define_held(&mut self, units: &[HeldUnit]) -> Result<(), NoMemory>
+        ensures { OnOk result (Sees (definitions_by (map unit_in units.now)) self.old self.new) }
+    {
         for unit in units {
             self.define(unit.unit())?;
         }
         Ok(())
     }
 
-    pub(crate) fn define_found(&mut self, found: &[Found]) -> Result<(), NoMemory> {
+    fn define_found(&mut self, found: &[Found]) -> Result<(), NoMemory>
+        ensures { OnOk result (Sees (definitions_by (map (λ one. one.unit) found.now)) self.old self.new) }
+    {
         for one in found {
             self.define(one.unit())?;
         }
@@ -81,17 +129,22 @@ impl TouchedLabels {
     }
 
     /// Each label that is touched and leads nowhere yet leads where the unit defines it to lead.
-    fn define(&mut self, unit: &Unit) -> Result<(), NoMemory> {
+    fn define(&mut self, unit: &Unit) -> Result<(), NoMemory>
+        ensures { OnOk result (Sees unit.now.definitions self.old self.new) }
+    {
         for definition in unit.definitions() {
             self.define_one(definition)?;
         }
         Ok(())
     }
 
-    fn define_one(&mut self, definition: &Definition) -> Result<(), NoMemory> {
-        if let Some(target) = self.targets.get_mut(&definition.label)
-            && target.is_none()
-        {
+    fn define_one(&mut self, definition: &Definition) -> Result<(), NoMemory>
+        ensures { OnOk result (Sees (definition_of definition.now ∷ []) self.old self.new) }
+    {
+        let Some(target) = self.targets.get_mut(&definition.label) else {
+            return Ok(());
+        };
+        if target.is_none() {
             *target = Some(definition.target.copy(self.alloc)?);
         }
         Ok(())
@@ -102,20 +155,38 @@ impl TouchedLabels {
         self,
         held: &HeldLabels,
         prelude: &Prelude,
-    ) -> Result<BTreeMap<Label, Option<Target>, Global>, NoMemory> {
+    ) -> Result<BTreeMap<Label, Option<Target>, Global>, NoMemory>
+        ensures { IfOk result (λ changed. (label : List ℕ) → told_in changed.entries label ≡ said_in self.targets.entries held.now prelude.now label) }
+    {
         let alloc = self.alloc;
         let mut changed = BTreeMap::new(alloc);
         for (label, target) in self.targets {
             let target = or_beside(alloc, target, &label, prelude)?;
-            if !is_same(held.find(&label), target.as_ref()) {
-                changed.insert(label, target)?;
-            }
+            put_elsewhere(&mut changed, label, target, held)?;
         }
         Ok(changed)
     }
 }
 
-fn is_same(one: Option<&Target>, other: Option<&Target>) -> bool {
+/// Puts a label that leads so after the edit among those that lead elsewhere, if it does.
+fn put_elsewhere(
+    changed: &mut BTreeMap<Label, Option<Target>, Global>,
+    label: Label,
+    target: Option<Target>,
+    held: &HeldLabels,
+) -> Result<(), NoMemory>
+    ensures { OnOk result ((q : List ℕ) → told_in changed.new.entries q
+        ≡ option_or (elsewhere_in ((label, target) ∷ []) held.now q) (told_in changed.old.entries q)) }
+{
+    if !is_same(held.find(&label), target.as_ref()) {
+        changed.insert(label, target)?;
+    }
+    Ok(())
+}
+
+fn is_same(one: Option<&Target>, other: Option<&Target>) -> bool
+    ensures { result ≡ is_same_target (option_map target_of (option_copied one.entry)) (option_map target_of (option_copied other.entry)) }
+{
     match (one, other) {
         (None, None) => true,
         (Some(one), Some(other)) => one == other,

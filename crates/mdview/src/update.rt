@@ -1,14 +1,24 @@
 //! What an edit or a new prelude changes, made before anything of the preview is.
 
-ghost use Rattle.std.specs.Prelude.{◌≡◌, ◌≤◌, ◌+◌, [], IfErr, IfOk, None, OnOk, if◌then◌else◌, length, map, nat_eq};
+ghost use Rattle.std.specs.Prelude.{◌≡◌, ℕ, List, ◌≤◌, ◌<◌, ◌+◌, ◌^◌, ◌++◌, [], IfErr, IfOk, None, OnOk, drop, if◌then◌else◌, length, map, nat_eq, sum_by, take};
+ghost use Rattle.std.specs.List.{All};
 ghost use Rattle.blockspec.specs.Nesting.{first_too_deep};
-ghost use Rattle.viewspec.specs.Stretch.{lines_read};
+ghost use Rattle.viewspec.specs.Changes.{texts_due};
+ghost use Rattle.viewspec.specs.LabelTable.{table};
+ghost use Rattle.viewspec.specs.Refusals.{inline_refusal, nesting_refusal};
+ghost use Rattle.viewspec.specs.Stretch.{lines_read, units_added, units_before};
+ghost use Rattle.viewspec.specs.View.{view};
+ghost use Rattle.viewlaws.specs.UnitTexts.{asking_texts, asking_units, deep_from};
+ghost use Rattle.mdview.specs.Preludes.{IsDefinedBy};
 ghost use Rattle.viewlaws.specs.UnitTiles.{front_of, tile_of};
 ghost use Rattle.mdview.specs.HeldBlocks.{HoldsUnits, IsDeepAt, IsReplacing, old_lines, places_of, tile_in};
 ghost use Rattle.mdhtml.specs.Limits.{HasLimits};
 ghost use Rattle.mdview.specs.Document.{size_of};
 ghost use Rattle.mdview.specs.NewText.{lines_of};
 ghost use Rattle.mdview.specs.ReadingEnd.{OfReading, OfTexts};
+ghost use Rattle.mdview.specs.HeldTexts.{IsReadUnder, IsRefusedBy, IsReread, IsShallow, IsTextFault, asking_in_parts, deep_in_parts, head_read, number_again, setting_in, source_before, source_behind, texts_in_parts};
+ghost use Rattle.mdview.specs.LabelTargets.{IsElsewhere, Leads, LeadsAfter, led_after, led_by, target_held};
+ghost use Rattle.mdview.specs.HeldBlocks.{held_tile, lines_in};
 ghost use Rattle.mdview.specs.HeldUnit.{unit_in, read_of, texts_before, texts_of};
 ghost use Rattle.mdview.specs.Update.{IsFitFor, IsPatchOf, number_after};
 
@@ -66,14 +76,26 @@ impl Update {
         requires old { length (old_lines text) ≤ 1000000 }
         requires held { HoldsUnits held.now.entities.now (old_lines text) held.now.head (map read_of held.now.units.now) }
         requires fits { first_too_deep held.now.options.now.max_containers (old_lines text) ≡ None }
+        requires led { Leads held.now.labels.now (map unit_in held.now.units.now) held.now.prelude.now }
+        requires defined { IsDefinedBy held.now.entities.now held.now.prelude.now }
+        requires read { All (IsReadUnder held.now.entities.now (target_held held.now.labels.now)) held.now.units.now }
+        requires spans { inline_refusal (setting_in held.now) (source_before held.now text) ≡ None }
+        ensures refused { IfErr result (IsRefusedBy (nesting_refusal (setting_in held.now) (source_behind held.now text.entry))) }
+        ensures accepted { OnOk result (nesting_refusal (setting_in held.now) (source_behind held.now text.entry) ≡ None) }
         ensures fault { IfErr result OfReading }
         ensures deep { IfErr result (IsDeepAt (first_too_deep held.now.options.now.max_containers (lines_of text.entry))) }
         ensures fits { OnOk result (first_too_deep held.now.options.now.max_containers (lines_of text.entry) ≡ None) }
         ensures replacing { IfOk result (IsReplacing held.now.entities.now text.entry) }
+        ensures led { IfOk result (λ r. (label : List ℕ) → led_after held.now.labels.now r.changes label ≡ table held.now.entities.now (source_behind held.now text.entry) label) }
+        ensures read { IfOk result (λ r. All (IsReadUnder held.now.entities.now (table held.now.entities.now (source_behind held.now text.entry))) r.units.items) }
+        ensures reread { IfOk result (λ r. All (IsReread held.now.entities.now (table held.now.entities.now (source_behind held.now text.entry)) (map unit_in held.now.units.now)) r.again.items) }
+        ensures numbers { IfOk result (λ r. map number_again r.again.items ≡ asking_in_parts held.now.entities.now
+            (table held.now.entities.now (source_before held.now text.entry)) (table held.now.entities.now (source_behind held.now text.entry)) held.now.units.now r.first r.next) }
         ensures stretch { C.lines count.new ≤ C.lines count.old + lines_read (places_of held.now.entities.now text.entry) }
-        ensures inlines { IfOk result (λ r. C.inlines count.new + texts_before r.next held.now.units.now
-            ≤ C.inlines count.old + texts_before r.first held.now.units.now + texts_of (map read_of r.units.items)
-            + texts_before (length held.now.units.now) held.now.units.now) }
+        ensures texts { C.inlines count.new ≤ C.inlines count.old
+            + texts_due (table held.now.entities.now (source_before held.now text.entry)) (table held.now.entities.now (source_behind held.now text.entry))
+            (units_before (places_of held.now.entities.now text.entry)) (units_added (places_of held.now.entities.now text.entry)) 0
+            (view (setting_in held.now) (source_behind held.now text.entry)) }
         ensures fit { IfOk result (IsFitFor held.now.options.now (map unit_in held.now.units.now)) }
         ensures lines { C.lines count.new ≤ C.lines count.old + length (lines_of text.entry) }
     {
@@ -90,10 +112,23 @@ impl Update {
         count: &mut C,
     ) -> Result<Update, EditFault>
         requires limits { HasLimits held.now.options.now }
+        requires led { Leads held.now.labels.now (map unit_in held.now.units.now) held.now.prelude.now }
+        requires read { All (IsReadUnder held.now.entities.now (target_held held.now.labels.now)) held.now.units.now }
+        requires shallow { All (IsShallow held.now.options.now.max_spans held.now.entities.now (target_held held.now.labels.now)) held.now.units.now }
+        requires near { held.now.head + sum_by lines_in held.now.units.now < 2 ^ 64 }
         ensures fault { IfErr result OfTexts }
-        ensures inlines { OnOk result (C.inlines count.new ≤ C.inlines count.old + texts_before (length held.now.units.now) held.now.units.now) }
-        ensures fit { IfOk result (IsFitFor held.now.options.now (map unit_in held.now.units.now)) }
         ensures none { IfOk result (λ r. (r.first ≡ 0) × (r.next ≡ 0) × (r.units.items ≡ [])) }
+        ensures led { IfOk result (λ r. LeadsAfter held.now.labels.now (map unit_in held.now.units.now) prelude.now r.changes) }
+        ensures reread { IfOk result (λ r. All (IsReread held.now.entities.now (led_by (map unit_in held.now.units.now) prelude.now) (map unit_in held.now.units.now)) r.again.items) }
+        ensures numbers { IfOk result (λ r. map number_again r.again.items
+            ≡ asking_units held.now.entities.now (target_held held.now.labels.now) (led_by (map unit_in held.now.units.now) prelude.now) 0 (map unit_in held.now.units.now)) }
+        ensures shallow { OnOk result (deep_from held.now.options.now.max_spans held.now.entities.now (led_by (map unit_in held.now.units.now) prelude.now) held.now.head
+            (map held_tile held.now.units.now) ≡ None) }
+        ensures deep { IfErr result (IsTextFault (deep_from held.now.options.now.max_spans held.now.entities.now (led_by (map unit_in held.now.units.now) prelude.now) held.now.head
+            (map held_tile held.now.units.now))) }
+        ensures texts { C.inlines count.new ≤ C.inlines count.old
+            + asking_texts held.now.entities.now (target_held held.now.labels.now) (led_by (map unit_in held.now.units.now) prelude.now) (map unit_in held.now.units.now) }
+        ensures fit { IfOk result (IsFitFor held.now.options.now (map unit_in held.now.units.now)) }
         ensures lines { C.lines count.new ≡ C.lines count.old }
     {
         let changes = LabelChanges::of_prelude(held, prelude)?;
@@ -118,15 +153,27 @@ impl Update {
         requires limits { HasLimits held.now.options.now }
         requires first { reparsed.first ≤ reparsed.next }
         requires next { reparsed.next ≤ length held.now.units.now }
-        ensures fault { IfErr result OfTexts }
-        ensures inlines { IfOk result (λ r. C.inlines count.new + texts_before r.next held.now.units.now
-            ≤ C.inlines count.old + texts_before r.first held.now.units.now + texts_of (map read_of r.units.items)
-            + texts_before (length held.now.units.now) held.now.units.now) }
+        requires elsewhere { IsElsewhere held.now.labels.now changes }
+        requires read { All (IsReadUnder held.now.entities.now (target_held held.now.labels.now)) held.now.units.now }
+        requires shallow { All (IsShallow held.now.options.now.max_spans held.now.entities.now (target_held held.now.labels.now)) held.now.units.now }
+        requires near { head_read held.now.head reparsed + sum_by lines_in held.now.units.now < 2 ^ 64 }
+        requires far { reparsed.meet + sum_by lines_in held.now.units.now < 2 ^ 64 }
         ensures fit { IfOk result (IsFitFor held.now.options.now (map unit_in held.now.units.now)) }
         ensures place { IfOk result (λ r. (r.first ≡ reparsed.first) × (r.next ≡ reparsed.next)) }
         ensures units { IfOk result (λ r. length r.units.items ≡ length reparsed.found.items) }
         ensures tiles { IfOk result (λ r. map tile_in (map read_of r.units.items) ≡ map tile_of reparsed.found.items) }
-        ensures head { IfOk result (λ r. r.head ≡ (if nat_eq reparsed.from 0 then front_of reparsed.meet reparsed.found.items else held.now.head)) }
+        ensures head { IfOk result (λ r. r.head ≡ head_read held.now.head reparsed) }
+        ensures changes { IfOk result (λ r. r.changes ≡ changes) }
+        ensures read { IfOk result (λ r. All (IsReadUnder held.now.entities.now (led_after held.now.labels.now changes)) r.units.items) }
+        ensures numbers { IfOk result (λ r. map number_again r.again.items
+            ≡ asking_in_parts held.now.entities.now (target_held held.now.labels.now) (led_after held.now.labels.now changes) held.now.units.now reparsed.first reparsed.next) }
+        ensures reread { IfOk result (λ r. All (IsReread held.now.entities.now (led_after held.now.labels.now changes) (map unit_in held.now.units.now)) r.again.items) }
+        ensures shallow { OnOk result (deep_in_parts held.now.options.now.max_spans held.now.entities.now (led_after held.now.labels.now changes)
+            (head_read held.now.head reparsed) held.now.units.now reparsed ≡ None) }
+        ensures deep { IfErr result (IsTextFault (deep_in_parts held.now.options.now.max_spans held.now.entities.now (led_after held.now.labels.now changes)
+            (head_read held.now.head reparsed) held.now.units.now reparsed)) }
+        ensures inlines { C.inlines count.new ≤ C.inlines count.old
+            + texts_in_parts held.now.entities.now (target_held held.now.labels.now) (led_after held.now.labels.now changes) held.now.units.now reparsed }
         ensures lines { C.lines count.new ≡ C.lines count.old }
     {
         let labels = LabelsAfter {
@@ -139,6 +186,7 @@ impl Update {
             labels: &labels,
         };
         let mut room = TextRoom::new(held.alloc, held.entities);
+        let head = head_behind(held.head, &reparsed);
         let Reparsed {
             first,
             next,
@@ -146,11 +194,6 @@ impl Update {
             meet,
             found,
         } = reparsed;
-        let head = if from == 0 {
-            head_of(&found, meet)
-        } else {
-            held.head
-        };
         let mut again = Vec::new(held.alloc);
         reader.read_again(held.units, 0, first, head, &mut room, &mut again, count)?;
         let units = reader.read_units(found, from, &mut room, count)?;
@@ -202,6 +245,17 @@ impl Update {
         (unit - self.next)
             .saturating_add(self.first)
             .saturating_add(self.units.len())
+    }
+}
+
+/// How many lines stand before the first unit then; where reading does not begin with the first line, as many as are held.
+fn head_behind(held: usize, reparsed: &Reparsed) -> usize
+    ensures { result ≡ head_read held reparsed.now }
+{
+    if reparsed.from == 0 {
+        head_of(&reparsed.found, reparsed.meet)
+    } else {
+        held
     }
 }
 

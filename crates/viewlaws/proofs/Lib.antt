@@ -15,3 +15,6 @@ pub mod ReadLines
 pub mod TileSplices
 pub mod StretchEnds
 pub mod UnitPlaces
+pub mod DeepUnits
+pub mod ReadingsUnder
+pub mod AskingUnits

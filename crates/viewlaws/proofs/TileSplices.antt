@@ -17,17 +17,15 @@ use Rattle.viewlaws.proofs.Cuts.{IsCut, begins_in, units_cut}
 use Rattle.viewlaws.proofs.Splices.{BeginsAbove, IsEdit, MeetsBehind, begins_above, from_cut, meets_behind}
 use Rattle.viewlaws.proofs.StretchReadings.{Ascends, begins_ascend}
 
-tiles : List FoundUnit → List (ℕ × UnitTree)
+abbrev pub tiles : List FoundUnit → List (ℕ × UnitTree)
 tiles us = map tile_of us
 
-tiles_shifted : (k : ℕ) (us : List FoundUnit) → tiles (map (shift_found k) us) ≡ tiles us
-unfolding tiles
+pub tiles_shifted : (k : ℕ) (us : List FoundUnit) → tiles (map (shift_found k) us) ≡ tiles us
 tiles_shifted k [] = refl
 tiles_shifted k (u ∷ us) = ap (λ z. tile_of u ∷ z) (tiles_shifted k us)
 
 tiles_in_parts : (e : EntityTable) (front text : List (List ℕ)) (from to : ℕ)
     → tiles (in_parts e front text from to) ≡ (tiles (units e (take from front)) ++ tiles (units e (drop from (take to text)))) ++ tiles (units e (drop to text))
-unfolding tiles
 tiles_in_parts e front text from to =
     let a = units e (take from front) in
     let b = units e (drop from (take to text)) in
@@ -37,57 +35,58 @@ tiles_in_parts e front text from to =
     ∙ ap (λ z. (map tile_of a ++ z) ++ map tile_of (map (shift_found to) c)) (tiles_shifted from b)
     ∙ ap (λ z. (map tile_of a ++ map tile_of b) ++ z) (tiles_shifted to c)
 
-pub tiles_spliced : (e : EntityTable) (old new : List (List ℕ)) (p : Places) → IsSpliced e old new p
-    → map tile_of (units e new)
-    ≡ between_replaced (map tile_of (units e old)) (units_before p) (units_before p + units_removed p) (map tile_of (units e (drop (from_line p) (take (meeting_line p) new))))
-unfolding tiles
-tiles_spliced e old new p w =
-    ap (map tile_of) w.news
-    ∙ tiles_in_parts e old new from to
-    ∙ ap (λ z. (a ++ n) ++ map tile_of (units e z)) w.same
-    ∙ ap (λ z. (z ++ n) ++ c) (sym front)
-    ∙ ap (λ z. (take (units_before p) (map tile_of (units e old)) ++ n) ++ z) (sym behind)
-  where
-    from : ℕ
-    from = from_line p
+module _ (e : EntityTable) (old new : List (List ℕ)) (p : Places) (w : IsSpliced e old new p) where
+  abbrev from : ℕ
+  from = from_line p
 
-    to : ℕ
-    to = meeting_line p
+  abbrev to : ℕ
+  to = meeting_line p
 
-    a : List (ℕ × UnitTree)
-    a = map tile_of (units e (take from old))
+  abbrev a : List (ℕ × UnitTree)
+  a = map tile_of (units e (take from old))
 
-    b : List (ℕ × UnitTree)
-    b = map tile_of (units e (drop from (take (old_line p to) old)))
+  abbrev b : List (ℕ × UnitTree)
+  b = map tile_of (units e (drop from (take (old_line p to) old)))
 
-    n : List (ℕ × UnitTree)
-    n = map tile_of (units e (drop from (take to new)))
+  abbrev n : List (ℕ × UnitTree)
+  n = map tile_of (units e (drop from (take to new)))
 
-    c : List (ℕ × UnitTree)
-    c = map tile_of (units e (drop (old_line p to) old))
+  abbrev c : List (ℕ × UnitTree)
+  c = map tile_of (units e (drop (old_line p to) old))
 
-    olds : map tile_of (units e old) ≡ (a ++ b) ++ c
-    olds = ap (map tile_of) w.olds ∙ tiles_in_parts e old old from (old_line p to)
+  olds : map tile_of (units e old) ≡ (a ++ b) ++ c
+  olds = ap (map tile_of) w.olds ∙ tiles_in_parts e old old from (old_line p to)
 
-    first : units_before p ≡ length a
-    first = w.first ∙ sym (map_length tile_of (units e (take from old)))
+  first : units_before p ≡ length a
+  first = w.first ∙ sym (map_length tile_of (units e (take from old)))
 
-    both : units_before p + units_removed p ≡ length (a ++ b)
-    both =
-        let whole = length-append a b in
-        let second = w.removed ∙ sym (map_length tile_of (units e (drop from (take (old_line p to) old)))) in
-        omega (arith, whole, first, second)
+  both : units_before p + units_removed p ≡ length (a ++ b)
+  both =
+      let whole = length-append a b in
+      let second = w.removed ∙ sym (map_length tile_of (units e (drop from (take (old_line p to) old)))) in
+      omega (arith, whole, first, second)
 
-    front : take (units_before p) (map tile_of (units e old)) ≡ a
-    front = ap (take (units_before p)) (olds ∙ append_assoc a b c) ∙ ap (λ k. take k (a ++ (b ++ c))) first ∙ take-append_seam a (b ++ c)
+  -- the units in front
+  pub front_tiles : take (units_before p) (map tile_of (units e old)) ≡ map tile_of (units e (take (from_line p) old))
+  front_tiles = ap (take (units_before p)) (olds ∙ append_assoc a b c) ∙ ap (λ k. take k (a ++ (b ++ c))) first ∙ take-append_seam a (b ++ c)
 
-    behind : drop (units_before p + units_removed p) (map tile_of (units e old)) ≡ c
-    behind = ap (drop (units_before p + units_removed p)) olds ∙ ap (λ k. drop k ((a ++ b) ++ c)) both ∙ drop-append_seam (a ++ b) c
+  -- and those behind
+  pub behind_tiles : drop (units_before p + units_removed p) (map tile_of (units e old)) ≡ map tile_of (units e (drop (old_line p (meeting_line p)) old))
+  behind_tiles = ap (drop (units_before p + units_removed p)) olds ∙ ap (λ k. drop k ((a ++ b) ++ c)) both ∙ drop-append_seam (a ++ b) c
+
+  pub tiles_spliced : map tile_of (units e new)
+      ≡ between_replaced (map tile_of (units e old)) (units_before p) (units_before p + units_removed p) (map tile_of (units e (drop (from_line p) (take (meeting_line p) new))))
+  tiles_spliced =
+      ap (map tile_of) w.news
+      ∙ tiles_in_parts e old new from to
+      ∙ ap (λ z. (a ++ n) ++ map tile_of (units e z)) w.same
+      ∙ ap (λ z. (z ++ n) ++ c) (sym front_tiles)
+      ∙ ap (λ z. (take (units_before p) (map tile_of (units e old)) ++ n) ++ z) (sym behind_tiles)
 
 -- ---- how many lines stand before the first unit
 
 -- of first lines that ascend, none of which is smaller than one of them, the first is that one
-least_first : (all n : ℕ) (us : List FoundUnit) → Ascends (begins_in us) → All (λ b. n ≤ b) (begins_in us) → Contains (begins_in us) n → front_of all us ≡ n
+pub least_first : (all n : ℕ) (us : List FoundUnit) → Ascends (begins_in us) → All (λ b. n ≤ b) (begins_in us) → Contains (begins_in us) n → front_of all us ≡ n
 least_first all n [] h k w = let small = w.1 in absurd (omega (arith, small))
 least_first all n (u ∷ us) h k w = by (Contains-append_cases (u.begin ∷ []) (begins_in us) n w)
   where
@@ -98,7 +97,7 @@ least_first all n (u ∷ us) h k w = by (Contains-append_cases (u.begin ∷ []) 
         let low = All-head (λ b. n ≤ b) u.begin (begins_in us) k in
         absurd (omega (arith, past, low))
 
-moved_above : (k : ℕ) (us : List FoundUnit) → All (λ b. k ≤ b) (begins_in (map (shift_found k) us))
+pub moved_above : (k : ℕ) (us : List FoundUnit) → All (λ b. k ≤ b) (begins_in (map (shift_found k) us))
 moved_above k [] = All-nil (λ b. k ≤ b)
 moved_above k (u ∷ us) = All-cons (λ b. k ≤ b) (u.begin + k) (begins_in (map (shift_found k) us)) (omega arith) (moved_above k us)
 

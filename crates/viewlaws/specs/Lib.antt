@@ -1,2 +1,3 @@
 pub mod ReadStretch
 pub mod UnitTiles
+pub mod UnitTexts

@@ -13,6 +13,6 @@ returns c =
     let numbers : c.deref.result.now ≡ patch.again = cc in
     let inside = c.self.inside in
     let by_marks : c.new.result ≡ marked patch.first patch.added marks 0 pieces =
-    c.new.ensures ∙ ap (marked inside.first inside.added marks 0) c.pieces.ensures ∙ ap (λ (p : ChangedPieces). marked p.first p.added marks 0 pieces) c.self.view_is in
+    c.new.ensures ∙ ap (marked inside.first inside.added marks 0) c.pieces.ensures.held ∙ ap (λ (p : ChangedPieces). marked p.first p.added marks 0 pieces) c.self.view_is in
     by_marks ∙ all_marked pieces patch marks 0
     (λ k below. c.in_ok-again.ensures k (omega (arith, below, c.units.ensures)) ∙ ap (λ (l : List ℕ). list_any (λ j. j == k) l) numbers)

@@ -1,14 +1,24 @@
-use Rattle.std.proofs.Common.{◌≡◌, ◌+◌, ◌≤◌, map}
-use Rattle.std.specs.List.{All}
-use Rattle.mdview.specs.HeldUnit.{unit_in, texts_before}
+use Rattle.std.proofs.Common.{◌≡◌, ◌+◌, ◌≤◌, ◌++◌, None, map}
+use Rattle.std.specs.List.{All, sum_by}
+use Rattle.viewlaws.specs.UnitTexts.{asking_texts, asking_units, deep_from}
+use Rattle.mdview.specs.HeldBlocks.{held_tile, lines_in}
+use Rattle.mdview.specs.HeldTexts.{IsReread, between, entities_in, labels_before, labels_behind, number_again}
+use Rattle.mdview.specs.HeldUnit.{unit_in}
 use Rattle.mdview.specs.Update.{Fits, IsWritten}
 use Rattle.mdview.proofs.readings.TextReader.read_again.Given as goal
 
--- each unit so far that was read again is one of those that are held, and no more texts were counted than those so far have
+-- of the units so far those were read again that have a text which asked for a label that leads elsewhere, and in none do spans lie too deep
 abbrev pub invariant-loop-i : goal.invariant-loop-i
 invariant-loop-i g l = record {
   fits : All (Fits (map unit_in l.fn.units)) l.again.items;
   written : All (IsWritten l.fn.self.options.now (map unit_in l.fn.units)) l.again.items;
+  reread : All (IsReread (entities_in l.fn.room) (labels_behind l.fn.self) (map unit_in l.fn.units)) l.again.items;
+  numbers : map number_again l.again.items ≡ map number_again l.fn.again.items
+      ++ asking_units (entities_in l.fn.room) (labels_before l.fn.self) (labels_behind l.fn.self) l.first (map unit_in (between l.first l.i l.fn.units));
+  shallow : deep_from l.fn.self.options.now.max_spans (entities_in l.fn.room) (labels_behind l.fn.self) l.fn.begin (map held_tile (between l.first l.i l.fn.units)) ≡ None;
+  begin : l.begin ≡ l.fn.begin + sum_by lines_in (between l.first l.i l.fn.units);
+  room : entities_in l.room ≡ entities_in l.fn.room;
   lines : g.C.Count.lines l.count ≡ g.C.Count.lines l.fn.count;
-  inlines : g.C.Count.inlines l.count + texts_before l.first l.fn.units ≤ g.C.Count.inlines l.fn.count + texts_before l.i l.fn.units;
+  inlines : g.C.Count.inlines l.count ≤ g.C.Count.inlines l.fn.count
+      + asking_texts (entities_in l.fn.room) (labels_before l.fn.self) (labels_behind l.fn.self) (map unit_in (between l.first l.i l.fn.units));
 }

@@ -1,24 +1,38 @@
-use Rattle.std.proofs.Common.{◌≡◌, ◌++◌, arith, map, rules, subst, ◌∙◌}
+use Rattle.std.proofs.Common.{◌≡◌, ◌++◌, ◌∷◌, [], arith, map, rules, subst, ap, ◌∙◌, sym}
+use Rattle.std.specs.List.{sum_by}
 use Rattle.std.proofs.lemmas.List.{nil_from_length}
+use Rattle.std.proofs.lemmas.List.Sums.{sum_by-cons}
+use Rattle.viewlaws.specs.UnitTexts.{deep_found, is_deep_under, trees_in}
 use Rattle.viewlaws.specs.UnitTiles.{tile_of}
 use Rattle.mdview.specs.HeldBlocks.{tile_in}
-use Rattle.mdview.specs.HeldUnit.{IsRendered, read_of}
+use Rattle.mdview.specs.HeldTexts.{IsReadUnder, entities_in, labels_behind}
+use Rattle.mdview.specs.HeldUnit.{IsRendered, read_of, texts_in}
+use Rattle.mdview.proofs.FoundTexts.{deep_later}
 use Rattle.mdview.proofs.HeldTiles.{tiles_ended, tiles_next}
 use Rattle.mdview.proofs.MemberChanges.{all_more}
-use Rattle.mdview.proofs.Texts.{texts_more}
 use Rattle.mdview.proofs.readings.TextReader.read_units.Goals as goal
 
 pub loop-one-preserved : goal.loop-one-preserved
 loop-one-preserved g c =
     let items = c.in_ok-push-in-Ok.ensures.items in
-    let texts = texts_more c.loop-one.units.items c.in-Ok.unit in
+    let rest = c.next.new.self.rest.items in
+    let one = c.in-Some.one in
+    let step = c.in-Some.ensures.steps.0 in
+    let limit = c.args.self.now.options.now.max_spans in
+    let e = entities_in c.args.room.now in
+    let L = labels_behind c.args.self.now in
+    let texts = ap (λ l. sum_by texts_in (trees_in l)) step ∙ sum_by-cons texts_in one.unit (trees_in rest) in
     rw items (record {
-      tiles = tiles_next c.loop-one.units.items c.in-Ok.unit c.in-Some.one c.next.new.self.rest.items c.args.found.items c.in-Ok.ensures.tile
-          (subst (λ xs. map tile_in (map read_of c.loop-one.units.items) ++ map tile_of xs ≡ map tile_of c.args.found.items) c.in-Some.ensures.steps.0 c.loop-one.invariant.tiles);
+      tiles = tiles_next c.loop-one.units.items c.in-Ok.unit one rest c.args.found.items c.in-Ok.ensures.tile
+          (subst (λ xs. map tile_in (map read_of c.loop-one.units.items) ++ map tile_of xs ≡ map tile_of c.args.found.items) step c.loop-one.invariant.tiles);
       all = search rules;
       pieces = all_more (IsRendered c.args.self.now.options.now) c.loop-one.units.items c.in-Ok.unit c.loop-one.invariant.pieces c.in-Ok.ensures.piece;
+      read = all_more (IsReadUnder e L) c.loop-one.units.items c.in-Ok.unit c.loop-one.invariant.read (subst (λ z. IsReadUnder z L c.in-Ok.unit) c.loop-one.invariant.room c.in-Ok.ensures.read);
+      shallow = c.loop-one.invariant.shallow ∙ ap (deep_found limit e L) step
+          ∙ deep_later limit e L one rest (ap (λ z. is_deep_under limit z L one.unit) (sym c.loop-one.invariant.room) ∙ c.in-Ok.ensures.shallow);
+      room = c.read_unit.ensures.room ∙ c.loop-one.invariant.room;
       lines = c.read_unit.ensures.lines ∙ c.loop-one.invariant.lines;
-      inlines = omega (arith, c.in-Ok.ensures.inlines, c.loop-one.invariant.inlines, texts);
+      inlines = omega (arith, c.read_unit.ensures.inlines, c.loop-one.invariant.inlines, texts);
     })
 
 pub returns-clause-tiles : goal.returns-clause-tiles

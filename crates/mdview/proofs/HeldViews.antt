@@ -1,0 +1,51 @@
+-- What is held is the view of the text with its prelude.
+use Rattle.std.proofs.Common.{◌≡◌, ℕ, List, [], ◌∷◌, map, refl, ap, ◌∙◌, sym}
+use Rattle.std.specs.List.{All}
+use Rattle.mdtext.specs.EntityTable.{EntityTable}
+use Rattle.blockspec.specs.BlockUnits.{units as text_units}
+use Rattle.blockspec.specs.UnitTree.{FoundUnit, UnitTree}
+use Rattle.inlinespec.specs.LinkTails.{Table}
+use Rattle.mdinline.specs.ParsedText.{ParsedText}
+use Rattle.viewspec.specs.LabelTable.{table}
+use Rattle.viewspec.specs.Setting.{Setting, Source}
+use Rattle.viewspec.specs.View.{ViewedUnit, view, viewed}
+use Rattle.viewlaws.specs.UnitTexts.{readings_under, trees_in}
+use Rattle.mdview.specs.declared.held_labels.HeldLabels.{HeldLabels}
+use Rattle.mdview.specs.HeldBlocks.{HoldsUnits}
+use Rattle.mdview.specs.HeldTexts.{HoldsTexts, IsReadUnder}
+use Rattle.mdview.specs.HeldUnit.{HeldUnit, IsRendered, html_of, piece_of, read_of, unit_in}
+use Rattle.mdview.specs.LabelTargets.{target_held}
+use Rattle.mdview.specs.Preludes.{HeldPrelude}
+use Rattle.mdview.proofs.EditTexts.{all_read_under, trees_are}
+use Rattle.mdview.proofs.HeldReadings.{led_by_held}
+use Rattle.mdview.proofs.MemberChanges.{all_first, all_rest}
+
+-- the pieces of units that were read under these labels
+pieces_under : (setting : Setting) (labels : Table) (held : List HeldUnit) → All (IsRendered setting.options) held → All (IsReadUnder setting.entities labels) held
+    → map piece_of held ≡ map (λ (t : UnitTree). html_of setting.options t (readings_under setting.entities labels t)) (map unit_in held)
+pieces_under setting labels [] rendered read = refl
+pieces_under setting labels (u ∷ held) rendered read =
+    ap (λ p. p ∷ map piece_of held) (all_first (IsRendered setting.options) u held rendered ∙ ap (html_of setting.options u.read.unit) (all_first (IsReadUnder setting.entities labels) u held read))
+    ∙ ap (λ ps. html_of setting.options u.read.unit (readings_under setting.entities labels u.read.unit) ∷ ps)
+    (pieces_under setting labels held (all_rest (IsRendered setting.options) u held rendered) (all_rest (IsReadUnder setting.entities labels) u held read))
+
+pieces_viewed : (setting : Setting) (labels : Table) (found : List FoundUnit)
+    → map (λ (t : UnitTree). html_of setting.options t (readings_under setting.entities labels t)) (trees_in found) ≡ map (λ (v : ViewedUnit). v.piece) (map (viewed setting labels) found)
+pieces_viewed setting labels [] = refl
+pieces_viewed setting labels (one ∷ found) = ap (λ ps. html_of setting.options one.unit (readings_under setting.entities labels one.unit) ∷ ps) (pieces_viewed setting labels found)
+
+-- each text was read under the labels of the text with its prelude
+pub all_viewed : (setting : Setting) (lines : List (List ℕ)) (head : ℕ) (prelude : HeldPrelude) (labels : HeldLabels) (held : List HeldUnit) → HoldsUnits setting.entities lines head (map read_of held)
+    → HoldsTexts setting lines prelude labels held → All (IsReadUnder setting.entities (table setting.entities (record { lines = lines; prelude = prelude.lines }))) held
+all_viewed setting lines head prelude labels held blocks texts =
+    all_read_under setting.entities (target_held labels) (table setting.entities (record { lines = lines; prelude = prelude.lines }))
+    (λ label. texts.led label ∙ led_by_held setting.entities lines head prelude held blocks texts.defined label) held texts.read
+
+-- The pieces are those of the view.
+pub pieces_are_viewed : (setting : Setting) (lines : List (List ℕ)) (head : ℕ) (prelude : HeldPrelude) (labels : HeldLabels) (held : List HeldUnit) → HoldsUnits setting.entities lines head (map read_of held)
+    → HoldsTexts setting lines prelude labels held → All (IsRendered setting.options) held
+    → map piece_of held ≡ map (λ (v : ViewedUnit). v.piece) (view setting (record { lines = lines; prelude = prelude.lines }))
+pieces_are_viewed setting lines head prelude labels held blocks texts rendered =
+    pieces_under setting (table setting.entities (record { lines = lines; prelude = prelude.lines })) held rendered (all_viewed setting lines head prelude labels held blocks texts)
+    ∙ ap (map (λ (t : UnitTree). html_of setting.options t (readings_under setting.entities (table setting.entities (record { lines = lines; prelude = prelude.lines })) t))) (trees_are setting.entities lines head held blocks)
+    ∙ pieces_viewed setting (table setting.entities (record { lines = lines; prelude = prelude.lines })) (text_units setting.entities lines)

@@ -1,0 +1,178 @@
+use Rattle.std.proofs.Common.{◌≡◌, ℕ, ◌+◌, ◌<◌, ◌≤◌, ◌++◌, ◌∷◌, [], None, List, Option, arith, length, map, option_map, subst, ap, ◌∙◌, sym}
+use Rattle.std.specs.Prelude.{sum_by}
+use Rattle.std.specs.List.{All}
+use Rattle.std.specs.Option.{option_or}
+use Rattle.viewlaws.specs.UnitTexts.{asking_texts, asking_units, deep_found, deep_from}
+use Rattle.mdview.specs.HeldBlocks.{held_tile}
+use Rattle.mdview.specs.HeldTexts.{IsReadUnder, IsReread, IsTextFault, asking_in_parts, between, deep_in_parts, entities_in, head_read, line_on, number_again}
+use Rattle.mdview.specs.HeldUnit.{HeldUnit, unit_in}
+use Rattle.mdview.specs.LabelTargets.{led_after, target_held}
+use Rattle.mdview.proofs.ReadParts.{fault_behind, fault_in_front, lines_between, returned}
+use Rattle.mdview.proofs.update.Update.behind.Goals as goal
+
+pub read_again-requires-clause-near : goal.read_again-requires-clause-near
+read_again-requires-clause-near g c =
+    let within = lines_between 0 c.args.reparsed.first c.args.held.now.units.now in
+    omega (arith, within, c.requires.near, c.head_behind-head.ensures)
+
+pub read_again-requires-2-clause-near : goal.read_again-requires-2-clause-near
+read_again-requires-2-clause-near g c =
+    let within = lines_between c.args.reparsed.next (length c.args.held.now.units.now) c.args.held.now.units.now in
+    omega (arith, within, c.requires.far)
+
+pub returns-in_err-read_again-clause-deep : goal.returns-in_err-read_again-clause-deep
+returns-in_err-read_again-clause-deep g c =
+    let E = c.args.held.now.entities.now in
+    let limit = c.args.held.now.options.now.max_spans in
+    let units : List HeldUnit = c.args.held.now.units.now in
+    let old = target_held c.args.held.now.labels.now in
+    let new = led_after c.args.held.now.labels.now c.args.changes in
+    let r = c.args.reparsed in
+    let front = option_or (option_map (line_on r.from) (deep_found limit E new r.found.items)) (deep_from limit E new r.meet (map held_tile (between r.next (length units) units))) in
+    let deep = subst (λ n. IsTextFault (deep_from limit E new n (map held_tile (between 0 r.first units))) c.in_err-read_again.field-0.0) c.head_behind-head.ensures
+    (subst (λ z. IsTextFault (deep_from limit z new c.head_behind-head.result (map held_tile (between 0 r.first units))) c.in_err-read_again.field-0.0) c.new-room.ensures c.in_err-read_again.ensures.deep) in
+    returned c.from_residual.result c.in_err-read_again.field-0.0 (IsTextFault (deep_in_parts limit E new (head_read c.args.held.now.head r) units r)) c.from_residual.ensures.1
+    (fault_in_front (deep_from limit E new (head_read c.args.held.now.head r) (map held_tile (between 0 r.first units))) front c.in_err-read_again.field-0.0 deep)
+
+pub returns-in_err-units-clause-deep : goal.returns-in_err-units-clause-deep
+returns-in_err-units-clause-deep g c =
+    let E = c.args.held.now.entities.now in
+    let limit = c.args.held.now.options.now.max_spans in
+    let units : List HeldUnit = c.args.held.now.units.now in
+    let old = target_held c.args.held.now.labels.now in
+    let new = led_after c.args.held.now.labels.now c.args.changes in
+    let r = c.args.reparsed in
+    let r2 : entities_in c.read_again.new.room ≡ E = c.read_again.ensures.room ∙ c.new-room.ensures in
+    let front = option_or (option_map (line_on r.from) (deep_found limit E new r.found.items)) (deep_from limit E new r.meet (map held_tile (between r.next (length units) units))) in
+    let none = ap (λ n. deep_from limit E new n (map held_tile (between 0 r.first units))) (sym c.head_behind-head.ensures)
+    ∙ ap (λ z. deep_from limit z new c.head_behind-head.result (map held_tile (between 0 r.first units))) (sym c.new-room.ensures) ∙ c.in_ok-read_again.ensures.shallow in
+    let deep = subst (λ z. IsTextFault (option_map (line_on r.from) (deep_found limit z new r.found.items)) c.in_err-units.field-0.0) r2 c.in_err-units.ensures.deep in
+    returned c.from_residual-in_err-units.result c.in_err-units.field-0.0 (IsTextFault (deep_in_parts limit E new (head_read c.args.held.now.head r) units r)) c.from_residual-in_err-units.ensures.1
+    (fault_behind (deep_from limit E new (head_read c.args.held.now.head r) (map held_tile (between 0 r.first units))) front c.in_err-units.field-0.0 none
+    (fault_in_front (option_map (line_on r.from) (deep_found limit E new r.found.items)) (deep_from limit E new r.meet (map held_tile (between r.next (length units) units))) c.in_err-units.field-0.0 deep))
+
+pub returns-in_err-read_again-2-clause-deep : goal.returns-in_err-read_again-2-clause-deep
+returns-in_err-read_again-2-clause-deep g c =
+    let E = c.args.held.now.entities.now in
+    let limit = c.args.held.now.options.now.max_spans in
+    let units : List HeldUnit = c.args.held.now.units.now in
+    let old = target_held c.args.held.now.labels.now in
+    let new = led_after c.args.held.now.labels.now c.args.changes in
+    let r = c.args.reparsed in
+    let r2 : entities_in c.read_again.new.room ≡ E = c.read_again.ensures.room ∙ c.new-room.ensures in
+    let r3 : entities_in c.read_units.new.room ≡ E = c.read_units.ensures.room ∙ r2 in
+    let front = option_or (option_map (line_on r.from) (deep_found limit E new r.found.items)) (deep_from limit E new r.meet (map held_tile (between r.next (length units) units))) in
+    let none = ap (λ n. deep_from limit E new n (map held_tile (between 0 r.first units))) (sym c.head_behind-head.ensures)
+    ∙ ap (λ z. deep_from limit z new c.head_behind-head.result (map held_tile (between 0 r.first units))) (sym c.new-room.ensures) ∙ c.in_ok-read_again.ensures.shallow in
+    let few = ap (option_map (line_on r.from)) (ap (λ z. deep_found limit z new r.found.items) (sym r2) ∙ c.in_ok-units.ensures.shallow) in
+    let deep = subst (λ z. IsTextFault (deep_from limit z new r.meet (map held_tile (between r.next (length units) units))) c.in_err-read_again-2.field-0.0) r3 c.in_err-read_again-2.ensures.deep in
+    returned c.from_residual-in_err-read_again-2.result c.in_err-read_again-2.field-0.0 (IsTextFault (deep_in_parts limit E new (head_read c.args.held.now.head r) units r)) c.from_residual-in_err-read_again-2.ensures.1
+    (fault_behind (deep_from limit E new (head_read c.args.held.now.head r) (map held_tile (between 0 r.first units))) front c.in_err-read_again-2.field-0.0 none
+    (fault_behind (option_map (line_on r.from) (deep_found limit E new r.found.items)) (deep_from limit E new r.meet (map held_tile (between r.next (length units) units))) c.in_err-read_again-2.field-0.0 few deep))
+
+pub returns-clause-shallow : goal.returns-clause-shallow
+returns-clause-shallow g c =
+    let E = c.args.held.now.entities.now in
+    let limit = c.args.held.now.options.now.max_spans in
+    let units : List HeldUnit = c.args.held.now.units.now in
+    let old = target_held c.args.held.now.labels.now in
+    let new = led_after c.args.held.now.labels.now c.args.changes in
+    let r = c.args.reparsed in
+    let r2 : entities_in c.read_again.new.room ≡ E = c.read_again.ensures.room ∙ c.new-room.ensures in
+    let r3 : entities_in c.read_units.new.room ≡ E = c.read_units.ensures.room ∙ r2 in
+    let front = option_or (option_map (line_on r.from) (deep_found limit E new r.found.items)) (deep_from limit E new r.meet (map held_tile (between r.next (length units) units))) in
+    let none = ap (λ n. deep_from limit E new n (map held_tile (between 0 r.first units))) (sym c.head_behind-head.ensures)
+    ∙ ap (λ z. deep_from limit z new c.head_behind-head.result (map held_tile (between 0 r.first units))) (sym c.new-room.ensures) ∙ c.in_ok-read_again.ensures.shallow in
+    let few = ap (option_map (line_on r.from)) (ap (λ z. deep_found limit z new r.found.items) (sym r2) ∙ c.in_ok-units.ensures.shallow) in
+    let last = ap (λ z. deep_from limit z new r.meet (map held_tile (between r.next (length units) units))) (sym r3) ∙ c.in_ok-read_again-2.ensures.shallow in
+    ap (λ o. option_or o front) none ∙ ap (λ o. option_or o (deep_from limit E new r.meet (map held_tile (between r.next (length units) units)))) few ∙ last
+
+pub returns-clause-read : goal.returns-clause-read
+returns-clause-read g c =
+    let E = c.args.held.now.entities.now in
+    let limit = c.args.held.now.options.now.max_spans in
+    let units : List HeldUnit = c.args.held.now.units.now in
+    let old = target_held c.args.held.now.labels.now in
+    let new = led_after c.args.held.now.labels.now c.args.changes in
+    let r = c.args.reparsed in
+    let r2 : entities_in c.read_again.new.room ≡ E = c.read_again.ensures.room ∙ c.new-room.ensures in
+    subst (λ z. All (IsReadUnder z new) c.in_ok-units.units.items) r2 c.in_ok-units.ensures.read
+
+pub returns-clause-reread : goal.returns-clause-reread
+returns-clause-reread g c =
+    let E = c.args.held.now.entities.now in
+    let limit = c.args.held.now.options.now.max_spans in
+    let units : List HeldUnit = c.args.held.now.units.now in
+    let old = target_held c.args.held.now.labels.now in
+    let new = led_after c.args.held.now.labels.now c.args.changes in
+    let r = c.args.reparsed in
+    let r2 : entities_in c.read_again.new.room ≡ E = c.read_again.ensures.room ∙ c.new-room.ensures in
+    let r3 : entities_in c.read_units.new.room ≡ E = c.read_units.ensures.room ∙ r2 in
+    subst (λ z. All (IsReread z new (map unit_in units)) c.read_again-2.new.again.items) r3 c.in_ok-read_again-2.ensures.reread
+
+pub returns-clause-numbers : goal.returns-clause-numbers
+returns-clause-numbers g c =
+    let E = c.args.held.now.entities.now in
+    let limit = c.args.held.now.options.now.max_spans in
+    let units : List HeldUnit = c.args.held.now.units.now in
+    let old = target_held c.args.held.now.labels.now in
+    let new = led_after c.args.held.now.labels.now c.args.changes in
+    let r = c.args.reparsed in
+    let r2 : entities_in c.read_again.new.room ≡ E = c.read_again.ensures.room ∙ c.new-room.ensures in
+    let r3 : entities_in c.read_units.new.room ≡ E = c.read_units.ensures.room ∙ r2 in
+    let front : List ℕ = asking_units E old new 0 (map unit_in (between 0 r.first units)) in
+    let one = c.in_ok-read_again.ensures.numbers ∙ ap (λ z. map number_again c.new-again.result.items ++ asking_units z old new 0 (map unit_in (between 0 r.first units))) c.new-room.ensures
+    ∙ ap (λ l. map number_again l ++ front) c.new-again.ensures.items in
+    c.in_ok-read_again-2.ensures.numbers
+    ∙ ap (λ z. map number_again c.read_again.new.again.items ++ asking_units z old new r.next (map unit_in (between r.next (length units) units))) r3
+    ∙ ap (λ l. l ++ asking_units E old new r.next (map unit_in (between r.next (length units) units))) one
+
+pub returns-in_err-read_again-clause-inlines : goal.returns-in_err-read_again-clause-inlines
+returns-in_err-read_again-clause-inlines g c =
+    let E = c.args.held.now.entities.now in
+    let limit = c.args.held.now.options.now.max_spans in
+    let units : List HeldUnit = c.args.held.now.units.now in
+    let old = target_held c.args.held.now.labels.now in
+    let new = led_after c.args.held.now.labels.now c.args.changes in
+    let r = c.args.reparsed in
+    let front = ap (λ z. asking_texts z old new (map unit_in (between 0 r.first units))) c.new-room.ensures in
+    omega (arith, c.read_again.ensures.inlines, front)
+
+pub returns-in_err-units-clause-inlines : goal.returns-in_err-units-clause-inlines
+returns-in_err-units-clause-inlines g c =
+    let E = c.args.held.now.entities.now in
+    let limit = c.args.held.now.options.now.max_spans in
+    let units : List HeldUnit = c.args.held.now.units.now in
+    let old = target_held c.args.held.now.labels.now in
+    let new = led_after c.args.held.now.labels.now c.args.changes in
+    let r = c.args.reparsed in
+    let front = ap (λ z. asking_texts z old new (map unit_in (between 0 r.first units))) c.new-room.ensures in
+    omega (arith, c.read_again.ensures.inlines, c.read_units.ensures.inlines, front)
+
+pub returns-in_err-read_again-2-clause-inlines : goal.returns-in_err-read_again-2-clause-inlines
+returns-in_err-read_again-2-clause-inlines g c =
+    let E = c.args.held.now.entities.now in
+    let limit = c.args.held.now.options.now.max_spans in
+    let units : List HeldUnit = c.args.held.now.units.now in
+    let old = target_held c.args.held.now.labels.now in
+    let new = led_after c.args.held.now.labels.now c.args.changes in
+    let r = c.args.reparsed in
+    let r2 : entities_in c.read_again.new.room ≡ E = c.read_again.ensures.room ∙ c.new-room.ensures in
+    let r3 : entities_in c.read_units.new.room ≡ E = c.read_units.ensures.room ∙ r2 in
+    let front = ap (λ z. asking_texts z old new (map unit_in (between 0 r.first units))) c.new-room.ensures in
+    let last = ap (λ z. asking_texts z old new (map unit_in (between r.next (length units) units))) r3 in
+    omega (arith, c.read_again.ensures.inlines, c.read_units.ensures.inlines, c.read_again-2.ensures.inlines, front, last)
+
+pub returns-clause-inlines : goal.returns-clause-inlines
+returns-clause-inlines g c =
+    let E = c.args.held.now.entities.now in
+    let limit = c.args.held.now.options.now.max_spans in
+    let units : List HeldUnit = c.args.held.now.units.now in
+    let old = target_held c.args.held.now.labels.now in
+    let new = led_after c.args.held.now.labels.now c.args.changes in
+    let r = c.args.reparsed in
+    let r2 : entities_in c.read_again.new.room ≡ E = c.read_again.ensures.room ∙ c.new-room.ensures in
+    let r3 : entities_in c.read_units.new.room ≡ E = c.read_units.ensures.room ∙ r2 in
+    let front = ap (λ z. asking_texts z old new (map unit_in (between 0 r.first units))) c.new-room.ensures in
+    let last = ap (λ z. asking_texts z old new (map unit_in (between r.next (length units) units))) r3 in
+    omega (arith, c.read_again.ensures.inlines, c.read_units.ensures.inlines, c.read_again-2.ensures.inlines, front, last)
