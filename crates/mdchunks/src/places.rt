@@ -1,0 +1,98 @@
+//! Where a member lies among the chunks.
+
+ghost use Rattle.std.specs.Prelude.{◌≡◌, ◌≤◌, ◌<◌, ◌+◌, [], get_or, length, take};
+ghost use Rattle.mdchunks.specs.Lists.{joined, weigh};
+
+use crate::blocks::Block;
+use crate::weights::{Weighed, WeightPlace, sum_weights};
+
+/// A place in a chunk.
+#[derive(Clone, Copy)]
+pub(crate) struct Place {
+    pub(crate) block: usize,
+    pub(crate) inside: usize,
+}
+
+/// The chunk in which a place lies: of two that meet there the first one.
+pub(crate) fn locate<T: Weighed + Drop>(blocks: &[Block<T>], at: usize) -> Place
+    requires { at ≤ length (joined blocks.now) }
+    ensures within { result.block ≤ length blocks.now }
+    ensures place { length (joined (take result.block blocks.now)) + result.inside ≡ at }
+    ensures inside { result.block < length blocks.now → result.inside ≤ length (get_or blocks.now result.block []) }
+    ensures end { result.block ≡ length blocks.now → length blocks.now ≡ 0 }
+    ensures behind { 0 < at → 0 < result.inside }
+{
+    let mut left = at;
+    for i in 0..blocks.len() {
+        let len = blocks[i].len();
+        if left <= len {
+            return Place {
+                block: i,
+                inside: left,
+            };
+        }
+        left -= len;
+    }
+    Place {
+        block: blocks.len(),
+        inside: left,
+    }
+}
+
+/// What the members in front of a place weigh together.
+pub(crate) fn weight_before<T: Weighed + Drop>(blocks: &[Block<T>], at: usize) -> usize
+    requires { at ≤ length (joined blocks.now) }
+    ensures { result ≡ weigh T.weight (take at (joined blocks.now)) }
+{
+    let mut sum: usize = 0;
+    let mut left = at;
+    for i in 0..blocks.len() {
+        let block = &blocks[i];
+        if left < block.len() {
+            return sum.saturating_add(sum_weights(&block.items()[..left]));
+        }
+        sum = sum.saturating_add(block.weight());
+        left -= block.len();
+    }
+    sum
+}
+
+/// The last member that begins at or below a weight, or the first one.
+pub(crate) fn find<T: Weighed + Drop>(blocks: &[Block<T>], weight: usize) -> Option<WeightPlace>
+    requires { length (joined blocks.now) < 2 ^ 64 }
+{
+    let mut start = WeightPlace {
+        member: 0,
+        front: 0,
+    };
+    for i in 0..blocks.len() {
+        let block = &blocks[i];
+        let behind = start.front.saturating_add(block.weight());
+        if i + 1 == blocks.len() || weight < behind {
+            return Some(find_inside(block.items(), start, weight));
+        }
+        start = WeightPlace {
+            member: start.member + block.len(),
+            front: behind,
+        };
+    }
+    None
+}
+
+/// The same among members of which the first one is known.
+fn find_inside<T: Weighed>(items: &[T], start: WeightPlace, weight: usize) -> WeightPlace
+    requires { start.member + length items.now < 2 ^ 64 }
+{
+    let mut place = start;
+    for i in 0..items.len() {
+        let behind = place.front.saturating_add(items[i].weight());
+        if i + 1 == items.len() || weight < behind {
+            return place;
+        }
+        place = WeightPlace {
+            member: place.member + 1,
+            front: behind,
+        };
+    }
+    place
+}

@@ -1,0 +1,30 @@
+//! What members weigh.
+
+ghost use Rattle.std.specs.Prelude.{◌≡◌, ℕ};
+ghost use Rattle.mdchunks.specs.Lists.{weigh};
+
+/// What has a weight, as the number of its lines.
+pub trait Weighed {
+    ghost weight: { Self → ℕ };
+
+    fn weight(&self) -> usize
+        ensures { result ≡ weight self.now };
+}
+
+/// A member by its number, and the weight in front of it.
+#[derive(Clone, Copy)]
+pub struct WeightPlace {
+    pub member: usize,
+    pub front: usize,
+}
+
+/// The sum of all weights, up to the greatest number.
+pub(crate) fn sum_weights<T: Weighed>(items: &[T]) -> usize
+    ensures { result ≡ weigh T.weight items.now }
+{
+    let mut sum: usize = 0;
+    for item in items {
+        sum = sum.saturating_add(item.weight());
+    }
+    sum
+}
