@@ -134,7 +134,7 @@ fn fill_list<T: Drop>(items: &mut Vec<T>, source: &mut IntoIter<T>, size: usize)
 {
     for _ in 0..size {
         match source.next() {
-            Some(member) => items.push(member).unwrap(),
+            Some(member) => items.push_reserved(member),
             None => return,
         }
     }

@@ -1,7 +1,9 @@
 //! Where a member lies among the chunks.
 
-ghost use Rattle.std.specs.Prelude.{◌≡◌, ◌≤◌, ◌<◌, ◌+◌, [], get_or, length, take};
-ghost use Rattle.mdchunks.specs.Lists.{joined, weigh};
+ghost use Rattle.std.specs.Prelude.{◌≡◌, ◌≤◌, ◌<◌, ◌+◌, ◌-◌, ◌^◌, [], MatchOption, get_or, length, min, take};
+ghost use Rattle.std.specs.List.{All};
+ghost use Rattle.mdchunks.specs.Lists.{IsFilled, joined, weigh};
+ghost use Rattle.mdchunks.specs.Sequences.{IsLastAt};
 
 use crate::blocks::Block;
 use crate::weights::{Weighed, WeightPlace, sum_weights};
@@ -59,7 +61,9 @@ pub(crate) fn weight_before<T: Weighed + Drop>(blocks: &[Block<T>], at: usize) -
 
 /// The last member that begins at or below a weight, or the first one.
 pub(crate) fn find<T: Weighed + Drop>(blocks: &[Block<T>], weight: usize) -> Option<WeightPlace>
-    requires { length (joined blocks.now) < 2 ^ 64 }
+    requires filled { All IsFilled blocks.now }
+    requires few { length (joined blocks.now) < 2 ^ 64 }
+    ensures { MatchOption result (joined blocks.now ≡ []) (λ place. IsLastAt T.weight (joined blocks.now) weight place.member place.front) }
 {
     let mut start = WeightPlace {
         member: 0,
@@ -69,7 +73,11 @@ pub(crate) fn find<T: Weighed + Drop>(blocks: &[Block<T>], weight: usize) -> Opt
         let block = &blocks[i];
         let behind = start.front.saturating_add(block.weight());
         if i + 1 == blocks.len() || weight < behind {
-            return Some(find_inside(block.items(), start, weight));
+            let found = find_inside(block.items(), start.front, weight);
+            return Some(WeightPlace {
+                member: start.member + found.member,
+                front: found.front,
+            });
         }
         start = WeightPlace {
             member: start.member + block.len(),
@@ -79,18 +87,23 @@ pub(crate) fn find<T: Weighed + Drop>(blocks: &[Block<T>], weight: usize) -> Opt
     None
 }
 
-/// The same among members of which the first one is known.
-fn find_inside<T: Weighed>(items: &[T], start: WeightPlace, weight: usize) -> WeightPlace
-    requires { start.member + length items.now < 2 ^ 64 }
+/// The same in one chunk. The weight in front of it is added.
+fn find_inside<T: Weighed>(items: &[T], front: usize, weight: usize) -> WeightPlace
+    requires some { 0 < length items.now }
+    requires below { front ≤ weight }
+    ensures within { result.member < length items.now }
+    ensures front { result.front ≡ min (front + weigh T.weight (take result.member items.now)) (2 ^ 64 - 1) }
+    ensures below { result.front ≤ weight }
+    ensures next { result.member + 1 < length items.now → weight < min (front + weigh T.weight (take (result.member + 1) items.now)) (2 ^ 64 - 1) }
 {
-    let mut place = start;
+    let mut place = WeightPlace { member: 0, front };
     for i in 0..items.len() {
         let behind = place.front.saturating_add(items[i].weight());
         if i + 1 == items.len() || weight < behind {
             return place;
         }
         place = WeightPlace {
-            member: place.member + 1,
+            member: i + 1,
             front: behind,
         };
     }

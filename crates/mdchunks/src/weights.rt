@@ -19,6 +19,7 @@ pub struct WeightPlace {
 }
 
 /// The sum of all weights, up to the greatest number.
+#[tactic(auto, using(crate::proofs::WeightSums::weigh_more))]
 pub(crate) fn sum_weights<T: Weighed>(items: &[T]) -> usize
     ensures { result ≡ weigh T.weight items.now }
 {
