@@ -1,6 +1,6 @@
 //! A chunk: at most 64 members in their order, with room for 64, and what they weigh together.
 
-ghost use Rattle.std.specs.Prelude.{◌≡◌, ◌≤◌, ◌<◌, ◌+◌, ◌++◌, [], length, take, drop, IfOk, slice_set};
+ghost use Rattle.std.specs.Prelude.{◌≡◌, ◌≤◌, ◌<◌, ◌+◌, ◌++◌, [], length, take, drop, IfOk, slice_index_or, slice_set};
 ghost use Rattle.std.specs.Vec.{vec_len, vec_capacity};
 ghost use Rattle.std.specs.Vec.Iter.{into_iter_items};
 ghost use Rattle.mdchunks.specs.Lists.{replaced, weigh};
@@ -62,14 +62,15 @@ impl<T: Weighed + Drop> Block<T> {
         self.weight
     }
 
-    /// Drops the members from one place to another.
-    pub(crate) fn remove(&mut self, from: usize, to: usize)
-        requires order { from ≤ to }
-        requires within { to ≤ length self.old }
-        ensures { self.new ≡ take from self.old ++ drop to self.old }
+    /// Drops so many members from a place on.
+    pub(crate) fn remove(&mut self, from: usize, gone: usize)
+        requires { from + gone ≤ length self.old }
+        ensures { self.new ≡ take from self.old ++ drop (from + gone) self.old }
     {
-        self.items.drain(from..to);
-        self.weight = sum_weights(&self.items);
+        if gone > 0 {
+            self.items.drain(from..from + gone);
+            self.weight = sum_weights(&self.items);
+        }
     }
 
     /// Puts members at a place.
@@ -118,6 +119,7 @@ impl<T: Weighed + Drop> Block<T> {
     pub(crate) fn exchange(&mut self, i: usize, member: &mut T)
         requires { i < length self.old }
         ensures value { self.new ≡ slice_set self.old i member.old }
+        ensures old { member.new ≡ slice_index_or self.old i member.new }
     {
         mem::swap(&mut self.items[i], member);
         self.weight = sum_weights(&self.items);

@@ -1,14 +1,14 @@
 //! The sequence.
 
-ghost use Rattle.std.specs.Prelude.{◌≡◌, ◌≤◌, ◌<◌, ◌+◌, [], length, drop, take, option_map, slice_get, slice_set, OnOk};
+ghost use Rattle.std.specs.Prelude.{◌≡◌, ◌≤◌, ◌<◌, ◌+◌, [], length, drop, take, option_map, slice_get, slice_index_or, slice_set, MatchOption, OnOk};
 ghost use Rattle.std.specs.Vec.{vec_len, vec_capacity};
 ghost use Rattle.mdchunks.specs.Lists.{replaced, weigh};
-ghost use Rattle.mdchunks.specs.Sequences.{HasRoom, Sequence};
+ghost use Rattle.mdchunks.specs.Sequences.{HasRoom, IsLastAt, Sequence};
 
 use crate::blocks::{Block, FULL};
 use crate::iters::Iter;
 use crate::packing::insert;
-use crate::places::{find, locate, weight_before};
+use crate::places::{exchange, find, member, weight_before};
 use crate::removals::{heal, remove};
 use crate::weights::{Weighed, WeightPlace};
 use std::alloc::{AllocError, Global};
@@ -65,18 +65,18 @@ impl<T: Weighed + Drop> Chunks<T> {
         if i >= self.len {
             return None;
         }
-        let place = locate(&self.blocks, i + 1);
-        self.blocks[place.block].items().get(place.inside - 1)
+        Some(member(&self.blocks, i))
     }
 
     /// Exchanges the member of this number for another. Takes no memory.
-    pub fn exchange(&mut self, i: usize, member: &mut T)
+    pub fn exchange(&mut self, i: usize, other: &mut T)
         requires { i < length self.old.items }
-        ensures items { self.new.items ≡ slice_set self.old.items i member.old }
+        ensures items { self.new.items ≡ slice_set self.old.items i other.old }
+        ensures old { other.new ≡ slice_index_or self.old.items i other.new }
         ensures room { self.new.room ≡ self.old.room }
     {
-        let place = locate(&self.blocks, i + 1);
-        self.blocks[place.block].exchange(place.inside - 1, member);
+        let _len = self.len;
+        exchange(&mut self.blocks, i, other);
     }
 
     /// The members from a number on, lent in order.
@@ -84,14 +84,7 @@ impl<T: Weighed + Drop> Chunks<T> {
         requires { from ≤ length self.now.items }
         ensures { result ≡ drop from self.now.items }
     {
-        let place = locate(&self.blocks, from);
-        if place.block == self.blocks.len() {
-            return Iter::new(&[], &[]);
-        }
-        Iter::new(
-            &self.blocks[place.block].items()[place.inside..],
-            &self.blocks[place.block + 1..],
-        )
+        Iter::from(&self.blocks, from)
     }
 
     /// What the members in front of this number weigh together, up to the greatest number.
@@ -103,7 +96,12 @@ impl<T: Weighed + Drop> Chunks<T> {
     }
 
     /// The last member that begins at or below a weight, or the first one; nothing where there is none.
-    pub fn find(&self, weight: usize) -> Option<WeightPlace> {
+    pub fn find(&self, weight: usize) -> Option<WeightPlace>
+        ensures { MatchOption result (self.now.items ≡ []) (λ place. IsLastAt T.weight self.now.items weight place.member place.front) }
+    {
+        if self.len == 0 {
+            return None;
+        }
         find(&self.blocks, weight)
     }
 

@@ -1,11 +1,12 @@
 //! Members of a sequence, lent in order.
 
-ghost use Rattle.std.specs.Prelude.{◌≡◌, ◌++◌};
+ghost use Rattle.std.specs.Prelude.{◌≡◌, ◌≤◌, drop, length};
 ghost use Rattle.std.specs.List.{All};
 ghost use Rattle.std.specs.Iterator.{YieldsFirstRef, item_count};
 ghost use Rattle.mdchunks.specs.Lists.{IsFilled, joined};
 
 use crate::blocks::Block;
+use crate::places::locate;
 use crate::weights::Weighed;
 use std::marker::Model;
 
@@ -29,11 +30,23 @@ impl<'a, T: Weighed> Model for Iter<'a, T> {
 }
 
 impl<'a, T: Weighed + Drop> Iter<'a, T> {
-    pub(crate) fn new(inside: &'a [T], rest: &'a [Block<T>]) -> Iter<'a, T>
-        requires { All IsFilled rest.now }
-        ensures { result ≡ inside.now ++ joined rest.now }
+    /// The members of some chunks from a place on.
+    pub(crate) fn from(blocks: &'a [Block<T>], at: usize) -> Iter<'a, T>
+        requires within { at ≤ length (joined blocks.now) }
+        requires filled { All IsFilled blocks.now }
+        ensures { result ≡ drop at (joined blocks.now) }
     {
-        Iter { inside, rest }
+        let place = locate(blocks, at);
+        if place.block == blocks.len() {
+            return Iter {
+                inside: &[],
+                rest: &[],
+            };
+        }
+        Iter {
+            inside: &blocks[place.block].items()[place.inside..],
+            rest: &blocks[place.block + 1..],
+        }
     }
 }
 

@@ -1,6 +1,6 @@
 //! Where a member lies among the chunks.
 
-ghost use Rattle.std.specs.Prelude.{◌≡◌, ◌≤◌, ◌<◌, ◌+◌, ◌-◌, ◌^◌, [], MatchOption, get_or, length, min, take};
+ghost use Rattle.std.specs.Prelude.{◌≡◌, ◌≤◌, ◌<◌, ◌+◌, ◌-◌, ◌^◌, [], MatchOption, get_or, length, min, slice_index_or, slice_set, take};
 ghost use Rattle.std.specs.List.{All};
 ghost use Rattle.mdchunks.specs.Lists.{IsFilled, joined, weigh};
 ghost use Rattle.mdchunks.specs.Sequences.{IsLastAt};
@@ -23,6 +23,7 @@ pub(crate) fn locate<T: Weighed + Drop>(blocks: &[Block<T>], at: usize) -> Place
     ensures inside { result.block < length blocks.now → result.inside ≤ length (get_or blocks.now result.block []) }
     ensures end { result.block ≡ length blocks.now → length blocks.now ≡ 0 }
     ensures behind { 0 < at → 0 < result.inside }
+    ensures found { 0 < at → result.block < length blocks.now }
 {
     let mut left = at;
     for i in 0..blocks.len() {
@@ -39,6 +40,29 @@ pub(crate) fn locate<T: Weighed + Drop>(blocks: &[Block<T>], at: usize) -> Place
         block: blocks.len(),
         inside: left,
     }
+}
+
+/// The member of this number.
+pub(crate) fn member<T: Weighed + Drop>(blocks: &[Block<T>], i: usize) -> &T
+    requires within { i < length (joined blocks.now) }
+    requires few { length (joined blocks.now) < 2 ^ 64 }
+    ensures { result.now ≡ get_or (joined blocks.now) i result.now }
+{
+    let place = locate(blocks, i + 1);
+    &blocks[place.block].items()[place.inside - 1]
+}
+
+/// Exchanges the member of this number for another.
+pub(crate) fn exchange<T: Weighed + Drop>(blocks: &mut [Block<T>], i: usize, other: &mut T)
+    requires within { i < length (joined blocks.old) }
+    requires few { length (joined blocks.old) < 2 ^ 64 }
+    requires filled { All IsFilled blocks.old }
+    ensures members { joined blocks.new ≡ slice_set (joined blocks.old) i other.old }
+    ensures old { other.new ≡ slice_index_or (joined blocks.old) i other.new }
+    ensures filled { All IsFilled blocks.new }
+{
+    let place = locate(blocks, i + 1);
+    blocks[place.block].exchange(place.inside - 1, other);
 }
 
 /// What the members in front of a place weigh together.

@@ -42,11 +42,9 @@ fn remove_members<T: Weighed + Drop>(blocks: &mut [Block<T>], at: usize, removed
         let len = block.len();
         let from = at.min(len);
         let gone = left.min(len - from);
-        if gone > 0 {
-            block.remove(from, from + gone);
-            if gone == len {
-                emptied = true;
-            }
+        block.remove(from, gone);
+        if gone == len {
+            emptied = true;
         }
         at -= from;
         left -= gone;
