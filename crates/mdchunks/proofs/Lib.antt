@@ -1,4 +1,6 @@
 pub mod Joined
+pub mod Removed
+pub mod Packed
 pub mod LastAt
 pub mod Moved
 pub mod WeightSums
