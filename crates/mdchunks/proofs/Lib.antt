@@ -1,5 +1,6 @@
 pub mod Joined
 pub mod Removed
+pub mod Inserted
 pub mod Packed
 pub mod LastAt
 pub mod Moved

@@ -90,6 +90,7 @@ impl<T: Weighed + Drop> Block<T> {
         requires { vec_len all.old + 64 ≤ vec_capacity all.old }
         ensures empty { self.new ≡ [] }
         ensures all { all.new.items ≡ all.old.items ++ self.old }
+        ensures few { vec_len all.new ≤ vec_len all.old + 64 }
     {
         all.append(&mut self.items).unwrap();
         self.weight = 0;

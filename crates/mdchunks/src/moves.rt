@@ -58,7 +58,7 @@ fn splice_rest<T: Drop>(items: &mut Vec<T>, at: usize, del: usize, add: &mut Vec
 }
 
 /// Moves the first `n` members behind a place to the end.
-fn rotate_from<T: Drop>(items: &mut Vec<T>, at: usize, n: usize)
+pub(crate) fn rotate_from<T: Drop>(items: &mut Vec<T>, at: usize, n: usize)
     requires { at + n ≤ vec_len items.old }
     ensures items { items.new.items ≡ take at items.old.items ++ drop (at + n) items.old.items ++ take n (drop at items.old.items) }
     ensures room { (vec_len items.new ≡ vec_len items.old) × (vec_capacity items.new ≡ vec_capacity items.old) }

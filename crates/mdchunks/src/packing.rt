@@ -7,7 +7,7 @@ ghost use Rattle.mdchunks.specs.Lists.{IsFilled, joined, replaced};
 ghost use Rattle.mdchunks.specs.Sequences.{needed};
 
 use crate::blocks::{Block, FULL};
-use crate::moves::splice;
+use crate::moves::{rotate_from, splice};
 use crate::places::{Place, locate};
 use crate::weights::Weighed;
 
@@ -29,8 +29,15 @@ pub(crate) fn insert<T: Weighed + Drop>(
     if added.is_empty() {
         return;
     }
+    let most = added.len() / FULL + 2;
+    spare.truncate(most);
+    if blocks.is_empty() {
+        pack(spare, added);
+        splice(blocks, 0, 0, spare);
+        return;
+    }
     let place = locate(blocks, at);
-    if place.block < blocks.len() && added.len() <= FULL - blocks[place.block].len() {
+    if added.len() <= FULL - blocks[place.block].len() {
         blocks[place.block].insert(place.inside, added);
         return;
     }
@@ -44,18 +51,35 @@ fn spread<T: Weighed + Drop>(
     place: Place,
     added: Vec<T>,
 )
+    requires within { place.block < length blocks.old.items }
+    requires inside { place.inside ≤ length (get_or blocks.old.items place.block []) }
+    requires filled { All IsFilled blocks.old.items }
+    requires spare { vec_len spare.old ≡ needed (vec_len added) }
+    requires room { vec_len blocks.old + vec_len spare.old ≤ vec_capacity blocks.old }
+    requires space { vec_len added + 64 ≤ vec_capacity added }
+    ensures members { joined blocks.new.items ≡ replaced (joined blocks.old.items) (length (joined (take place.block blocks.old.items)) + place.inside) 0 added.items }
+    ensures filled { All IsFilled blocks.new.items }
+{
+    let all = gather(&mut blocks[place.block], place.inside, added);
+    pack(spare, all);
+    splice(blocks, place.block, 1, spare);
+}
+
+/// The members of a chunk with others put at a place. The chunk has none then.
+fn gather<T: Weighed + Drop>(block: &mut Block<T>, at: usize, added: Vec<T>) -> Vec<T>
+    requires within { at ≤ length block.old }
+    requires space { vec_len added + 64 ≤ vec_capacity added }
+    ensures members { result.items ≡ replaced block.old at 0 added.items }
+    ensures few { vec_len result ≤ vec_len added + 64 }
 {
     let count = added.len();
+    let behind = block.len() - at;
     let mut all = added;
-    let mut gone = 0;
-    if place.block < blocks.len() {
-        blocks[place.block].pour(&mut all);
-        all[..count + place.inside].rotate_left(count);
-        gone = 1;
-    }
-    spare.truncate(count / FULL + 2);
-    pack(spare, all);
-    splice(blocks, place.block, gone, spare);
+    block.pour(&mut all);
+    // the members of the chunk, and then the others between them
+    rotate_from(&mut all, 0, count);
+    rotate_from(&mut all, at, behind);
+    all
 }
 
 /// Puts all members into chunks, and drops the chunks that are left.
