@@ -90,13 +90,13 @@ cut_more all xss i at left from gone b kept c here read f g e =
     record {
       within = rw behind fits;
       members =
-        c.members
-        ∙ ap (λ ys. p ++ (take at ys ++ drop (at + left) ys)) before
-        ∙ ap (λ ys. p ++ ys) (cut b r at left from gone f g (cases_lt at (length b)) (cases_lt (length b) (at + left)))
-        ∙ ap (λ ys. p ++ (ys ++ (take (at - from) r ++ drop ((at - from) + (left - gone)) r))) (sym e)
-        ∙ sym (append_assoc p kept (take (at - from) r ++ drop ((at - from) + (left - gone)) r))
-        ∙ ap (λ ys. ys ++ (take (at - from) r ++ drop ((at - from) + (left - gone)) r)) (sym front)
-        ∙ ap (λ yss. joined (take (i + 1) (set xss i kept)) ++ (take (at - from) (joined yss) ++ drop ((at - from) + (left - gone)) (joined yss))) (sym behind);
+          c.members
+          ∙ ap (λ ys. p ++ (take at ys ++ drop (at + left) ys)) before
+          ∙ ap (λ ys. p ++ ys) (cut b r at left from gone f g (cases_lt at (length b)) (cases_lt (length b) (at + left)))
+          ∙ ap (λ ys. p ++ (ys ++ (take (at - from) r ++ drop ((at - from) + (left - gone)) r))) (sym e)
+          ∙ sym (append_assoc p kept (take (at - from) r ++ drop ((at - from) + (left - gone)) r))
+          ∙ ap (λ ys. ys ++ (take (at - from) r ++ drop ((at - from) + (left - gone)) r)) (sym front)
+          ∙ ap (λ yss. joined (take (i + 1) (set xss i kept)) ++ (take (at - from) (joined yss) ++ drop ((at - from) + (left - gone)) (joined yss))) (sym behind);
     }
 
 -- some members are left of a list of which not all go

@@ -1,4 +1,4 @@
-use Rattle.std.proofs.Common.{◌≡◌, ◌<◌, ◌≤◌, ◌+◌, ◌-◌, arith, length}
+use Rattle.std.proofs.Common.{◌<◌, ◌-◌, arith, length}
 use Rattle.std.specs.Vec.{vec_len}
 use Rattle.std.specs.Vec.Iter.{into_iter_items}
 use Rattle.mdchunks.proofs.Packed.{filled_more, packed_more, room_more, some_left}

@@ -1,5 +1,4 @@
-use Rattle.std.proofs.Common.{◌≡◌, ◌∙◌, ap, refl}
-use Rattle.std.specs.List.{All}
+use Rattle.std.proofs.Common.{◌∙◌, ap, refl}
 use Rattle.std.proofs.lemmas.List.Elements.{All-same}
 use Rattle.mdchunks.specs.Lists.{IsFilled, joined}
 use Rattle.mdchunks.proofs.Inserted.{spread_at, spread_filled}

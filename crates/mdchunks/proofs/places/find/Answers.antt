@@ -1,6 +1,5 @@
-use Rattle.std.proofs.Common.{◌≡◌, ◌<◌, ◌≤◌, ◌+◌, ◌-◌, ◌^◌, ◌∙◌, ◌⊎◌, ap, sym, arith, length, get_or, min, inl, inr}
-use Rattle.std.proofs.lemmas.List.Elements.{All-get_or}
-use Rattle.mdchunks.specs.Lists.{IsFilled, joined, weigh}
+use Rattle.std.proofs.Common.{◌≡◌, ◌<◌, ◌+◌, ◌-◌, ◌^◌, ◌∙◌, ◌⊎◌, ap, arith, length, min, inl, inr}
+use Rattle.mdchunks.specs.Lists.{weigh}
 use Rattle.mdchunks.proofs.LastAt.{Inside, ends_within, last_at}
 use Rattle.mdchunks.proofs.places.find.Goals as goal
 use Rattle.mdchunks.proofs.places.find.Goals.{then-i-blocks-via-then-i-blocks, then-i-blocks-via-else-i-blocks+then-weight-behind}
@@ -29,8 +28,8 @@ returns-then-i-blocks g c =
     c.saturating_add-behind.ensures ∙ ap (λ n. min (c.loop-i.start.front + n) (2 ^ 64 - 1)) c.weight.ensures in
     let last : (c.loop-i.i + 1 ≡ length c.args.blocks.now) ⊎ (c.args.weight < min (c.loop-i.start.front + weigh g.T.Weighed.weight c.index-blocks-i.result) (2 ^ 64 - 1)) =
     elim c.then-i-blocks.branch [
-      then-i-blocks-via-then-i-blocks w ↦ inl w.if-i-blocks.true
-    | then-i-blocks-via-else-i-blocks+then-weight-behind w ↦ inr (rw sum at w.if-weight-behind.true)
+      | then-i-blocks-via-then-i-blocks w ↦ inl w.if-i-blocks.true
+      | then-i-blocks-via-else-i-blocks+then-weight-behind w ↦ inr (rw sum at w.if-weight-behind.true)
     ] in
     let found = c.find_inside-found.ensures in
     last_at g.T.Weighed.weight c.args.blocks.now c.loop-i.i c.loop-i.start.member c.loop-i.start.front c.find_inside-found.result.member

@@ -1,4 +1,4 @@
-use Rattle.std.proofs.Common.{◌≡◌, ◌<◌, ◌≤◌, ◌∙◌, ap, arith, length, get_or}
+use Rattle.std.proofs.Common.{◌≡◌, ◌≤◌, ◌∙◌, ap, arith, length, get_or}
 use Rattle.mdchunks.proofs.WeightSums.{weigh_inside}
 use Rattle.mdchunks.proofs.places.weight_before.Goals as goal
 

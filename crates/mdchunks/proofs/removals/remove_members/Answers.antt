@@ -24,11 +24,11 @@ loop-block-preserved g c =
       done = cut_more _ xss at c.loop-block.at c.loop-block.left c.min-from.result c.min-gone.result block c.remove.new.self c.loop-block.invariant.done here
           (get_or_default xss at c.block-item.result block here) from gone c.remove.ensures;
       filled = λ e all. elim c.if-gone-len.branch [
-          then-gone-len w ↦ absurd (true≢false (sym w.emptied-is ∙ e))
+        | then-gone-len w ↦ absurd (true≢false (sym w.emptied-is ∙ e))
         | else-gone-len w ↦
-          let few : c.min-gone.result < length block = omega (arith, gone, w.if-gone-len.false, c.len-len.ensures.value) in
-          All-set IsFilled xss at c.remove.new.self
-          (some_kept block c.remove.new.self c.min-from.result c.min-gone.result c.remove.ensures (omega (arith, from, gone)) few)
-          (c.loop-block.invariant.filled (sym w.emptied-is ∙ e) all)
-        ];
+            let few : c.min-gone.result < length block = omega (arith, gone, w.if-gone-len.false, c.len-len.ensures.value) in
+            All-set IsFilled xss at c.remove.new.self
+            (some_kept block c.remove.new.self c.min-from.result c.min-gone.result c.remove.ensures (omega (arith, from, gone)) few)
+            (c.loop-block.invariant.filled (sym w.emptied-is ∙ e) all)
+      ];
     }

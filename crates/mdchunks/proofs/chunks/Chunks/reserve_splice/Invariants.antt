@@ -1,5 +1,5 @@
-use Rattle.std.proofs.Common.{◌≡◌, ◌≤◌, ◌+◌}
-use Rattle.std.specs.Vec.{vec_len, vec_capacity}
+use Rattle.std.proofs.Common.{◌≡◌, ◌≤◌}
+use Rattle.std.specs.Vec.{vec_len}
 use Rattle.mdchunks.proofs.chunks.Chunks.reserve_splice.Given as goal
 
 abbrev pub invariant-loop : goal.invariant-loop
