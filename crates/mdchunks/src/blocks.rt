@@ -73,15 +73,13 @@ impl<T: Weighed + Drop> Block<T> {
         }
     }
 
-    /// Puts members at a place.
-    pub(crate) fn insert(&mut self, at: usize, mut added: Vec<T>)
-        requires within { at ≤ length self.old }
-        requires fits { length self.old + vec_len added ≤ 64 }
-        ensures { self.new ≡ replaced self.old at 0 added.items }
+    /// Puts members in the place of others.
+    pub(crate) fn splice(&mut self, at: usize, removed: usize, mut added: Vec<T>)
+        requires within { at + removed ≤ length self.old }
+        requires fits { length self.old + vec_len added ≤ 64 + removed }
+        ensures { self.new ≡ replaced self.old at removed added.items }
     {
-        let behind = self.items.len() - at;
-        self.items.append(&mut added).unwrap();
-        self.items[at..].rotate_left(behind);
+        splice_list(&mut self.items, at, removed, &mut added);
         self.weight = sum_weights(&self.items);
     }
 
@@ -125,6 +123,19 @@ impl<T: Weighed + Drop> Block<T> {
         mem::swap(&mut self.items[i], member);
         self.weight = sum_weights(&self.items);
     }
+}
+
+/// Puts members in the place of others in a list that has room for what it has then.
+fn splice_list<T: Drop>(items: &mut Vec<T>, at: usize, removed: usize, added: &mut Vec<T>)
+    requires within { at + removed ≤ vec_len items.old }
+    requires room { vec_len items.old + vec_len added.old ≤ vec_capacity items.old + removed }
+    ensures items { items.new.items ≡ replaced items.old.items at removed added.old.items }
+    ensures capacity { vec_capacity items.old ≤ vec_capacity items.new }
+{
+    let behind = items.len() - at - removed;
+    items.drain(at..at + removed);
+    items.append(added).unwrap();
+    items[at..].rotate_left(behind);
 }
 
 /// Moves members from an iterator to an empty list that has room for them, up to a number.

@@ -7,9 +7,8 @@ ghost use Rattle.mdchunks.specs.Sequences.{HasRoom, IsLastAt, Sequence};
 
 use crate::blocks::{Block, FULL};
 use crate::iters::Iter;
-use crate::packing::insert;
 use crate::places::{exchange, find, member, weight_before};
-use crate::removals::{heal, remove};
+use crate::splices::splice;
 use crate::weights::{Weighed, WeightPlace};
 use std::alloc::{AllocError, Global};
 use std::marker::Model;
@@ -132,9 +131,7 @@ impl<T: Weighed + Drop> Chunks<T> {
         ensures { self.new.items ≡ replaced self.old.items at removed added.items }
     {
         let count = added.len();
-        remove(&mut self.blocks, at, removed);
-        insert(&mut self.blocks, &mut self.spare, at, added);
-        heal(&mut self.blocks, at);
+        splice(&mut self.blocks, &mut self.spare, at, removed, added);
         self.len = self.len - removed + count;
     }
 }

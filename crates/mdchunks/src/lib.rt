@@ -12,6 +12,7 @@ mod moves;
 mod packing;
 mod places;
 mod removals;
+mod splices;
 mod weights;
 
 pub use chunks::Chunks;

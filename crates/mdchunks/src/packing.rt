@@ -38,7 +38,7 @@ pub(crate) fn insert<T: Weighed + Drop>(
     }
     let place = locate(blocks, at);
     if added.len() <= FULL - blocks[place.block].len() {
-        blocks[place.block].insert(place.inside, added);
+        blocks[place.block].splice(place.inside, 0, added);
         return;
     }
     spread(blocks, spare, place, added);

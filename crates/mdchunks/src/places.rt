@@ -42,6 +42,29 @@ pub(crate) fn locate<T: Weighed + Drop>(blocks: &[Block<T>], at: usize) -> Place
     }
 }
 
+/// The chunk in which an edit begins: that of the first member that goes, where one does.
+pub(crate) fn locate_edit<T: Weighed + Drop>(
+    blocks: &[Block<T>],
+    at: usize,
+    removed: usize,
+) -> Place
+    requires within { at + removed ≤ length (joined blocks.now) }
+    requires few { length (joined blocks.now) < 2 ^ 64 }
+    requires some { 0 < length blocks.now }
+    ensures within { result.block < length blocks.now }
+    ensures place { length (joined (take result.block blocks.now)) + result.inside ≡ at }
+    ensures inside { result.inside ≤ length (get_or blocks.now result.block []) }
+{
+    if removed == 0 {
+        return locate(blocks, at);
+    }
+    let place = locate(blocks, at + 1);
+    Place {
+        block: place.block,
+        inside: place.inside - 1,
+    }
+}
+
 /// The member of this number.
 pub(crate) fn member<T: Weighed + Drop>(blocks: &[Block<T>], i: usize) -> &T
     requires within { i < length (joined blocks.now) }
