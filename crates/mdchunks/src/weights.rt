@@ -1,6 +1,6 @@
 //! What members weigh.
 
-ghost use Rattle.std.specs.Prelude.{◌≡◌, ℕ};
+ghost use Rattle.std.specs.Prelude.{◌≡◌, ◌+◌, ℕ, length, string_bytes};
 ghost use Rattle.mdchunks.specs.Lists.{weigh};
 
 /// What has a weight, as the number of its lines.
@@ -9,6 +9,15 @@ pub trait Weighed {
 
     fn weight(&self) -> usize
         ensures { result ≡ weight self.now };
+}
+
+/// A line weighs its bytes, with one for its end.
+impl Weighed for String {
+    ghost weight = { λ line. length (string_bytes line) + 1 };
+
+    fn weight(&self) -> usize {
+        self.len() + 1
+    }
 }
 
 /// A member by its number, and the weight in front of it.
