@@ -74,6 +74,7 @@ impl<T: Weighed + Drop> Chunks<T> {
         ensures old { other.new ≡ slice_index_or self.old.items i other.new }
         ensures room { self.new.room ≡ self.old.room }
     {
+        // a number that is read is known to fit its type
         let _len = self.len;
         exchange(&mut self.blocks, i, other);
     }
