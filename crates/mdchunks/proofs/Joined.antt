@@ -119,3 +119,22 @@ pub take_at : {A : Type 0} (xss : List (List A)) (i k at : ℕ) (q : List A) →
 take_at xss i k at q here read within e =
     let other : q ≡ get_or xss i [] = get_or_read xss i q here read [] in
     take_inside xss i k at [] here within e ∙ ap (λ ys. joined (take i xss) ++ take k ys) (sym other)
+
+-- what a place reads as, at any default
+pub item_at : {A : Type 0} (xss : List (List A)) (i k at : ℕ) (q : List A) (d : A) → i < length xss → q ≡ get_or xss i q → k < length (get_or xss i []) →
+    length (joined (take i xss)) + k ≡ at → get_or q k d ≡ get_or (joined xss) at d
+item_at xss i k at q d here read within e =
+    let other : q ≡ get_or xss i [] = get_or_read xss i q here read [] in
+    let long : length (get_or xss i q) ≡ length (get_or xss i []) = ap length (sym read ∙ other) in
+    let flat = get_or-flat_map (λ xs. xs) xss i k q d here (omega (arith, long, within)) in
+    ap (λ ys. get_or ys k d) read ∙ sym flat ∙ ap (λ n. get_or (joined xss) n d) e
+
+-- another list that is as long
+pub length_same : {A : Type 0} (xss : List (List A)) (i : ℕ) (ys d : List A) → i < length xss → length ys ≡ length (get_or xss i d) → length (joined (set xss i ys)) ≡ length (joined xss)
+length_same xss i ys d here e =
+    let p = joined (take i xss) in
+    let q = get_or xss i d in
+    let r = joined (drop (i + 1) xss) in
+    let new : length (joined (set xss i ys)) ≡ length (p ++ (ys ++ r)) = ap length (joined_set xss i ys here) in
+    let old : length (joined xss) ≡ length (p ++ (q ++ r)) = ap length (joined_split xss i d here) in
+    omega (arith, new, old, e, length-append p (ys ++ r), length-append ys r, length-append p (q ++ r), length-append q r)

@@ -5,7 +5,7 @@ ghost use Rattle.std.specs.Vec.{vec_len, vec_capacity};
 ghost use Rattle.std.specs.Vec.Iter.{into_iter_items};
 ghost use Rattle.mdchunks.specs.Lists.{replaced, weigh};
 
-use crate::weights::{Weighed, sum_weights};
+use crate::weights::{Change, Weighed, sum_weights};
 use std::alloc::{AllocError, Global};
 use std::marker::Model;
 use std::mem;
@@ -121,6 +121,17 @@ impl<T: Weighed + Drop> Block<T> {
         ensures old { member.new ≡ slice_index_or self.old i member.new }
     {
         mem::swap(&mut self.items[i], member);
+        self.weight = sum_weights(&self.items);
+    }
+
+    /// Changes the member of a number.
+    pub(crate) fn change<C: Change<T>>(&mut self, i: usize, change: C)
+        requires within { i < length self.old }
+        requires can { (d : T) → C.can_change change (slice_index_or self.old i d) }
+        ensures value { (d : T) → self.new ≡ slice_set self.old i (C.changed change (slice_index_or self.old i d)) }
+        ensures len { length self.new ≡ length self.old }
+    {
+        change.change(&mut self.items[i]);
         self.weight = sum_weights(&self.items);
     }
 }

@@ -7,9 +7,10 @@ ghost use Rattle.mdchunks.specs.Sequences.{HasRoom, IsLastAt, Sequence};
 
 use crate::blocks::{Block, FULL};
 use crate::iters::Iter;
+use crate::places;
 use crate::places::{exchange, find, member, weight_before};
 use crate::splices::splice;
-use crate::weights::{Weighed, WeightPlace};
+use crate::weights::{Change, Weighed, WeightPlace};
 use std::alloc::{AllocError, Global};
 use std::marker::Model;
 
@@ -77,6 +78,18 @@ impl<T: Weighed + Drop> Chunks<T> {
         // a number that is read is known to fit its type
         let _len = self.len;
         exchange(&mut self.blocks, i, other);
+    }
+
+    /// Changes the member of this number where it lies.
+    pub fn change<C: Change<T>>(&mut self, i: usize, change: C)
+        requires within { i < length self.old.items }
+        requires can { (d : T) → C.can_change change (slice_index_or self.old.items i d) }
+        ensures items { (d : T) → self.new.items ≡ slice_set self.old.items i (C.changed change (slice_index_or self.old.items i d)) }
+        ensures room { self.new.room ≡ self.old.room }
+    {
+        // a number that is read is known to fit its type
+        let _len = self.len;
+        places::change(&mut self.blocks, i, change);
     }
 
     /// The members from a number on, lent in order.

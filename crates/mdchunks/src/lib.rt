@@ -17,7 +17,7 @@ mod weights;
 
 pub use chunks::Chunks;
 pub use iters::Iter;
-pub use weights::{Weighed, WeightPlace};
+pub use weights::{Change, Weighed, WeightPlace};
 
 #[cfg(test)]
 mod tests;

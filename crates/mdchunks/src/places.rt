@@ -6,7 +6,7 @@ ghost use Rattle.mdchunks.specs.Lists.{IsFilled, joined, weigh};
 ghost use Rattle.mdchunks.specs.Sequences.{IsLastAt};
 
 use crate::blocks::Block;
-use crate::weights::{Weighed, WeightPlace, sum_weights};
+use crate::weights::{Change, Weighed, WeightPlace, sum_weights};
 
 /// A place in a chunk.
 #[derive(Clone, Copy)]
@@ -86,6 +86,20 @@ pub(crate) fn exchange<T: Weighed + Drop>(blocks: &mut [Block<T>], i: usize, oth
 {
     let place = locate(blocks, i + 1);
     blocks[place.block].exchange(place.inside - 1, other);
+}
+
+/// Changes the member of this number.
+pub(crate) fn change<T: Weighed + Drop, C: Change<T>>(blocks: &mut [Block<T>], i: usize, change: C)
+    requires within { i < length (joined blocks.old) }
+    requires few { length (joined blocks.old) < 2 ^ 64 }
+    requires filled { All IsFilled blocks.old }
+    requires can { (d : T) → C.can_change change (slice_index_or (joined blocks.old) i d) }
+    ensures members { (d : T) → joined blocks.new ≡ slice_set (joined blocks.old) i (C.changed change (slice_index_or (joined blocks.old) i d)) }
+    ensures len { length (joined blocks.new) ≡ length (joined blocks.old) }
+    ensures filled { All IsFilled blocks.new }
+{
+    let place = locate(blocks, i + 1);
+    blocks[place.block].change(place.inside - 1, change);
 }
 
 /// What the members in front of a place weigh together.

@@ -1,4 +1,4 @@
-use crate::{Chunks, Weighed};
+use crate::{Change, Chunks, Weighed};
 use std::process::Abort;
 use std::test::Fail;
 
@@ -7,6 +7,20 @@ impl Weighed for u32 {
 
     fn weight(&self) -> usize {
         *self as usize
+    }
+}
+
+/// Another number in the place of one.
+#[derive(Drop)]
+struct Put(u32);
+
+impl Change<u32> for Put {
+    ghost can_change = { λ _ _. Unit {0} };
+
+    ghost changed = { λ put _. put.0 };
+
+    fn change(self, member: &mut u32) {
+        *member = self.0;
     }
 }
 
@@ -101,5 +115,10 @@ fn finds_by_weight(rt: HostRuntime) -> Result<(), Fail> {
     assert_eq!(rt; other, 2);
     // it was 51
     assert_eq!(rt; chunks.weight_before(51), 56);
+    assert!(rt; chunks.len() == 100);
+    chunks.change(51, Put(9));
+    assert!(rt; chunks.len() == 100);
+    assert_eq!(rt; chunks.weight_before(52), 65);
+    assert_eq!(rt; chunks.get(51).copied(), Some(9));
     Ok(())
 }

@@ -20,6 +20,17 @@ impl Weighed for String {
     }
 }
 
+/// A change of one member.
+pub trait Change<T> {
+    ghost can_change: { Self → T → Type 0 };
+
+    ghost changed: { Self → T → T };
+
+    fn change(self, member: &mut T)
+        requires { can_change self member.old }
+        ensures { member.new ≡ changed self member.old };
+}
+
 /// A member by its number, and the weight in front of it.
 #[derive(Clone, Copy)]
 pub struct WeightPlace {
