@@ -1,0 +1,10 @@
+use Rattle.std.proofs.Common.{◌≡◌, ◌≤◌}
+use Rattle.std.specs.Vec.{vec_len}
+use Rattle.mdchunks.proofs.chunks.Chunks.reserve_splice.Given as goal
+
+abbrev pub invariant-loop : goal.invariant-loop
+invariant-loop g l = record {
+  blocks : l.self-inside.blocks ≡ l.initial.self-inside.blocks;
+  len : l.self-inside.len ≡ l.initial.self-inside.len;
+  spare : l.counter ≤ vec_len l.self-inside.spare;
+}

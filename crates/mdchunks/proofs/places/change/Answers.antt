@@ -1,0 +1,50 @@
+use Rattle.std.proofs.Common.{◌+◌, ◌-◌, ◌<◌, ◌≡◌, ◌∙◌, [], ap, arith, get_or, length, take}
+use Rattle.std.proofs.Math.ListN.{set}
+use Rattle.std.proofs.lemmas.List.{get_or_default}
+use Rattle.std.proofs.lemmas.List.Elements.{All-get_or, All-set}
+use Rattle.mdchunks.specs.Lists.{IsFilled, joined}
+use Rattle.mdchunks.proofs.Joined.{item_at, length_same, set_at}
+use Rattle.mdchunks.proofs.places.change.Goals as goal
+
+pub change-requires-clause-can : goal.change-requires-clause-can
+change-requires-clause-can g c =
+    let xss = c.args.blocks.now in
+    let block = c.locate-place.result.block in
+    let k = c.locate-place.result.inside - 1 in
+    let old = get_or xss block c.index-blocks-place.result in
+    let here : block < length xss = c.locate-place.ensures.found (omega arith) in
+    let some = c.locate-place.ensures.behind (omega arith) in
+    let long = c.locate-place.ensures.inside here in
+    let within : k < length (get_or xss block []) = omega (arith, some, long) in
+    let place : length (joined (take block xss)) + k ≡ c.args.i = omega (arith, some, c.locate-place.ensures.place) in
+    λ d. rw (item_at xss block k c.args.i old d here (get_or_default xss block c.index-blocks-place.result old here) within place) (c.requires.can d)
+
+pub returns-clause-members : goal.returns-clause-members
+returns-clause-members g c =
+    let xss = c.args.blocks.now in
+    let block = c.locate-place.result.block in
+    let k = c.locate-place.result.inside - 1 in
+    let old = get_or xss block c.index-blocks-place.result in
+    let here : block < length xss = c.locate-place.ensures.found (omega arith) in
+    let some = c.locate-place.ensures.behind (omega arith) in
+    let long = c.locate-place.ensures.inside here in
+    let within : k < length (get_or xss block []) = omega (arith, some, long) in
+    let place : length (joined (take block xss)) + k ≡ c.args.i = omega (arith, some, c.locate-place.ensures.place) in
+    let read = get_or_default xss block c.index-blocks-place.result old here in
+    λ d.
+    ap (λ ys. joined (set xss block ys)) (c.change.ensures.value d)
+    ∙ set_at xss block k c.args.i old (g.C.Change.changed c.args.change (get_or old k d)) here read within place
+    ∙ ap (λ x. set (joined xss) c.args.i (g.C.Change.changed c.args.change x)) (item_at xss block k c.args.i old d here read within place)
+
+pub returns-clause-filled : goal.returns-clause-filled
+returns-clause-filled g c =
+    let xss = c.args.blocks.now in
+    let block = c.locate-place.result.block in
+    let here : block < length xss = c.locate-place.ensures.found (omega arith) in
+    let full : IsFilled (get_or xss block c.index-blocks-place.result) = All-get_or IsFilled xss block c.index-blocks-place.result here c.requires.filled in
+    All-set IsFilled xss block c.change.new.self (omega (arith, full, c.change.ensures.len)) c.requires.filled
+
+pub returns-clause-len : goal.returns-clause-len
+returns-clause-len g c =
+    let here : c.locate-place.result.block < length c.args.blocks.now = c.locate-place.ensures.found (omega arith) in
+    length_same c.args.blocks.now c.locate-place.result.block c.change.new.self c.index-blocks-place.result here c.change.ensures.len

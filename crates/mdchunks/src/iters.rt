@@ -1,0 +1,73 @@
+//! Members of a sequence, lent in order.
+
+ghost use Rattle.std.specs.Prelude.{◌≡◌, ◌≤◌, drop, length};
+ghost use Rattle.std.specs.List.{All};
+ghost use Rattle.std.specs.Iterator.{YieldsFirstRef, item_count};
+ghost use Rattle.mdchunks.specs.Lists.{IsFilled, joined};
+
+use crate::blocks::Block;
+use crate::places::locate;
+use crate::weights::Weighed;
+use std::marker::Model;
+
+/// The members from a place on, lent in order.
+#[derive(Drop)]
+pub struct Iter<'a, T: Weighed> {
+    inside: &'a [T],
+    rest: &'a [Block<T>],
+}
+
+impl<'a, T: Weighed> Model for Iter<'a, T> {
+    ghost use Rattle.std.specs.Prelude.{◌++◌, List};
+    ghost use Rattle.std.specs.List.{All};
+    ghost use Rattle.mdchunks.specs.Lists.{IsFilled, joined};
+
+    ghost Value = { List T };
+
+    ghost view = { λ i. i.inside.now ++ joined i.rest.now };
+
+    ghost invariant = { λ i. All IsFilled i.rest.now };
+}
+
+impl<'a, T: Weighed + Drop> Iter<'a, T> {
+    /// The members of some chunks from a place on.
+    pub(crate) fn from(blocks: &'a [Block<T>], at: usize) -> Iter<'a, T>
+        requires within { at ≤ length (joined blocks.now) }
+        requires filled { All IsFilled blocks.now }
+        ensures { result ≡ drop at (joined blocks.now) }
+    {
+        let place = locate(blocks, at);
+        if place.block == blocks.len() {
+            return Iter {
+                inside: &[],
+                rest: &[],
+            };
+        }
+        Iter {
+            inside: &blocks[place.block].items()[place.inside..],
+            rest: &blocks[place.block + 1..],
+        }
+    }
+}
+
+impl<'a, T: Weighed + Drop> Iterator for Iter<'a, T> {
+    type Item = &'a T;
+
+    ghost next_gives = { YieldsFirstRef (λ s. s) };
+
+    ghost remaining = { item_count (λ s. s) };
+
+    fn next(&mut self) -> Option<&'a T> {
+        let inside = self.inside;
+        if let Some((first, others)) = inside.split_first() {
+            self.inside = others;
+            return Some(first);
+        }
+        let rest = self.rest;
+        let (block, rest) = rest.split_first()?;
+        let (first, others) = block.items().split_first()?;
+        self.inside = others;
+        self.rest = rest;
+        Some(first)
+    }
+}
