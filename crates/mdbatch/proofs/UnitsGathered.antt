@@ -1,7 +1,6 @@
 -- Units that are written as they are found, and those that wait.
 use Rattle.std.proofs.Common.{◌≡◌, ◌<◌, ◌||◌, ℕ, suc, Bool, List, [], ◌∷◌, ◌++◌, Option, None, Some, false, true, string_bytes, refl, ap, sym, ◌∙◌, append_assoc, append-nil, arith, subst, length-append}
 use Rattle.std.specs.Prelude.{is_some, length, slice_index}
-use Rattle.memchr.specs.Find.{IsFirstByte, is_byte}
 use Rattle.std.proofs.lemmas.Grind.{common_steps}
 use Rattle.mdhtml.specs.BlockHtml.{ends_line}
 use Rattle.blockspec.specs.UnitTree.{FoundUnit}
@@ -175,17 +174,3 @@ never_some (Some n) never = absurd (never n refl)
 pub not_both : {A : Type 0} (o : Option ℕ) (n : ℕ) → o ≡ None → o ≡ Some n → A
 not_both None n none some = cc
 not_both (Some m) n none some = cc
-
-fails : (b : Bool) → ¬ (b ≡ true) → b ≡ false
-fails true h = absurd (h refl)
-fails false h = refl
-
-nowhere_closes : (bytes : List ℕ) → ((k : ℕ) → k < length bytes → ¬ (is_byte 93 (slice_index bytes k) ≡ true)) → closes_bracket bytes ≡ false
-nowhere_closes [] h = refl
-nowhere_closes (byte ∷ bytes) h =
-    ap (λ t. t || closes_bracket bytes) (fails (is_byte 93 byte) (h 0 (omega arith))) ∙ nowhere_closes bytes (λ k below. h (suc k) (omega (arith, below)))
-
--- no bracket is found in the text
-pub none_closes : (found : Option ℕ) (bytes : List ℕ) → is_some found ≡ false → IsFirstByte (is_byte 93) bytes found → closes_bracket bytes ≡ false
-none_closes None bytes none h = nowhere_closes bytes (λ k below. h k (omega arith) below)
-none_closes (Some at) bytes none h = cc

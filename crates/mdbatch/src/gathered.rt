@@ -14,7 +14,6 @@ use mdhtml::UnitWriter;
 use mdinline::{InlineFault, LabelTable};
 use mdtext::NoMemory;
 use mdview::EditFault;
-use memchr::memchr;
 use std::alloc::Global;
 use std::mem::replace;
 
@@ -122,7 +121,7 @@ fn may_ask(unit: &Unit) -> bool
 {
     let texts = unit.texts();
     for text in texts {
-        if memchr(b']', text.as_bytes()).is_some() {
+        if text.as_bytes().contains(&b']') {
             return true;
         }
     }

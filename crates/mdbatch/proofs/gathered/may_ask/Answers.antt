@@ -2,12 +2,11 @@ use Rattle.std.proofs.Common.{◌∙◌, ap, sym}
 use Rattle.std.specs.List.{list_any}
 use Rattle.mdhtml.proofs.TextsWritten.{all_fit, fits_more}
 use Rattle.mdbatch.specs.GatheredUnits.{closes_bracket}
-use Rattle.mdbatch.proofs.UnitsGathered.{none_closes}
 use Rattle.mdbatch.proofs.gathered.may_ask.Goals as goal
 
 pub loop-text-preserved : goal.loop-text-preserved
 loop-text-preserved c =
-    let free = none_closes c.memchr.result c.as_bytes.result.now (sym c.is_some.ensures ∙ c.if-is_some.false) c.memchr.ensures in
+    let free = sym c.contains.ensures.value ∙ c.if-contains.false in
     fits_more closes_bracket c.texts-texts.result.now c.loop-text.text-index c.text-item.result c.loop-text-test.true c.text-item.is (ap closes_bracket (sym c.as_bytes.ensures.value) ∙ free) c.loop-text.invariant
 
 pub returns : goal.returns
