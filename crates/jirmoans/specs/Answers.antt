@@ -6,6 +6,7 @@ use Rattle.jirmoans.specs.declared.faults.Refusal.{Refusal}
 use Rattle.jirmoans.specs.declared.faults.Refusal.TheVariants.{NotOpen, AlreadyOpen}
 use Rattle.jirmoans.specs.declared.session.Session.{Session}
 use Rattle.jirmoans.specs.declared.settings.Settings.{Settings}
+use Rattle.mdview.specs.Document.{pieces_of}
 use Rattle.jirmoans.specs.Refusals.{fault_after, fault_of, told}
 use Rattle.jirmoans.specs.Sessions.{Opens}
 
@@ -39,7 +40,7 @@ AnswersOpening settings entities (Some old) held fault = (held ≡ Some old) × 
 -- how many units and lines are held
 abbrev pub units_in : Option Session → ℕ
 units_in None = 0
-units_in (Some session) = length session.preview.pieces
+units_in (Some session) = length (pieces_of session.preview)
 
 abbrev pub lines_in : Option Session → ℕ
 lines_in None = 0

@@ -7,6 +7,7 @@ use Rattle.mdtext.specs.declared.entity_file.TableFault.TheVariants.{NoMemory as
 use Rattle.mdview.specs.declared.fault.EditFault.{EditFault}
 use Rattle.mdview.specs.declared.fault.EditFault.TheVariants.{OutOfRange, BreakInLine, TooManyLines, TooLarge, NestedTooDeep, InlineTooDeep, NoMemory, NotDefinitions}
 use Rattle.mdview.specs.FaultNames.{number_of as edit_number}
+use Rattle.mdview.specs.FaultReasons.{reason_of}
 use Rattle.jirmoans.specs.declared.faults.Fault.{Fault}
 use Rattle.jirmoans.specs.declared.faults.Refusal.{Refusal}
 use Rattle.jirmoans.specs.declared.faults.Refusal.TheVariants.{Edit, Table, NotUtf8, NoSuchUnit, NotOpen, AlreadyOpen, UnknownBreaks, LimitTooLarge}
@@ -36,7 +37,7 @@ code_of LimitTooLarge = 14
 
 -- what a fault counts, or where it lies
 abbrev pub number_of : Refusal → ℕ
-number_of (Edit fault) = edit_number fault
+number_of (Edit fault) = edit_number (reason_of fault)
 number_of (Table fault) = 0
 number_of (NotUtf8 valid) = valid
 number_of (NoSuchUnit units) = units

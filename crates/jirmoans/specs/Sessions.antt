@@ -1,5 +1,5 @@
 -- What each call of a session does.
-use Rattle.std.specs.Prelude.{◌≡◌, ℕ, ◌⊎◌, ◌∷◌, ◌++◌, List, [], Option, Some, None, Result, Ok, Err, String, IfOk, if◌then◌else◌, length, map, nat_lt, slice_get, string_bytes}
+use Rattle.std.specs.Prelude.{◌≡◌, ℕ, ◌⊎◌, ◌∷◌, ◌++◌, List, [], Option, Some, None, Result, Ok, Err, String, IfOk, false, length, slice_get, string_bytes}
 use Rattle.std.specs.Global.{Global}
 use Rattle.std.specs.Str.{IsUtf8}
 use Rattle.std.specs.Vec.{vec_ptr}
@@ -12,12 +12,12 @@ use Rattle.mdtext.specs.declared.entity_file.TableFault.TheVariants.{NoMemory as
 use Rattle.mdhtml.specs.declared.options.Options.{Options}
 use Rattle.mdview.specs.declared.fault.EditFault.{EditFault}
 use Rattle.mdview.specs.declared.fault.EditFault.TheVariants.{NoMemory}
-use Rattle.mdview.specs.Document.{empty}
+use Rattle.blockspec.specs.BlockUnits.{begins}
+use Rattle.mdview.specs.Document.{empty, pieces_of, readings_of}
 use Rattle.mdview.specs.Edit.{call_of}
-use Rattle.mdview.specs.HeldUnit.{ReadUnit, first_line}
-use Rattle.mdview.specs.Outcome.{outcome}
+use Rattle.mdview.specs.Outcome.{answer_of, is_starved, outcome_of}
 use Rattle.mdview.specs.Preludes.{HeldPrelude}
-use Rattle.mdview.specs.ReadingEnd.{reading_of}
+use Rattle.viewspec.specs.Outcome.{accepted}
 use Rattle.viewspec.specs.Calls.{Call, set_prelude}
 use Rattle.viewspec.specs.ChangedPieces.{ChangedPieces}
 use Rattle.viewspec.specs.Patch.{Brings}
@@ -66,19 +66,19 @@ pub record ShowsPatch (patch : ChangedPieces) (changes : Changes) (again : Vec �
   pub at : changes.again ≡ vec_ptr again
   pub count : changes.again_len ≡ length patch.again
 
--- A call of the preview was accepted, as the preview says: the patch takes the old pieces to the new ones, and the units that it does not bring are held as
--- they were. The text that C was shown lies where it lay.
+-- A call of the preview was accepted, as the preview says: the patch takes the old pieces to the new ones, and the units that it does not bring read as
+-- they did. The text that C was shown lies where it lay.
 pub record Accepts (call : Call) (old : Session) (changes : Changes) (new : Session) : Type 0 where
   pub patch : ChangedPieces
-  pub outcome : (Ok patch, new.preview) ≡ outcome old.preview call (reading_of (Ok patch) new.preview)
-  pub pieces : Brings patch old.preview.pieces new.preview.pieces
-  pub units : Brings patch old.preview.units new.preview.units
+  pub outcome : (accepted patch, new.preview) ≡ outcome_of false old.preview call
+  pub pieces : Brings patch (pieces_of old.preview) (pieces_of new.preview)
+  pub units : Brings patch (readings_of old.preview) (readings_of new.preview)
   pub shown : ShowsPatch patch changes new.again
   pub text : new.text ≡ old.text
 
 -- it was refused for want of memory, or as the preview says
 abbrev pub Refuses : Call → Session → EditFault → Type 0
-Refuses call old fault = (fault ≡ NoMemory) ⊎ ((Err fault, old.preview) ≡ outcome old.preview call (reading_of (Err fault) old.preview))
+Refuses call old fault = (fault ≡ NoMemory) ⊎ ((answer_of (Err fault), old.preview) ≡ outcome_of (is_starved {T = ChangedPieces} (Err fault)) old.preview call)
 
 -- A call of the preview with the lines of a text. After each refusal all is as it was; there is no other end.
 abbrev pub ChangesBy : (List (List ℕ) → Call) → List ℕ → Session → Result Changes Refusal → Session → Type 0
@@ -95,12 +95,12 @@ ChangesBy call text old (Err LimitTooLarge) new = ⊥
 abbrev pub Edits : ℕ → ℕ → List ℕ → Session → Result Changes Refusal → Session → Type 0
 Edits at del = ChangesBy (call_of at del)
 
--- with a prelude no unit comes or goes
+-- with a prelude the lines stay, and no unit comes or goes
 pub record KeepsUnits (changes : Changes) (old new : Session) : Type 0 where
   pub first : changes.first ≡ 0
   pub removed : changes.removed ≡ 0
   pub added : changes.added ≡ 0
-  pub trees : map (λ (u : ReadUnit). u.unit) new.preview.units ≡ map (λ (u : ReadUnit). u.unit) old.preview.units
+  pub lines : new.preview.lines ≡ old.preview.lines
 
 abbrev pub SetsPrelude : List ℕ → Session → Result Changes Refusal → Session → Type 0
 SetsPrelude text old ended new = ChangesBy set_prelude text old ended new × IfOk ended (λ changes. KeepsUnits changes old new)
@@ -119,12 +119,12 @@ pub record Shows (bytes : List ℕ) (text : Text) (old new : Session) : Type 0 w
 -- the piece of a unit
 pub record ShowsUnit (unit : ℕ) (text : Text) (old new : Session) : Type 0 where
   pub piece : List ℕ
-  pub is : slice_get old.preview.pieces unit ≡ Some piece
+  pub is : slice_get (pieces_of old.preview) unit ≡ Some piece
   pub shown : Shows piece text old new
 
 abbrev pub ShowsPiece : ℕ → Session → Result Text Refusal → Session → Type 0
 ShowsPiece unit old (Ok text) new = ShowsUnit unit text old new
-ShowsPiece unit old (Err (NoSuchUnit units)) new = (slice_get old.preview.pieces unit ≡ None) × (units ≡ length old.preview.pieces) × (new ≡ old)
+ShowsPiece unit old (Err (NoSuchUnit units)) new = (slice_get (pieces_of old.preview) unit ≡ None) × (units ≡ length (pieces_of old.preview)) × (new ≡ old)
 ShowsPiece unit old (Err (Edit fault)) new = (fault ≡ NoMemory) × Keeps old new
 ShowsPiece unit old (Err (NotUtf8 valid)) new = ⊥
 ShowsPiece unit old (Err (Table fault)) new = ⊥
@@ -160,12 +160,11 @@ ShowsHtml source old (Err LimitTooLarge) new = ⊥
 
 -- the first line of a unit, if there is such a unit
 abbrev pub unit_begin : Session → ℕ → Option ℕ
-unit_begin held unit =
-    if nat_lt unit (length held.preview.units) then Some (first_line held.preview.head held.preview.units unit) else None
+unit_begin held unit = slice_get (begins held.preview.entities held.preview.lines) unit
 
 abbrev pub BeginsAt : ℕ → Session → Result ℕ Refusal → Session → Type 0
 BeginsAt unit old (Ok line) new = (unit_begin old unit ≡ Some line) × (new ≡ old)
-BeginsAt unit old (Err (NoSuchUnit units)) new = (unit_begin old unit ≡ None) × (units ≡ length old.preview.pieces) × (new ≡ old)
+BeginsAt unit old (Err (NoSuchUnit units)) new = (unit_begin old unit ≡ None) × (units ≡ length (pieces_of old.preview)) × (new ≡ old)
 BeginsAt unit old (Err (Edit fault)) new = ⊥
 BeginsAt unit old (Err (NotUtf8 valid)) new = ⊥
 BeginsAt unit old (Err (Table fault)) new = ⊥

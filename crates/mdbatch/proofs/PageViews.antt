@@ -11,7 +11,7 @@ use Rattle.blockspec.specs.Nesting.{first_too_deep}
 use Rattle.blocklaws.proofs.DocumentLaws.{first_of_both}
 use Rattle.inlinespec.specs.LabelMap.{target_in}
 use Rattle.viewspec.specs.LabelTable.{table, table_of, target_defined}
-use Rattle.viewspec.specs.Refusals.{Refusal, too_many_lines, too_large, nested_too_deep, inline_too_deep, inline_refusal, is_too_deep, nesting_refusal, size_refusal}
+use Rattle.viewspec.specs.Refusals.{Refusal, nested_too_deep, inline_too_deep, inline_refusal, is_too_deep, nesting_refusal}
 use Rattle.viewspec.specs.Refusals.{refusal as due_refusal}
 use Rattle.viewspec.specs.Setting.{Setting}
 use Rattle.viewspec.specs.View.{ViewedUnit, view, viewed}
@@ -19,24 +19,14 @@ use Rattle.viewlaws.proofs.Cuts.{no_units}
 use Rattle.viewlaws.proofs.LabelsLead.{units_lead}
 use Rattle.mdview.specs.declared.fault.EditFault.{EditFault}
 use Rattle.mdview.specs.declared.fault.EditFault.TheVariants.{OutOfRange, BreakInLine, TooManyLines, TooLarge, NestedTooDeep, InlineTooDeep, NoMemory, NotDefinitions}
-use Rattle.mdview.specs.Document.{size_of}
 use Rattle.mdview.specs.Edit.{refusal}
 use Rattle.mdview.specs.FaultReasons.{reason_of}
 use Rattle.mdview.specs.Preludes.{HeldPrelude, IsDefinedBy}
+use Rattle.mdview.proofs.DueReasons.{size_reason}
 use Rattle.mdbatch.specs.BatchHtml.{TextHtml, begin_in, deep_on_page, piece_in}
 use Rattle.mdbatch.specs.TextLabels.{page_table}
 use Rattle.mdbatch.specs.ViewHtml.{ViewHtml}
 use Rattle.mdbatch.proofs.UnitsWritten.{viewed_under}
-
--- ---- why lines are refused for their number or their bytes
-
-page_choice : (many large : Bool) → option_map reason_of (cond many (Some TooManyLines) (cond large (Some TooLarge) None)) ≡ cond many (Some too_many_lines) (cond large (Some too_large) None)
-page_choice true large = refl
-page_choice false true = refl
-page_choice false false = refl
-
-pub page_size : (lines : List (List ℕ)) → option_map reason_of (refusal lines) ≡ size_refusal lines
-page_size lines = page_choice (nat_lt 1000000 (length lines)) (nat_lt 16777216 (size_of lines))
 
 -- ---- where labels lead
 
@@ -87,7 +77,7 @@ module _ (setting : Setting) (lines : List (List ℕ)) (prelude : HeldPrelude) (
 
   page_sized : (size : Option EditFault) → refusal lines ≡ size
       → due_refusal setting (record { lines = lines; prelude = prelude.lines }) ≡ option_or (option_map reason_of size) (nesting_refusal setting (record { lines = lines; prelude = prelude.lines }))
-  page_sized size is = ap (λ s. option_or s (nesting_refusal setting (record { lines = lines; prelude = prelude.lines }))) (sym (page_size lines) ∙ ap (option_map reason_of) is)
+  page_sized size is = ap (λ s. option_or s (nesting_refusal setting (record { lines = lines; prelude = prelude.lines }))) (sym (size_reason lines) ∙ ap (option_map reason_of) is)
 
   -- What is said of a page is said of the view.
   pub page_viewed : (result : Result (String Global) EditFault) → TextHtml result setting prelude lines → ViewHtml result setting (record { lines = lines; prelude = prelude.lines })
@@ -97,7 +87,7 @@ module _ (setting : Setting) (lines : List (List ℕ)) (prelude : HeldPrelude) (
   page_viewed (Err TooLarge) size = page_sized (Some TooLarge) size
   page_viewed (Err (NestedTooDeep line)) (size, nested) = page_sized None size ∙ page_nested (Some line) nested
   page_viewed (Err (InlineTooDeep line)) (size, nested, deep) = page_sized None size ∙ page_nested None nested ∙ page_spans (Some line) deep
-  page_viewed (Err NoMemory) size = sym (page_size lines) ∙ ap (option_map reason_of) size
+  page_viewed (Err NoMemory) size = sym (size_reason lines) ∙ ap (option_map reason_of) size
   page_viewed (Err (OutOfRange count)) h = absurd h
   page_viewed (Err (BreakInLine index)) h = absurd h
   page_viewed (Err (NotDefinitions line)) h = absurd h

@@ -30,6 +30,16 @@ impl<'a, T: Weighed> Model for Iter<'a, T> {
 }
 
 impl<'a, T: Weighed + Drop> Iter<'a, T> {
+    /// The members of a list.
+    pub fn of(items: &'a [T]) -> Iter<'a, T>
+        ensures { result ≡ items.now }
+    {
+        Iter {
+            inside: items,
+            rest: &[],
+        }
+    }
+
     /// The members of some chunks from a place on.
     pub(crate) fn from(blocks: &'a [Block<T>], at: usize) -> Iter<'a, T>
         requires within { at ≤ length (joined blocks.now) }

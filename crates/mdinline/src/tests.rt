@@ -11,7 +11,7 @@ mod rows;
 
 ghost use Rattle.std.specs.Prelude.{◌≤◌};
 
-use self::rows::{read_text, read_within};
+use self::rows::{parsed_of, read_within};
 use crate::{Inline, InlineFault, LabelTable, Labels, read};
 use mdtext::{Entities, Label, Tally, Target, fold_label};
 use std::alloc::{AllocError, Global};
@@ -19,8 +19,9 @@ use std::error::Error;
 use std::test::Fail;
 
 fn target(alloc: Global, url: &str) -> Result<Target, AllocError> {
+    let url = String::from_str(alloc, url)?;
     Ok(Target {
-        url: String::from_str(alloc, url)?,
+        url,
         title: String::new(alloc),
     })
 }
@@ -186,7 +187,7 @@ fn unclosed_runs_are_text(rt: HostRuntime) -> Result<(), Fail> {
         "*", "_", "~", "[", "![", "](", "`", "<", "<!--", "<?", "&", "\\\\",
     ] {
         let text = nested(alloc, 500, mark, "", "")?;
-        let parsed = read_text(alloc, text.as_str(), &[])?.map_err(|_| "refused")?;
+        let parsed = parsed_of(alloc, text.as_str(), &[])?;
         assert_eq!(rt; parsed.tree().len(), 1, "at {mark}");
     }
     Ok(())

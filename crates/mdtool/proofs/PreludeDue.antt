@@ -1,35 +1,21 @@
 -- Why a prelude that is read alone is refused, in the words of the view.
-use Rattle.std.proofs.Common.{◌≡◌, ℕ, ◌+◌, List, [], ◌∷◌, map, Option, Some, None, Err, cond, option_map, refl, ap, sym, ◌∙◌}
+use Rattle.std.proofs.Common.{◌≡◌, ℕ, List, map, Option, Some, None, Err, option_map, refl, ap, sym, ◌∙◌}
 use Rattle.std.specs.Option.{option_or}
 use Rattle.mdtext.specs.Lines.{without_nul}
-use Rattle.viewspec.specs.Calls.{set_prelude, due_at_once, due_by_reading, line_ending_from}
-use Rattle.viewspec.specs.Refusals.{Refusal, break_in_line, not_definitions, size_refusal, undefining_line}
+use Rattle.viewspec.specs.Calls.{set_prelude, due_by_reading}
+use Rattle.viewspec.specs.Refusals.{Refusal, not_definitions, undefining_line}
 use Rattle.viewspec.specs.Setting.{Setting}
 use Rattle.mdview.specs.declared.fault.EditFault.{EditFault}
 use Rattle.mdview.specs.declared.fault.EditFault.TheVariants.{OutOfRange, BreakInLine, TooManyLines, TooLarge, NestedTooDeep, InlineTooDeep, NotDefinitions}
 use Rattle.mdview.specs.declared.fault.EditFault.TheVariants.{NoMemory as EditNoMemory}
 use Rattle.mdview.specs.Document.{nothing}
-use Rattle.mdview.specs.Edit.{has_line_ending, first_with_ending, due_of_prelude, due_of_text}
+use Rattle.mdview.specs.Edit.{due_of_prelude}
 use Rattle.mdview.specs.FaultReasons.{reason_of}
 use Rattle.mdview.specs.Preludes.{HeldPrelude, IsDefinedBy, IsUndefiningAt, RefusesPrelude}
-use Rattle.mdbatch.proofs.PageViews.{page_no_text, page_size}
+use Rattle.mdview.proofs.DueReasons.{prelude_reason}
+use Rattle.mdbatch.proofs.PageViews.{page_no_text}
 use Rattle.mdtool.specs.Convert.{IsPreludeOf, PreludeRead, prelude_due}
 use Rattle.mdtool.specs.ToolRefusals.{refusal_of}
-
--- ---- by its lines
-
-page_first_ending : (i : ℕ) (lines : List (List ℕ)) → first_with_ending i lines ≡ line_ending_from i lines
-page_first_ending i [] = refl
-page_first_ending i (line ∷ lines) = ap (cond (has_line_ending line) (Some i)) (page_first_ending (i + 1) lines)
-
-page_text_due : (first : Option ℕ) (lines : List (List ℕ)) → option_map reason_of (due_of_text first lines) ≡ option_or (option_map break_in_line first) (size_refusal lines)
-page_text_due (Some index) lines = refl
-page_text_due None lines = page_size lines
-
-page_at_once : (lines : List (List ℕ)) → option_map reason_of (due_of_prelude lines) ≡ due_at_once nothing (set_prelude lines)
-page_at_once lines =
-    page_text_due (first_with_ending 0 lines) (map without_nul lines)
-    ∙ ap (λ first. option_or (option_map break_in_line first) (size_refusal (map without_nul lines))) (page_first_ending 0 lines)
 
 -- ---- by what they are
 
@@ -47,7 +33,7 @@ module _ (setting : Setting) (lines : List (List ℕ)) where
   page_due_at_once : (due : Option EditFault) → due_of_prelude lines ≡ due
       → prelude_due setting lines ≡ option_or (option_map reason_of due) (option_map not_definitions (undefining_line setting (map without_nul lines)))
   page_due_at_once due is =
-      ap (λ o. option_or o (due_by_reading setting nothing (set_prelude lines))) (sym (page_at_once lines) ∙ ap (option_map reason_of) is)
+      ap (λ o. option_or o (due_by_reading setting nothing (set_prelude lines))) (sym (prelude_reason nothing lines) ∙ ap (option_map reason_of) is)
       ∙ ap (option_or (option_map reason_of due)) page_by_reading
 
   pub page_prelude_of : (held : HeldPrelude) → due_of_prelude lines ≡ None → held.lines ≡ map without_nul lines → IsDefinedBy setting.entities held

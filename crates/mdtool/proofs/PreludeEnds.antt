@@ -1,13 +1,13 @@
 -- The ends of a script whose prelude is read first.
-use Rattle.std.proofs.Common.{◌≡◌, ℕ, List, Option, Result, Ok, Err, refl, ap, sym, ◌∙◌, inl, inr}
+use Rattle.std.proofs.Common.{◌≡◌, ℕ, List, Option, Result, Ok, Err, refl, subst, inl, inr}
 use Rattle.viewspec.specs.Calls.{set_prelude}
 use Rattle.viewspec.specs.ChangedPieces.{ChangedPieces}
 use Rattle.mdview.specs.declared.fault.EditFault.{EditFault}
 use Rattle.mdview.specs.declared.fault.EditFault.TheVariants.{OutOfRange, BreakInLine, TooManyLines, TooLarge, NestedTooDeep, InlineTooDeep, NotDefinitions}
 use Rattle.mdview.specs.declared.fault.EditFault.TheVariants.{NoMemory as EditNoMemory}
 use Rattle.mdview.specs.Document.{Document}
-use Rattle.mdview.specs.Outcome.{outcome}
-use Rattle.mdview.specs.ReadingEnd.{ReadingEnd, reading_of}
+use Rattle.mdview.specs.Outcome.{answer_of, is_starved, outcome_of}
+use Rattle.mdview.proofs.Outcomes.{accepted_holds, accepted_stands, refused_due}
 use Rattle.mdtool.specs.declared.fault.ToolFault.{ToolFault}
 use Rattle.mdtool.specs.declared.fault.ToolFault.TheVariants.{Read, Write, Refused, BadCommand, Truncated, Table, NoMemory}
 use Rattle.mdtool.specs.PreludeSet.{PreludeSet, Sets}
@@ -61,26 +61,25 @@ no_out_failed U held (Table fault) old lines failures end = absurd end
 
 -- a preview's answer to a new prelude, as an engine tells it
 pub sets : (answer : Result ChangedPieces EditFault) (old new : Document) (lines : List (List ℕ)) (patch : ChangedPieces) → answer ≡ Ok patch
-    → ◌≡◌ {A = Result ChangedPieces EditFault × Document} (answer, new) (outcome old (set_prelude lines) (reading_of answer new)) → Sets old lines new
-sets answer old new lines patch is outcome_is = record {
-  reading = reading_of answer new;
-  patch = patch;
-  answer = sym (ap (λ p. p.0) outcome_is) ∙ is;
-  holds = sym (ap (λ p. p.1) outcome_is);
-}
+    → (answer_of answer, new) ≡ outcome_of (is_starved answer) old (set_prelude lines) → Sets old lines new
+sets answer old new lines patch is outcome_is =
+    let so = subst (λ (r : Result ChangedPieces EditFault). (answer_of r, new) ≡ outcome_of (is_starved r) old (set_prelude lines)) is outcome_is in record {
+      stands = accepted_stands old (set_prelude lines) patch new so;
+      holds = accepted_holds old (set_prelude lines) patch new so;
+    }
 
-refuses_set : {T : Type 0} (held : T → Document) (fault : EditFault) (old : Document) (lines : List (List ℕ)) (reading : ReadingEnd) → (outcome old (set_prelude lines) reading).0 ≡ Err fault
-    → PreludeSet held (Err (refusal_of fault)) old lines
-refuses_set held EditNoMemory old lines reading is = tt
-refuses_set held (OutOfRange n) old lines reading is = record { reading = reading; answer = is; refusal = refl }
-refuses_set held (BreakInLine index) old lines reading is = record { reading = reading; answer = is; refusal = refl }
-refuses_set held TooManyLines old lines reading is = record { reading = reading; answer = is; refusal = refl }
-refuses_set held TooLarge old lines reading is = record { reading = reading; answer = is; refusal = refl }
-refuses_set held (NestedTooDeep line) old lines reading is = record { reading = reading; answer = is; refusal = refl }
-refuses_set held (InlineTooDeep line) old lines reading is = record { reading = reading; answer = is; refusal = refl }
-refuses_set held (NotDefinitions line) old lines reading is = record { reading = reading; answer = is; refusal = refl }
+refuses_set : {T : Type 0} (held : T → Document) (fault : EditFault) (old new : Document) (lines : List (List ℕ))
+    → (answer_of (Err fault), new) ≡ outcome_of (is_starved {T = ChangedPieces} (Err fault)) old (set_prelude lines) → PreludeSet held (Err (refusal_of fault)) old lines
+refuses_set held EditNoMemory old new lines is = tt
+refuses_set held (OutOfRange n) old new lines is = refused_due old (set_prelude lines) (OutOfRange n) new is
+refuses_set held (BreakInLine index) old new lines is = refused_due old (set_prelude lines) (BreakInLine index) new is
+refuses_set held TooManyLines old new lines is = refused_due old (set_prelude lines) TooManyLines new is
+refuses_set held TooLarge old new lines is = refused_due old (set_prelude lines) TooLarge new is
+refuses_set held (NestedTooDeep line) old new lines is = refused_due old (set_prelude lines) (NestedTooDeep line) new is
+refuses_set held (InlineTooDeep line) old new lines is = refused_due old (set_prelude lines) (InlineTooDeep line) new is
+refuses_set held (NotDefinitions line) old new lines is = refused_due old (set_prelude lines) (NotDefinitions line) new is
 
 pub refuses_prelude : {T : Type 0} (held : T → Document) (answer : Result ChangedPieces EditFault) (fault : EditFault) (old new : Document) (lines : List (List ℕ)) → answer ≡ Err fault
-    → ◌≡◌ {A = Result ChangedPieces EditFault × Document} (answer, new) (outcome old (set_prelude lines) (reading_of answer new)) → PreludeSet held (Err (refusal_of fault)) old lines
+    → (answer_of answer, new) ≡ outcome_of (is_starved answer) old (set_prelude lines) → PreludeSet held (Err (refusal_of fault)) old lines
 refuses_prelude held answer fault old new lines is outcome_is =
-    refuses_set held fault old lines (reading_of answer new) (sym (ap (λ p. p.0) outcome_is) ∙ is)
+    refuses_set held fault old new lines (subst (λ (r : Result ChangedPieces EditFault). (answer_of r, new) ≡ outcome_of (is_starved r) old (set_prelude lines)) is outcome_is)

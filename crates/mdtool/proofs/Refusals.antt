@@ -2,11 +2,11 @@
 use Rattle.std.proofs.Common.{◌≡◌, refl}
 use Rattle.mdview.specs.declared.fault.EditFault.{EditFault}
 use Rattle.mdview.specs.declared.fault.EditFault.TheVariants.{OutOfRange, BreakInLine, TooManyLines, TooLarge, NestedTooDeep, InlineTooDeep, NoMemory, NotDefinitions}
-use Rattle.mdtool.specs.RefusalText.{refused_text}
+use Rattle.mdtool.specs.RefusalText.{fault_text}
 use Rattle.mdtool.specs.Endings.{refusal_reason_of}
 
 -- each but want of memory by its name and number
-pub refusal_is : (fault : EditFault) → (fault ≡ NoMemory → ⊥) → refusal_reason_of fault ≡ refused_text fault
+pub refusal_is : (fault : EditFault) → (fault ≡ NoMemory → ⊥) → refusal_reason_of fault ≡ fault_text fault
 refusal_is NoMemory other = absurd (other refl)
 refusal_is (OutOfRange lines) other = refl
 refusal_is (BreakInLine index) other = refl

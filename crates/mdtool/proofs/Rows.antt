@@ -1,40 +1,20 @@
 -- The definitions at worked texts, by computation.
-use Rattle.std.proofs.Common.{◌≡◌, ℕ, List, [], ◌∷◌, Some, None, refl, codes}
+use Rattle.std.proofs.Common.{◌≡◌, ℕ, List, [], ◌∷◌, Some, None, true, false, refl, codes}
 use Rattle.std.specs.Fmt.{digits}
-use Rattle.mdtext.specs.Escaped.{escaped_byte}
-use Rattle.inlinespec.specs.InlineTree.{Inlines, no_inlines, inline, text, hard}
-use Rattle.blockspec.specs.BlockTree.{Block, block, no_blocks, heading, paragraph}
 use Rattle.mdhtml.specs.Limits.{plain}
-use Rattle.mdhtml.specs.BlockHtml.{fresh}
-use Rattle.mdview.specs.HeldUnit.{ReadUnit, unit_piece}
-use Rattle.mdview.specs.ReadingEnd.{read, nested, undefining, starved}
+use Rattle.viewspec.specs.Calls.{edit}
+use Rattle.viewspec.specs.Outcome.{accepted, refused}
+use Rattle.viewspec.specs.Refusals.{nested_too_deep, not_definitions}
 use Rattle.mdview.specs.Document.{empty}
-use Rattle.viewspec.specs.Calls.{edit, set_prelude}
-use Rattle.mdtool.specs.Commands.{Html, Change, HtmlHead, PreludeHead, EditHead, number, split_number, head_of}
-use Rattle.mdtool.specs.Replies.{ScriptTurn, replies}
-
--- a unit of one block with one text
-unit_of : Block → List ℕ → Inlines → ReadUnit
-unit_of b bytes tree = record {
-  lines = 1;
-  unit = record { blocks = block b no_blocks; definitions = []; texts = bytes ∷ [] };
-  readings = record { tree = tree; asked = [] } ∷ [];
-}
+use Rattle.mdtool.specs.Commands.{Change, HtmlHead, PreludeHead, EditHead, number, split_number, head_of}
+use Rattle.mdtool.specs.Replies.{ScriptTurn, edit_reply, html_reply, replies}
 
 -- a heading, and a paragraph with a hard line break
-title : ReadUnit
-title = unit_of (heading 1 0) (codes "a") (inline (text (codes "a")) no_inlines)
+title : List ℕ
+title = codes "<h1>a</h1>\n"
 
-broken : ReadUnit
-broken = unit_of (paragraph 0 None) (codes "b  \nc") (inline (text (codes "b")) (inline hard (inline (text (codes "c")) no_inlines)))
-
-title_piece : unit_piece plain title ≡ codes "<h1>a</h1>\n"
-unfolding title unit_of fresh escaped_byte
-title_piece = refl
-
-broken_piece : unit_piece plain broken ≡ codes "<p>b<br />\nc</p>\n"
-unfolding broken unit_of fresh escaped_byte
-broken_piece = refl
+broken : List ℕ
+broken = codes "<p>b<br />\nc</p>\n"
 
 -- what a command's first line says
 head_html : head_of (codes "html") ≡ Some HtmlHead
@@ -65,16 +45,35 @@ head_html_space : head_of (codes "html ") ≡ None
 unfolding head_of
 head_html_space = refl
 
--- a script's replies, where its texts read so
-edits : List ScriptTurn
-edits = record { command = Change (edit 0 0 (codes "# a" ∷ codes "b  " ∷ codes "c" ∷ [])); reading = read (record { first = 0; removed = 0; added = 2; again = [] }) 0 (title ∷ broken ∷ []) [] }
-    ∷ record { command = Change (edit 0 1 []); reading = read (record { first = 0; removed = 1; added = 0; again = [] }) 0 (broken ∷ []) [] }
-    ∷ record { command = Change (edit 0 0 (codes ">" ∷ [])); reading = nested 0 }
-    ∷ record { command = Change (edit 9 0 []); reading = starved }
-    ∷ record { command = Change (set_prelude (codes "x" ∷ [])); reading = undefining 0 }
-    ∷ record { command = Change (set_prelude (codes "[a]: /u" ∷ [])); reading = read (record { first = 0; removed = 0; added = 0; again = 0 ∷ [] }) 0 (broken ∷ []) [] }
-    ∷ record { command = Html; reading = starved } ∷ []
+-- what an edit, or a new prelude, is answered that left such pieces
+two_added : edit_reply (accepted (record { first = 0; removed = 0; added = 2; again = [] })) (title ∷ broken ∷ []) ≡ codes "ok 0 0 2 0\npiece 0 11\n<h1>a</h1>\npiece 1 17\n<p>b<br />\nc</p>\n"
+unfolding title broken digits
+two_added = refl
 
-first_replies : replies (empty [] plain) edits ≡ codes "ok 0 0 2 0\npiece 0 11\n<h1>a</h1>\npiece 1 17\n<p>b<br />\nc</p>\nok 0 1 0 0\nrefused NestedTooDeep 0\nrefused OutOfRange 2\nrefused NotDefinitions 0\nok 0 0 0 1\npiece 0 17\n<p>b<br />\nc</p>\nhtml 17\n<p>b<br />\nc</p>\n"
-unfolding edits title broken unit_of replies fresh escaped_byte digits
-first_replies = refl
+one_removed : edit_reply (accepted (record { first = 0; removed = 1; added = 0; again = [] })) (broken ∷ []) ≡ codes "ok 0 1 0 0\n"
+unfolding broken digits
+one_removed = refl
+
+one_again : edit_reply (accepted (record { first = 0; removed = 0; added = 0; again = 0 ∷ [] })) (broken ∷ []) ≡ codes "ok 0 0 0 1\npiece 0 17\n<p>b<br />\nc</p>\n"
+unfolding broken digits
+one_again = refl
+
+too_deep : edit_reply (refused (nested_too_deep 12)) (broken ∷ []) ≡ codes "refused NestedTooDeep 12\n"
+unfolding digits
+too_deep = refl
+
+no_definitions : edit_reply (refused (not_definitions 0)) [] ≡ codes "refused NotDefinitions 0\n"
+unfolding digits
+no_definitions = refl
+
+all_pieces : html_reply (title ∷ broken ∷ []) ≡ codes "html 28\n<h1>a</h1>\n<p>b<br />\nc</p>\n"
+unfolding title broken digits
+all_pieces = refl
+
+-- the replies of a script whose edits are refused: one reaches past the text, and for one there is no memory
+refusals : List ScriptTurn
+refusals = record { command = Change (edit 9 0 []); starved = false } ∷ record { command = Change (edit 0 0 (codes "a" ∷ [])); starved = true } ∷ []
+
+refused_replies : replies (empty [] plain) refusals ≡ codes "refused OutOfRange 0\nrefused NoMemory 0\n"
+unfolding refusals replies digits
+refused_replies = refl

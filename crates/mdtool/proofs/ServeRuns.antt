@@ -5,7 +5,6 @@ use Rattle.std.proofs.Math.Seq.{drop-append_seam}
 use Rattle.mdtool.specs.Bytes.{Takes, AtEnd, Gains, GainsFront}
 use Rattle.mdview.specs.Document.{Document}
 use Rattle.mdtool.specs.Commands.{Command, Stop, Leads, first_command, script_lines, capped}
-use Rattle.mdview.specs.ReadingEnd.{ReadingEnd}
 use Rattle.mdtool.specs.Replies.{ScriptTurn, replies, reply, held_behind}
 use Rattle.mdtool.specs.Pending.{Pending, MayFollow, Reads, Draws, fresh}
 use Rattle.mdtool.specs.Steps.{StopsAt, ReadsCommand}
@@ -16,18 +15,18 @@ use Rattle.mdtool.proofs.Readings.{reads_nothing, reads_on, draws_nothing}
 -- what is held behind these turns
 abbrev pub held_after : Document → List ScriptTurn → Document
 held_after old [] = old
-held_after old (turn ∷ turns) = held_after (held_behind old turn.command turn.reading) turns
+held_after old (turn ∷ turns) = held_after (held_behind old turn.command turn.starved) turns
 
-replies_more : (old : Document) (turns : List ScriptTurn) (turn : ScriptTurn) → replies old (turns ++ turn ∷ []) ≡ replies old turns ++ reply (held_after old turns) turn.command turn.reading
+replies_more : (old : Document) (turns : List ScriptTurn) (turn : ScriptTurn) → replies old (turns ++ turn ∷ []) ≡ replies old turns ++ reply (held_after old turns) turn.command turn.starved
 unfolding replies
-replies_more old [] turn = append-nil (reply old turn.command turn.reading)
+replies_more old [] turn = append-nil (reply old turn.command turn.starved)
 replies_more old (first ∷ turns) turn =
-    ap (λ bs. reply old first.command first.reading ++ bs) (replies_more (held_behind old first.command first.reading) turns turn)
-    ∙ sym (append_assoc (reply old first.command first.reading) (replies (held_behind old first.command first.reading) turns) (reply (held_after (held_behind old first.command first.reading) turns) turn.command turn.reading))
+    ap (λ bs. reply old first.command first.starved ++ bs) (replies_more (held_behind old first.command first.starved) turns turn)
+    ∙ sym (append_assoc (reply old first.command first.starved) (replies (held_behind old first.command first.starved) turns) (reply (held_after (held_behind old first.command first.starved) turns) turn.command turn.starved))
 
-held_more : (old : Document) (turns : List ScriptTurn) (turn : ScriptTurn) → held_after old (turns ++ turn ∷ []) ≡ held_behind (held_after old turns) turn.command turn.reading
+held_more : (old : Document) (turns : List ScriptTurn) (turn : ScriptTurn) → held_after old (turns ++ turn ∷ []) ≡ held_behind (held_after old turns) turn.command turn.starved
 held_more old [] turn = refl
-held_more old (first ∷ turns) turn = held_more (held_behind old first.command first.reading) turns turn
+held_more old (first ∷ turns) turn = held_more (held_behind old first.command first.starved) turns turn
 
 leads_more : (commands : List Command) (n : ℕ) (lines : List (List ℕ)) (n' : ℕ) (lines' : List (List ℕ)) (command : Command) (size : ℕ)
     → Leads n lines commands n' lines' → first_command lines' ≡ Some (command, size)
@@ -89,21 +88,21 @@ progress_more old a b c script script' turns turn progress read = record {
 }
 
 -- the reply to one more command
-next_reply : (old held : Document) (turns : List ScriptTurn) (command : Command) (reading : ReadingEnd) (bytes : List ℕ) → held ≡ held_after old turns → bytes ≡ reply held command reading
-    → replies old (turns ++ (record { command = command; reading = reading }) ∷ []) ≡ replies old turns ++ bytes
-next_reply old held turns command reading bytes holds is =
-    replies_more old turns (record { command = command; reading = reading })
-    ∙ ap (λ bs. replies old turns ++ bs) (sym (is ∙ ap (λ (d : Document). reply d command reading) holds))
+next_reply : (old held : Document) (turns : List ScriptTurn) (command : Command) (starved : Bool) (bytes : List ℕ) → held ≡ held_after old turns → bytes ≡ reply held command starved
+    → replies old (turns ++ (record { command = command; starved = starved }) ∷ []) ≡ replies old turns ++ bytes
+next_reply old held turns command starved bytes holds is =
+    replies_more old turns (record { command = command; starved = starved })
+    ∙ ap (λ bs. replies old turns ++ bs) (sym (is ∙ ap (λ (d : Document). reply d command starved) holds))
 
 pub run_more : (old : Document) (a b c : Option (List ℕ)) (script script' : Pending) (w w' w'' : Option (List ℕ)) (held held' : Document) (command : Command) (bytes : List ℕ)
     → Run old a b script w w' held → ReadsCommand b script c script' command → Replied held command bytes held' → Gains w' bytes w'' → Run old a c script' w w'' held'
 run_more old a b c script script' w w' w'' held held' command bytes run read replied gains =
-    let turn : ScriptTurn = record { command = command; reading = replied.reading } in
+    let turn : ScriptTurn = record { command = command; starved = replied.starved } in
     record {
       turns = run.turns ++ turn ∷ [];
       progress = progress_more old a b c script script' run.turns turn run.progress read;
-      holds = replied.holds ∙ ap (λ (d : Document). held_behind d command replied.reading) run.holds ∙ sym (held_more old run.turns turn);
-      replied = subst (λ (bs : List ℕ). Gains w bs w'') (sym (next_reply old held run.turns command replied.reading bytes run.holds replied.bytes_are))
+      holds = replied.holds ∙ ap (λ (d : Document). held_behind d command replied.starved) run.holds ∙ sym (held_more old run.turns turn);
+      replied = subst (λ (bs : List ℕ). Gains w bs w'') (sym (next_reply old held run.turns command replied.starved bytes run.holds replied.bytes_are))
           (gains_more w w' w'' (replies old run.turns) bytes run.replied gains);
     }
 
@@ -171,9 +170,9 @@ run_starves old a b c script w w' held run draws =
 pub run_breaks : (old : Document) (a b c : Option (List ℕ)) (script script' : Pending) (w w' w'' : Option (List ℕ)) (held held' : Document) (command : Command) (bytes : List ℕ)
     → Run old a b script w w' held → ReadsCommand b script c script' command → Replied held command bytes held' → GainsFront w' bytes w'' → Broken old a c w w''
 run_breaks old a b c script script' w w' w'' held held' command bytes run read replied front =
-    let turn : ScriptTurn = record { command = command; reading = replied.reading } in
+    let turn : ScriptTurn = record { command = command; starved = replied.starved } in
     let part : bytes ≡ front.0 ++ front.1 = front.2 in
-    let all = next_reply old held run.turns command replied.reading bytes run.holds replied.bytes_are in
+    let all = next_reply old held run.turns command replied.starved bytes run.holds replied.bytes_are in
     breaks old a c c script' (run.turns ++ turn ∷ []) w w'' (progress_more old a b c script script' run.turns turn run.progress read)
     (draws_nothing c script'.is_ended) (
       replies old run.turns ++ front.0,

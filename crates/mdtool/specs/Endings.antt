@@ -1,5 +1,5 @@
 -- What a program says when it stops, and its status.
-use Rattle.std.specs.Prelude.{◌≡◌, ℕ, List, [], ◌∷◌, ◌++◌, codes, decimal, string_bytes}
+use Rattle.std.specs.Prelude.{◌≡◌, ℕ, List, [], ◌∷◌, ◌++◌, Result, Ok, Err, codes, decimal, string_bytes}
 use Rattle.mdview.specs.declared.fault.EditFault.{EditFault}
 use Rattle.mdview.specs.declared.fault.EditFault.TheVariants.{OutOfRange, BreakInLine, TooManyLines, TooLarge, NestedTooDeep, InlineTooDeep, NotDefinitions}
 use Rattle.mdview.specs.declared.fault.EditFault.TheVariants.{NoMemory as EditNoMemory}
@@ -13,7 +13,7 @@ use Rattle.mdtool.specs.declared.fault.WordFault.TheVariants.{Help, NotUnderstoo
 use Rattle.mdtool.specs.declared.fault.WordFault.TheVariants.{NoMemory as WordNoMemory}
 use Rattle.mdtool.specs.declared.fault.Stop.{Stop}
 use Rattle.mdtool.specs.declared.fault.Stop.TheVariants.{Words, NotOpened, Tool}
-use Rattle.mdtool.specs.RefusalText.{refused_text}
+use Rattle.mdtool.specs.RefusalText.{fault_text}
 
 abbrev pub no_memory : List ℕ
 no_memory = codes "no memory"
@@ -21,13 +21,13 @@ no_memory = codes "no memory"
 -- want of memory is no refusal of the text or the prelude
 abbrev pub refusal_reason_of : EditFault → List ℕ
 refusal_reason_of EditNoMemory = no_memory
-refusal_reason_of (OutOfRange lines) = refused_text (OutOfRange lines)
-refusal_reason_of (BreakInLine index) = refused_text (BreakInLine index)
-refusal_reason_of TooManyLines = refused_text TooManyLines
-refusal_reason_of TooLarge = refused_text TooLarge
-refusal_reason_of (NestedTooDeep line) = refused_text (NestedTooDeep line)
-refusal_reason_of (InlineTooDeep line) = refused_text (InlineTooDeep line)
-refusal_reason_of (NotDefinitions line) = refused_text (NotDefinitions line)
+refusal_reason_of (OutOfRange lines) = fault_text (OutOfRange lines)
+refusal_reason_of (BreakInLine index) = fault_text (BreakInLine index)
+refusal_reason_of TooManyLines = fault_text TooManyLines
+refusal_reason_of TooLarge = fault_text TooLarge
+refusal_reason_of (NestedTooDeep line) = fault_text (NestedTooDeep line)
+refusal_reason_of (InlineTooDeep line) = fault_text (InlineTooDeep line)
+refusal_reason_of (NotDefinitions line) = fault_text (NotDefinitions line)
 
 abbrev pub tool_reason_of : ToolFault → List ℕ
 tool_reason_of Read = codes "read failed"
@@ -78,6 +78,11 @@ status_of (Words NotUnderstood) = 2
 status_of (Words WordNoMemory) = 1
 status_of (NotOpened name) = 1
 status_of (Tool fault) = tool_status_of fault
+
+-- the status of a program that came to its end or stopped so
+abbrev pub end_status : {T : Type 0} → Result T Stop → ℕ
+end_status (Ok done) = 0
+end_status (Err stop) = status_of stop
 
 -- a file of this name was not opened, or there was no memory to say so
 abbrev pub IsNotOpened : List ℕ → Stop → Type 0

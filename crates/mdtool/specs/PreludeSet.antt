@@ -1,27 +1,20 @@
 -- A prelude that is set before anything is read.
-use Rattle.std.specs.Prelude.{◌≡◌, ℕ, List, Option, Result, Ok, Err}
-use Rattle.viewspec.specs.Calls.{set_prelude}
-use Rattle.viewspec.specs.ChangedPieces.{ChangedPieces}
+use Rattle.std.specs.Prelude.{◌≡◌, ℕ, List, Option, Some, None, Result, Ok, Err}
+use Rattle.viewspec.specs.Calls.{due, put, set_prelude}
 use Rattle.mdtool.specs.declared.fault.ToolFault.{ToolFault}
 use Rattle.mdtool.specs.declared.fault.ToolFault.TheVariants.{Read, Write, Refused, BadCommand, Truncated, Table, NoMemory}
 use Rattle.mdview.specs.declared.fault.EditFault.{EditFault}
-use Rattle.mdview.specs.Document.{Document}
-use Rattle.mdview.specs.Outcome.{outcome}
-use Rattle.mdview.specs.ReadingEnd.{ReadingEnd}
-use Rattle.mdtool.specs.ToolRefusals.{refusal_of}
+use Rattle.mdview.specs.Document.{Document, document, setting_of, source_of}
+use Rattle.mdview.specs.FaultReasons.{reason_of}
 
--- these lines are accepted as the prelude, and this is held then, by some reading of them
+-- these lines are not refused as the prelude, and this is held then
 pub record Sets (empty : Document) (lines : List (List ℕ)) (held : Document) : Type 0 where
-  pub reading : ReadingEnd
-  pub patch : ChangedPieces
-  pub answer : (outcome empty (set_prelude lines) reading).0 ≡ Ok patch
-  pub holds : (outcome empty (set_prelude lines) reading).1 ≡ held
+  pub stands : due (setting_of empty) (source_of empty) (set_prelude lines) ≡ None
+  pub holds : held ≡ document (setting_of empty) (put (source_of empty) (set_prelude lines))
 
--- these lines are refused so as the prelude, by some reading of them
-pub record RefusesLines (empty : Document) (lines : List (List ℕ)) (fault : EditFault) : Type 0 where
-  pub reading : ReadingEnd
-  pub answer : (outcome empty (set_prelude lines) reading).0 ≡ Err fault
-  pub refusal : refusal_of fault ≡ Refused fault
+-- these lines are refused so as the prelude
+abbrev pub RefusesLines : (empty : Document) (lines : List (List ℕ)) → EditFault → Type 0
+RefusesLines empty lines fault = due (setting_of empty) (source_of empty) (set_prelude lines) ≡ Some (reason_of fault)
 
 -- what each end of the setting of a prelude says, where an answer is seen as what is held; there is no other
 abbrev pub PreludeSet : {T : Type 0} → (T → Document) → Result T ToolFault → Document → List (List ℕ) → Type 0

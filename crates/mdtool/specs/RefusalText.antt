@@ -1,7 +1,13 @@
 -- A refusal as replies and error lines have it.
 use Rattle.std.specs.Prelude.{ℕ, List, ◌∷◌, ◌++◌, codes, decimal}
+use Rattle.viewspec.specs.Refusals.{Refusal}
 use Rattle.mdview.specs.declared.fault.EditFault.{EditFault}
 use Rattle.mdview.specs.FaultNames.{name_of, number_of}
+use Rattle.mdview.specs.FaultReasons.{reason_of}
 
-abbrev pub refused_text : EditFault → List ℕ
-refused_text fault = codes "refused " ++ name_of fault ++ 32 ∷ decimal (number_of fault)
+abbrev pub refused_text : Refusal → List ℕ
+refused_text reason = codes "refused " ++ name_of reason ++ 32 ∷ decimal (number_of reason)
+
+-- the same of a fault
+abbrev pub fault_text : EditFault → List ℕ
+fault_text fault = refused_text (reason_of fault)

@@ -1,13 +1,13 @@
 -- The replies to the commands of a script.
-use Rattle.std.specs.Prelude.{ℕ, List, [], ◌∷◌, ◌++◌, length, codes, decimal, Result, Ok, Err}
+use Rattle.std.specs.Prelude.{ℕ, Bool, List, [], ◌∷◌, ◌++◌, length, codes, decimal}
 use Rattle.std.specs.List.{concat}
-use Rattle.mdview.specs.declared.fault.EditFault.{EditFault}
 use Rattle.mdtool.specs.RefusalText.{refused_text}
 use Rattle.viewspec.specs.ChangedPieces.{ChangedPieces}
+use Rattle.viewspec.specs.Outcome.{Answer, accepted, refused}
+use Rattle.viewspec.specs.Refusals.{Refusal}
 use Rattle.viewspec.specs.Patch.{brought}
-use Rattle.mdview.specs.Document.{Document}
-use Rattle.mdview.specs.Outcome.{outcome}
-use Rattle.mdview.specs.ReadingEnd.{ReadingEnd}
+use Rattle.mdview.specs.Document.{Document, pieces_of}
+use Rattle.mdview.specs.Outcome.{outcome_of}
 use Rattle.mdtool.specs.Commands.{Command, Html, Change}
 
 -- a piece with its number and its length
@@ -22,33 +22,33 @@ pieces_reply (piece ∷ pieces) = piece_reply piece.0 piece.1 ++ pieces_reply pi
 abbrev pub patch_line : ChangedPieces → List ℕ
 patch_line patch = codes "ok " ++ decimal patch.first ++ 32 ∷ decimal patch.removed ++ 32 ∷ decimal patch.added ++ 32 ∷ decimal (length patch.again) ++ 10 ∷ []
 
-abbrev pub refused_reply : EditFault → List ℕ
-refused_reply fault = refused_text fault ++ 10 ∷ []
+abbrev pub refused_reply : Refusal → List ℕ
+refused_reply reason = refused_text reason ++ 10 ∷ []
 
 -- the reply to an edit, or a new prelude, that left these pieces
-abbrev pub edit_reply : Result ChangedPieces EditFault → List (List ℕ) → List ℕ
-edit_reply (Ok patch) pieces = patch_line patch ++ pieces_reply (brought patch 0 pieces)
-edit_reply (Err fault) pieces = refused_reply fault
+abbrev pub edit_reply : Answer → List (List ℕ) → List ℕ
+edit_reply (accepted patch) pieces = patch_line patch ++ pieces_reply (brought patch 0 pieces)
+edit_reply (refused reason) pieces = refused_reply reason
 
 -- the reply to `html`
 abbrev pub html_reply : List (List ℕ) → List ℕ
 html_reply pieces = codes "html " ++ decimal (length (concat pieces)) ++ 10 ∷ concat pieces
 
--- a command, and how the reading of the text ends that the edit would leave which it is
+-- a command, and whether memory was refused for it
 pub record ScriptTurn : Type 0 where
   pub command : Command
-  pub reading : ReadingEnd
+  pub starved : Bool
 
--- what is held behind a command
-abbrev pub held_behind : Document → Command → ReadingEnd → Document
-held_behind old Html reading = old
-held_behind old (Change call) reading = (outcome old call reading).1
+-- the preview behind a command
+abbrev pub held_behind : Document → Command → (starved : Bool) → Document
+held_behind old Html starved = old
+held_behind old (Change call) starved = (outcome_of starved old call).1
 
-abbrev pub reply : Document → Command → ReadingEnd → List ℕ
-reply old Html reading = html_reply old.pieces
-reply old (Change call) reading = edit_reply ((outcome old call reading).0) ((outcome old call reading).1.pieces)
+abbrev pub reply : Document → Command → (starved : Bool) → List ℕ
+reply old Html starved = html_reply (pieces_of old)
+reply old (Change call) starved = edit_reply ((outcome_of starved old call).0) (pieces_of ((outcome_of starved old call).1))
 
 -- the replies to the commands, one after the other
 unfoldable pub replies : Document → List ScriptTurn → List ℕ
 replies old [] = []
-replies old (turn ∷ turns) = reply old turn.command turn.reading ++ replies (held_behind old turn.command turn.reading) turns
+replies old (turn ∷ turns) = reply old turn.command turn.starved ++ replies (held_behind old turn.command turn.starved) turns

@@ -5,7 +5,6 @@ use Rattle.mdtool.specs.declared.fault.ToolFault.TheVariants.{Read, Write, Refus
 use Rattle.mdtool.specs.Bytes.{Takes, AtEnd, Gains, GainsFront}
 use Rattle.mdview.specs.Document.{Document}
 use Rattle.mdtool.specs.Commands.{Command, Stop, Done, Open, Bad, Short, Script, Leads, script_lines}
-use Rattle.mdview.specs.ReadingEnd.{ReadingEnd}
 use Rattle.mdtool.specs.PreludeSet.{Beside, PreludeRefused}
 use Rattle.mdtool.specs.Replies.{ScriptTurn, replies, reply, held_behind}
 
@@ -68,8 +67,8 @@ out_failures_after (Err (Truncated line)) failures = failures
 out_failures_after (Err (Table fault)) failures = failures
 out_failures_after (Err NoMemory) failures = failures
 
--- a command was answered so, however the reading of its text ended
+-- a command was answered so, memory refused for it or not
 pub record Replied (old : Document) (command : Command) (bytes : List ℕ) (new : Document) : Type 0 where
-  pub reading : ReadingEnd
-  pub bytes_are : bytes ≡ reply old command reading
-  pub holds : new ≡ held_behind old command reading
+  pub starved : Bool
+  pub bytes_are : bytes ≡ reply old command starved
+  pub holds : new ≡ held_behind old command starved

@@ -1,6 +1,8 @@
 //! Answers a script of edits and preludes with what was read for each, so that it can be compared with what an edit may read.
-ghost use Rattle.std.specs.Prelude.{◌-◌, ◌^◌, ◌<◌};
+ghost use Rattle.std.specs.Prelude.{◌≡◌, ◌-◌, ◌^◌, ◌<◌};
 ghost use Rattle.mdhtml.specs.Limits.{HasLimits};
+ghost use Rattle.mdtool.specs.Serve.{out_failures_after};
+ghost use Rattle.mdtool.specs.Steps.{failures_after};
 
 use crate::command::Command;
 use crate::device::{Feed, Out};
@@ -24,6 +26,9 @@ pub fn serve_counts<R: Feed, W: Out>(
     requires limits { HasLimits options }
     requires feed { R.failures feed.old < 2 ^ 64 - 1 }
     requires out { W.failures out.old < 2 ^ 64 - 1 }
+    // `Read` is answered where the feed failed, and `Write` where the out did.
+    ensures feed { R.failures feed.new ≡ failures_after result (R.failures feed.old) }
+    ensures out { W.failures out.new ≡ out_failures_after result (W.failures out.old) }
 {
     let mut preview = preview_with(alloc, entities, options, prelude)?;
     let mut script = Script::new(alloc);

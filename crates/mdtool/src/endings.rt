@@ -3,7 +3,7 @@ ghost use Rattle.std.specs.Prelude.{◌≡◌, ◌-◌, ◌^◌, ◌<◌, ◌++�
 ghost use Rattle.std.specs.Result.{is_ok};
 ghost use Rattle.mdtool.specs.Bytes.{Gains, GainsFront, Puts};
 ghost use Rattle.mdtool.specs.Endings.{text_of, line_of, reason_of, tool_reason_of, refusal_reason_of, words_reason_of, status_of};
-ghost use Rattle.mdtool.specs.RefusalText.{refused_text};
+ghost use Rattle.mdtool.specs.RefusalText.{fault_text};
 
 use crate::device::{DeviceFault, Out, put_all};
 use crate::fault::{Stop, ToolFault, WordFault};
@@ -103,7 +103,7 @@ fn put_refusal<W: Out>(fault: &EditFault, err: &mut W) -> Result<(), DeviceFault
 /// Writes a refusal with its name and number.
 fn put_refused<W: Out>(fault: &EditFault, err: &mut W) -> Result<(), DeviceFault>
     requires { W.failures err.old < 2 ^ 64 - 1 }
-    ensures { Puts (W.written err.old) (W.failures err.old) (refused_text fault.now) (is_ok result) (W.written err.new) (W.failures err.new) }
+    ensures { Puts (W.written err.old) (W.failures err.old) (fault_text fault.now) (is_ok result) (W.written err.new) (W.failures err.new) }
 {
     put_all(err, b"refused ")?;
     put_all(err, fault.name().as_bytes())?;

@@ -1,7 +1,9 @@
 //! What the programs do around their engines: words, files, endings.
-ghost use Rattle.std.specs.Prelude.{◌≡◌, IfErr, IfOk};
+ghost use Rattle.std.specs.Prelude.{◌≡◌, [], IfErr, IfOk, None};
+ghost use Rattle.std.specs.Process.{exit_status};
 ghost use Rattle.mdhtml.specs.Limits.{HasLimits};
-ghost use Rattle.mdtool.specs.Endings.{IsNotOpened};
+ghost use Rattle.mdtext.specs.EntityTable.{builtin_table};
+ghost use Rattle.mdtool.specs.Endings.{IsNotOpened, end_status, status_of};
 
 use crate::device::Feed;
 use crate::endings::ending;
@@ -65,7 +67,9 @@ fn renamed<'a>(
 }
 
 /// The entities of the file that the words name, or the usual ones.
-pub fn entities_of(rt: &HostRuntime, words: &Words) -> Result<Entities, Stop> {
+pub fn entities_of(rt: &HostRuntime, words: &Words) -> Result<Entities, Stop>
+    ensures { IfOk result (λ entities. words.now.entities ≡ None → entities ≡ builtin_table) }
+{
     match &words.entities {
         Some(name) => {
             let mut feed = opened(rt, name)?;
@@ -76,7 +80,9 @@ pub fn entities_of(rt: &HostRuntime, words: &Words) -> Result<Entities, Stop> {
 }
 
 /// The lines of the prelude's file that the words name, or none.
-pub fn prelude_of(rt: &HostRuntime, words: &Words) -> Result<Vec<String>, Stop> {
+pub fn prelude_of(rt: &HostRuntime, words: &Words) -> Result<Vec<String>, Stop>
+    ensures { IfOk result (λ lines. words.now.prelude ≡ None → lines.items ≡ []) }
+{
     match &words.prelude {
         Some(name) => {
             let mut feed = opened(rt, name)?;
@@ -108,14 +114,18 @@ fn not_opened(rt: &HostRuntime, name: &str) -> Stop
 
 /// Writes why the program of this name stopped, if it did not come to its end, and answers its status. Help goes to
 /// standard output, all else to standard error.
-pub fn ended(rt: &HostRuntime, program: &str, end: Result<(), Stop>) -> ExitCode {
+pub fn ended(rt: &HostRuntime, program: &str, end: Result<(), Stop>) -> ExitCode
+    ensures { exit_status result ≡ end_status end }
+{
     match end {
         Ok(()) => ExitCode::from(0),
         Err(stop) => ExitCode::from(stopped(rt, program, &stop)),
     }
 }
 
-fn stopped(rt: &HostRuntime, program: &str, stop: &Stop) -> u8 {
+fn stopped(rt: &HostRuntime, program: &str, stop: &Stop) -> u8
+    ensures { result ≡ status_of stop.now }
+{
     match stop {
         Stop::Words(WordFault::Help(_)) => {
             ending(program, stop, &mut WriteOut::new(rt.stdout()))

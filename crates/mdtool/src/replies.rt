@@ -2,6 +2,9 @@
 ghost use Rattle.std.specs.Prelude.{◌≡◌, ◌++◌, string_bytes, IfOk, OnOk};
 ghost use Rattle.std.specs.List.{concat};
 ghost use Rattle.viewspec.specs.Patch.{brought};
+ghost use Rattle.mdview.specs.Document.{pieces_of};
+ghost use Rattle.mdview.specs.FaultReasons.{reason_of};
+ghost use Rattle.mdview.specs.Outcome.{answer_of};
 ghost use Rattle.mdtool.specs.Replies.{html_reply, edit_reply, refused_reply, piece_reply, pieces_reply, patch_line};
 
 use mdview::{EditFault, Patch, Preview};
@@ -9,7 +12,7 @@ use std::alloc::{AllocError, Global};
 
 /// The reply to `html`: the number of bytes of all pieces, and these.
 pub fn html_reply(alloc: Global, preview: &Preview) -> Result<String, AllocError>
-    ensures { IfOk result (λ reply. string_bytes reply ≡ html_reply preview.now.pieces) }
+    ensures { IfOk result (λ reply. string_bytes reply ≡ html_reply (pieces_of preview.now)) }
 {
     let mut html = String::new(alloc);
     push_pieces(preview, &mut html)?;
@@ -20,7 +23,7 @@ pub fn html_reply(alloc: Global, preview: &Preview) -> Result<String, AllocError
 
 /// Adds the bytes of all pieces.
 fn push_pieces(preview: &Preview, html: &mut String) -> Result<(), AllocError>
-    ensures { OnOk result (string_bytes html.new ≡ string_bytes html.old ++ concat preview.now.pieces) }
+    ensures { OnOk result (string_bytes html.new ≡ string_bytes html.old ++ concat (pieces_of preview.now)) }
 {
     for piece in preview.pieces() {
         html.push_str(piece)?;
@@ -34,7 +37,7 @@ pub fn edit_reply(
     preview: &Preview,
     answer: &Result<Patch, EditFault>,
 ) -> Result<String, AllocError>
-    ensures { IfOk result (λ reply. string_bytes reply ≡ edit_reply answer.now preview.now.pieces) }
+    ensures { IfOk result (λ reply. string_bytes reply ≡ edit_reply (answer_of answer.now) (pieces_of preview.now)) }
 {
     match answer {
         Ok(patch) => accepted_reply(alloc, preview, patch),
@@ -43,7 +46,7 @@ pub fn edit_reply(
 }
 
 fn refused_reply(alloc: Global, fault: &EditFault) -> Result<String, AllocError>
-    ensures { IfOk result (λ reply. string_bytes reply ≡ refused_reply fault.now) }
+    ensures { IfOk result (λ reply. string_bytes reply ≡ refused_reply (reason_of fault.now)) }
 {
     let name = fault.name();
     let number = fault.number();
@@ -52,7 +55,7 @@ fn refused_reply(alloc: Global, fault: &EditFault) -> Result<String, AllocError>
 
 /// The reply to an accepted edit: the patch, and each piece that it brings with its number and its bytes.
 fn accepted_reply(alloc: Global, preview: &Preview, patch: &Patch) -> Result<String, AllocError>
-    ensures { IfOk result (λ reply. string_bytes reply ≡ patch_line patch.now ++ pieces_reply (brought patch.now 0 preview.now.pieces)) }
+    ensures { IfOk result (λ reply. string_bytes reply ≡ patch_line patch.now ++ pieces_reply (brought patch.now 0 (pieces_of preview.now))) }
 {
     let mut reply = patch_reply(alloc, patch)?;
     for (number, html) in patch.pieces(preview)? {

@@ -55,9 +55,9 @@ as_many units again =
 
 -- a part of each unit, where the patch brings it and where not
 pub committed_brings : {A : Type 0} (g : HeldUnit → A) (options : Options) (units : List HeldUnit) (r : Update) (patch : ChangedPieces) → IsFitFor options (map unit_in units) r → IsPatchOf r patch
-    → length units < 2 ^ 63 → length r.units.items < 2 ^ 63
+    → length units + length r.units.items < 2 ^ 64
     → Brings patch (map g units) (map g (replaced (all_renewed units r.again.items) r.first (r.next - r.first) r.units.items))
-committed_brings {A} g options units r patch fit is small few =
+committed_brings {A} g options units r patch fit is small =
     let changed : List HeldUnit = all_renewed units r.again.items in
     let long : length (map g changed) ≡ length (map g units) = length-map changed g ∙ as_many units r.again.items ∙ sym (length-map units g) in
     let many = length-map units g in

@@ -1,20 +1,13 @@
 -- Why an edit is refused, from what the tests found.
-use Rattle.std.proofs.Common.{◌≡◌, ℕ, ◌+◌, ◌-◌, ◌≤◌, false, List, length, take, drop, map, refl, ap, sym, ◌∙◌, arith, string_bytes, String, Global, Some, None, nat_lt}
+use Rattle.std.proofs.Common.{◌≡◌, ℕ, ◌+◌, ◌-◌, ◌≤◌, false, List, length, take, drop, map, refl, arith, Some, None, nat_lt}
 use Rattle.std.specs.Prelude.{if◌then◌else◌, ◌||◌}
 use Rattle.std.proofs.lemmas.List.{length-map}
-use Rattle.std.specs.List.{take-map, drop-map}
 use Rattle.std.proofs.lemmas.Bool.Decides.{nat_tests}
 use Rattle.mdview.specs.declared.fault.EditFault.TheVariants.{TooLarge}
 use Rattle.mdtext.specs.Lines.{without_nul}
 use Rattle.mdview.specs.Document.{size_of}
 use Rattle.mdview.specs.Edit.{call_of, put, due, first_with_ending}
 use Rattle.mdview.proofs.Sizes.{size_part, size_replaced, length_replaced}
-
--- the size of the lines that go, as the code has them
-pub gone_is : (items : List (String Global)) (at del : ℕ) → size_of (map string_bytes (take (at + del - at) (drop at items))) ≡ size_of (take del (drop at (map string_bytes items)))
-gone_is items at del =
-    let e : at + del - at ≡ del = omega arith in
-    rw e (ap size_of (sym (take-map string_bytes del (drop at items)) ∙ ap (take del) (sym (drop-map string_bytes at items))))
 
 pub due_of_parts : (ls : List (List ℕ)) (at del : ℕ) (add : List (List ℕ)) (gone : ℕ) → at + del ≤ length ls → first_with_ending 0 add ≡ None
     → gone ≡ size_of (take del (drop at ls)) → length add ≤ 1000000 - (length ls - del) → length ls ≤ 1000000

@@ -35,15 +35,15 @@ made : (old_begins new_begins : List ℕ) (new_lines at gone come : ℕ) → Pla
 made old_begins new_begins lines at gone come = record { old_begins = old_begins; new_begins = new_begins; new_lines = lines; at = at; gone = gone; come = come }
 
 pub same_places : (setting : Setting) (source : Source) (text : NewText) (at del : ℕ) (add : List (List ℕ)) → old_lines text ≡ source.lines
-    → new_lines text ≡ (put source (edit at del add)).lines → length text.front.now ≡ at → length text.gone.now ≡ del → length text.added.now ≡ length add
+    → new_lines text ≡ (put source (edit at del add)).lines → text.at ≡ at → text.gone ≡ del → length text.added.now ≡ length add
     → places_of setting.entities text ≡ places setting source (edit at del add)
 unfolding made
 same_places setting source text at del add old new a d c =
     let e = setting.entities in
     let lines = (put source (edit at del add)).lines in
-    ap (λ z. made (begins e z) (begins e (new_lines text)) (length (new_lines text)) (length text.front.now) (length text.gone.now) (length text.added.now)) old
-    ∙ ap (λ z. made (begins e source.lines) (begins e z) (length z) (length text.front.now) (length text.gone.now) (length text.added.now)) new
-    ∙ ap (λ z. made (begins e source.lines) (begins e lines) (length lines) z (length text.gone.now) (length text.added.now)) a
+    ap (λ z. made (begins e z) (begins e (new_lines text)) (length (new_lines text)) text.at text.gone (length text.added.now)) old
+    ∙ ap (λ z. made (begins e source.lines) (begins e z) (length z) text.at text.gone (length text.added.now)) new
+    ∙ ap (λ z. made (begins e source.lines) (begins e lines) (length lines) z text.gone (length text.added.now)) a
     ∙ ap (λ z. made (begins e source.lines) (begins e lines) (length lines) at z (length text.added.now)) d
     ∙ ap (λ z. made (begins e source.lines) (begins e lines) (length lines) at del z) c
 

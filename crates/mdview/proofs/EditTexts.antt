@@ -1,20 +1,20 @@
 -- What an edit reads of inline texts, in the words of the whole text before it and behind it.
-use Rattle.std.proofs.Common.{◌≡◌, ℕ, ◌+◌, ◌-◌, ◌^◌, ◌<◌, ◌≤◌, ◌⊎◌, inl, inr, Bool, true, false, List, [], ◌∷◌, ◌++◌, Option, Some, None, Result, Ok, Err, length, map, find, take, drop, min, get_or, cond, option_map, if◌then◌else◌, refl, sym, ◌∙◌, ap, subst, arith}
+use Rattle.std.proofs.Common.{◌≡◌, ℕ, ◌+◌, ◌-◌, ◌^◌, ◌<◌, ◌≤◌, inl, inr, Bool, true, false, List, [], ◌∷◌, ◌++◌, Option, Some, None, Result, Ok, Err, length, map, find, take, drop, get_or, cond, option_map, if◌then◌else◌, refl, sym, ◌∙◌, ap, subst, arith}
 use Rattle.std.specs.Prelude.{IfOk, IfSome, OnOk, nat_eq, slice_get, sum_by}
 use Rattle.std.specs.List.{All, take-map, drop-map}
 use Rattle.std.specs.Option.{option_or}
 use Rattle.std.proofs.lemmas.Bool.Decides.{nat_tests}
 use Rattle.std.proofs.lemmas.List.{get_or-map, length-drop, length-map, length-take, take_all}
-use Rattle.std.proofs.lemmas.List.Elements.{All-cons, All-head, All-nil, All-tail, All-weaker}
+use Rattle.std.proofs.lemmas.List.Elements.{All-cons, All-head, All-nil, All-tail}
 use Rattle.std.proofs.lemmas.List.Folds.{flat_map-map}
 use Rattle.std.proofs.lemmas.List.Sums.{sum_by-cons}
 use Rattle.mdtext.specs.EntityTable.{EntityTable}
 use Rattle.mdleaf.specs.LinkDefinition.{LinkDefinition}
-use Rattle.blockspec.specs.BlockUnits.{begins, definitions_of, units}
+use Rattle.blockspec.specs.BlockUnits.{definitions_of, units}
 use Rattle.blockspec.specs.FirstDefinitions.{first_definition}
 use Rattle.blockspec.specs.UnitTree.{FoundUnit, UnitTree}
 use Rattle.blocklaws.proofs.DocumentLaws.{first_of_both}
-use Rattle.inlinespec.specs.LabelMap.{LinkTarget, target_in}
+use Rattle.inlinespec.specs.LabelMap.{target_in}
 use Rattle.inlinespec.specs.LinkTails.{Table}
 use Rattle.viewspec.specs.Changes.{texts_due}
 use Rattle.viewspec.specs.LabelTable.{table, table_of, target_defined}
@@ -22,7 +22,7 @@ use Rattle.viewspec.specs.Refusals.{Refusal, inline_refusal, inline_too_deep, ne
 use Rattle.viewspec.specs.Setting.{Setting, Source}
 use Rattle.viewspec.specs.Spliced.{IsSpliced}
 use Rattle.viewspec.specs.Stretch.{Places, from_line, meeting_line, units_added, units_before, units_removed}
-use Rattle.viewspec.specs.View.{view, viewed}
+use Rattle.viewspec.specs.View.{viewed}
 use Rattle.blockspec.specs.Nesting.{first_too_deep}
 use Rattle.viewlaws.specs.UnitTexts.{asking_texts, asking_units, deep_found, deep_from, is_deep_under, readings_under, trees_in}
 use Rattle.viewlaws.specs.UnitTiles.{front_of, lines_of, tile_of}
@@ -42,10 +42,10 @@ use Rattle.mdview.specs.declared.reparse.Reparsed.{Reparsed}
 use Rattle.mdview.specs.HeldBlocks.{HoldsUnits, IsDeepAt, IsReread as IsReadStretch, held_tile, lines_in, old_lines, places_of, tile_in}
 use Rattle.mdview.specs.HeldTexts.{IsReadUnder, IsRefusedBy, IsReread, IsShallow, IsTextFault, asking_in_parts, between, deep_in_parts, head_read, line_on, texts_in_parts}
 use Rattle.mdview.specs.HeldUnit.{HeldUnit, read_of, texts_in, unit_in}
-use Rattle.mdview.specs.LabelTargets.{definitions_by, led_by}
+use Rattle.mdview.specs.LabelTargets.{led_by}
 use Rattle.mdview.specs.NewText.{lines_of as new_lines}
 use Rattle.mdview.specs.Preludes.{HeldPrelude, IsDefinedBy, target_beside}
-use Rattle.mdview.specs.ReadingEnd.{OfBlocks, OfReading, OfTexts}
+use Rattle.mdview.specs.ReadingFaults.{OfBlocks}
 use Rattle.mdview.proofs.ReadStretches.{is_edit}
 use Rattle.mdview.proofs.Replacing.{head_behind}
 
@@ -84,26 +84,6 @@ texts_deep first deep none TooManyLines h = absurd h
 texts_deep first deep none TooLarge h = absurd h
 texts_deep first deep none (OutOfRange lines) h = absurd h
 texts_deep first deep none (BreakInLine index) h = absurd h
-
-pub of_texts : (deep : Option ℕ) (fault : EditFault) → IsTextFault deep fault → OfTexts fault
-of_texts deep (InlineTooDeep line) h = tt
-of_texts deep NoMemory h = tt
-of_texts deep (NestedTooDeep line) h = absurd h
-of_texts deep (NotDefinitions line) h = absurd h
-of_texts deep TooManyLines h = absurd h
-of_texts deep TooLarge h = absurd h
-of_texts deep (OutOfRange lines) h = absurd h
-of_texts deep (BreakInLine index) h = absurd h
-
-pub of_blocks : (fault : EditFault) → OfBlocks fault → OfReading fault
-of_blocks (NestedTooDeep line) of = tt
-of_blocks NoMemory of = tt
-of_blocks (InlineTooDeep line) of = absurd of
-of_blocks (NotDefinitions line) of = absurd of
-of_blocks (OutOfRange lines) of = absurd of
-of_blocks (BreakInLine index) of = absurd of
-of_blocks TooManyLines of = absurd of
-of_blocks TooLarge of = absurd of
 
 -- what holds of a result
 pub both_ok : {X Y : Type 0} (r : Result X Y) (P Q R : X → Type 0) → ((x : X) → P x → Q x → R x) → IfOk r P → IfOk r Q → IfOk r R

@@ -1,5 +1,5 @@
 -- Of units that were found, the first one in which spans lie too deep.
-use Rattle.std.proofs.Common.{◌≡◌, ℕ, Bool, true, false, List, ◌∷◌, Some, None, find, cond, option_map, ap}
+use Rattle.std.proofs.Common.{◌≡◌, ℕ, true, false, List, ◌∷◌, Some, find, cond, option_map, ap}
 use Rattle.mdtext.specs.EntityTable.{EntityTable}
 use Rattle.blockspec.specs.UnitTree.{FoundUnit}
 use Rattle.inlinespec.specs.LinkTails.{Table}

@@ -1,8 +1,7 @@
 -- What is held of labels and texts, where nothing is held, where room is made for labels, behind an edit, and behind a new prelude.
-use Rattle.std.proofs.Common.{◌≡◌, ℕ, suc, Bool, true, false, cond, ◌+◌, ◌-◌, ◌^◌, ◌<◌, ◌≤◌, List, [], ◌∷◌, ◌++◌, Option, Some, None, length, map, take, drop, option_map, refl, sym, ◌∙◌, ap, arith}
+use Rattle.std.proofs.Common.{◌≡◌, ℕ, suc, Bool, true, false, cond, ◌+◌, ◌-◌, ◌^◌, ◌<◌, ◌≤◌, List, [], ◌∷◌, ◌++◌, None, length, map, take, option_map, sym, ◌∙◌, ap, arith}
 use Rattle.std.specs.Prelude.{sum_by}
 use Rattle.std.specs.List.{All, filter}
-use Rattle.std.specs.Option.{option_or}
 use Rattle.mdtext.specs.EntityTable.{EntityTable}
 use Rattle.blockspec.specs.BlockUnits.{units as text_units}
 use Rattle.blockspec.specs.Nesting.{first_too_deep}
@@ -14,10 +13,10 @@ use Rattle.viewlaws.specs.UnitTexts.{asking_in, asking_texts, asking_units, deep
 use Rattle.viewspec.specs.Changes.{asks_changed}
 use Rattle.viewspec.specs.View.{reading_of}
 use Rattle.std.proofs.lemmas.List.Sums.{sum_by-cons}
-use Rattle.viewlaws.specs.UnitTiles.{front_of, tile_of}
+use Rattle.viewlaws.specs.UnitTiles.{tile_of}
 use Rattle.viewlaws.proofs.Cuts.{no_units}
 use Rattle.viewlaws.proofs.DeepUnits.{deep_of_text, refused_for_spans}
-use Rattle.viewlaws.proofs.ReadingsUnder.{deep_found_under, deep_from_under}
+use Rattle.viewlaws.proofs.ReadingsUnder.{deep_found_under}
 use Rattle.std.proofs.lemmas.List.{length-map, take_all}
 use Rattle.mdview.specs.declared.held_labels.HeldLabels.{HeldLabels}
 use Rattle.mdview.specs.declared.label_changes.LabelChanges.{LabelChanges}
@@ -101,6 +100,26 @@ prelude_parts e before after held =
     ∙ ap (λ n. asking_units e before after 0 (map unit_in (take n held))) all
     ∙ ap (λ us. asking_units e before after 0 (map unit_in us)) (take_all (length held) held (omega arith))
 
+-- where spans lie too deep in the text beside a prelude, by the units that are held
+pub spans_by_units : (setting : Setting) (lines : List (List ℕ)) (head : ℕ) (prelude : HeldPrelude) (held : List HeldUnit) → HoldsUnits setting.entities lines head (map read_of held) → IsDefinedBy setting.entities prelude
+    → inline_refusal setting (record { lines = lines; prelude = prelude.lines })
+    ≡ option_map inline_too_deep (deep_from setting.options.max_spans setting.entities (led_by (map unit_in held) prelude) head (map held_tile held))
+spans_by_units setting lines head prelude held blocks defined =
+    refused_for_spans setting source ∙ ap (option_map inline_too_deep)
+    (deep_found_under setting.options.max_spans e (table e source) after (λ label. sym (led_by_held e lines head prelude held blocks defined label)) (text_units e lines)
+    ∙ deep_of_text setting.options.max_spans e after lines
+    ∙ ap (λ n. deep_from setting.options.max_spans e after n (map tile_of (text_units e lines))) (sym blocks.before)
+    ∙ ap (deep_from setting.options.max_spans e after head) (sym (tiles_are e lines head held blocks)))
+  where
+    e : EntityTable
+    e = setting.entities
+
+    source : Source
+    source = record { lines = lines; prelude = prelude.lines }
+
+    after : Table
+    after = led_by (map unit_in held) prelude
+
 pub holds_texts_still : (setting : Setting) (lines : List (List ℕ)) (head : ℕ) (old new : HeldPrelude) (labels room led : HeldLabels) (changes : LabelChanges) (held : List HeldUnit) (again : List Again)
     → HoldsUnits setting.entities lines head (map read_of held) → HoldsTexts setting lines old labels held
     → HoldsUnits setting.entities lines head (map read_of (replaced (all_renewed held again) 0 (0 - 0) [])) → IsDefinedBy setting.entities new
@@ -115,18 +134,11 @@ holds_texts_still setting lines head old new labels room led changes held again 
   defined = defined;
   read = all_read_under e after (target_held led) (λ label. sym (lead label)) now
       (committed_read e (target_held labels) after held again 0 0 texts.read reread (numbers ∙ sym (prelude_parts e (target_held labels) after held)) [] (λ k d small. absurd (omega (arith, small))) (omega arith) (omega arith));
-  spans = refused_for_spans setting source ∙ ap (option_map inline_too_deep)
-      (deep_found_under setting.options.max_spans e (table e source) after (λ label. sym (led_by_held e lines head new held blocks defined label)) (text_units e lines)
-      ∙ deep_of_text setting.options.max_spans e after lines
-      ∙ ap (λ n. deep_from setting.options.max_spans e after n (map tile_of (text_units e lines))) (sym blocks.before)
-      ∙ ap (deep_from setting.options.max_spans e after head) (sym (tiles_are e lines head held blocks)) ∙ shallow);
+  spans = spans_by_units setting lines head new held blocks defined ∙ ap (option_map inline_too_deep) shallow;
 }
   where
     e : EntityTable
     e = setting.entities
-
-    source : Source
-    source = record { lines = lines; prelude = new.lines }
 
     after : Table
     after = led_by (map unit_in held) new

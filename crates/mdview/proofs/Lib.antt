@@ -1,8 +1,10 @@
-pub mod Replacements
 pub mod Sizes
 pub mod Due
 pub mod Runs
+pub mod DueReasons
 pub mod Outcomes
+pub mod EditOutcomes
+pub mod PreludeOutcomes
 pub mod LedLabels
 pub mod MemberChanges
 pub mod RenewedUnits
@@ -32,3 +34,7 @@ pub mod Replacing
 pub mod ToldLaws
 pub mod Elsewhere
 pub mod LedByUnits
+pub mod LineWeights
+pub mod Ahead
+pub mod FewUnits
+pub mod WhereReading

@@ -1,8 +1,7 @@
 -- Where no label leads elsewhere no unit asked for one that does, and spans lie where they lay.
-use Rattle.std.proofs.Common.{◌≡◌, ℕ, ◌+◌, ◌<◌, Bool, true, false, ◌||◌, List, [], ◌∷◌, ◌++◌, Some, None, length, map, get_or, cond, if◌then◌else◌, refl, ap, ◌∙◌, sym}
+use Rattle.std.proofs.Common.{◌≡◌, ℕ, ◌+◌, Bool, false, ◌||◌, List, [], ◌∷◌, Some, None, map, get_or, cond, if◌then◌else◌, refl, ap, ◌∙◌, sym}
 use Rattle.std.specs.Option.{is_some}
 use Rattle.std.specs.List.{All, list_any}
-use Rattle.std.proofs.lemmas.List.{append-nil}
 use Rattle.mdtext.specs.EntityTable.{EntityTable}
 use Rattle.blockspec.specs.UnitTree.{UnitTree}
 use Rattle.inlinespec.specs.LinkTails.{Table}
@@ -13,7 +12,7 @@ use Rattle.viewlaws.specs.UnitTexts.{asking_units, asks_again, deep_from, readin
 use Rattle.viewlaws.proofs.ReadingsUnder.{unasked_stays}
 use Rattle.mdview.specs.HeldBlocks.{held_tile}
 use Rattle.mdview.specs.HeldTexts.{IsShallow, labels_before, labels_behind}
-use Rattle.mdview.specs.HeldUnit.{HeldUnit, unit_in}
+use Rattle.mdview.specs.HeldUnit.{HeldUnit}
 use Rattle.mdview.specs.LabelTargets.{IsElsewhere, at}
 use Rattle.mdview.specs.declared.readings.TextReader.{TextReader}
 use Rattle.mdview.proofs.MemberChanges.{all_first, all_rest}

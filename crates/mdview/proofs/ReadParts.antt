@@ -1,5 +1,5 @@
 -- How the reading of the texts in front, of the units found, and of those behind ends.
-use Rattle.std.proofs.Common.{◌≡◌, ℕ, ◌+◌, ◌-◌, ◌≤◌, List, Option, Some, None, Result, Err, drop, take, ap, subst, sym, ◌∙◌, arith}
+use Rattle.std.proofs.Common.{◌≡◌, ℕ, ◌-◌, ◌≤◌, List, Option, None, Result, drop, ap, subst, sym, arith}
 use Rattle.std.specs.Prelude.{IfErr, sum_by}
 use Rattle.std.specs.Option.{option_or}
 use Rattle.std.specs.Result.{IsErrAnd}

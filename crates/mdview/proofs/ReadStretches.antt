@@ -17,38 +17,38 @@ use Rattle.viewlaws.proofs.StretchReadings.{stretch_begins}
 use Rattle.mdview.specs.HeldBlocks.{old_lines, places_of}
 use Rattle.mdview.specs.NewText.{lines_of as new_lines}
 use Rattle.mdview.specs.declared.new_text.NewText.{NewText}
+use Rattle.mdview.specs.Lists.{replaced}
+use Rattle.mdview.proofs.Sizes.{length_replaced}
 
 -- ---- an edit's two texts
 
-is_edit_of : (e : EntityTable) (front gone come back : List (List ℕ)) (at del add : ℕ) → length front ≡ at → length gone ≡ del → length come ≡ add
-    → IsEdit e (front ++ gone ++ back) (front ++ come ++ back)
-    (record { old_begins = begins e (front ++ gone ++ back); new_begins = begins e (front ++ come ++ back); new_lines = length (front ++ come ++ back); at = at; gone = del; come = add })
-is_edit_of e front gone come back at del add a d c = record {
+is_edit_of : (e : EntityTable) (old come : List (List ℕ)) (at del add : ℕ) → at + del ≤ length old → length come ≡ add
+    → IsEdit e old (replaced old at del come) (record { old_begins = begins e old; new_begins = begins e (replaced old at del come); new_lines = length (replaced old at del come); at = at; gone = del; come = add })
+is_edit_of e old come at del add fits c = record {
   olds = refl;
   news = refl;
   lines = refl;
-  fits = omega (arith, old_size, a, d);
-  sizes = omega (arith, old_size, new_size, d, c);
-  front = front_is come ∙ sym (front_is gone);
-  back = ap (λ n. drop n (front ++ come ++ back)) (let half = length-append front come in let is : at + add ≡ length (front ++ come) = omega (arith, half, a, c) in is)
-      ∙ drop-append_seam (front ++ come) back
-      ∙ sym (ap (λ n. drop n (front ++ gone ++ back)) (let half = length-append front gone in let is : at + del ≡ length (front ++ gone) = omega (arith, half, a, d) in is)
-      ∙ drop-append_seam (front ++ gone) back);
+  fits = fits;
+  sizes = omega (arith, length_replaced old come at del fits, c);
+  front = ap (take at) (append_assoc front come back) ∙ ap (λ n. take n (front ++ (come ++ back))) (sym front_size) ∙ take-append_seam front (come ++ back);
+  back = ap (λ n. drop n (front ++ come ++ back)) (let half = length-append front come in let is : at + add ≡ length (front ++ come) = omega (arith, half, front_size, c) in is)
+      ∙ drop-append_seam (front ++ come) back;
 }
   where
-    old_size : length (front ++ gone ++ back) ≡ (length front + length gone) + length back
-    old_size = let whole = length-append (front ++ gone) back in let half = length-append front gone in omega (arith, whole, half)
+    front : List (List ℕ)
+    front = take at old
 
-    new_size : length (front ++ come ++ back) ≡ (length front + length come) + length back
-    new_size = let whole = length-append (front ++ come) back in let half = length-append front come in omega (arith, whole, half)
+    back : List (List ℕ)
+    back = drop (at + del) old
 
-    front_is : (middle : List (List ℕ)) → take at (front ++ middle ++ back) ≡ front
-    front_is middle = ap (take at) (append_assoc front middle back) ∙ ap (λ n. take n (front ++ (middle ++ back))) (sym a) ∙ take-append_seam front (middle ++ back)
+    front_size : length front ≡ at
+    front_size = length-take-le at old (omega (arith, fits))
 
 pub is_edit : (e : EntityTable) (text : NewText) → IsEdit e (old_lines text) (new_lines text) (places_of e text)
 is_edit e text =
-    is_edit_of e (map string_bytes text.front.now) (map string_bytes text.gone.now) (map string_bytes text.added.now) (map string_bytes text.back.now)
-    (length text.front.now) (length text.gone.now) (length text.added.now) (length-map text.front.now string_bytes) (length-map text.gone.now string_bytes) (length-map text.added.now string_bytes)
+    let fits = text.within in
+    is_edit_of e (map string_bytes text.lines.now.items) (map string_bytes text.added.now) text.at text.gone (length text.added.now)
+    (omega (arith, fits, length-map text.lines.now.items string_bytes)) (length-map text.added.now string_bytes)
 
 -- ---- the lines from one on
 

@@ -214,7 +214,7 @@ deep_told first block.Failed line deep = tt
 
 -- where reading begins, as the units that are held tell it
 pub begins_reading : (e : EntityTable) (text : NewText) (head : ℕ) (held : List HeldUnit) (at from unit line : ℕ) → HoldsUnits e (old_lines text) head (map read_of held)
-    → length (old_lines text) ≤ 1000000 → at ≡ length text.front.now
+    → length (old_lines text) ≤ 1000000 → at ≡ text.at
     → ((e : EntityTable) (lines : List (List ℕ)) → length lines ≤ 1000000 → length (begins e lines) ≡ length held → begins e lines ≡ begins_from head (map lines_in held)
     → (from ≡ fold max 0 (filter (λ begin. nat_lt begin at) (begins e lines))) × (unit ≡ count_between 0 from (begins e lines)) × IsAhead (map lines_in held) (begins e lines) unit line from)
     → let p = places_of e text in

@@ -1,31 +1,25 @@
 -- What is held after a list of edits and new preludes.
-use Rattle.std.proofs.Common.{◌≡◌, ℕ, List, [], ◌∷◌, Option, Some, None, refl, ap, ◌∙◌}
-use Rattle.mdhtml.specs.declared.options.Options.{Options}
-use Rattle.viewspec.specs.Calls.{Call}
-use Rattle.viewspec.specs.Setting.{Source}
-use Rattle.mdview.specs.declared.fault.EditFault.{EditFault}
-use Rattle.mdview.specs.Document.{Document, document}
-use Rattle.mdview.specs.Edit.{put_source, due}
-use Rattle.mdview.specs.Outcome.{outcome_due}
-use Rattle.mdview.specs.ReadingEnd.{ReadingEnd, read, nested, undefining, too_deep, starved}
-use Rattle.mdview.specs.Run.{Turn, held_after, after, read_last, source_after, units_after, Units}
+use Rattle.std.proofs.Common.{◌≡◌, Bool, true, false, List, [], ◌∷◌, Option, Some, None, refl, ap, ◌∙◌}
+use Rattle.viewspec.specs.Calls.{Call, due_at_once, due_by_reading, put}
+use Rattle.viewspec.specs.Outcome.{ends, goes_on, outcome}
+use Rattle.viewspec.specs.Refusals.{Refusal}
+use Rattle.viewspec.specs.Setting.{Setting, Source}
+use Rattle.mdview.specs.Document.{document}
+use Rattle.mdview.specs.Run.{Turn, held_after, after, source_after}
 
-abbrev held : List (List ℕ × List ℕ) → Options → Source → Units → Document
-held entities options source units = document entities options source units.head units.units units.labels
+read : (setting : Setting) (source : Source) (call : Call) (due : Option Refusal)
+    → (ends setting source call due).source ≡ source_after ((ends setting source call due).answer) source (put source call)
+read setting source call (Some reason) = refl
+read setting source call None = refl
 
-step : (entities : List (List ℕ × List ℕ)) (options : Options) (source : Source) (units : Units) (call : Call) (due' : Option EditFault) (reading : ReadingEnd)
-    → (outcome_due due' (held entities options source units) call reading).1
-    ≡ held entities options (source_after due' reading source (put_source source call)) (units_after due' call reading units)
-step entities options source units call (Some fault) reading = refl
-step entities options source units call None (nested line) = refl
-step entities options source units call None (undefining line) = refl
-step entities options source units call None (too_deep line) = refl
-step entities options source units call None starved = refl
-step entities options source units call None (read patch head found labels) = refl
+step : (setting : Setting) (source : Source) (call : Call) (starved : Bool) (due : Option Refusal)
+    → (goes_on starved setting source call due).source ≡ source_after ((goes_on starved setting source call due).answer) source (put source call)
+step setting source call starved (Some reason) = refl
+step setting source call true None = refl
+step setting source call false None = read setting source call (due_by_reading setting source call)
 
-pub run_is_document : (entities : List (List ℕ × List ℕ)) (options : Options) (turns : List Turn) (source : Source) (units : Units)
-    → held_after (held entities options source units) turns ≡ held entities options (after source turns) (read_last source units turns)
-run_is_document entities options [] source units = refl
-run_is_document entities options (turn ∷ turns) source units =
-    ap (λ d. held_after d turns) (step entities options source units turn.call (due source.lines turn.call) turn.reading)
-    ∙ run_is_document entities options turns (source_after (due source.lines turn.call) turn.reading source (put_source source turn.call)) (units_after (due source.lines turn.call) turn.call turn.reading units)
+pub run_is_document : (setting : Setting) (turns : List Turn) (source : Source) → held_after (document setting source) turns ≡ document setting (after setting source turns)
+run_is_document setting [] source = refl
+run_is_document setting (turn ∷ turns) source =
+    ap (λ s. held_after (document setting s) turns) (step setting source turn.call turn.starved (due_at_once source turn.call))
+    ∙ run_is_document setting turns (source_after ((outcome turn.starved setting source turn.call).answer) source (put source turn.call))

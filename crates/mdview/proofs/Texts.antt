@@ -21,7 +21,7 @@ texts_more units u =
     let none : sum_by f [] ≡ 0 = refl in
     omega (arith, all, one, none)
 
-found_at : (units : List HeldUnit) (i : ℕ) (u : HeldUnit) → i < length units → slice_get (map unit_in units) i ≡ Some (unit_in (get_or units i u))
+pub found_at : (units : List HeldUnit) (i : ℕ) (u : HeldUnit) → i < length units → slice_get (map unit_in units) i ≡ Some (unit_in (get_or units i u))
 found_at units i u below = slice_get-map unit_in units i ∙ ap (option_map unit_in) (slice_get-get_or units i u below)
 
 pub fits_at : (units : List HeldUnit) (one : Again) (i : ℕ) (u : HeldUnit) → i < length units → one.unit ≡ i → u ≡ get_or units i u

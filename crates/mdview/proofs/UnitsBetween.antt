@@ -1,10 +1,9 @@
 -- The units from one number on and before another, one more or all: which of them asked, where spans lie too deep, and how many texts are read.
-use Rattle.std.proofs.Common.{◌≡◌, ℕ, zero, suc, ◌+◌, ◌-◌, ◌^◌, ◌<◌, ◌≤◌, Bool, true, false, List, [], ◌∷◌, ◌++◌, Option, Some, None, length, length-append, map, take, drop, min, get_or, cond, if◌then◌else◌, refl, sym, ◌∙◌, ap, subst, arith, append_assoc}
+use Rattle.std.proofs.Common.{◌≡◌, ℕ, zero, suc, ◌+◌, ◌-◌, ◌<◌, ◌≤◌, Bool, true, false, List, [], ◌∷◌, ◌++◌, Option, Some, None, length, map, take, drop, get_or, cond, refl, sym, ◌∙◌, ap, arith}
 use Rattle.std.specs.Prelude.{slice_get, sum_by}
-use Rattle.std.specs.List.{All}
 use Rattle.std.specs.Option.{option_or, unwrap_or}
 use Rattle.std.proofs.Math.Seq.{drop-cons, take-add}
-use Rattle.std.proofs.lemmas.List.{append-nil, drop-drop, get_or-drop, length-drop, length-map, length-take-le, map-append, take-append-drop, take_more}
+use Rattle.std.proofs.lemmas.List.{drop-drop, get_or-drop, length-drop, length-map, length-take-le, map-append, take_more}
 use Rattle.std.proofs.lemmas.List.Sums.{sum_by-append, sum_by-cons}
 use Rattle.std.proofs.lemmas.Option.{slice_get-get_or}
 use Rattle.mdtext.specs.EntityTable.{EntityTable}
@@ -58,6 +57,9 @@ between_split first i next xs x low high within at =
 
     left : next - i ≡ suc (next - (i + 1))
     left = omega (arith, high)
+
+pub between_next : {A : Type 0} (i next : ℕ) (xs : List A) (x : A) → i < next → next ≤ length xs → x ≡ get_or xs i x → between i next xs ≡ x ∷ between (i + 1) next xs
+between_next i next xs x high within at = between_split i i next xs x (omega arith) high within at ∙ ap (λ l. l ++ x ∷ between (i + 1) next xs) (none_between i xs)
 
 pub between_many : {A : Type 0} (first i : ℕ) (xs : List A) → first ≤ i → i ≤ length xs → first + length (between first i xs) ≡ i
 between_many first i xs low high =

@@ -1,33 +1,25 @@
--- What a preview holds.
+-- What a preview is: a text and a prelude, and what they are read with. All else that it shows is their view.
 use Rattle.std.specs.Prelude.{ℕ, List, [], ◌+◌, length, map, sum_by}
-use Rattle.inlinespec.specs.LabelMap.{LabelMap}
+use Rattle.mdinline.specs.ParsedText.{ParsedText}
+use Rattle.blockspec.specs.UnitTree.{UnitTree}
 use Rattle.mdhtml.specs.declared.options.Options.{Options}
 use Rattle.viewspec.specs.Setting.{Setting, Source}
-use Rattle.mdview.specs.HeldUnit.{ReadUnit, unit_piece}
+use Rattle.viewspec.specs.View.{ViewedUnit, view}
 
--- the entities and options that it was made with, its lines, those of its prelude, how many of its lines stand before the first unit, its units,
--- where the labels lead, and the HTML of each unit
+-- the entities and options that it was made with, its lines, and those of its prelude
 pub record Document : Type 0 where
   pub entities : List (List ℕ × List ℕ)
   pub options : Options
   pub lines : List (List ℕ)
   pub prelude : List (List ℕ)
-  pub head : ℕ
-  pub units : List ReadUnit
-  pub labels : LabelMap
-  pub pieces : List (List ℕ)
 
--- what a preview of these lines and this prelude holds whose units were read so, and whose labels lead so
-abbrev pub document : List (List ℕ × List ℕ) → Options → Source → ℕ → List ReadUnit → LabelMap → Document
-document entities options source head units labels = record {
-  entities = entities;
-  options = options;
+-- a preview of these lines and this prelude
+abbrev pub document : Setting → Source → Document
+document setting source = record {
+  entities = setting.entities;
+  options = setting.options;
   lines = source.lines;
   prelude = source.prelude;
-  head = head;
-  units = units;
-  labels = labels;
-  pieces = map (unit_piece options) units;
 }
 
 -- neither a line nor a prelude
@@ -41,9 +33,24 @@ source_of held = record { lines = held.lines; prelude = held.prelude }
 abbrev pub setting_of : Document → Setting
 setting_of held = record { entities = held.entities; options = held.options }
 
--- what a preview holds that was just made
+-- a preview that was just made
 abbrev pub empty : List (List ℕ × List ℕ) → Options → Document
-empty entities options = document entities options nothing 0 [] []
+empty entities options = document (record { entities = entities; options = options }) nothing
+
+-- its units, read from nothing
+abbrev pub view_of : Document → List ViewedUnit
+view_of held = view (setting_of held) (source_of held)
+
+-- the HTML of each
+abbrev pub pieces_of : Document → List (List ℕ)
+pieces_of held = map (λ (v : ViewedUnit). v.piece) (view_of held)
+
+abbrev pub shown_of : ViewedUnit → UnitTree × List ParsedText
+shown_of v = (v.unit, v.readings)
+
+-- the blocks of each, and what its texts read as
+abbrev pub readings_of : Document → List (UnitTree × List ParsedText)
+readings_of held = map shown_of (view_of held)
 
 -- the bytes of a text, with one for each line
 abbrev pub size_of : List (List ℕ) → ℕ

@@ -1,5 +1,5 @@
 -- The blocks that a preview holds: they are the units of its lines.
-use Rattle.std.specs.Prelude.{◌≡◌, ◌+◌, ◌-◌, ℕ, Bool, false, List, ◌++◌, Option, Some, None, drop, length, map, nat_eq, string_bytes, take}
+use Rattle.std.specs.Prelude.{◌≡◌, ◌+◌, ◌-◌, ℕ, Bool, false, List, Option, Some, None, drop, length, map, nat_eq, string_bytes, take}
 use Rattle.mdtext.specs.EntityTable.{EntityTable}
 use Rattle.blockspec.specs.BlockUnits.{begins, units}
 use Rattle.blockspec.specs.UnitTree.{UnitTree}
@@ -31,9 +31,9 @@ pub record HoldsUnits (e : EntityTable) (lines : List (List ℕ)) (head : ℕ) (
   pub before : head ≡ front_of (length lines) (units e lines)
   pub tiles : map tile_in held ≡ map tile_of (units e lines)
 
--- the lines before an edit: those in front, those that it takes away, and those behind
+-- the lines before an edit
 abbrev pub old_lines : NewText → List (List ℕ)
-old_lines text = map string_bytes text.front.now ++ map string_bytes text.gone.now ++ map string_bytes text.back.now
+old_lines text = map string_bytes text.lines.now.items
 
 -- where an edit begins and ends, and the first lines of the units of both texts
 abbrev pub places_of : EntityTable → NewText → Places
@@ -41,8 +41,8 @@ places_of e text = record {
   old_begins = begins e (old_lines text);
   new_begins = begins e (new_lines text);
   new_lines = length (new_lines text);
-  at = length text.front.now;
-  gone = length text.gone.now;
+  at = text.at;
+  gone = text.gone;
   come = length text.added.now;
 }
 

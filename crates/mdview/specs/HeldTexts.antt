@@ -8,7 +8,7 @@ use Rattle.mdinline.specs.declared.faults.InlineFault.{InlineFault}
 use Rattle.mdinline.specs.declared.faults.InlineFault.TheVariants as inline
 use Rattle.viewlaws.specs.UnitTexts.{asking_texts, asking_units, deep_found, deep_from, is_deep_under, readings_under, trees_in}
 use Rattle.viewlaws.specs.UnitTiles.{front_of}
-use Rattle.viewspec.specs.Refusals.{Refusal, inline_refusal, inline_too_deep, nested_too_deep}
+use Rattle.viewspec.specs.Refusals.{Refusal, break_in_line, inline_refusal, inline_too_deep, nested_too_deep, not_definitions, out_of_range, too_large, too_many_lines}
 use Rattle.viewspec.specs.Setting.{Setting, Source}
 use Rattle.mdview.specs.declared.new_text.NewText.{NewText}
 use Rattle.mdview.specs.declared.update.HeldText.{HeldText}
@@ -106,16 +106,16 @@ source_before held text = record { lines = old_lines text; prelude = held.prelud
 abbrev pub source_behind : HeldText → NewText → Source
 source_behind held text = record { lines = new_lines text; prelude = held.prelude.now.lines }
 
--- A source is refused for what it reads as, or memory was refused.
+-- A call is refused for this, or memory was refused.
 abbrev pub IsRefusedBy : Option Refusal → EditFault → Type 0
+IsRefusedBy due NoMemory = Unit {0}
 IsRefusedBy due (NestedTooDeep line) = due ≡ Some (nested_too_deep line)
 IsRefusedBy due (InlineTooDeep line) = due ≡ Some (inline_too_deep line)
-IsRefusedBy due NoMemory = Unit {0}
-IsRefusedBy due (NotDefinitions line) = ⊥
-IsRefusedBy due TooManyLines = ⊥
-IsRefusedBy due TooLarge = ⊥
-IsRefusedBy due (OutOfRange lines) = ⊥
-IsRefusedBy due (BreakInLine index) = ⊥
+IsRefusedBy due (NotDefinitions line) = due ≡ Some (not_definitions line)
+IsRefusedBy due TooManyLines = due ≡ Some too_many_lines
+IsRefusedBy due TooLarge = due ≡ Some too_large
+IsRefusedBy due (OutOfRange lines) = due ≡ Some (out_of_range lines)
+IsRefusedBy due (BreakInLine index) = due ≡ Some (break_in_line index)
 
 -- The labels lead where the units and the prelude say, each text was read under them, and no text is too deep.
 pub record HoldsTexts (setting : Setting) (lines : List (List ℕ)) (prelude : HeldPrelude) (labels : HeldLabels) (held : List HeldUnit) : Type 0 where

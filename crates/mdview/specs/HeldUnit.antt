@@ -42,13 +42,17 @@ read_of u = u.read
 abbrev pub piece_of : HeldUnit → List ℕ
 piece_of u = u.piece
 
+-- its blocks, and what its texts read as
+abbrev pub shown_in : HeldUnit → UnitTree × List ParsedText
+shown_in u = (u.read.unit, u.read.readings)
+
 -- what is held as the piece of a unit is its HTML
 abbrev pub IsRendered : Options → HeldUnit → Type 0
 IsRendered options u = u.piece ≡ unit_piece options u.read
 
--- the edges of a walk over a unit
-abbrev pub unit_edges : ReadUnit → List TreeEdge
-unit_edges u = blocks_edges u.readings u.unit.blocks
+-- the edges of a walk over a unit whose texts read so
+abbrev pub unit_edges : UnitTree × List ParsedText → List TreeEdge
+unit_edges u = blocks_edges u.1 u.0.blocks
 
 -- how many inline texts a unit has
 abbrev pub texts_in : UnitTree → ℕ

@@ -1,6 +1,6 @@
 pub mod HeldUnit
 pub mod HeldTexts
-pub mod ReadingEnd
+pub mod ReadingFaults
 pub mod Lists
 pub mod Document
 pub mod Edit

@@ -1,42 +1,31 @@
--- The one outcome of an edit or of a new prelude, however the reading ends.
-use Rattle.std.specs.Prelude.{ℕ, List, Option, Some, None, Result, Ok, Err}
-use Rattle.inlinespec.specs.LabelMap.{LabelMap}
-use Rattle.mdview.specs.declared.fault.EditFault.{EditFault}
-use Rattle.mdview.specs.declared.fault.EditFault.TheVariants.{NestedTooDeep, InlineTooDeep, NoMemory, NotDefinitions}
-use Rattle.viewspec.specs.Calls.{Call, edit, set_prelude}
+-- What a call of a preview answers and leaves, in the words of the view.
+use Rattle.std.specs.Prelude.{Bool, true, false, Result, Ok, Err}
+use Rattle.viewspec.specs.Calls.{Call}
 use Rattle.viewspec.specs.ChangedPieces.{ChangedPieces}
-use Rattle.mdview.specs.Document.{Document, document, source_of}
-use Rattle.mdview.specs.Edit.{put_source, due}
-use Rattle.mdview.specs.ReadingEnd.{ReadingEnd, read, nested, undefining, too_deep, starved}
-use Rattle.mdview.specs.HeldUnit.{ReadUnit}
+use Rattle.viewspec.specs.Outcome.{Answer, accepted, refused, outcome}
+use Rattle.mdview.specs.declared.fault.EditFault.{EditFault}
+use Rattle.mdview.specs.declared.fault.EditFault.TheVariants.{OutOfRange, BreakInLine, TooManyLines, TooLarge, NestedTooDeep, InlineTooDeep, NoMemory, NotDefinitions}
+use Rattle.mdview.specs.Document.{Document, document, setting_of, source_of}
+use Rattle.mdview.specs.FaultReasons.{reason_of}
 
--- how many lines stand before the first unit then; a new prelude leaves them
-abbrev pub head_behind : ℕ → Call → ℕ → ℕ
-head_behind old (edit at del add) head = head
-head_behind old (set_prelude new) head = old
+-- memory was refused
+abbrev pub is_starved : {T : Type 0} → Result T EditFault → Bool
+is_starved (Ok answer) = false
+is_starved (Err NoMemory) = true
+is_starved (Err (OutOfRange lines)) = false
+is_starved (Err (BreakInLine index)) = false
+is_starved (Err TooManyLines) = false
+is_starved (Err TooLarge) = false
+is_starved (Err (NestedTooDeep line)) = false
+is_starved (Err (InlineTooDeep line)) = false
+is_starved (Err (NotDefinitions line)) = false
 
--- what an accepted call leaves: the new lines or the new prelude, with the units that are held now, and where the labels lead now
-abbrev pub edited : Document → Call → ℕ → List ReadUnit → LabelMap → Document
-edited old call head units labels = document old.entities old.options (put_source (source_of old) call) (head_behind old.head call head) units labels
+abbrev pub answer_of : Result ChangedPieces EditFault → Answer
+answer_of (Ok patch) = accepted patch
+answer_of (Err fault) = refused (reason_of fault)
 
--- no edit is refused for its prelude, and no prelude for a container too many: such an end is want of memory
-abbrev pub nesting_fault : Call → ℕ → EditFault
-nesting_fault (edit at del add) line = NestedTooDeep line
-nesting_fault (set_prelude new) line = NoMemory
-
-abbrev pub undefining_fault : Call → ℕ → EditFault
-undefining_fault (edit at del add) line = NoMemory
-undefining_fault (set_prelude new) line = NotDefinitions line
-
--- a refused call leaves all as it was
-abbrev pub outcome_due : Option EditFault → Document → Call → ReadingEnd → Result ChangedPieces EditFault × Document
-outcome_due (Some fault) old call reading = (Err fault, old)
-outcome_due None old call (nested line) = (Err (nesting_fault call line), old)
-outcome_due None old call (undefining line) = (Err (undefining_fault call line), old)
-outcome_due None old call (too_deep line) = (Err (InlineTooDeep line), old)
-outcome_due None old call starved = (Err NoMemory, old)
-outcome_due None old call (read patch head units labels) = (Ok patch, edited old call head units labels)
-
--- a refusal that is due is the answer, whatever the text and the memory; where none is, the reading may refuse the call
-abbrev pub outcome : Document → Call → ReadingEnd → Result ChangedPieces EditFault × Document
-outcome old call reading = outcome_due (due old.lines call) old call reading
+-- what a call answers, and the preview that it leaves, where `starved` says whether memory was refused for it
+abbrev pub outcome_of : (starved : Bool) → Document → Call → Answer × Document
+outcome_of starved held call =
+    let o = outcome starved (setting_of held) (source_of held) call in
+    (o.answer, document (setting_of held) o.source)

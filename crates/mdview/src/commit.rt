@@ -1,8 +1,9 @@
 //! Puts what an edit made in the place of what is held. None of it takes memory.
 
-ghost use Rattle.std.specs.Prelude.{◌≡◌, ℕ, List, ◌+◌, ◌-◌, ◌≤◌, length, map};
+ghost use Rattle.std.specs.Prelude.{◌≡◌, ℕ, [], List, ◌+◌, ◌-◌, ◌≤◌, length, map};
 ghost use Rattle.std.specs.List.{All};
 ghost use Rattle.std.specs.Vec.{vec_len, vec_capacity};
+ghost use Rattle.mdchunks.specs.Sequences.{HasRoom as HasChunks};
 ghost use Rattle.mdview.specs.Lists.{replaced};
 ghost use Rattle.mdview.specs.HeldUnit.{unit_in};
 ghost use Rattle.mdview.specs.LabelTargets.{HasRoom, led_after, target_held};
@@ -11,15 +12,16 @@ ghost use Rattle.mdview.specs.Update.{Fits, all_renewed, map_at, renewed};
 use crate::held_labels::HeldLabels;
 use crate::held_units::HeldUnit;
 use crate::readings::Again;
-use crate::splice::splice;
 use crate::update::Update;
+use mdchunks::Chunks;
 
 /// Puts what an edit made in the place of what is held. The room was reserved before.
-pub(crate) fn commit(held: &mut Vec<HeldUnit>, labels: &mut HeldLabels, update: Update)
+pub(crate) fn commit(held: &mut Chunks<HeldUnit>, labels: &mut HeldLabels, update: Update)
     requires order { update.first ≤ update.next }
     requires within { update.next ≤ length held.old.items }
     requires fits { All (Fits (map unit_in held.old.items)) update.again.items }
-    requires room { vec_len held.old + vec_len update.units ≤ vec_capacity held.old }
+    requires room { HasChunks held.old (vec_len update.units) }
+    requires space { vec_len update.units + 64 ≤ vec_capacity update.units }
     requires labels { HasRoom labels.old update.changes }
     ensures led { (label : List ℕ) → target_held labels.new label ≡ led_after labels.old update.changes label }
     ensures units { held.new.items ≡ replaced (all_renewed held.old.items update.again.items) update.first (update.next - update.first) update.units.items }
@@ -27,33 +29,47 @@ pub(crate) fn commit(held: &mut Vec<HeldUnit>, labels: &mut HeldLabels, update: 
     let Update {
         first,
         next,
-        mut units,
+        units,
         again,
         changes,
         ..
     } = update;
     renew_units(held, again);
-    splice(held, first, next - first, &mut units);
+    held.splice(first, next - first, units);
+    changes.commit(labels);
+}
+
+/// Puts what a new prelude made in the place of what is held: no unit comes or goes.
+pub(crate) fn commit_readings(held: &mut Chunks<HeldUnit>, labels: &mut HeldLabels, update: Update)
+    requires none { (update.first ≡ 0) × (update.next ≡ 0) × (update.units.items ≡ []) }
+    requires fits { All (Fits (map unit_in held.old.items)) update.again.items }
+    requires labels { HasRoom labels.old update.changes }
+    ensures led { (label : List ℕ) → target_held labels.new label ≡ led_after labels.old update.changes label }
+    ensures units { held.new.items ≡ replaced (all_renewed held.old.items update.again.items) update.first (update.next - update.first) update.units.items }
+{
+    let Update { again, changes, .. } = update;
+    renew_units(held, again);
     changes.commit(labels);
 }
 
 /// Puts readings and pieces in the place of those that are held.
-pub(crate) fn renew_units(units: &mut Vec<HeldUnit>, again: Vec<Again>)
+fn renew_units(units: &mut Chunks<HeldUnit>, again: Vec<Again>)
     requires { All (Fits (map unit_in units.old.items)) again.items }
     ensures value { units.new.items ≡ all_renewed units.old.items again.items }
-    ensures room { (vec_len units.new ≡ vec_len units.old) × (vec_capacity units.new ≡ vec_capacity units.old) }
+    ensures room { (length units.new.items ≡ length units.old.items) × (units.new.room ≡ units.old.room) }
 {
     for one in again {
         renew_unit(units, one);
     }
 }
 
-fn renew_unit(units: &mut Vec<HeldUnit>, again: Again)
+fn renew_unit(units: &mut Chunks<HeldUnit>, again: Again)
     requires { Fits (map unit_in units.old.items) again }
     ensures value { units.new.items ≡ map_at (renewed again) again.unit units.old.items }
-    ensures room { (vec_len units.new ≡ vec_len units.old) × (vec_capacity units.new ≡ vec_capacity units.old) }
+    ensures room { (length units.new.items ≡ length units.old.items) × (units.new.room ≡ units.old.room) }
 {
-    if again.unit < units.len() {
-        units[again.unit].renew(again.inlines, again.piece);
+    let number = again.unit;
+    if number < units.len() {
+        units.change(number, again);
     }
 }

@@ -1,6 +1,7 @@
 ghost use Rattle.std.specs.Prelude.{◌≡◌};
 ghost use Rattle.mdview.specs.declared.fault.EditFault.TheVariants.{NoMemory};
 ghost use Rattle.mdview.specs.FaultNames.{name_of, number_of};
+ghost use Rattle.mdview.specs.FaultReasons.{reason_of};
 
 use std::alloc::{AllocError, AllocFailed};
 use std::error::Error;
@@ -34,7 +35,7 @@ pub enum EditFault {
 impl EditFault {
     /// The name that a reply or an error line gives it.
     pub fn name(&self) -> &'static str
-        ensures { result.now ≡ name_of self.now }
+        ensures { result.now ≡ name_of (reason_of self.now) }
     {
         match self {
             EditFault::OutOfRange { .. } => "OutOfRange",
@@ -50,7 +51,7 @@ impl EditFault {
 
     /// Its number: of lines, of an added line, or of a line of the text or the prelude; 0 where it has none.
     pub fn number(&self) -> usize
-        ensures { result ≡ number_of self.now }
+        ensures { result ≡ number_of (reason_of self.now) }
     {
         match self {
             EditFault::OutOfRange { lines } => *lines,

@@ -3,6 +3,7 @@
 ghost use Rattle.std.specs.Prelude.{◌≡◌, length, string_bytes};
 
 use mdblock::{Found, Unit};
+use mdchunks::Weighed;
 use mdinline::Parsed;
 use std::marker::Model;
 
@@ -76,5 +77,14 @@ impl HeldUnit {
     {
         self.inlines = inlines;
         self.piece = piece;
+    }
+}
+
+/// A unit weighs its lines, so that the chunks tell where units begin.
+impl Weighed for HeldUnit {
+    ghost weight = { λ u. u.read.lines };
+
+    fn weight(&self) -> usize {
+        self.lines()
     }
 }

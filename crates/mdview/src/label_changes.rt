@@ -32,21 +32,17 @@ impl LabelChanges {
     /// What an edit changes that reads this. The first definition of a label in the text counts (CommonMark 4.7).
     pub(crate) fn of(held: &HeldText<'_>, reparsed: &Reparsed) -> Result<LabelChanges, NoMemory>
         requires first { reparsed.now.first ≤ reparsed.now.next }
-        requires next { reparsed.now.next ≤ length held.now.units.now }
-        requires led { Leads held.now.labels.now (map unit_in held.now.units.now) held.now.prelude.now }
+        requires next { reparsed.now.next ≤ length held.now.units.now.items }
+        requires led { Leads held.now.labels.now (map unit_in held.now.units.now.items) held.now.prelude.now }
         ensures led { IfOk result (LeadsAfter held.now.labels.now
-            (take reparsed.now.first (map unit_in held.now.units.now) ++ map (λ found. found.unit) reparsed.now.found.items ++ drop reparsed.now.next (map unit_in held.now.units.now))
+            (take reparsed.now.first (map unit_in held.now.units.now.items) ++ map (λ found. found.unit) reparsed.now.found.items ++ drop reparsed.now.next (map unit_in held.now.units.now.items))
             held.now.prelude.now) }
         ensures elsewhere { IfOk result (IsElsewhere held.now.labels.now) }
     {
         let mut touched = TouchedLabels::new(held.alloc);
-        touched.touch_held(&held.units[reparsed.first..reparsed.next])?;
+        touched.touch_held(held.units, reparsed.first, reparsed.next)?;
         touched.touch_found(&reparsed.found)?;
-        touched.define_all(
-            &held.units[..reparsed.first],
-            &reparsed.found,
-            &held.units[reparsed.next..],
-        )?;
+        touched.define_all(held.units, reparsed.first, &reparsed.found, reparsed.next)?;
         Ok(LabelChanges {
             targets: touched.changed(held.labels, held.prelude)?,
         })
@@ -57,14 +53,15 @@ impl LabelChanges {
         held: &HeldText<'_>,
         prelude: &Prelude,
     ) -> Result<LabelChanges, NoMemory>
-        requires led { Leads held.now.labels.now (map unit_in held.now.units.now) held.now.prelude.now }
-        ensures led { IfOk result (LeadsAfter held.now.labels.now (map unit_in held.now.units.now) prelude.now) }
+        requires led { Leads held.now.labels.now (map unit_in held.now.units.now.items) held.now.prelude.now }
+        ensures led { IfOk result (LeadsAfter held.now.labels.now (map unit_in held.now.units.now.items) prelude.now) }
         ensures elsewhere { IfOk result (IsElsewhere held.now.labels.now) }
     {
         let mut touched = TouchedLabels::new(held.alloc);
         touched.touch_prelude(held.prelude)?;
         touched.touch_prelude(prelude)?;
-        touched.define_all(held.units, &[], &[])?;
+        let all = held.units.len();
+        touched.define_all(held.units, all, &[], all)?;
         Ok(LabelChanges {
             targets: touched.changed(held.labels, prelude)?,
         })

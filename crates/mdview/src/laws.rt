@@ -1,14 +1,15 @@
 //! What holds of any list of edits and new preludes.
 ghost use Rattle.std.specs.Prelude.{◌≡◌, ℕ, List};
 ghost use Rattle.mdhtml.specs.declared.options.Options.{Options};
+ghost use Rattle.viewspec.specs.Setting.{Setting};
 ghost use Rattle.mdview.specs.Document.{document, empty, nothing};
-ghost use Rattle.mdview.specs.Run.{Turn, held_after, after, no_units, read_last};
+ghost use Rattle.mdview.specs.Run.{Turn, after, held_after};
 
-/// After any list of edits and new preludes, each answered as `Preview::edit` or `Preview::set_prelude` answers, the present
-/// lines and prelude are held with the units that are held since the last accepted call, and each unit's HTML, whichever calls
-/// were refused and whyever.
+/// After any list of edits and new preludes, each answered as `Preview::edit` or `Preview::set_prelude` answers, the preview is
+/// that of the lines and the prelude which the accepted calls have put, whichever calls were refused and whyever. What it shows
+/// is the view of these: each of its answers is that of `view_of`.
 pub fn edits_leave_the_present_text()
     ensures { (entities : List (List ℕ × List ℕ)) (options : Options) (turns : List Turn)
-        → let last = read_last nothing no_units turns in
-        held_after (empty entities options) turns ≡ document entities options (after nothing turns) last.head last.units last.labels }
+        → let setting : Setting = record { entities = entities; options = options } in
+        held_after (empty entities options) turns ≡ document setting (after setting nothing turns) }
 {}

@@ -11,6 +11,7 @@ mod label_changes;
 mod laws;
 mod limits;
 mod lines;
+mod lines_ahead;
 mod marks;
 mod new_text;
 mod patch;
@@ -21,7 +22,6 @@ mod preview;
 mod readings;
 mod reparse;
 mod resuming;
-mod splice;
 #[cfg(test)]
 mod tests;
 mod text_room;

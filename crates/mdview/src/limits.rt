@@ -40,15 +40,3 @@ pub(crate) fn clean_size(lines: &[&str]) -> usize
     }
     size
 }
-
-/// The size of kept lines.
-pub(crate) fn size(lines: &[String]) -> usize
-    requires { size_of (map string_bytes lines.now) ≤ 16777216 }
-    ensures { result ≡ size_of (map string_bytes lines.now) }
-{
-    let mut size = 0;
-    for line in lines {
-        size += line.len() + 1;
-    }
-    size
-}

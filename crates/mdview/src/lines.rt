@@ -1,12 +1,13 @@
 ghost use Rattle.std.specs.Prelude.{◌≡◌, map, string_bytes};
 ghost use Rattle.std.specs.Iterator.{YieldsFirstRef, item_count};
 
+use mdchunks::Iter;
 use std::marker::Model;
 
 /// The lines of a text without their endings, lent in order.
 #[derive(Drop)]
 pub struct Lines<'a> {
-    rest: &'a [String],
+    rest: Iter<'a, String>,
 }
 
 impl<'a> Model for Lines<'a> {
@@ -14,14 +15,14 @@ impl<'a> Model for Lines<'a> {
 
     ghost Value = { List (List ℕ) };
 
-    ghost view = { λ l. map string_bytes l.rest.now };
+    ghost view = { λ l. map string_bytes l.rest };
 }
 
 impl<'a> Lines<'a> {
-    pub(crate) fn new(lines: &'a [String]) -> Lines<'a>
-        ensures { result ≡ map string_bytes lines.now }
+    pub(crate) fn new(rest: Iter<'a, String>) -> Lines<'a>
+        ensures { result ≡ map string_bytes rest.entry }
     {
-        Lines { rest: lines }
+        Lines { rest }
     }
 }
 
@@ -33,9 +34,7 @@ impl<'a> Iterator for Lines<'a> {
     ghost remaining = { item_count (λ s. s) };
 
     fn next(&mut self) -> Option<&'a str> {
-        let rest = self.rest;
-        let (first, rest) = rest.split_first()?;
-        self.rest = rest;
-        Some(first.as_str())
+        let line = self.rest.next()?;
+        Some(line.as_str())
     }
 }

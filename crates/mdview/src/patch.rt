@@ -1,5 +1,6 @@
 ghost use Rattle.std.specs.Prelude.{◌≡◌, [], None, IfOk, option_map, slice_get, if◌then◌else◌, not, nat_lt, ◌+◌, ◌&&◌};
 ghost use Rattle.viewspec.specs.Patch.{brings, brought};
+ghost use Rattle.mdview.specs.Document.{pieces_of};
 
 use crate::marks::marks;
 use crate::patch_pieces::{PatchPieces, is_within};
@@ -28,7 +29,7 @@ impl Model for Patch {
 impl Patch {
     /// The pieces that the patch brings, in order, each with its number, lent without copying. Takes memory where pieces were made again.
     pub fn pieces<'a>(&self, preview: &'a Preview) -> Result<PatchPieces<'a>, AllocError>
-        ensures { IfOk result (λ pieces. pieces ≡ brought self.now 0 preview.now.pieces) }
+        ensures { IfOk result (λ pieces. pieces ≡ brought self.now 0 (pieces_of preview.now)) }
     {
         let again = marks(preview.alloc(), &self.again, preview.units())?;
         Ok(PatchPieces::new(self.first, self.added, again, preview.pieces()))
@@ -36,7 +37,7 @@ impl Patch {
 
     /// The preview's piece `i`, where the patch brings it.
     pub fn text<'a>(&self, preview: &'a Preview, i: usize) -> Option<&'a str>
-        ensures { option_map (λ text. text.now) result ≡ (if brings self.now i then slice_get preview.now.pieces i else None) }
+        ensures { option_map (λ text. text.now) result ≡ (if brings self.now i then slice_get (pieces_of preview.now) i else None) }
     {
         if self.brings(i) {
             preview.piece(i)

@@ -3,12 +3,13 @@ ghost use Rattle.mdview.specs.HeldUnit.{HeldUnit, piece_of};
 ghost use Rattle.std.specs.Iterator.{YieldsFirstRef, item_count};
 
 use crate::held_units::HeldUnit;
+use mdchunks::Iter;
 use std::marker::Model;
 
 /// The pieces of HTML, lent in order.
 #[derive(Drop)]
 pub struct Pieces<'a> {
-    rest: &'a [HeldUnit],
+    rest: Iter<'a, HeldUnit>,
 }
 
 impl<'a> Model for Pieces<'a> {
@@ -17,14 +18,14 @@ impl<'a> Model for Pieces<'a> {
 
     ghost Value = { List (List ℕ) };
 
-    ghost view = { λ p. map piece_of p.rest.now };
+    ghost view = { λ p. map piece_of p.rest };
 }
 
 impl<'a> Pieces<'a> {
-    pub(crate) fn new(units: &'a [HeldUnit]) -> Pieces<'a>
-        ensures { result ≡ map piece_of units.now }
+    pub(crate) fn new(rest: Iter<'a, HeldUnit>) -> Pieces<'a>
+        ensures { result ≡ map piece_of rest.entry }
     {
-        Pieces { rest: units }
+        Pieces { rest }
     }
 }
 
@@ -36,9 +37,7 @@ impl<'a> Iterator for Pieces<'a> {
     ghost remaining = { item_count (λ s. s) };
 
     fn next(&mut self) -> Option<&'a str> {
-        let rest = self.rest;
-        let (first, rest) = rest.split_first()?;
-        self.rest = rest;
-        Some(first.piece())
+        let unit = self.rest.next()?;
+        Some(unit.piece())
     }
 }

@@ -16,6 +16,7 @@ use crate::defining::read_definitions;
 use crate::fault::EditFault;
 use crate::limits::{MAX_LINES, MAX_SIZE, clean_size, first_line_break};
 use crate::lines::Lines;
+use mdchunks::Iter;
 use mdhtml::Options;
 use mdinline::Labels;
 use mdtext::{Count, Entities, Label, NoMemory, Target};
@@ -91,7 +92,7 @@ impl Prelude {
     pub fn lines(&self) -> Lines<'_>
         ensures { result ≡ self.now.lines }
     {
-        Lines::new(&self.lines)
+        Lines::new(Iter::of(&self.lines))
     }
 
     /// The labels that the prelude defines.

@@ -1,39 +1,33 @@
-ghost use Rattle.std.specs.Prelude.{if◌then◌else◌, nat_lt, None, Some, ◌≡◌, ◌≤◌, ◌+◌, IfOk, IfErr, OnOk};
-ghost use Rattle.std.specs.Prelude.{List, [], map, length, slice_get, get_or, IsSome, option_map, string_bytes};
+ghost use Rattle.std.specs.Prelude.{◌≡◌, ◌≤◌, ◌+◌, List, None, Some, IfErr, IfOk, IsSome, OnOk, length, map, option_map, slice_get};
 ghost use Rattle.mdhtml.specs.Limits.{HasLimits};
 ghost use Rattle.blockspec.specs.BlockUnits.{begins, units};
-ghost use Rattle.blockspec.specs.Nesting.{first_too_deep};
-ghost use Rattle.blockspec.specs.UnitTree.{FoundUnit};
-ghost use Rattle.viewspec.specs.Changes.{lines_due, patch_of, texts_read};
-ghost use Rattle.viewspec.specs.View.{ViewedUnit, view};
-ghost use Rattle.mdview.specs.Document.{empty, setting_of, size_of, source_of};
-ghost use Rattle.mdview.specs.HeldBlocks.{IsDeepAt};
-ghost use Rattle.mdview.specs.Edit.{call_of, due, due_of_prelude, put};
-ghost use Rattle.mdview.specs.Preludes.{IsUndefining};
-ghost use Rattle.viewspec.specs.Calls.{set_prelude};
-ghost use Rattle.mdview.specs.Outcome.{outcome};
-ghost use Rattle.mdview.specs.Lists.{replaced};
-ghost use Rattle.mdview.specs.ReadingEnd.{OfReading, reading_of};
-ghost use Rattle.mdview.specs.HeldUnit.{ReadUnit, first_line, texts_of, unit_edges};
-ghost use Rattle.viewspec.specs.Patch.{Brings};
+ghost use Rattle.blockspec.specs.UnitTree.{UnitTree};
+ghost use Rattle.mdinline.specs.ParsedText.{ParsedText};
 ghost use Rattle.mdwalk.specs.EdgeView.{edges_left};
-ghost use Rattle.mdview.specs.Update.{IsFitFor};
+ghost use Rattle.viewspec.specs.Calls.{due_at_once, put, set_prelude};
+ghost use Rattle.viewspec.specs.Changes.{lines_due, texts_read};
+ghost use Rattle.viewspec.specs.Patch.{Brings};
+ghost use Rattle.mdview.specs.Document.{empty, pieces_of, readings_of, setting_of, size_of, source_of};
+ghost use Rattle.mdview.specs.Edit.{call_of, due};
+ghost use Rattle.mdview.specs.HeldUnit.{HeldUnit, piece_of, shown_in, unit_edges};
+ghost use Rattle.mdview.specs.Outcome.{answer_of, is_starved, outcome_of};
+ghost use Rattle.mdview.specs.Preludes.{IsUndefining};
 
 use crate::clean::clean_lines;
-use crate::commit::commit;
+use crate::commit::{commit, commit_readings};
 use crate::fault::EditFault;
 use crate::held_labels::HeldLabels;
 use crate::held_units::HeldUnit;
-use crate::limits::{MAX_LINES, MAX_SIZE, clean_size, first_line_break, size};
+use crate::limits::{MAX_LINES, MAX_SIZE, clean_size, first_line_break};
 use crate::lines::Lines;
 use crate::new_text::NewText;
 use crate::patch::Patch;
 use crate::pieces::Pieces;
 use crate::preludes::Prelude;
 use crate::resuming::begin_of;
-use crate::splice::splice;
 use crate::update::{HeldText, Update};
 use mdblock::Unit;
+use mdchunks::Chunks;
 use mdhtml::Options;
 use mdinline::Parsed;
 use mdtext::{Count, Entities};
@@ -47,41 +41,33 @@ pub struct Preview {
     alloc: Global,
     entities: Entities,
     options: Options,
-    lines: Vec<String>,
+    lines: Chunks<String>,
     size: usize,
     /// How many lines stand before the first unit.
     head: usize,
-    units: Vec<HeldUnit>,
+    units: Chunks<HeldUnit>,
     prelude: Prelude,
     labels: HeldLabels,
 }
 
 impl Model for Preview {
-    ghost use Rattle.std.specs.Prelude.{◌≡◌, ◌≤◌, None, map, length, string_bytes};
+    ghost use Rattle.std.specs.Prelude.{◌≡◌, ◌≤◌, None, length, map, string_bytes};
+    ghost use Rattle.std.specs.List.{All};
+    ghost use Rattle.blockspec.specs.Nesting.{first_too_deep};
     ghost use Rattle.mdhtml.specs.Limits.{HasLimits};
     ghost use Rattle.mdview.specs.Document.{Document, size_of};
-    ghost use Rattle.blockspec.specs.Nesting.{first_too_deep};
     ghost use Rattle.mdview.specs.HeldBlocks.{HoldsUnits};
     ghost use Rattle.mdview.specs.HeldTexts.{HoldsTexts};
-    ghost use Rattle.mdview.specs.HeldUnit.{IsRendered, piece_of, read_of, read_unit_code};
-    ghost use Rattle.mdview.specs.LabelTargets.{leading};
-    ghost use Rattle.inlinespec.specs.LabelMap.{map_code};
-    ghost use Rattle.std.specs.Coded.{codes};
-    ghost use Rattle.std.specs.List.{All};
+    ghost use Rattle.mdview.specs.HeldUnit.{IsRendered, read_of};
 
     ghost Value = { Document };
 
-    ghost coded = { Prim.hlevel (codes, read_unit_code, map_code) };
-
+    // What it is tells all that it shows: the rest is held so that an edit need not read it again.
     ghost view = { λ p. record {
       entities = p.entities;
       options = p.options;
       lines = map string_bytes p.lines.items;
       prelude = p.prelude.lines;
-      head = p.head;
-      units = map read_of p.units.items;
-      labels = leading p.labels.targets.entries;
-      pieces = map piece_of p.units.items;
     } };
 
     ghost invariant = { λ p. (p.size ≡ size_of (map string_bytes p.lines.items)) × (p.size ≤ 16777216) × (length p.lines.items ≤ 1000000)
@@ -101,10 +87,10 @@ impl Preview {
             alloc,
             entities,
             options,
-            lines: Vec::new(alloc),
+            lines: Chunks::new(alloc),
             size: 0,
             head: 0,
-            units: Vec::new(alloc),
+            units: Chunks::new(alloc),
             prelude: Prelude::empty(alloc),
             labels: HeldLabels::new(alloc),
         }
@@ -135,23 +121,30 @@ impl Preview {
     pub fn lines(&self) -> Lines<'_>
         ensures { result ≡ self.now.lines }
     {
-        Lines::new(&self.lines)
+        Lines::new(self.lines.iter_from(0))
     }
 
     /// How many units the text has.
     pub fn units(&self) -> usize
-        ensures held { result ≡ length self.now.pieces }
         ensures value { result ≡ length (units self.now.entities self.now.lines) }
+        ensures pieces { result ≡ length (pieces_of self.now) }
     {
         self.units.len()
     }
 
+    /// What is held of the unit of this number; nothing where the text has fewer.
+    fn held(&self, i: usize) -> Option<&HeldUnit>
+        ensures shown { option_map (λ u. shown_in u.now) result ≡ slice_get (readings_of self.now) i }
+        ensures piece { option_map (λ u. piece_of u.now) result ≡ slice_get (pieces_of self.now) i }
+    {
+        self.units.get(i)
+    }
+
     /// The unit of this number; nothing where the text has fewer.
     pub fn unit(&self, i: usize) -> Option<&Unit>
-        ensures value { option_map (λ unit. unit.now) result ≡ option_map (λ (found : FoundUnit). found.unit) (slice_get (units self.now.entities self.now.lines) i) }
-        ensures held { option_map (λ unit. unit.now) result ≡ option_map (λ (u : ReadUnit). u.unit) (slice_get self.now.units i) }
+        ensures { option_map (λ unit. unit.now) result ≡ option_map (λ (u : UnitTree × List ParsedText). u.0) (slice_get (readings_of self.now) i) }
     {
-        match self.units.get(i) {
+        match self.held(i) {
             Some(unit) => Some(unit.unit()),
             None => None,
         }
@@ -159,9 +152,9 @@ impl Preview {
 
     /// What the texts of the unit of this number read as; nothing where the text has fewer units.
     pub fn inlines(&self, i: usize) -> Option<&[Parsed]>
-        ensures { option_map (λ inlines. inlines.now) result ≡ option_map (λ (u : ReadUnit). u.readings) (slice_get self.now.units i) }
+        ensures { option_map (λ inlines. inlines.now) result ≡ option_map (λ (u : UnitTree × List ParsedText). u.1) (slice_get (readings_of self.now) i) }
     {
-        match self.units.get(i) {
+        match self.held(i) {
             Some(unit) => Some(unit.inlines()),
             None => None,
         }
@@ -169,9 +162,9 @@ impl Preview {
 
     /// A walk over the unit of this number, its blocks and inlines alike; nothing where the text has fewer units.
     pub fn walk(&self, i: usize) -> Result<Option<Walk<'_>>, AllocError>
-        ensures { IfOk result (λ walk. option_map edges_left walk ≡ option_map unit_edges (slice_get self.now.units i)) }
+        ensures { IfOk result (λ walk. option_map edges_left walk ≡ option_map unit_edges (slice_get (readings_of self.now) i)) }
     {
-        match self.units.get(i) {
+        match self.held(i) {
             Some(unit) => Ok(Some(Walk::new(self.alloc, unit.unit().blocks(), unit.inlines())?)),
             None => Ok(None),
         }
@@ -179,8 +172,7 @@ impl Preview {
 
     /// The number of the first line of the unit of this number; nothing where the text has fewer units.
     pub fn first_line(&self, i: usize) -> Option<usize>
-        ensures value { result ≡ slice_get (begins self.now.entities self.now.lines) i }
-        ensures held { result ≡ (if nat_lt i (length self.now.units) then Some (first_line self.now.head self.now.units i) else None) }
+        ensures { result ≡ slice_get (begins self.now.entities self.now.lines) i }
     {
         if i < self.units.len() {
             Some(begin_of(&self.units, self.head, i))
@@ -220,18 +212,17 @@ impl Preview {
 
     /// The HTML of each unit, in order, lent without copying.
     pub fn pieces(&self) -> Pieces<'_>
-        ensures held { result ≡ self.now.pieces }
         // After any calls: those of the whole text, read from nothing.
-        ensures value { result ≡ map (λ (v : ViewedUnit). v.piece) (view (setting_of self.now) (source_of self.now)) }
+        ensures { result ≡ pieces_of self.now }
     {
-        Pieces::new(&self.units)
+        Pieces::new(self.units.iter_from(0))
     }
 
     /// The HTML of the unit of this number; nothing where the text has fewer.
     pub fn piece(&self, i: usize) -> Option<&str>
-        ensures { option_map (λ piece. piece.now) result ≡ slice_get self.now.pieces i }
+        ensures { option_map (λ piece. piece.now) result ≡ slice_get (pieces_of self.now) i }
     {
-        match self.units.get(i) {
+        match self.held(i) {
             Some(unit) => Some(unit.piece()),
             None => None,
         }
@@ -242,11 +233,11 @@ impl Preview {
     /// The size of the text after the edit, or why it is refused, whatever the memory. Takes none.
     fn accept(&self, at: usize, del: usize, add: &[&str]) -> Result<usize, EditFault>
         ensures ok { IfOk result (λ size. (due self.now.lines (call_of at del (map (λ line. line.now) add.now)) ≡ None)
-            × (size ≡ size_of (put self.now.lines (call_of at del (map (λ line. line.now) add.now))))) }
+            × (size ≡ size_of (put (source_of self.now) (call_of at del (map (λ line. line.now) add.now))).lines)) }
         ensures err { IfErr result (λ fault. due self.now.lines (call_of at del (map (λ line. line.now) add.now)) ≡ Some fault) }
         ensures within { OnOk result (at + del ≤ length self.now.lines) }
-        ensures small { OnOk result ((length (put self.now.lines (call_of at del (map (λ line. line.now) add.now))) ≤ 1000000)
-            × (size_of (put self.now.lines (call_of at del (map (λ line. line.now) add.now))) ≤ 16777216)) }
+        ensures small { OnOk result ((length (put (source_of self.now) (call_of at del (map (λ line. line.now) add.now))).lines ≤ 1000000)
+            × (size_of (put (source_of self.now) (call_of at del (map (λ line. line.now) add.now))).lines ≤ 16777216)) }
     {
         let lines = self.lines.len();
         if at > lines || del > lines - at {
@@ -258,7 +249,8 @@ impl Preview {
         if add.len() > MAX_LINES - (lines - del) {
             return Err(EditFault::TooManyLines);
         }
-        let kept = self.size - size(&self.lines[at..at + del]);
+        let gone = self.lines.weight_before(at + del) - self.lines.weight_before(at);
+        let kept = self.size - gone;
         let added = clean_size(add);
         if added > MAX_SIZE - kept {
             return Err(EditFault::TooLarge);
@@ -279,22 +271,17 @@ impl Preview {
         add: &[&str],
         count: &mut C,
     ) -> Result<Patch, EditFault>
-        ensures outcome { (result, self.new) ≡ outcome self.old (call_of at del (map (λ line. line.now) add.now)) (reading_of result self.new) }
-        // The patch takes the old pieces to the new ones, and the units that it does not bring are held as they were.
-        ensures patch { IfOk result (λ patch. Brings patch self.old.pieces self.new.pieces) }
-        ensures units { IfOk result (λ patch. Brings patch self.old.units self.new.units) }
-        // The line on which a container begins too deep is named, whatever the memory; there is none where a text is accepted.
-        ensures nesting { OnOk result (first_too_deep self.old.options.max_containers (put self.old.lines (call_of at del (map (λ line. line.now) add.now))) ≡ None) }
-        ensures deep { IfErr result (IsDeepAt (first_too_deep self.old.options.max_containers (put self.old.lines (call_of at del (map (λ line. line.now) add.now))))) }
-        // The units that give way, and those that come.
-        ensures places { IfOk result (λ patch. let due = patch_of (setting_of self.old) (source_of self.old) (call_of at del (map (λ line. line.now) add.now)) in
-            (patch.first ≡ due.first) × (patch.removed ≡ due.removed) × (patch.added ≡ due.added)) }
+        // The answer and what is there then are those of the definition, where memory was refused for it or not.
+        ensures outcome { (answer_of result, self.new) ≡ outcome_of (is_starved result) self.old (call_of at del (map (λ line. line.now) add.now)) }
+        // The patch takes the old pieces to the new ones, and the units that it does not bring read as they did.
+        ensures patch { IfOk result (λ patch. Brings patch (pieces_of self.old) (pieces_of self.new)) }
+        ensures units { IfOk result (λ patch. Brings patch (readings_of self.old) (readings_of self.new)) }
         // What was read is counted: the lines from the last unit that begins above the edit to where a unit begins in both texts, at most. Nothing is read where a
         // refusal is due.
         ensures stretch { C.lines count.new ≤ C.lines count.old + lines_due (setting_of self.old) (source_of self.old) (call_of at del (map (λ line. line.now) add.now)) }
-        ensures lines { C.lines count.new ≤ C.lines count.old + length (put self.old.lines (call_of at del (map (λ line. line.now) add.now))) }
+        ensures lines { C.lines count.new ≤ C.lines count.old + length (put (source_of self.old) (call_of at del (map (λ line. line.now) add.now))).lines }
         ensures inlines { C.inlines count.new ≤ C.inlines count.old + texts_read (setting_of self.old) (source_of self.old) (call_of at del (map (λ line. line.now) add.now)) }
-        ensures uncounted { IsSome (due self.old.lines (call_of at del (map (λ line. line.now) add.now))) → count.new ≡ count.old }
+        ensures uncounted { IsSome (due_at_once (source_of self.old) (call_of at del (map (λ line. line.now) add.now))) → count.new ≡ count.old }
     {
         let size = self.accept(at, del, add)?;
         let mut new_lines = clean_lines(self.alloc, add)?;
@@ -308,13 +295,13 @@ impl Preview {
             labels: &self.labels,
         };
         let text = NewText::new(&self.lines, at, del, &new_lines);
-        let update = Update::of(&held, text, count)?;
+        let mut update = Update::of(&held, text, count)?;
         let patch = update.patch(self.alloc)?;
-        self.lines.reserve(new_lines.len())?;
-        self.units.reserve(update.units.len())?;
+        self.lines.reserve_splice(&mut new_lines)?;
+        self.units.reserve_splice(&mut update.units)?;
         self.labels.make_room(self.alloc, &update.changes)?;
         // From here on nothing fails.
-        splice(&mut self.lines, at, del, &mut new_lines);
+        self.lines.splice(at, del, new_lines);
         self.size = size;
         self.head = update.head;
         commit(&mut self.units, &mut self.labels, update);
@@ -334,17 +321,16 @@ impl Preview {
         lines: &[&str],
         count: &mut C,
     ) -> Result<Patch, EditFault>
-        ensures outcome { (result, self.new) ≡ outcome self.old (set_prelude (map (λ line. line.now) lines.now)) (reading_of result self.new) }
-        // No unit comes or goes; those that the patch does not bring are held as they were.
-        ensures numbers { IfOk result (λ patch. (patch.first ≡ 0) × (patch.removed ≡ 0) × (patch.added ≡ 0)) }
-        ensures trees { map (λ (u : ReadUnit). u.unit) self.new.units ≡ map (λ (u : ReadUnit). u.unit) self.old.units }
-        ensures patch { IfOk result (λ patch. Brings patch self.old.pieces self.new.pieces) }
-        ensures units { IfOk result (λ patch. Brings patch self.old.units self.new.units) }
+        // The answer and what is there then are those of the definition, where memory was refused for it or not.
+        ensures outcome { (answer_of result, self.new) ≡ outcome_of (is_starved result) self.old (set_prelude (map (λ line. line.now) lines.now)) }
+        // The patch takes the old pieces to the new ones, and the units that it does not bring read as they did.
+        ensures patch { IfOk result (λ patch. Brings patch (pieces_of self.old) (pieces_of self.new)) }
+        ensures units { IfOk result (λ patch. Brings patch (readings_of self.old) (readings_of self.new)) }
         // What was read is counted, and nothing is read where a refusal is due.
         ensures lines { C.lines count.new ≤ C.lines count.old + length lines.now }
-        ensures inlines { OnOk result (C.inlines count.new ≤ C.inlines count.old + texts_of self.old.units) }
+        ensures inlines { C.inlines count.new ≤ C.inlines count.old + texts_read (setting_of self.old) (source_of self.old) (set_prelude (map (λ line. line.now) lines.now)) }
         ensures unread { IfErr result (λ fault. IsUndefining fault → C.inlines count.new ≡ C.inlines count.old) }
-        ensures uncounted { IsSome (due_of_prelude (map (λ line. line.now) lines.now)) → count.new ≡ count.old }
+        ensures uncounted { IsSome (due_at_once (source_of self.old) (set_prelude (map (λ line. line.now) lines.now))) → count.new ≡ count.old }
     {
         let prelude = Prelude::read(self.alloc, lines, &self.entities, &self.options, count)?;
         let held = HeldText {
@@ -361,7 +347,7 @@ impl Preview {
         self.labels.make_room(self.alloc, &renewal.changes)?;
         // From here on nothing fails.
         self.prelude = prelude;
-        commit(&mut self.units, &mut self.labels, renewal);
+        commit_readings(&mut self.units, &mut self.labels, renewal);
         Ok(patch)
     }
 }

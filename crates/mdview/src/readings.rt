@@ -1,7 +1,8 @@
 //! What inline texts read as after an edit, and the HTML of units.
 
-ghost use Rattle.std.specs.Prelude.{◌≡◌, ◌+◌, ◌≤◌, ◌<◌, ◌^◌, ◌++◌, ◌∷◌, [], None, Some, IfOk, IfErr, IsErrOf, OnOk, false, if◌then◌else◌, length, map, option_map, slice_get, string_bytes, sum_by, true};
+ghost use Rattle.std.specs.Prelude.{◌≡◌, ◌+◌, ◌≤◌, ◌<◌, ◌^◌, ◌++◌, ◌∷◌, List, [], None, Some, IfOk, IfErr, IsErrOf, OnOk, false, if◌then◌else◌, length, map, option_map, slice_get, string_bytes, sum_by, true};
 ghost use Rattle.std.specs.List.{All, list_any};
+ghost use Rattle.blockspec.specs.UnitTree.{UnitTree};
 ghost use Rattle.mdhtml.specs.Limits.{HasLimits};
 ghost use Rattle.mdinline.specs.declared.faults.InlineFault.TheVariants.{TooDeep};
 ghost use Rattle.viewspec.specs.Changes.{asks_changed};
@@ -20,6 +21,7 @@ use crate::held_labels::LabelsAfter;
 use crate::held_units::HeldUnit;
 use crate::text_room::TextRoom;
 use mdblock::{Found, Unit};
+use mdchunks::{Change, Chunks};
 use mdhtml::Options;
 use mdinline::{InlineFault, Parsed};
 use mdtext::Count;
@@ -39,6 +41,20 @@ pub(crate) struct Again {
     pub(crate) unit: usize,
     pub(crate) inlines: Vec<Parsed>,
     pub(crate) piece: String,
+}
+
+/// The unit takes its readings and its piece.
+impl Change<HeldUnit> for Again {
+    ghost use Rattle.std.specs.Prelude.{◌≡◌, length};
+    ghost use Rattle.mdview.specs.Update.{renewed};
+
+    ghost can_change = { λ again u. length again.inlines.items ≡ length u.read.unit.texts };
+
+    ghost changed = { renewed };
+
+    fn change(self, member: &mut HeldUnit) {
+        member.renew(self.inlines, self.piece);
+    }
 }
 
 impl<'a> TextReader<'a> {
@@ -139,7 +155,7 @@ impl<'a> TextReader<'a> {
     /// that asked for a label that leads elsewhere then. A text of theirs that did not ask for one is not read again.
     pub(crate) fn read_again<C: Count>(
         &self,
-        units: &[HeldUnit],
+        units: &Chunks<HeldUnit>,
         first: usize,
         next: usize,
         begin: usize,
@@ -149,70 +165,68 @@ impl<'a> TextReader<'a> {
     ) -> Result<(), EditFault>
         requires limits { HasLimits self.now.options.now }
         requires order { first ≤ next }
-        requires within { next ≤ length units.now }
+        requires within { next ≤ length units.now.items }
         requires elsewhere { IsElsewhere self.now.labels.now.held.now self.now.labels.now.changes.now }
-        requires read { All (IsReadUnder (entities_in room.old) (labels_before self.now)) units.now }
-        requires shallow { All (IsShallow self.now.options.now.max_spans (entities_in room.old) (labels_before self.now)) units.now }
-        requires near { begin + sum_by lines_in (between first next units.now) < 2 ^ 64 }
-        requires reread { All (IsReread (entities_in room.old) (labels_behind self.now) (map unit_in units.now)) again.old.items }
-        requires fits { All (Fits (map unit_in units.now)) again.old.items }
-        requires written { All (IsWritten self.now.options.now (map unit_in units.now)) again.old.items }
-        ensures fits { OnOk result (All (Fits (map unit_in units.now)) again.new.items) }
-        ensures written { OnOk result (All (IsWritten self.now.options.now (map unit_in units.now)) again.new.items) }
+        requires read { All (IsReadUnder (entities_in room.old) (labels_before self.now)) units.now.items }
+        requires shallow { All (IsShallow self.now.options.now.max_spans (entities_in room.old) (labels_before self.now)) units.now.items }
+        requires near { begin + sum_by lines_in (between first next units.now.items) < 2 ^ 64 }
+        requires reread { All (IsReread (entities_in room.old) (labels_behind self.now) (map unit_in units.now.items)) again.old.items }
+        requires fits { All (Fits (map unit_in units.now.items)) again.old.items }
+        requires written { All (IsWritten self.now.options.now (map unit_in units.now.items)) again.old.items }
+        ensures fits { OnOk result (All (Fits (map unit_in units.now.items)) again.new.items) }
+        ensures written { OnOk result (All (IsWritten self.now.options.now (map unit_in units.now.items)) again.new.items) }
         ensures numbers { OnOk result (map number_again again.new.items ≡ map number_again again.old.items
-            ++ asking_units (entities_in room.old) (labels_before self.now) (labels_behind self.now) first (map unit_in (between first next units.now))) }
-        ensures reread { OnOk result (All (IsReread (entities_in room.old) (labels_behind self.now) (map unit_in units.now)) again.new.items) }
-        ensures shallow { OnOk result (deep_from self.now.options.now.max_spans (entities_in room.old) (labels_behind self.now) begin (map held_tile (between first next units.now)) ≡ None) }
-        ensures deep { IfErr result (IsTextFault (deep_from self.now.options.now.max_spans (entities_in room.old) (labels_behind self.now) begin (map held_tile (between first next units.now)))) }
+            ++ asking_units (entities_in room.old) (labels_before self.now) (labels_behind self.now) first (map unit_in (between first next units.now.items))) }
+        ensures reread { OnOk result (All (IsReread (entities_in room.old) (labels_behind self.now) (map unit_in units.now.items)) again.new.items) }
+        ensures shallow { OnOk result (deep_from self.now.options.now.max_spans (entities_in room.old) (labels_behind self.now) begin (map held_tile (between first next units.now.items)) ≡ None) }
+        ensures deep { IfErr result (IsTextFault (deep_from self.now.options.now.max_spans (entities_in room.old) (labels_behind self.now) begin (map held_tile (between first next units.now.items)))) }
         ensures room { entities_in room.new ≡ entities_in room.old }
         ensures lines { C.lines count.new ≡ C.lines count.old }
         ensures inlines { C.inlines count.new ≤ C.inlines count.old
-            + asking_texts (entities_in room.old) (labels_before self.now) (labels_behind self.now) (map unit_in (between first next units.now)) }
+            + asking_texts (entities_in room.old) (labels_before self.now) (labels_behind self.now) (map unit_in (between first next units.now.items)) }
     {
         if self.labels.changes.is_empty() {
             return Ok(());
         }
         let mut begin = begin;
+        let mut rest = units.iter_from(first);
         for i in first..next {
-            if let Err(fault) = self.read_if_concerned(units, i, room, again, count) {
+            let unit = rest.next().unwrap();
+            if let Err(fault) = self.read_if_concerned(i, unit, room, again, count) {
                 return Err(fault_in_unit(fault, begin));
             }
-            begin = begin.saturating_add(units[i].lines());
+            begin = begin.saturating_add(unit.lines());
         }
         Ok(())
     }
 
-    /// Reads the unit of this number again if a text of it asked for a label that leads elsewhere after the edit.
+    /// Reads a unit again if a text of it asked for a label that leads elsewhere after the edit. It is the unit of this number.
     fn read_if_concerned<C: Count>(
         &self,
-        units: &[HeldUnit],
         number: usize,
+        unit: &HeldUnit,
         room: &mut TextRoom<'a>,
         again: &mut Vec<Again>,
         count: &mut C,
     ) -> Result<(), InlineFault>
         requires limits { HasLimits self.now.options.now }
-        requires within { number < length units.now }
         requires elsewhere { IsElsewhere self.now.labels.now.held.now self.now.labels.now.changes.now }
-        requires read { All (IsReadUnder (entities_in room.old) (labels_before self.now)) units.now }
-        requires shallow { All (IsShallow self.now.options.now.max_spans (entities_in room.old) (labels_before self.now)) units.now }
-        requires reread { All (IsReread (entities_in room.old) (labels_behind self.now) (map unit_in units.now)) again.old.items }
-        requires fits { All (Fits (map unit_in units.now)) again.old.items }
-        requires written { All (IsWritten self.now.options.now (map unit_in units.now)) again.old.items }
-        ensures fits { OnOk result (All (Fits (map unit_in units.now)) again.new.items) }
-        ensures written { OnOk result (All (IsWritten self.now.options.now (map unit_in units.now)) again.new.items) }
-        ensures numbers { OnOk result ((u : HeldUnit) → slice_get units.now number ≡ Some u → map number_again again.new.items ≡ map number_again again.old.items
-            ++ asking_units (entities_in room.old) (labels_before self.now) (labels_behind self.now) number (u.read.unit ∷ [])) }
-        ensures reread { OnOk result (All (IsReread (entities_in room.old) (labels_behind self.now) (map unit_in units.now)) again.new.items) }
-        ensures shallow { OnOk result ((u : HeldUnit) → slice_get units.now number ≡ Some u → IsShallow self.now.options.now.max_spans (entities_in room.old) (labels_behind self.now) u) }
-        ensures deep { IsErrOf result TooDeep → (u : HeldUnit) → slice_get units.now number ≡ Some u
-            → is_deep_under self.now.options.now.max_spans (entities_in room.old) (labels_behind self.now) u.read.unit ≡ true }
+        requires read { IsReadUnder (entities_in room.old) (labels_before self.now) unit.now }
+        requires shallow { IsShallow self.now.options.now.max_spans (entities_in room.old) (labels_before self.now) unit.now }
+        // Of any units of which this one has this number.
+        ensures fits { OnOk result ((trees : List UnitTree) → slice_get trees number ≡ Some unit.now.read.unit → All (Fits trees) again.old.items → All (Fits trees) again.new.items) }
+        ensures written { OnOk result ((trees : List UnitTree) → slice_get trees number ≡ Some unit.now.read.unit
+            → All (IsWritten self.now.options.now trees) again.old.items → All (IsWritten self.now.options.now trees) again.new.items) }
+        ensures reread { OnOk result ((trees : List UnitTree) → slice_get trees number ≡ Some unit.now.read.unit
+            → All (IsReread (entities_in room.old) (labels_behind self.now) trees) again.old.items → All (IsReread (entities_in room.old) (labels_behind self.now) trees) again.new.items) }
+        ensures numbers { OnOk result (map number_again again.new.items ≡ map number_again again.old.items
+            ++ asking_units (entities_in room.old) (labels_before self.now) (labels_behind self.now) number (unit.now.read.unit ∷ [])) }
+        ensures shallow { OnOk result (IsShallow self.now.options.now.max_spans (entities_in room.old) (labels_behind self.now) unit.now) }
+        ensures deep { IsErrOf result TooDeep → is_deep_under self.now.options.now.max_spans (entities_in room.old) (labels_behind self.now) unit.now.read.unit ≡ true }
         ensures room { entities_in room.new ≡ entities_in room.old }
         ensures lines { C.lines count.new ≡ C.lines count.old }
-        ensures inlines { (u : HeldUnit) → slice_get units.now number ≡ Some u
-            → C.inlines count.new ≤ C.inlines count.old + asking_in (entities_in room.old) (labels_before self.now) (labels_behind self.now) u.read.unit }
+        ensures inlines { C.inlines count.new ≤ C.inlines count.old + asking_in (entities_in room.old) (labels_before self.now) (labels_behind self.now) unit.now.read.unit }
     {
-        let unit = &units[number];
         if !self.is_concerned(unit) {
             return Ok(());
         }

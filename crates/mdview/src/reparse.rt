@@ -13,7 +13,7 @@ ghost use Rattle.mdview.specs.HeldBlocks.{HoldsUnits, IsDeepAt, IsReread, fault_
 ghost use Rattle.mdview.specs.HeldUnit.{read_of};
 ghost use Rattle.mdview.specs.Document.{size_of};
 ghost use Rattle.mdview.specs.NewText.{lines_of};
-ghost use Rattle.mdview.specs.ReadingEnd.{OfBlocks};
+ghost use Rattle.mdview.specs.ReadingFaults.{OfBlocks};
 
 use crate::fault::EditFault;
 use crate::new_text::NewText;
@@ -45,14 +45,14 @@ pub(crate) fn reparse<C: Count>(
     requires few { length (lines_of text) ≤ 1000000 }
     requires small { size_of (lines_of text) ≤ 16777216 }
     requires old { length (old_lines text) ≤ 1000000 }
-    requires held { HoldsUnits held.now.entities.now (old_lines text) held.now.head (map read_of held.now.units.now) }
+    requires held { HoldsUnits held.now.entities.now (old_lines text) held.now.head (map read_of held.now.units.now.items) }
     requires fits { first_too_deep held.now.options.now.max_containers (old_lines text) ≡ None }
     ensures fault { IfErr result OfBlocks }
     ensures deep { IfErr result (IsDeepAt (first_too_deep held.now.options.now.max_containers (lines_of text.entry))) }
     ensures fits { OnOk result (first_too_deep held.now.options.now.max_containers (lines_of text.entry) ≡ None) }
     ensures read { IfOk result (IsReread held.now.entities.now text.entry) }
     ensures stretch { C.lines count.new ≤ C.lines count.old + lines_read (places_of held.now.entities.now text.entry) }
-    ensures order { IfOk result (λ reparsed. (reparsed.first ≤ reparsed.next) × (reparsed.next ≤ length held.now.units.now)) }
+    ensures order { IfOk result (λ reparsed. (reparsed.first ≤ reparsed.next) × (reparsed.next ≤ length held.now.units.now.items)) }
     ensures lines { C.lines count.new ≤ C.lines count.old + length (lines_of text.entry) }
     ensures inlines { C.inlines count.new ≡ C.inlines count.old }
 {
@@ -61,8 +61,9 @@ pub(crate) fn reparse<C: Count>(
     let mut cursor = UnitCursor::at(held.units, start);
     let mut found = Vec::new(held.alloc);
     let mut reader = Reader::new(held.alloc, held.entities, held.options.max_containers);
+    let mut ahead = text.lines_from(from);
     for line in from..text.len() {
-        match reader.line(text.line(line), count) {
+        match reader.line(text.line(line, &mut ahead), count) {
             Ok(unit) => push_some(&mut found, unit)?,
             Err(fault) => return Err(fault_in_line(fault, line)),
         }
@@ -133,12 +134,12 @@ fn met_at(
     requires new { line ≤ 1000000 }
     ensures same { cursor.new.units.now ≡ cursor.old.units.now }
     ensures forward { cursor.old.next.unit ≤ cursor.new.next.unit }
-    ensures unit { IfSome result (λ unit. (unit ≡ cursor.new.next.unit) × (unit < length cursor.new.units.now)) }
+    ensures unit { IfSome result (λ unit. (unit ≡ cursor.new.next.unit) × (unit < length cursor.new.units.now.items)) }
     ensures ahead { (e : EntityTable) → let p = places_of e text.entry in
-        IsAhead (map lines_in cursor.old.units.now) p.old_begins cursor.old.next.unit cursor.old.next.line (line_before p line)
-        → IsAhead (map lines_in cursor.old.units.now) p.old_begins cursor.new.next.unit cursor.new.next.line (line_before p line) }
+        IsAhead (map lines_in cursor.old.units.now.items) p.old_begins cursor.old.next.unit cursor.old.next.line (line_before p line)
+        → IsAhead (map lines_in cursor.old.units.now.items) p.old_begins cursor.new.next.unit cursor.new.next.line (line_before p line) }
     ensures met { (limit : ℕ) (e : EntityTable) (ls : List (List ℕ)) → Reads limit e reader.now ls → let p = places_of e text.entry in
-        IsAhead (map lines_in cursor.old.units.now) p.old_begins cursor.old.next.unit cursor.old.next.line (line_before p line)
+        IsAhead (map lines_in cursor.old.units.now.items) p.old_begins cursor.old.next.unit cursor.old.next.line (line_before p line)
         → is_some result ≡ (is_at (line - from) (open_begin e ls) && is_meeting p line) }
     ensures here { is_some result ≡ true → cursor.new.next.line ≡ line_before (places_of [] text.entry) line }
 {
@@ -155,10 +156,10 @@ fn held_at(cursor: &mut UnitCursor<'_>, text: NewText<'_>, line: usize) -> Optio
     requires new { line ≤ 1000000 }
     ensures same { cursor.new.units.now ≡ cursor.old.units.now }
     ensures forward { cursor.old.next.unit ≤ cursor.new.next.unit }
-    ensures unit { IfSome result (λ unit. (unit ≡ cursor.new.next.unit) × (unit < length cursor.new.units.now)) }
+    ensures unit { IfSome result (λ unit. (unit ≡ cursor.new.next.unit) × (unit < length cursor.new.units.now.items)) }
     ensures ahead { (e : EntityTable) → let p = places_of e text.entry in
-        IsAhead (map lines_in cursor.old.units.now) p.old_begins cursor.old.next.unit cursor.old.next.line (line_before p line)
-        → IsAhead (map lines_in cursor.old.units.now) p.old_begins cursor.new.next.unit cursor.new.next.line (line_before p line)
+        IsAhead (map lines_in cursor.old.units.now.items) p.old_begins cursor.old.next.unit cursor.old.next.line (line_before p line)
+        → IsAhead (map lines_in cursor.old.units.now.items) p.old_begins cursor.new.next.unit cursor.new.next.line (line_before p line)
         × (is_some result ≡ is_meeting p line) }
     ensures here { is_some result ≡ true → cursor.new.next.line ≡ line_before (places_of [] text.entry) line }
 {

@@ -1,6 +1,6 @@
 //! Where an edit begins to read, and where what it reads meets the units that are held.
 
-ghost use Rattle.std.specs.Prelude.{◌≡◌, ◌≤◌, ◌<◌, ℕ, List, IfSome, is_some, true, length, map, max, nat_eq, nat_lt};
+ghost use Rattle.std.specs.Prelude.{◌≡◌, ◌≤◌, ◌<◌, drop, ℕ, List, IfSome, is_some, true, length, map, max, nat_eq, nat_lt};
 ghost use Rattle.std.specs.List.{filter, fold, list_any};
 ghost use Rattle.mdtext.specs.EntityTable.{EntityTable};
 ghost use Rattle.blockspec.specs.BlockUnits.{begins};
@@ -10,6 +10,7 @@ ghost use Rattle.mdview.specs.HeldBlocks.{lines_in};
 ghost use Rattle.mdview.specs.HeldUnit.{first_line, read_of};
 
 use crate::held_units::HeldUnit;
+use mdchunks::{Chunks, Iter};
 
 /// A unit by its number, and the number of its first line.
 #[derive(Clone, Copy)]
@@ -26,79 +27,84 @@ pub(crate) struct Resume {
 }
 
 /// The last unit that begins above a line. Where there is none, it is the front of the text.
-pub(crate) fn resume_at(units: &[HeldUnit], head: usize, at: usize) -> Resume
+pub(crate) fn resume_at(units: &Chunks<HeldUnit>, head: usize, at: usize) -> Resume
     ensures from { result.from ≤ at }
-    ensures unit { result.start.unit ≤ length units.now }
+    ensures unit { result.start.unit ≤ length units.now.items }
     // Of units of some lines that begin where those before them end.
-    ensures resumed { (e : EntityTable) (lines : List (List ℕ)) → length lines ≤ 1000000 → length (begins e lines) ≡ length units.now
-        → begins e lines ≡ begins_from head (map lines_in units.now)
+    ensures resumed { (e : EntityTable) (lines : List (List ℕ)) → length lines ≤ 1000000 → length (begins e lines) ≡ length units.now.items
+        → begins e lines ≡ begins_from head (map lines_in units.now.items)
         → (result.from ≡ fold max 0 (filter (λ begin. nat_lt begin at) (begins e lines))) × (result.start.unit ≡ count_between 0 result.from (begins e lines))
-        × IsAhead (map lines_in units.now) (begins e lines) result.start.unit result.start.line result.from }
+        × IsAhead (map lines_in units.now.items) (begins e lines) result.start.unit result.start.line result.from }
 {
-    let mut resume = Resume {
+    let front = Resume {
         from: 0,
         start: UnitStart {
             unit: 0,
             line: head,
         },
     };
-    let mut begin = head;
-    for i in 0..units.len() {
-        if begin >= at {
-            return resume;
-        }
-        resume = Resume {
-            from: begin,
-            start: UnitStart {
-                unit: i,
-                line: begin,
-            },
-        };
-        begin = begin.saturating_add(units[i].lines());
+    if at <= head {
+        return front;
     }
-    resume
+    match units.find(at - 1 - head) {
+        Some(place) => {
+            let begin = head + place.front;
+            Resume {
+                from: begin,
+                start: UnitStart {
+                    unit: place.member,
+                    line: begin,
+                },
+            }
+        }
+        None => front,
+    }
 }
 
 /// The first line of the unit of this number, or the line behind the last unit.
-pub(crate) fn begin_of(units: &[HeldUnit], head: usize, number: usize) -> usize
-    requires { number ≤ length units.now }
-    ensures { result ≡ first_line head (map read_of units.now) number }
+pub(crate) fn begin_of(units: &Chunks<HeldUnit>, head: usize, number: usize) -> usize
+    requires { number ≤ length units.now.items }
+    ensures { result ≡ first_line head (map read_of units.now.items) number }
 {
-    let mut begin = head;
-    for i in 0..number {
-        begin = begin.saturating_add(units[i].lines());
-    }
-    begin
+    head.saturating_add(units.weight_before(number))
 }
 
 /// The units in their order, each with its first line. It goes on and never back.
 #[derive(Drop)]
 pub(crate) struct UnitCursor<'a> {
-    units: &'a [HeldUnit],
+    units: &'a Chunks<HeldUnit>,
     next: UnitStart,
+    /// The units from the next one on.
+    rest: Iter<'a, HeldUnit>,
+    ghost stands: { rest ≡ drop next.unit units.now.items },
 }
 
 impl<'a> UnitCursor<'a> {
     /// A cursor at a unit.
-    pub(crate) fn at(units: &'a [HeldUnit], start: UnitStart) -> UnitCursor<'a>
+    pub(crate) fn at(units: &'a Chunks<HeldUnit>, start: UnitStart) -> UnitCursor<'a>
+        requires { start.unit ≤ length units.now.items }
         ensures { (result.units.now ≡ units.now) × (result.next ≡ start) }
     {
-        UnitCursor { units, next: start }
+        UnitCursor {
+            units,
+            next: start,
+            rest: units.iter_from(start.unit),
+        }
     }
 
     /// The unit that begins at a line. The lines that are asked for ascend.
     pub(crate) fn unit_at(&mut self, line: usize) -> Option<usize>
         ensures same { self.new.units.now ≡ self.old.units.now }
         ensures forward { self.old.next.unit ≤ self.new.next.unit }
-        ensures unit { IfSome result (λ unit. (unit ≡ self.new.next.unit) × (unit < length self.new.units.now)) }
+        ensures unit { IfSome result (λ unit. (unit ≡ self.new.next.unit) × (unit < length self.new.units.now.items)) }
         ensures ahead { (e : EntityTable) (lines : List (List ℕ)) (low : ℕ) → length lines ≤ 1000000 → low ≤ line
-            → IsAhead (map lines_in self.old.units.now) (begins e lines) self.old.next.unit self.old.next.line low
-            → IsAhead (map lines_in self.old.units.now) (begins e lines) self.new.next.unit self.new.next.line line
+            → IsAhead (map lines_in self.old.units.now.items) (begins e lines) self.old.next.unit self.old.next.line low
+            → IsAhead (map lines_in self.old.units.now.items) (begins e lines) self.new.next.unit self.new.next.line line
             × (is_some result ≡ list_any (nat_eq line) (begins e lines)) }
         ensures here { is_some result ≡ true → self.new.next.line ≡ line }
     {
         while self.next.unit < self.units.len() && self.next.line < line {
-            let unit = &self.units[self.next.unit];
+            let unit = self.rest.next().unwrap();
             self.next = UnitStart {
                 unit: self.next.unit + 1,
                 line: self.next.line.saturating_add(unit.lines()),

@@ -236,7 +236,9 @@ fn a_refused_prelude_is_not_held(rt: HostRuntime) -> Result<(), Fail> {
     let refused = preview.set_prelude(["[bar]: /q", "", "---"].as_slice(), &mut count);
     assert!(rt; matches!(refused, Err(EditFault::NotDefinitions { line: 2 })));
     assert_eq!(rt; (count.lines(), count.inlines()), (3, 0));
-    assert_eq!(rt; preview.prelude().count(), 1);
+    let mut lines = preview.prelude();
+    assert_eq!(rt; lines.next(), Some("[foo]: /p"));
+    assert!(rt; lines.next().is_none());
     assert_eq!(rt; preview.piece(0), Some("<p><a href=\"/p\">foo</a></p>\n"));
     assert_eq!(rt; preview.piece(1), Some("<p>[bar]</p>\n"));
     Ok(())

@@ -1,10 +1,11 @@
 //! The labels that an edit or a new prelude touches, and where they lead after it.
 
-ghost use Rattle.std.specs.Prelude.{◌≡◌, ◌∷◌, ◌++◌, [], ℕ, List, IfOk, None, OnOk, map, option_copied, option_map, true};
+ghost use Rattle.std.specs.Prelude.{◌≡◌, ◌≤◌, length, ◌∷◌, ◌++◌, [], ℕ, List, IfOk, None, OnOk, map, option_copied, option_map, true};
 ghost use Rattle.std.specs.Option.{option_or};
 ghost use Rattle.inlinespec.specs.LabelMap.{target_of};
 ghost use Rattle.mdleaf.specs.LinkDefinition.{definition_of};
 ghost use Rattle.viewspec.specs.Changes.{is_same_target};
+ghost use Rattle.mdview.specs.HeldTexts.{between};
 ghost use Rattle.mdview.specs.HeldUnit.{unit_in};
 ghost use Rattle.mdview.specs.LabelTargets.{definitions_by};
 ghost use Rattle.mdview.specs.ToldLabels.{Sees, Touches, elsewhere_in, labels_by, labels_in, said_in, told, told_in};
@@ -13,6 +14,7 @@ use crate::held_labels::HeldLabels;
 use crate::held_units::HeldUnit;
 use crate::preludes::{Prelude, or_beside};
 use mdblock::{Definition, Found, Unit};
+use mdchunks::Chunks;
 use mdinline::Labels;
 use mdtext::{Label, NoMemory, Target};
 use std::alloc::Global;
@@ -43,12 +45,20 @@ impl TouchedLabels {
         self.targets.is_empty()
     }
 
-    /// The labels that units define which go.
-    pub(crate) fn touch_held(&mut self, units: &[HeldUnit]) -> Result<(), NoMemory>
-        ensures { OnOk result (Touches (labels_by (map unit_in units.now)) self.old self.new) }
+    /// The labels that units define which go: those from number `first` up to `next`.
+    pub(crate) fn touch_held(
+        &mut self,
+        units: &Chunks<HeldUnit>,
+        first: usize,
+        next: usize,
+    ) -> Result<(), NoMemory>
+        requires order { first ≤ next }
+        requires within { next ≤ length units.now.items }
+        ensures { OnOk result (Touches (labels_by (map unit_in (between first next units.now.items))) self.old self.new) }
     {
-        for unit in units {
-            self.touch(unit.unit())?;
+        let mut rest = units.iter_from(first);
+        for _ in first..next {
+            self.touch(rest.next().unwrap().unit())?;
         }
         Ok(())
     }
@@ -91,30 +101,42 @@ impl TouchedLabels {
         Ok(())
     }
 
-    /// Where the labels lead by the units of the text after the edit, in their order: those in front, those that were found, and those
-    /// behind.
+    /// Where the labels lead by the units of the text after the edit, in their order: those that are held in front of number
+    /// `first`, those that were found, and those that are held from number `next` on.
     pub(crate) fn define_all(
         &mut self,
-        front: &[HeldUnit],
+        units: &Chunks<HeldUnit>,
+        first: usize,
         found: &[Found],
-        back: &[HeldUnit],
+        next: usize,
     ) -> Result<(), NoMemory>
-        ensures { OnOk result (Sees (definitions_by (map unit_in front.now ++ map (λ one. one.unit) found.now ++ map unit_in back.now)) self.old self.new) }
+        requires first { first ≤ length units.now.items }
+        requires next { next ≤ length units.now.items }
+        ensures { OnOk result (Sees (definitions_by (map unit_in (between 0 first units.now.items) ++ map (λ one. one.unit) found.now
+            ++ map unit_in (between next (length units.now.items) units.now.items))) self.old self.new) }
     {
         if self.is_empty() {
             return Ok(());
         }
-        self.define_held(front)?;
+        self.define_held(units, 0, first)?;
         self.define_found(found)?;
-        self.define_held(back)?;
+        self.define_held(units, next, units.len())?;
         Ok(())
     }
 
-    fn define_held(&mut self, units: &[HeldUnit]) -> Result<(), NoMemory>
-        ensures { OnOk result (Sees (definitions_by (map unit_in units.now)) self.old self.new) }
+    fn define_held(
+        &mut self,
+        units: &Chunks<HeldUnit>,
+        first: usize,
+        next: usize,
+    ) -> Result<(), NoMemory>
+        requires order { first ≤ next }
+        requires within { next ≤ length units.now.items }
+        ensures { OnOk result (Sees (definitions_by (map unit_in (between first next units.now.items))) self.old self.new) }
     {
-        for unit in units {
-            self.define(unit.unit())?;
+        let mut rest = units.iter_from(first);
+        for _ in first..next {
+            self.define(rest.next().unwrap().unit())?;
         }
         Ok(())
     }

@@ -11,11 +11,10 @@ ghost use Rattle.viewspec.specs.View.{view};
 ghost use Rattle.viewlaws.specs.UnitTexts.{asking_texts, asking_units, deep_from};
 ghost use Rattle.mdview.specs.Preludes.{IsDefinedBy};
 ghost use Rattle.viewlaws.specs.UnitTiles.{front_of, tile_of};
-ghost use Rattle.mdview.specs.HeldBlocks.{HoldsUnits, IsDeepAt, IsReplacing, old_lines, places_of, tile_in};
+ghost use Rattle.mdview.specs.HeldBlocks.{HoldsUnits, IsReplacing, old_lines, places_of, tile_in};
 ghost use Rattle.mdhtml.specs.Limits.{HasLimits};
 ghost use Rattle.mdview.specs.Document.{size_of};
 ghost use Rattle.mdview.specs.NewText.{lines_of};
-ghost use Rattle.mdview.specs.ReadingEnd.{OfReading, OfTexts};
 ghost use Rattle.mdview.specs.HeldTexts.{IsReadUnder, IsRefusedBy, IsReread, IsShallow, IsTextFault, asking_in_parts, deep_in_parts, head_read, number_again, setting_in, source_before, source_behind, texts_in_parts};
 ghost use Rattle.mdview.specs.LabelTargets.{IsElsewhere, Leads, LeadsAfter, led_after, led_by, target_held};
 ghost use Rattle.mdview.specs.HeldBlocks.{held_tile, lines_in};
@@ -33,6 +32,7 @@ use crate::readings::{Again, TextReader};
 use crate::reparse::{Reparsed, reparse};
 use crate::text_room::TextRoom;
 use mdblock::Found;
+use mdchunks::Chunks;
 use mdhtml::Options;
 use mdtext::{Count, Entities};
 use std::alloc::{AllocError, Global};
@@ -45,7 +45,7 @@ pub(crate) struct HeldText<'a> {
     pub(crate) options: &'a Options,
     /// How many lines stand before the first unit.
     pub(crate) head: usize,
-    pub(crate) units: &'a [HeldUnit],
+    pub(crate) units: &'a Chunks<HeldUnit>,
     pub(crate) prelude: &'a Prelude,
     pub(crate) labels: &'a HeldLabels,
 }
@@ -74,29 +74,27 @@ impl Update {
         requires few { length (lines_of text) ≤ 1000000 }
         requires small { size_of (lines_of text) ≤ 16777216 }
         requires old { length (old_lines text) ≤ 1000000 }
-        requires held { HoldsUnits held.now.entities.now (old_lines text) held.now.head (map read_of held.now.units.now) }
+        requires held { HoldsUnits held.now.entities.now (old_lines text) held.now.head (map read_of held.now.units.now.items) }
         requires fits { first_too_deep held.now.options.now.max_containers (old_lines text) ≡ None }
-        requires led { Leads held.now.labels.now (map unit_in held.now.units.now) held.now.prelude.now }
+        requires led { Leads held.now.labels.now (map unit_in held.now.units.now.items) held.now.prelude.now }
         requires defined { IsDefinedBy held.now.entities.now held.now.prelude.now }
-        requires read { All (IsReadUnder held.now.entities.now (target_held held.now.labels.now)) held.now.units.now }
+        requires read { All (IsReadUnder held.now.entities.now (target_held held.now.labels.now)) held.now.units.now.items }
         requires spans { inline_refusal (setting_in held.now) (source_before held.now text) ≡ None }
         ensures refused { IfErr result (IsRefusedBy (nesting_refusal (setting_in held.now) (source_behind held.now text.entry))) }
         ensures accepted { OnOk result (nesting_refusal (setting_in held.now) (source_behind held.now text.entry) ≡ None) }
-        ensures fault { IfErr result OfReading }
-        ensures deep { IfErr result (IsDeepAt (first_too_deep held.now.options.now.max_containers (lines_of text.entry))) }
         ensures fits { OnOk result (first_too_deep held.now.options.now.max_containers (lines_of text.entry) ≡ None) }
         ensures replacing { IfOk result (IsReplacing held.now.entities.now text.entry) }
         ensures led { IfOk result (λ r. (label : List ℕ) → led_after held.now.labels.now r.changes label ≡ table held.now.entities.now (source_behind held.now text.entry) label) }
         ensures read { IfOk result (λ r. All (IsReadUnder held.now.entities.now (table held.now.entities.now (source_behind held.now text.entry))) r.units.items) }
-        ensures reread { IfOk result (λ r. All (IsReread held.now.entities.now (table held.now.entities.now (source_behind held.now text.entry)) (map unit_in held.now.units.now)) r.again.items) }
+        ensures reread { IfOk result (λ r. All (IsReread held.now.entities.now (table held.now.entities.now (source_behind held.now text.entry)) (map unit_in held.now.units.now.items)) r.again.items) }
         ensures numbers { IfOk result (λ r. map number_again r.again.items ≡ asking_in_parts held.now.entities.now
-            (table held.now.entities.now (source_before held.now text.entry)) (table held.now.entities.now (source_behind held.now text.entry)) held.now.units.now r.first r.next) }
+            (table held.now.entities.now (source_before held.now text.entry)) (table held.now.entities.now (source_behind held.now text.entry)) held.now.units.now.items r.first r.next) }
         ensures stretch { C.lines count.new ≤ C.lines count.old + lines_read (places_of held.now.entities.now text.entry) }
         ensures texts { C.inlines count.new ≤ C.inlines count.old
             + texts_due (table held.now.entities.now (source_before held.now text.entry)) (table held.now.entities.now (source_behind held.now text.entry))
             (units_before (places_of held.now.entities.now text.entry)) (units_added (places_of held.now.entities.now text.entry)) 0
             (view (setting_in held.now) (source_behind held.now text.entry)) }
-        ensures fit { IfOk result (IsFitFor held.now.options.now (map unit_in held.now.units.now)) }
+        ensures fit { IfOk result (IsFitFor held.now.options.now (map unit_in held.now.units.now.items)) }
         ensures lines { C.lines count.new ≤ C.lines count.old + length (lines_of text.entry) }
     {
         let reparsed = reparse(held, text, count)?;
@@ -112,23 +110,22 @@ impl Update {
         count: &mut C,
     ) -> Result<Update, EditFault>
         requires limits { HasLimits held.now.options.now }
-        requires led { Leads held.now.labels.now (map unit_in held.now.units.now) held.now.prelude.now }
-        requires read { All (IsReadUnder held.now.entities.now (target_held held.now.labels.now)) held.now.units.now }
-        requires shallow { All (IsShallow held.now.options.now.max_spans held.now.entities.now (target_held held.now.labels.now)) held.now.units.now }
-        requires near { held.now.head + sum_by lines_in held.now.units.now < 2 ^ 64 }
-        ensures fault { IfErr result OfTexts }
+        requires led { Leads held.now.labels.now (map unit_in held.now.units.now.items) held.now.prelude.now }
+        requires read { All (IsReadUnder held.now.entities.now (target_held held.now.labels.now)) held.now.units.now.items }
+        requires shallow { All (IsShallow held.now.options.now.max_spans held.now.entities.now (target_held held.now.labels.now)) held.now.units.now.items }
+        requires near { held.now.head + sum_by lines_in held.now.units.now.items < 2 ^ 64 }
         ensures none { IfOk result (λ r. (r.first ≡ 0) × (r.next ≡ 0) × (r.units.items ≡ [])) }
-        ensures led { IfOk result (λ r. LeadsAfter held.now.labels.now (map unit_in held.now.units.now) prelude.now r.changes) }
-        ensures reread { IfOk result (λ r. All (IsReread held.now.entities.now (led_by (map unit_in held.now.units.now) prelude.now) (map unit_in held.now.units.now)) r.again.items) }
+        ensures led { IfOk result (λ r. LeadsAfter held.now.labels.now (map unit_in held.now.units.now.items) prelude.now r.changes) }
+        ensures reread { IfOk result (λ r. All (IsReread held.now.entities.now (led_by (map unit_in held.now.units.now.items) prelude.now) (map unit_in held.now.units.now.items)) r.again.items) }
         ensures numbers { IfOk result (λ r. map number_again r.again.items
-            ≡ asking_units held.now.entities.now (target_held held.now.labels.now) (led_by (map unit_in held.now.units.now) prelude.now) 0 (map unit_in held.now.units.now)) }
-        ensures shallow { OnOk result (deep_from held.now.options.now.max_spans held.now.entities.now (led_by (map unit_in held.now.units.now) prelude.now) held.now.head
-            (map held_tile held.now.units.now) ≡ None) }
-        ensures deep { IfErr result (IsTextFault (deep_from held.now.options.now.max_spans held.now.entities.now (led_by (map unit_in held.now.units.now) prelude.now) held.now.head
-            (map held_tile held.now.units.now))) }
+            ≡ asking_units held.now.entities.now (target_held held.now.labels.now) (led_by (map unit_in held.now.units.now.items) prelude.now) 0 (map unit_in held.now.units.now.items)) }
+        ensures shallow { OnOk result (deep_from held.now.options.now.max_spans held.now.entities.now (led_by (map unit_in held.now.units.now.items) prelude.now) held.now.head
+            (map held_tile held.now.units.now.items) ≡ None) }
+        ensures deep { IfErr result (IsTextFault (deep_from held.now.options.now.max_spans held.now.entities.now (led_by (map unit_in held.now.units.now.items) prelude.now) held.now.head
+            (map held_tile held.now.units.now.items))) }
         ensures texts { C.inlines count.new ≤ C.inlines count.old
-            + asking_texts held.now.entities.now (target_held held.now.labels.now) (led_by (map unit_in held.now.units.now) prelude.now) (map unit_in held.now.units.now) }
-        ensures fit { IfOk result (IsFitFor held.now.options.now (map unit_in held.now.units.now)) }
+            + asking_texts held.now.entities.now (target_held held.now.labels.now) (led_by (map unit_in held.now.units.now.items) prelude.now) (map unit_in held.now.units.now.items) }
+        ensures fit { IfOk result (IsFitFor held.now.options.now (map unit_in held.now.units.now.items)) }
         ensures lines { C.lines count.new ≡ C.lines count.old }
     {
         let changes = LabelChanges::of_prelude(held, prelude)?;
@@ -152,13 +149,13 @@ impl Update {
     ) -> Result<Update, EditFault>
         requires limits { HasLimits held.now.options.now }
         requires first { reparsed.first ≤ reparsed.next }
-        requires next { reparsed.next ≤ length held.now.units.now }
+        requires next { reparsed.next ≤ length held.now.units.now.items }
         requires elsewhere { IsElsewhere held.now.labels.now changes }
-        requires read { All (IsReadUnder held.now.entities.now (target_held held.now.labels.now)) held.now.units.now }
-        requires shallow { All (IsShallow held.now.options.now.max_spans held.now.entities.now (target_held held.now.labels.now)) held.now.units.now }
-        requires near { head_read held.now.head reparsed + sum_by lines_in held.now.units.now < 2 ^ 64 }
-        requires far { reparsed.meet + sum_by lines_in held.now.units.now < 2 ^ 64 }
-        ensures fit { IfOk result (IsFitFor held.now.options.now (map unit_in held.now.units.now)) }
+        requires read { All (IsReadUnder held.now.entities.now (target_held held.now.labels.now)) held.now.units.now.items }
+        requires shallow { All (IsShallow held.now.options.now.max_spans held.now.entities.now (target_held held.now.labels.now)) held.now.units.now.items }
+        requires near { head_read held.now.head reparsed + sum_by lines_in held.now.units.now.items < 2 ^ 64 }
+        requires far { reparsed.meet + sum_by lines_in held.now.units.now.items < 2 ^ 64 }
+        ensures fit { IfOk result (IsFitFor held.now.options.now (map unit_in held.now.units.now.items)) }
         ensures place { IfOk result (λ r. (r.first ≡ reparsed.first) × (r.next ≡ reparsed.next)) }
         ensures units { IfOk result (λ r. length r.units.items ≡ length reparsed.found.items) }
         ensures tiles { IfOk result (λ r. map tile_in (map read_of r.units.items) ≡ map tile_of reparsed.found.items) }
@@ -166,14 +163,14 @@ impl Update {
         ensures changes { IfOk result (λ r. r.changes ≡ changes) }
         ensures read { IfOk result (λ r. All (IsReadUnder held.now.entities.now (led_after held.now.labels.now changes)) r.units.items) }
         ensures numbers { IfOk result (λ r. map number_again r.again.items
-            ≡ asking_in_parts held.now.entities.now (target_held held.now.labels.now) (led_after held.now.labels.now changes) held.now.units.now reparsed.first reparsed.next) }
-        ensures reread { IfOk result (λ r. All (IsReread held.now.entities.now (led_after held.now.labels.now changes) (map unit_in held.now.units.now)) r.again.items) }
+            ≡ asking_in_parts held.now.entities.now (target_held held.now.labels.now) (led_after held.now.labels.now changes) held.now.units.now.items reparsed.first reparsed.next) }
+        ensures reread { IfOk result (λ r. All (IsReread held.now.entities.now (led_after held.now.labels.now changes) (map unit_in held.now.units.now.items)) r.again.items) }
         ensures shallow { OnOk result (deep_in_parts held.now.options.now.max_spans held.now.entities.now (led_after held.now.labels.now changes)
-            (head_read held.now.head reparsed) held.now.units.now reparsed ≡ None) }
+            (head_read held.now.head reparsed) held.now.units.now.items reparsed ≡ None) }
         ensures deep { IfErr result (IsTextFault (deep_in_parts held.now.options.now.max_spans held.now.entities.now (led_after held.now.labels.now changes)
-            (head_read held.now.head reparsed) held.now.units.now reparsed)) }
+            (head_read held.now.head reparsed) held.now.units.now.items reparsed)) }
         ensures inlines { C.inlines count.new ≤ C.inlines count.old
-            + texts_in_parts held.now.entities.now (target_held held.now.labels.now) (led_after held.now.labels.now changes) held.now.units.now reparsed }
+            + texts_in_parts held.now.entities.now (target_held held.now.labels.now) (led_after held.now.labels.now changes) held.now.units.now.items reparsed }
         ensures lines { C.lines count.new ≡ C.lines count.old }
     {
         let labels = LabelsAfter {

@@ -21,18 +21,16 @@ pub(crate) fn table_of(
     let mut table = LabelTable::new(alloc);
     for (name, url, title) in definitions {
         if let Some(label) = fold_label(alloc, name)? {
-            let target = Target {
-                url: String::from_str(alloc, url)?,
-                title: String::from_str(alloc, title)?,
-            };
-            table.add(label, target)?;
+            let url = String::from_str(alloc, url)?;
+            let title = String::from_str(alloc, title)?;
+            table.add(label, Target { url, title })?;
         }
     }
     Ok(table)
 }
 
 /// Reads a text with the built-in entities, and with the limit of 64 spans.
-pub(crate) fn read_text(
+fn read_text(
     alloc: Global,
     text: &str,
     definitions: &[Definition],
@@ -56,6 +54,18 @@ pub(crate) fn read_within(
     Ok(read(alloc, text, &table, &entities, limit, &mut tally))
 }
 
+/// The reading of a text that is not refused.
+pub(crate) fn parsed_of(
+    alloc: Global,
+    text: &str,
+    definitions: &[Definition],
+) -> Result<Parsed, Fail> {
+    match read_text(alloc, text, definitions)? {
+        Ok(parsed) => Ok(parsed),
+        Err(_) => Err("refused")?,
+    }
+}
+
 fn check_tree(
     rt: &impl Abort,
     alloc: Global,
@@ -63,7 +73,7 @@ fn check_tree(
     definitions: &[Definition],
     tree: &str,
 ) -> Result<(), Fail> {
-    let parsed = read_text(alloc, text, definitions)?.map_err(|_| "refused")?;
+    let parsed = parsed_of(alloc, text, definitions)?;
     let shown = format!(in alloc; "{:?}", parsed.tree())?;
     assert_eq!(rt; shown.as_str(), tree, "in {text:?}");
     Ok(())
@@ -93,7 +103,7 @@ pub(crate) fn check_asked(
     rows: &[(&str, &[Definition], &[&str])],
 ) -> Result<(), Fail> {
     for (text, definitions, labels) in rows {
-        let parsed = read_text(alloc, text, definitions)?.map_err(|_| "refused")?;
+        let parsed = parsed_of(alloc, text, definitions)?;
         let asked = parsed.asked();
         assert_eq!(rt; asked.len(), labels.len(), "in {text:?}");
         for i in 0..asked.len() {

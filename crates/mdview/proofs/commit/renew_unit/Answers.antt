@@ -1,11 +1,36 @@
-use Rattle.std.proofs.Common.{sym, arith, ap, ◌∙◌}
+use Rattle.std.proofs.Common.{◌≡◌, ◌<◌, List, arith, ap, length, refl, subst, sym, ◌∙◌}
+use Rattle.std.specs.Prelude.{IfSome}
+use Rattle.std.proofs.Math.ListN.{length-set}
+use Rattle.mdview.specs.HeldUnit.{HeldUnit}
 use Rattle.mdview.specs.Update.{renewed}
-use Rattle.mdview.proofs.MemberChanges.{changed_past, changed_by_set}
+use Rattle.mdview.proofs.MemberChanges.{changed_by_set, changed_past}
+use Rattle.mdview.proofs.Texts.{found_at}
+use Rattle.mdview.proofs.UnitsBetween.{the_member}
 use Rattle.mdview.proofs.commit.renew_unit.Goals as goal
 
-pub returns-then-again-len-clause-value : goal.returns-then-again-len-clause-value
-returns-then-again-len-clause-value c =
-    changed_by_set (renewed c.args.again) c.args.again.unit c.args.units.now.items _ c.renew.new.self (omega (arith, c.args.units.now.ok.0)) (c.renew.ensures ∙ ap (renewed c.args.again) c.index_mut.ensures.value)
+pub change-requires : goal.change-requires
+change-requires c =
+    let units : List HeldUnit = c.args.units.now.items in
+    let below : c.args.again.unit < length units = omega (arith, c.if-number-len.true, c.len.ensures) in
+    record {
+      within = below;
+      can = λ d. subst (λ o. IfSome o (λ u. length c.args.again.inlines.items ≡ length u.texts)) (found_at units c.args.again.unit d below) c.requires;
+    }
 
-pub returns-else-again-len-clause-value : goal.returns-else-again-len-clause-value
-returns-else-again-len-clause-value c = sym (changed_past (renewed c.args.again) c.args.again.unit c.args.units.now.items (omega (arith, c.args.units.now.ok.0)))
+pub returns-then-number-len-clause-value : goal.returns-then-number-len-clause-value
+returns-then-number-len-clause-value c =
+    let units : List HeldUnit = c.args.units.now.items in
+    let below : c.args.again.unit < length units = omega (arith, c.if-number-len.true, c.len.ensures) in
+    let d : HeldUnit = (the_member units c.args.again.unit below).0 in
+    c.change.ensures.items d ∙ changed_by_set (renewed c.args.again) c.args.again.unit units d _ below refl
+
+pub returns-then-number-len-clause-room : goal.returns-then-number-len-clause-room
+returns-then-number-len-clause-room c =
+    let units : List HeldUnit = c.args.units.now.items in
+    let below : c.args.again.unit < length units = omega (arith, c.if-number-len.true, c.len.ensures) in
+    let d : HeldUnit = (the_member units c.args.again.unit below).0 in
+    (ap length (c.change.ensures.items d) ∙ simp length-set, c.change.ensures.room)
+
+pub returns-else-number-len-clause-value : goal.returns-else-number-len-clause-value
+returns-else-number-len-clause-value c =
+    sym (changed_past (renewed c.args.again) c.args.again.unit c.args.units.now.items (omega (arith, c.if-number-len.false, c.len.ensures)))

@@ -1,6 +1,5 @@
-use Rattle.std.proofs.Common.{◌≡◌, map, vec_len}
+use Rattle.std.proofs.Common.{◌≡◌, length, map}
 use Rattle.std.specs.List.{All}
-use Rattle.std.specs.Vec.{vec_capacity}
 use Rattle.mdview.specs.HeldUnit.{unit_in}
 use Rattle.mdview.specs.Update.{Fits, all_renewed}
 use Rattle.mdview.proofs.commit.renew_units.Given as goal
@@ -10,6 +9,6 @@ abbrev pub invariant-loop-one : goal.invariant-loop-one
 invariant-loop-one l = record {
   fits : All (Fits (map unit_in l.units.items)) l.one-iterator.rest.items;
   all : all_renewed l.units.items l.one-iterator.rest.items ≡ all_renewed l.fn.units.items l.fn.again.items;
-  len : vec_len l.units ≡ vec_len l.fn.units;
-  room : vec_capacity l.units ≡ vec_capacity l.fn.units;
+  len : length l.units.items ≡ length l.fn.units.items;
+  room : l.units.room ≡ l.fn.units.room;
 }

@@ -12,6 +12,8 @@ use Rattle.viewlaws.proofs.Splices.{from_above}
 use Rattle.viewlaws.proofs.UnitPlaces.{ahead_later}
 use Rattle.mdview.specs.HeldBlocks.{IsDeepAt, is_at, line_before, lines_in, old_lines, places_of}
 use Rattle.mdview.specs.NewText.{lines_of}
+use Rattle.mdchunks.specs.Sequences.{Sequence}
+use Rattle.mdview.specs.HeldUnit.{HeldUnit}
 use Rattle.mdview.specs.declared.resuming.UnitStart.{UnitStart}
 use Rattle.mdview.proofs.EditPlaces.{begins_many}
 use Rattle.mdview.proofs.ReadStretches.{is_edit}
@@ -26,8 +28,9 @@ loop-line-init g c =
     let p = places_of e text in
     let limit = c.args.held.now.options.now.max_containers in
     let r = c.resume_at-from.result in
-    let s = begins_reading e text c.args.held.now.head c.args.held.now.units.now c.at.result r.from r.start.unit r.start.line c.requires.held c.requires.old c.at.ensures.at c.resume_at-from.ensures.resumed in
+    let s = begins_reading e text c.args.held.now.head c.args.held.now.units.now.items c.at.result r.from r.start.unit r.start.line c.requires.held c.requires.old c.at.ensures.at c.resume_at-from.ensures.resumed in
     record {
+      rest = search rules;
       fed = search rules;
       lines = search rules;
       inlines = search rules;
@@ -35,7 +38,7 @@ loop-line-init g c =
       forward = search rules;
       above = subst (λ n. ReadAbove limit e new p c.new-reader.result c.new-found.result.items n) (sym s.0)
           (read_first limit e (old_lines text) new p (is_edit e text) c.new-reader.result c.new-found.result.items c.new-reader.ensures.reads c.new-found.ensures.items);
-      ahead = subst (λ (next : UnitStart). IsAhead (map lines_in c.args.held.now.units.now) p.old_begins next.unit next.line (line_before p r.from)) (sym c.at-cursor.ensures.1) s.2;
+      ahead = subst (λ (next : UnitStart). IsAhead (map lines_in c.args.held.now.units.now.items) p.old_begins next.unit next.line (line_before p r.from)) (sym c.at-cursor.ensures.1) s.2;
     }
 
 pub returns-in_err-push_some-in-Ok-clause-stretch : goal.returns-in_err-push_some-in-Ok-clause-stretch
@@ -47,7 +50,7 @@ returns-in_err-push_some-in-Ok-clause-stretch g c =
     let p = places_of e text in
     let limit = c.args.held.now.options.now.max_containers in
     let r = c.resume_at-from.result in
-    let s = begins_reading e text c.args.held.now.head c.args.held.now.units.now c.at.result r.from r.start.unit r.start.line c.requires.held c.requires.old c.at.ensures.at c.resume_at-from.ensures.resumed in
+    let s = begins_reading e text c.args.held.now.head c.args.held.now.units.now.items c.at.result r.from r.start.unit r.start.line c.requires.held c.requires.old c.at.ensures.at c.resume_at-from.ensures.resumed in
     let line = c.loop-line.line in
     let inv = c.loop-line.invariant in
     let below : line < length new = omega (arith, c.loop-line-test.true, c.len-line-end.ensures) in
@@ -64,7 +67,7 @@ returns-in-Err-clause-stretch g c =
     let p = places_of e text in
     let limit = c.args.held.now.options.now.max_containers in
     let r = c.resume_at-from.result in
-    let s = begins_reading e text c.args.held.now.head c.args.held.now.units.now c.at.result r.from r.start.unit r.start.line c.requires.held c.requires.old c.at.ensures.at c.resume_at-from.ensures.resumed in
+    let s = begins_reading e text c.args.held.now.head c.args.held.now.units.now.items c.at.result r.from r.start.unit r.start.line c.requires.held c.requires.old c.at.ensures.at c.resume_at-from.ensures.resumed in
     let line = c.loop-line.line in
     let inv = c.loop-line.invariant in
     let below : line < length new = omega (arith, c.loop-line-test.true, c.len-line-end.ensures) in
@@ -81,7 +84,7 @@ returns-in-Some-clause-stretch g c =
     let p = places_of e text in
     let limit = c.args.held.now.options.now.max_containers in
     let r = c.resume_at-from.result in
-    let s = begins_reading e text c.args.held.now.head c.args.held.now.units.now c.at.result r.from r.start.unit r.start.line c.requires.held c.requires.old c.at.ensures.at c.resume_at-from.ensures.resumed in
+    let s = begins_reading e text c.args.held.now.head c.args.held.now.units.now.items c.at.result r.from r.start.unit r.start.line c.requires.held c.requires.old c.at.ensures.at c.resume_at-from.ensures.resumed in
     let line = c.loop-line.line in
     let inv = c.loop-line.invariant in
     let below : line < length new = omega (arith, c.loop-line-test.true, c.len-line-end.ensures) in
@@ -98,7 +101,7 @@ returns-in-Err-clause-deep g c =
     let p = places_of e text in
     let limit = c.args.held.now.options.now.max_containers in
     let r = c.resume_at-from.result in
-    let s = begins_reading e text c.args.held.now.head c.args.held.now.units.now c.at.result r.from r.start.unit r.start.line c.requires.held c.requires.old c.at.ensures.at c.resume_at-from.ensures.resumed in
+    let s = begins_reading e text c.args.held.now.head c.args.held.now.units.now.items c.at.result r.from r.start.unit r.start.line c.requires.held c.requires.old c.at.ensures.at c.resume_at-from.ensures.resumed in
     let line = c.loop-line.line in
     let inv = c.loop-line.invariant in
     let below : line < length new = omega (arith, c.loop-line-test.true, c.len-line-end.ensures) in
@@ -107,7 +110,7 @@ returns-in-Err-clause-deep g c =
     (deep_told (first_too_deep limit new) c.in-Err.fault line
     (λ is. deep_at limit e old new p (is_edit e text) c.requires.fits c.loop-line.reader c.loop-line.found.items line [] order below
     (λ (limit : ℕ) (e : EntityTable) (ls : List (List ℕ)) (h : Reads limit e c.loop-line.reader ls).
-    subst (λ t. first_too_deep limit (ls ++ t ∷ []) ≡ Some (length ls)) c.line.ensures (c.in-Err.ensures.deep (ap Err is) limit e ls h))
+    subst (λ t. first_too_deep limit (ls ++ t ∷ []) ≡ Some (length ls)) c.line.ensures.value (c.in-Err.ensures.deep (ap Err is) limit e ls h))
     inv.above))
 
 pub returns-in-Some-clause-fits : goal.returns-in-Some-clause-fits
@@ -119,12 +122,12 @@ returns-in-Some-clause-fits g c =
     let p = places_of e text in
     let limit = c.args.held.now.options.now.max_containers in
     let r = c.resume_at-from.result in
-    let s = begins_reading e text c.args.held.now.head c.args.held.now.units.now c.at.result r.from r.start.unit r.start.line c.requires.held c.requires.old c.at.ensures.at c.resume_at-from.ensures.resumed in
+    let s = begins_reading e text c.args.held.now.head c.args.held.now.units.now.items c.at.result r.from r.start.unit r.start.line c.requires.held c.requires.old c.at.ensures.at c.resume_at-from.ensures.resumed in
     let line = c.loop-line.line in
     let inv = c.loop-line.invariant in
     let below : line < length new = omega (arith, c.loop-line-test.true, c.len-line-end.ensures) in
     let order : from_line p ≤ line = omega (arith, s.0, c.loop-line.auto.line) in
-    let is = c.line.ensures in
+    let is = c.line.ensures.value in
     let reads = λ (limit : ℕ) (e : EntityTable) (ls : List (List ℕ)) (h : Reads limit e c.loop-line.reader ls).
     subst (λ t. Reads limit e c.line-in-loop-line.new.self (ls ++ t ∷ [])) is (c.in-Ok.ensures.reads limit e ls h) in
     let hands = λ (limit : ℕ) (e : EntityTable) (ls : List (List ℕ)) (h : Reads limit e c.loop-line.reader ls).
@@ -132,7 +135,7 @@ returns-in-Some-clause-fits g c =
     let ls = drop (from_line p) (take line new) in
     let begun = is_at (line - r.from) (open_begin e (ls ++ get_or new line [] ∷ [])) in
     let told = begin_told limit e old new p (is_edit e text) line [] order below begun (ap (λ n. is_at (line - n) (open_begin e (ls ++ get_or new line [] ∷ []))) s.0) in
-    let ahead = subst (λ us. IsAhead (map lines_in us) p.old_begins c.loop-line.cursor.next.unit c.loop-line.cursor.next.line (line_before p line)) (sym inv.same) inv.ahead in
+    let ahead = subst (λ (us : Sequence HeldUnit). IsAhead (map lines_in us.items) p.old_begins c.loop-line.cursor.next.unit c.loop-line.cursor.next.line (line_before p line)) (sym inv.same) inv.ahead in
     let both = met_told begun (is_meeting p line) (c.in-Some.ensures.met limit e (ls ++ get_or new line [] ∷ []) (reads limit e ls inv.above.reads) ahead) in
     let m = met_all limit e old new p (is_edit e text) c.requires.fits c.loop-line.reader c.line-in-loop-line.new.self c.loop-line.found.items c.push_some.new.found.items c.in-Ok.unit line []
     order below reads hands c.in_ok-push_some-in-Ok.ensures (told.0 both.0) both.1 inv.above in
@@ -147,12 +150,12 @@ returns-in-Some-clause-read g c =
     let p = places_of e text in
     let limit = c.args.held.now.options.now.max_containers in
     let r = c.resume_at-from.result in
-    let s = begins_reading e text c.args.held.now.head c.args.held.now.units.now c.at.result r.from r.start.unit r.start.line c.requires.held c.requires.old c.at.ensures.at c.resume_at-from.ensures.resumed in
+    let s = begins_reading e text c.args.held.now.head c.args.held.now.units.now.items c.at.result r.from r.start.unit r.start.line c.requires.held c.requires.old c.at.ensures.at c.resume_at-from.ensures.resumed in
     let line = c.loop-line.line in
     let inv = c.loop-line.invariant in
     let below : line < length new = omega (arith, c.loop-line-test.true, c.len-line-end.ensures) in
     let order : from_line p ≤ line = omega (arith, s.0, c.loop-line.auto.line) in
-    let is = c.line.ensures in
+    let is = c.line.ensures.value in
     let reads = λ (limit : ℕ) (e : EntityTable) (ls : List (List ℕ)) (h : Reads limit e c.loop-line.reader ls).
     subst (λ t. Reads limit e c.line-in-loop-line.new.self (ls ++ t ∷ [])) is (c.in-Ok.ensures.reads limit e ls h) in
     let hands = λ (limit : ℕ) (e : EntityTable) (ls : List (List ℕ)) (h : Reads limit e c.loop-line.reader ls).
@@ -160,11 +163,11 @@ returns-in-Some-clause-read g c =
     let ls = drop (from_line p) (take line new) in
     let begun = is_at (line - r.from) (open_begin e (ls ++ get_or new line [] ∷ [])) in
     let told = begin_told limit e old new p (is_edit e text) line [] order below begun (ap (λ n. is_at (line - n) (open_begin e (ls ++ get_or new line [] ∷ []))) s.0) in
-    let ahead = subst (λ us. IsAhead (map lines_in us) p.old_begins c.loop-line.cursor.next.unit c.loop-line.cursor.next.line (line_before p line)) (sym inv.same) inv.ahead in
+    let ahead = subst (λ (us : Sequence HeldUnit). IsAhead (map lines_in us.items) p.old_begins c.loop-line.cursor.next.unit c.loop-line.cursor.next.line (line_before p line)) (sym inv.same) inv.ahead in
     let both = met_told begun (is_meeting p line) (c.in-Some.ensures.met limit e (ls ++ get_or new line [] ∷ []) (reads limit e ls inv.above.reads) ahead) in
     let m = met_all limit e old new p (is_edit e text) c.requires.fits c.loop-line.reader c.line-in-loop-line.new.self c.loop-line.found.items c.push_some.new.found.items c.in-Ok.unit line []
     order below reads hands c.in_ok-push_some-in-Ok.ensures (told.0 both.0) both.1 inv.above in
-    let sizes = map lines_in c.loop-line.cursor.units.now in
+    let sizes = map lines_in c.loop-line.cursor.units.now.items in
     let cursor = c.met_at.new.cursor in
     record {
       from = s.0;
@@ -184,12 +187,12 @@ loop-line-preserved g c =
     let p = places_of e text in
     let limit = c.args.held.now.options.now.max_containers in
     let r = c.resume_at-from.result in
-    let s = begins_reading e text c.args.held.now.head c.args.held.now.units.now c.at.result r.from r.start.unit r.start.line c.requires.held c.requires.old c.at.ensures.at c.resume_at-from.ensures.resumed in
+    let s = begins_reading e text c.args.held.now.head c.args.held.now.units.now.items c.at.result r.from r.start.unit r.start.line c.requires.held c.requires.old c.at.ensures.at c.resume_at-from.ensures.resumed in
     let line = c.loop-line.line in
     let inv = c.loop-line.invariant in
     let below : line < length new = omega (arith, c.loop-line-test.true, c.len-line-end.ensures) in
     let order : from_line p ≤ line = omega (arith, s.0, c.loop-line.auto.line) in
-    let is = c.line.ensures in
+    let is = c.line.ensures.value in
     let reads = λ (limit : ℕ) (e : EntityTable) (ls : List (List ℕ)) (h : Reads limit e c.loop-line.reader ls).
     subst (λ t. Reads limit e c.line-in-loop-line.new.self (ls ++ t ∷ [])) is (c.in-Ok.ensures.reads limit e ls h) in
     let hands = λ (limit : ℕ) (e : EntityTable) (ls : List (List ℕ)) (h : Reads limit e c.loop-line.reader ls).
@@ -197,13 +200,14 @@ loop-line-preserved g c =
     let ls = drop (from_line p) (take line new) in
     let begun = is_at (line - r.from) (open_begin e (ls ++ get_or new line [] ∷ [])) in
     let told = begin_told limit e old new p (is_edit e text) line [] order below begun (ap (λ n. is_at (line - n) (open_begin e (ls ++ get_or new line [] ∷ []))) s.0) in
-    let ahead = subst (λ us. IsAhead (map lines_in us) p.old_begins c.loop-line.cursor.next.unit c.loop-line.cursor.next.line (line_before p line)) (sym inv.same) inv.ahead in
+    let ahead = subst (λ (us : Sequence HeldUnit). IsAhead (map lines_in us.items) p.old_begins c.loop-line.cursor.next.unit c.loop-line.cursor.next.line (line_before p line)) (sym inv.same) inv.ahead in
     let unmet = unmet_told begun (is_meeting p line) (c.in_default.ensures.met limit e (ls ++ get_or new line [] ∷ []) (reads limit e ls inv.above.reads) ahead) in
     let not_here : Contains (begins e new) line → is_meeting p line ≡ false = λ there. elim unmet [ inl h ↦ absurd (told.1 h there) | inr h ↦ h ] in
-    let sizes = map lines_in c.args.held.now.units.now in
+    let sizes = map lines_in c.args.held.now.units.now.items in
     let later : line_before p line ≤ line_before p (line + 1) = omega arith in
     let moved = c.met_at.new.cursor in
     record {
+      rest = search rules;
       fed = search rules;
       lines = omega (arith, inv.lines, c.line-in-loop-line.ensures.lines, c.loop-line.auto.line);
       inlines = c.line-in-loop-line.ensures.inlines ∙ inv.inlines;
@@ -212,7 +216,7 @@ loop-line-preserved g c =
       above = read_next limit e old new p (is_edit e text) c.loop-line.reader c.line-in-loop-line.new.self c.loop-line.found.items c.push_some.new.found.items c.in-Ok.unit line []
           order below reads hands c.in_ok-push_some-in-Ok.ensures not_here inv.above;
       ahead = ahead_later sizes p.old_begins moved.next.unit moved.next.line (line_before p line) (line_before p (line + 1)) later
-          (subst (λ us. IsAhead (map lines_in us) p.old_begins moved.next.unit moved.next.line (line_before p line)) inv.same (c.met_at.ensures.ahead e ahead));
+          (subst (λ (us : Sequence HeldUnit). IsAhead (map lines_in us.items) p.old_begins moved.next.unit moved.next.line (line_before p line)) inv.same (c.met_at.ensures.ahead e ahead));
     }
 
 pub returns-in_err-push_some-in-Ok-finish-clause-stretch : goal.returns-in_err-push_some-in-Ok-finish-clause-stretch
@@ -224,7 +228,7 @@ returns-in_err-push_some-in-Ok-finish-clause-stretch g c =
     let p = places_of e text in
     let limit = c.args.held.now.options.now.max_containers in
     let r = c.resume_at-from.result in
-    let s = begins_reading e text c.args.held.now.head c.args.held.now.units.now c.at.result r.from r.start.unit r.start.line c.requires.held c.requires.old c.at.ensures.at c.resume_at-from.ensures.resumed in
+    let s = begins_reading e text c.args.held.now.head c.args.held.now.units.now.items c.at.result r.from r.start.unit r.start.line c.requires.held c.requires.old c.at.ensures.at c.resume_at-from.ensures.resumed in
     let line = c.loop-line.line in
     let inv = c.loop-line.invariant in
     let from = from_above e old new p (is_edit e text) in
@@ -243,7 +247,7 @@ returns-in-Err-finish-clause-stretch g c =
     let p = places_of e text in
     let limit = c.args.held.now.options.now.max_containers in
     let r = c.resume_at-from.result in
-    let s = begins_reading e text c.args.held.now.head c.args.held.now.units.now c.at.result r.from r.start.unit r.start.line c.requires.held c.requires.old c.at.ensures.at c.resume_at-from.ensures.resumed in
+    let s = begins_reading e text c.args.held.now.head c.args.held.now.units.now.items c.at.result r.from r.start.unit r.start.line c.requires.held c.requires.old c.at.ensures.at c.resume_at-from.ensures.resumed in
     let line = c.loop-line.line in
     let inv = c.loop-line.invariant in
     let from = from_above e old new p (is_edit e text) in
@@ -262,7 +266,7 @@ returns-clause-stretch g c =
     let p = places_of e text in
     let limit = c.args.held.now.options.now.max_containers in
     let r = c.resume_at-from.result in
-    let s = begins_reading e text c.args.held.now.head c.args.held.now.units.now c.at.result r.from r.start.unit r.start.line c.requires.held c.requires.old c.at.ensures.at c.resume_at-from.ensures.resumed in
+    let s = begins_reading e text c.args.held.now.head c.args.held.now.units.now.items c.at.result r.from r.start.unit r.start.line c.requires.held c.requires.old c.at.ensures.at c.resume_at-from.ensures.resumed in
     let line = c.loop-line.line in
     let inv = c.loop-line.invariant in
     let from = from_above e old new p (is_edit e text) in
@@ -281,7 +285,7 @@ returns-clause-fits g c =
     let p = places_of e text in
     let limit = c.args.held.now.options.now.max_containers in
     let r = c.resume_at-from.result in
-    let s = begins_reading e text c.args.held.now.head c.args.held.now.units.now c.at.result r.from r.start.unit r.start.line c.requires.held c.requires.old c.at.ensures.at c.resume_at-from.ensures.resumed in
+    let s = begins_reading e text c.args.held.now.head c.args.held.now.units.now.items c.at.result r.from r.start.unit r.start.line c.requires.held c.requires.old c.at.ensures.at c.resume_at-from.ensures.resumed in
     let line = c.loop-line.line in
     let inv = c.loop-line.invariant in
     let from = from_above e old new p (is_edit e text) in
@@ -300,7 +304,7 @@ returns-clause-read g c =
     let p = places_of e text in
     let limit = c.args.held.now.options.now.max_containers in
     let r = c.resume_at-from.result in
-    let s = begins_reading e text c.args.held.now.head c.args.held.now.units.now c.at.result r.from r.start.unit r.start.line c.requires.held c.requires.old c.at.ensures.at c.resume_at-from.ensures.resumed in
+    let s = begins_reading e text c.args.held.now.head c.args.held.now.units.now.items c.at.result r.from r.start.unit r.start.line c.requires.held c.requires.old c.at.ensures.at c.resume_at-from.ensures.resumed in
     let line = c.loop-line.line in
     let inv = c.loop-line.invariant in
     let from = from_above e old new p (is_edit e text) in
@@ -312,8 +316,8 @@ returns-clause-read g c =
     c.in_ok-push_some-in-Ok-finish.ensures c.in-Ok-finish.ensures.hands above in
     record {
       from = s.0;
-      meet = c.len.ensures ∙ sym meet;
+      meet = c.len-2.ensures ∙ sym meet;
       first = s.1;
-      next = next_ends limit e old new p (is_edit e text) (length c.args.held.now.units.now) (sym (begins_many e old c.args.held.now.head c.args.held.now.units.now c.requires.held)) meet;
-      found = units_are ∙ ap (λ n. units e (drop n (take (length new) new))) (sym s.0) ∙ ap (λ n. units e (drop r.from (take n new))) (sym c.len.ensures);
+      next = c.len.ensures ∙ next_ends limit e old new p (is_edit e text) (length c.args.held.now.units.now.items) (sym (begins_many e old c.args.held.now.head c.args.held.now.units.now.items c.requires.held)) meet;
+      found = units_are ∙ ap (λ n. units e (drop n (take (length new) new))) (sym s.0) ∙ ap (λ n. units e (drop r.from (take n new))) (sym c.len-2.ensures);
     }

@@ -1,4 +1,4 @@
-use Rattle.std.proofs.Common.{◌≡◌, ◌+◌, ◌≤◌, ◌-◌, map}
+use Rattle.std.proofs.Common.{◌≡◌, ◌+◌, ◌≤◌, ◌-◌, drop, map}
 use Rattle.viewlaws.specs.UnitTiles.{IsAhead}
 use Rattle.mdview.specs.HeldBlocks.{line_before, lines_in, places_of}
 use Rattle.mdview.specs.NewText.{lines_of}
@@ -8,12 +8,13 @@ use Rattle.mdview.proofs.reparse.reparse.Given as goal
 -- each line so far was fed and counted, the cursor goes on, and no unit begins in both texts so far
 abbrev pub invariant-loop-line : goal.invariant-loop-line
 invariant-loop-line g l = record {
+  rest : l.ahead ≡ drop l.line (lines_of l.text);
   fed : l.reader.fed ≡ l.line - l.from;
   lines : g.C.Count.lines l.count ≤ g.C.Count.lines l.fn.count + (l.line - l.from);
   inlines : g.C.Count.inlines l.count ≡ g.C.Count.inlines l.fn.count;
   same : l.cursor.units.now ≡ l.held.units.now;
   forward : l.first ≤ l.cursor.next.unit;
   above : ReadAbove l.held.options.now.max_containers l.held.entities.now (lines_of l.text) (places_of l.held.entities.now l.text) l.reader l.found.items l.line;
-  ahead : IsAhead (map lines_in l.held.units.now) (places_of l.held.entities.now l.text).old_begins l.cursor.next.unit l.cursor.next.line
+  ahead : IsAhead (map lines_in l.held.units.now.items) (places_of l.held.entities.now l.text).old_begins l.cursor.next.unit l.cursor.next.line
       (line_before (places_of l.held.entities.now l.text) l.line);
 }

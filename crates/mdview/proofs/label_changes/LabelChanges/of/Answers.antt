@@ -12,20 +12,22 @@ use Rattle.mdview.proofs.label_changes.LabelChanges.of.Goals as goal
 pub returns-clause-led : goal.returns-clause-led
 returns-clause-led c = λ q.
     let held = c.args.held.now in
-    let units = held.units.now in
+    let units = held.units.now.items in
     let first = c.args.reparsed.now.first in
     let next = c.args.reparsed.now.next in
     let front = map unit_in (take first units) in
     let gone = map unit_in (take (next - first) (drop first units)) in
     let found = map (λ one. one.unit) c.args.reparsed.now.found.items in
     let back = map unit_in (drop next units) in
+    let from_front : take (first - 0) (drop 0 units) ≡ take first units = let n : first - 0 ≡ first = omega arith in ap (λ n. take n units) n in
     let touched_gone : told c.touch_held.new.self q ≡ touched_by (labels_by gone) q None = c.in_ok-touch_held.ensures q ∙ ap (touched_by (labels_by gone) q) (c.new-touched.ensures q) in
     let touched : told c.touch_found.new.self q ≡ touched_by (labels_by found) q (touched_by (labels_by gone) q None) =
     c.in_ok-touch_found.ensures q ∙ ap (λ found. touched_by (labels_by (map (λ one. one.unit) found)) q (told c.touch_held.new.self q)) c.deref.ensures.value
     ∙ ap (touched_by (labels_by found) q) touched_gone in
     let seen : told c.define_all.new.self q
     ≡ told_by (definitions_by (front ++ map (λ one. one.unit) c.deref-2.result.now ++ map unit_in (take (length units - next) (drop next units)))) q (told c.touch_found.new.self q) =
-    c.in_ok-define_all.ensures q in
+    c.in_ok-define_all.ensures q
+    ∙ ap (λ front. told_by (definitions_by (map unit_in front ++ map (λ one. one.unit) c.deref-2.result.now ++ map unit_in (take (length units - next) (drop next units)))) q (told c.touch_found.new.self q)) from_front in
     let to_end : take (length units - next) (drop next units) ≡ drop next units = take_all (length units - next) (drop next units) (omega (arith, length-drop next units)) in
     let is : told c.define_all.new.self q ≡ told_by (definitions_by (front ++ found ++ back)) q (touched_by (labels_by found) q (touched_by (labels_by gone) q None)) =
     seen ∙ ap (λ back. told_by (definitions_by (front ++ map (λ one. one.unit) c.deref-2.result.now ++ map unit_in back)) q (told c.touch_found.new.self q)) to_end

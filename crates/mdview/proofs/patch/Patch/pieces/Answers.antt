@@ -1,6 +1,7 @@
 use Rattle.std.proofs.Common.{◌≡◌, ◌==◌, ◌∙◌, ℕ, List, ap, arith}
 use Rattle.std.specs.List.{list_any}
 use Rattle.viewspec.specs.ChangedPieces.{ChangedPieces}
+use Rattle.mdview.specs.Document.{pieces_of}
 use Rattle.mdview.specs.MarkedPieces.{marked}
 use Rattle.mdview.proofs.MarkedLaws.{all_marked}
 use Rattle.mdview.proofs.patch.Patch.pieces.Goals as goal
@@ -8,11 +9,11 @@ use Rattle.mdview.proofs.patch.Patch.pieces.Goals as goal
 pub returns : goal.returns
 returns c =
     let patch = c.args.self.now in
-    let pieces = c.args.preview.now.pieces in
+    let pieces = pieces_of c.args.preview.now in
     let marks = c.in_ok-again.again.items in
     let numbers : c.deref.result.now ≡ patch.again = cc in
     let inside = c.self.inside in
     let by_marks : c.new.result ≡ marked patch.first patch.added marks 0 pieces =
-    c.new.ensures ∙ ap (marked inside.first inside.added marks 0) c.pieces.ensures.held ∙ ap (λ (p : ChangedPieces). marked p.first p.added marks 0 pieces) c.self.view_is in
+    c.new.ensures ∙ ap (marked inside.first inside.added marks 0) c.pieces.ensures ∙ ap (λ (p : ChangedPieces). marked p.first p.added marks 0 pieces) c.self.view_is in
     by_marks ∙ all_marked pieces patch marks 0
-    (λ k below. c.in_ok-again.ensures k (omega (arith, below, c.units.ensures)) ∙ ap (λ (l : List ℕ). list_any (λ j. j == k) l) numbers)
+    (λ k below. c.in_ok-again.ensures k (omega (arith, below, c.units.ensures.pieces)) ∙ ap (λ (l : List ℕ). list_any (λ j. j == k) l) numbers)

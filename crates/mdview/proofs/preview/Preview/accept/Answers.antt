@@ -4,22 +4,21 @@ use Rattle.std.proofs.lemmas.Bool.Decides.{nat_tests}
 use Rattle.mdview.specs.Document.{size_of}
 use Rattle.mdtext.specs.Lines.{without_nul}
 use Rattle.mdview.specs.Edit.{call_of, due, put}
+use Rattle.mdview.proofs.Due.{due_of_parts, put_of_parts}
+use Rattle.mdview.proofs.LineWeights.{gone_is}
 use Rattle.mdview.proofs.Sizes.{size_part}
-use Rattle.mdview.proofs.Due.{gone_is, due_of_parts, put_of_parts}
 use Rattle.mdview.proofs.preview.Preview.accept.Goals as goal
 
-pub size-requires : goal.size-requires
-size-requires c =
-    let e = gone_is c.self.inside.lines.items c.args.at c.args.del in
-    let part = size_part (map string_bytes c.self.inside.lines.items) c.args.at c.args.del in
-    rw c.deref.ensures.value (omega arith)
+pub overflow_sub-gone : goal.overflow_sub-gone
+overflow_sub-gone c =
+    let e = gone_is c.self.inside.lines.items c.args.at c.args.del c.weight_before-2.result c.weight_before.result (omega arith) c.weight_before-2.ensures c.weight_before.ensures in
+    omega (arith, e)
 
 pub overflow_sub-kept : goal.overflow_sub-kept
 overflow_sub-kept c =
-    let e = gone_is c.self.inside.lines.items c.args.at c.args.del in
+    let e = gone_is c.self.inside.lines.items c.args.at c.args.del c.weight_before-2.result c.weight_before.result (omega arith) c.weight_before-2.ensures c.weight_before.ensures in
     let part = size_part (map string_bytes c.self.inside.lines.items) c.args.at c.args.del in
-    let is = rw c.deref.ensures.value at c.size.ensures in
-    omega arith
+    omega (arith, e, part)
 
 pub returns-then-added-kept-clause-err : goal.returns-then-added-kept-clause-err
 returns-then-added-kept-clause-err c =
@@ -27,10 +26,10 @@ returns-then-added-kept-clause-err c =
     let long : length ls ≡ length c.self.inside.lines.items = length-map c.self.inside.lines.items string_bytes in
     let add : List (List ℕ) = map (λ line. line.now) c.args.add.now in
     let added : length add ≡ length c.args.add.now = length-map c.args.add.now (λ line. line.now) in
-    let held = c.self.inside.lines.ok.0 in
-    let gone = (rw c.deref.ensures.value at c.size.ensures) ∙ gone_is c.self.inside.lines.items c.args.at c.args.del in
-    let is = due_of_parts ls c.args.at c.args.del add c.size.result (omega arith) (sym c.first_line_break.ensures ∙ c.in_default.is) gone (omega arith) (omega arith) in
-    let large : nat_lt 16777216 (size_of ls - c.size.result + size_of (map without_nul add)) ≡ true = grind (arith, nat_tests) in
+    let gone_size : ℕ = c.weight_before.result - c.weight_before-2.result in
+    let gone = (gone_is c.self.inside.lines.items c.args.at c.args.del c.weight_before-2.result c.weight_before.result (omega arith) c.weight_before-2.ensures c.weight_before.ensures).1 in
+    let is = due_of_parts ls c.args.at c.args.del add gone_size (omega arith) (sym c.first_line_break.ensures ∙ c.in_default.is) gone (omega arith) (omega arith) in
+    let large : nat_lt 16777216 (size_of ls - gone_size + size_of (map without_nul add)) ≡ true = grind (arith, nat_tests) in
     rw (← c.self.view_is, is, large) refl
 
 pub returns-clause-ok : goal.returns-clause-ok
@@ -39,13 +38,13 @@ returns-clause-ok c =
     let long : length ls ≡ length c.self.inside.lines.items = length-map c.self.inside.lines.items string_bytes in
     let add : List (List ℕ) = map (λ line. line.now) c.args.add.now in
     let added : length add ≡ length c.args.add.now = length-map c.args.add.now (λ line. line.now) in
-    let held = c.self.inside.lines.ok.0 in
-    let gone = (rw c.deref.ensures.value at c.size.ensures) ∙ gone_is c.self.inside.lines.items c.args.at c.args.del in
-    let is = due_of_parts ls c.args.at c.args.del add c.size.result (omega arith) (sym c.first_line_break.ensures ∙ c.in_default.is) gone (omega arith) (omega arith) in
-    let after = put_of_parts ls c.args.at c.args.del add c.size.result (omega arith) gone (omega arith) (omega arith) in
-    let small : nat_lt 16777216 (size_of ls - c.size.result + size_of (map without_nul add)) ≡ false = grind (arith, nat_tests) in
+    let gone_size : ℕ = c.weight_before.result - c.weight_before-2.result in
+    let gone = (gone_is c.self.inside.lines.items c.args.at c.args.del c.weight_before-2.result c.weight_before.result (omega arith) c.weight_before-2.ensures c.weight_before.ensures).1 in
+    let is = due_of_parts ls c.args.at c.args.del add gone_size (omega arith) (sym c.first_line_break.ensures ∙ c.in_default.is) gone (omega arith) (omega arith) in
+    let after = put_of_parts ls c.args.at c.args.del add gone_size (omega arith) gone (omega arith) (omega arith) in
+    let small : nat_lt 16777216 (size_of ls - gone_size + size_of (map without_nul add)) ≡ false = grind (arith, nat_tests) in
     let none : due ls (call_of c.args.at c.args.del add) ≡ None = is ∙ (rw small refl) in
-    let size : c.self.inside.size - c.size.result + c.clean_size-added.result ≡ size_of (put ls (call_of c.args.at c.args.del add)) = omega arith in
+    let size : c.self.inside.size - gone_size + c.clean_size-added.result ≡ size_of (put ls (call_of c.args.at c.args.del add)) = omega arith in
     rw (← c.self.view_is) (none, size)
 
 pub returns-clause-small : goal.returns-clause-small
@@ -54,8 +53,8 @@ returns-clause-small c =
     let long : length ls ≡ length c.self.inside.lines.items = length-map c.self.inside.lines.items string_bytes in
     let add : List (List ℕ) = map (λ line. line.now) c.args.add.now in
     let added : length add ≡ length c.args.add.now = length-map c.args.add.now (λ line. line.now) in
-    let held = c.self.inside.lines.ok.0 in
-    let gone = (rw c.deref.ensures.value at c.size.ensures) ∙ gone_is c.self.inside.lines.items c.args.at c.args.del in
-    let after = put_of_parts ls c.args.at c.args.del add c.size.result (omega arith) gone (omega arith) (omega arith) in
+    let gone_size : ℕ = c.weight_before.result - c.weight_before-2.result in
+    let gone = (gone_is c.self.inside.lines.items c.args.at c.args.del c.weight_before-2.result c.weight_before.result (omega arith) c.weight_before-2.ensures c.weight_before.ensures).1 in
+    let after = put_of_parts ls c.args.at c.args.del add gone_size (omega arith) gone (omega arith) (omega arith) in
     let small : size_of (put ls (call_of c.args.at c.args.del add)) ≤ 16777216 = omega arith in
     rw (← c.self.view_is) (after.1, small)

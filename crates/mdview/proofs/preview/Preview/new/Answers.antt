@@ -6,7 +6,7 @@ use Rattle.mdview.proofs.preview.Preview.new.Goals as goal
 
 pub invariant_of-result : goal.invariant_of-result
 invariant_of-result c =
-    rw (c.new.ensures.items, c.new-2.ensures.items) (
+    rw (c.new.ensures, c.new-2.ensures) (
       refl,
       omega arith,
       omega arith,

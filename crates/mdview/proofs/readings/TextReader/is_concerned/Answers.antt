@@ -1,10 +1,10 @@
-use Rattle.std.proofs.Common.{◌≡◌, ◌+◌, Bool, ◌||◌, drop, ap, ◌∙◌, sym}
+use Rattle.std.proofs.Common.{◌+◌, Bool, ◌||◌, drop, ap, ◌∙◌, sym}
 use Rattle.std.specs.List.{list_any}
 use Rattle.mdinline.specs.ParsedText.{ParsedText}
 use Rattle.viewspec.specs.Changes.{asks_changed}
 use Rattle.mdview.specs.HeldTexts.{labels_before, labels_behind}
 use Rattle.mdview.proofs.Concerns.{concerned}
-use Rattle.mdview.proofs.ReadTexts.{any_here, none_left}
+use Rattle.mdview.proofs.ReadTexts.{any_here}
 use Rattle.mdview.proofs.readings.TextReader.is_concerned.Goals as goal
 
 pub returns-then-concern : goal.returns-then-concern

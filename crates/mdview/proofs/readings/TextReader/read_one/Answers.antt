@@ -1,4 +1,4 @@
-use Rattle.std.proofs.Common.{◌≡◌, false, arith, ap, ◌∙◌, sym}
+use Rattle.std.proofs.Common.{◌≡◌, false, ap, ◌∙◌, sym}
 use Rattle.viewspec.specs.Changes.{asks_changed}
 use Rattle.viewspec.specs.Refusals.{is_deep}
 use Rattle.viewspec.specs.View.{reading_of}

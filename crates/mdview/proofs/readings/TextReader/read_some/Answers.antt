@@ -1,4 +1,4 @@
-use Rattle.std.proofs.Common.{◌≡◌, ◌∷◌, [], Err, arith, ap, ◌∙◌, sym, length-append, subst}
+use Rattle.std.proofs.Common.{◌∷◌, [], Err, arith, ap, ◌∙◌, sym, length-append}
 use Rattle.blockspec.specs.UnitTree.{UnitTree}
 use Rattle.viewspec.specs.Changes.{asks_changed}
 use Rattle.viewspec.specs.Refusals.{is_deep}

@@ -1,4 +1,4 @@
-use Rattle.std.proofs.Common.{◌≡◌, ◌∷◌, [], Err, arith, rules, ap, ◌∙◌, sym, length-append}
+use Rattle.std.proofs.Common.{◌∷◌, [], Err, arith, ap, ◌∙◌, sym, length-append}
 use Rattle.viewspec.specs.Refusals.{is_deep}
 use Rattle.viewspec.specs.View.{reading_of}
 use Rattle.mdblock.proofs.LevelBegins.{err_is}

@@ -1,6 +1,5 @@
-use Rattle.std.proofs.Common.{◌≡◌, ◌+◌, ◌≤◌, ◌++◌, None, length, map}
+use Rattle.std.proofs.Common.{◌≡◌, ◌+◌, ◌≤◌, ◌++◌, length, map}
 use Rattle.std.specs.List.{All, sum_by}
-use Rattle.std.specs.Option.{option_or}
 use Rattle.viewlaws.specs.UnitTexts.{deep_found, trees_in}
 use Rattle.viewlaws.specs.UnitTiles.{tile_of}
 use Rattle.mdview.specs.HeldBlocks.{tile_in}

@@ -11,10 +11,10 @@ invariant-loop-self l = record {
   same : l.self.units.now ≡ l.fn.self.units.now;
   forward : l.fn.self.next.unit ≤ l.self.next.unit;
   ahead : (e : EntityTable) (lines : List (List ℕ)) (low : ℕ) → length lines ≤ 1000000 → low ≤ l.line
-      → IsAhead (map lines_in l.fn.self.units.now) (begins e lines) l.fn.self.next.unit l.fn.self.next.line low
-      → IsAhead (map lines_in l.fn.self.units.now) (begins e lines) l.self.next.unit l.self.next.line l.line;
+      → IsAhead (map lines_in l.fn.self.units.now.items) (begins e lines) l.fn.self.next.unit l.fn.self.next.line low
+      → IsAhead (map lines_in l.fn.self.units.now.items) (begins e lines) l.self.next.unit l.self.next.line l.line;
 }
 
 -- the units that are not passed
 abbrev pub decreases-loop-self : goal.decreases-loop-self
-decreases-loop-self l = length l.self.units.now - l.self.next.unit
+decreases-loop-self l = length l.self.units.now.items - l.self.next.unit

@@ -1,24 +1,20 @@
-use Rattle.std.proofs.Common.{◌≡◌, ℕ, ◌+◌, ◌++◌, List, Option, None, arith, length, map, option_map, subst, ap, ◌∙◌, sym}
+use Rattle.std.proofs.Common.{◌≡◌, ℕ, List, None, arith, map, option_map, ap, ◌∙◌, sym}
 use Rattle.std.specs.List.{All}
 use Rattle.std.proofs.lemmas.Result.{IfErr-weaker, IfOk-weaker}
 use Rattle.inlinespec.specs.LinkTails.{Table}
 use Rattle.blockspec.specs.BlockUnits.{units as text_units}
-use Rattle.blockspec.specs.Nesting.{first_too_deep}
 use Rattle.viewspec.specs.LabelTable.{table}
 use Rattle.viewspec.specs.Refusals.{inline_too_deep, nesting_refusal}
 use Rattle.viewspec.specs.Setting.{Setting}
 use Rattle.viewlaws.proofs.DeepUnits.{refused_for_spans}
 use Rattle.viewlaws.proofs.ReadingsUnder.{deep_found_under}
-use Rattle.mdview.specs.HeldBlocks.{IsDeepAt, old_lines}
+use Rattle.mdview.specs.HeldBlocks.{old_lines}
 use Rattle.mdview.specs.HeldTexts.{IsReadUnder, IsRefusedBy, IsReread, IsTextFault, asking_in_parts, deep_in_parts, head_read, number_again, setting_in, source_before, source_behind}
 use Rattle.mdview.specs.HeldUnit.{HeldUnit, read_of, unit_in}
 use Rattle.mdview.specs.LabelTargets.{led_after, led_by, target_held}
 use Rattle.mdview.specs.NewText.{lines_of}
-use Rattle.mdview.specs.ReadingEnd.{OfReading}
-use Rattle.mdview.specs.declared.fault.EditFault.{EditFault}
 use Rattle.mdview.specs.declared.update.Update.{Update}
-use Rattle.mdview.proofs.EditTexts.{all_read_under, all_reread_under, all_shallow, both_ok, deep_is, head_small, held_small, led_by_text, meet_small, nested_in_none, new_trees, none_deep_before, numbers_are, of_texts, texts_are, texts_deep, texts_refused, trees_are, when_ok}
-use Rattle.mdview.proofs.Outcomes.{texts_read}
+use Rattle.mdview.proofs.EditTexts.{all_read_under, all_reread_under, all_shallow, both_ok, deep_is, head_small, held_small, led_by_text, meet_small, nested_in_none, new_trees, none_deep_before, numbers_are, texts_are, texts_refused, trees_are, when_ok}
 use Rattle.mdview.proofs.Replacing.{replacing}
 use Rattle.mdview.proofs.update.Update.of.Goals as goal
 
@@ -28,7 +24,7 @@ behind-requires-clause-shallow g c =
     let text = c.args.text in
     let setting : Setting = setting_in held in
     let E = held.entities.now in
-    let units : List HeldUnit = held.units.now in
+    let units : List HeldUnit = held.units.now.items in
     let before : Table = table E (source_before held text) in
     let old = target_held held.labels.now in
     let old_same : (label : List ℕ) → old label ≡ before label =
@@ -43,7 +39,7 @@ behind-requires-clause-near g c =
     let text = c.args.text in
     let setting : Setting = setting_in held in
     let E = held.entities.now in
-    let units : List HeldUnit = held.units.now in
+    let units : List HeldUnit = held.units.now.items in
     let rp = c.in_ok-reparsed.reparsed in
     let before : Table = table E (source_before held text) in
     let after : Table = table E (source_behind held text) in
@@ -58,7 +54,7 @@ behind-requires-clause-far g c =
     let text = c.args.text in
     let setting : Setting = setting_in held in
     let E = held.entities.now in
-    let units : List HeldUnit = held.units.now in
+    let units : List HeldUnit = held.units.now.items in
     let rp = c.in_ok-reparsed.reparsed in
     let before : Table = table E (source_before held text) in
     let after : Table = table E (source_behind held text) in
@@ -73,7 +69,7 @@ returns-clause-refused g c =
     let text = c.args.text in
     let setting : Setting = setting_in held in
     let E = held.entities.now in
-    let units : List HeldUnit = held.units.now in
+    let units : List HeldUnit = held.units.now.items in
     let rp = c.in_ok-reparsed.reparsed in
     let before : Table = table E (source_before held text) in
     let after : Table = table E (source_behind held text) in
@@ -94,7 +90,7 @@ returns-clause-accepted g c =
     let text = c.args.text in
     let setting : Setting = setting_in held in
     let E = held.entities.now in
-    let units : List HeldUnit = held.units.now in
+    let units : List HeldUnit = held.units.now.items in
     let rp = c.in_ok-reparsed.reparsed in
     let before : Table = table E (source_before held text) in
     let after : Table = table E (source_behind held text) in
@@ -108,40 +104,9 @@ returns-clause-accepted g c =
     let due = nested_in_none setting (source_behind held text) c.in_ok-reparsed.ensures.fits ∙ refused_for_spans setting (source_behind held text) ∙ ap (option_map inline_too_deep) (sym deep) in
     when_ok c.behind.result (λ (none : deep_in_parts held.options.now.max_spans E new (head_read held.head rp) units rp ≡ None). due ∙ ap (option_map inline_too_deep) none) c.behind.ensures.shallow
 
-pub returns-clause-fault : goal.returns-clause-fault
-returns-clause-fault g c =
-    let held = c.args.held.now in
-    let text = c.args.text in
-    let setting : Setting = setting_in held in
-    let E = held.entities.now in
-    let units : List HeldUnit = held.units.now in
-    let rp = c.in_ok-reparsed.reparsed in
-    let before : Table = table E (source_before held text) in
-    let after : Table = table E (source_behind held text) in
-    let old = target_held held.labels.now in
-    let new = led_after held.labels.now c.in_ok-changes.changes in
-    let parts = deep_in_parts held.options.now.max_spans E new (head_read held.head rp) units rp in
-    IfErr-weaker c.behind.result (IsTextFault parts) OfReading (λ (fault : EditFault) h. texts_read fault (of_texts parts fault h)) c.behind.ensures.deep
-
-pub returns-clause-deep : goal.returns-clause-deep
-returns-clause-deep g c =
-    let held = c.args.held.now in
-    let text = c.args.text in
-    let setting : Setting = setting_in held in
-    let E = held.entities.now in
-    let units : List HeldUnit = held.units.now in
-    let rp = c.in_ok-reparsed.reparsed in
-    let before : Table = table E (source_before held text) in
-    let after : Table = table E (source_behind held text) in
-    let old = target_held held.labels.now in
-    let new = led_after held.labels.now c.in_ok-changes.changes in
-    let parts = deep_in_parts held.options.now.max_spans E new (head_read held.head rp) units rp in
-    let first = first_too_deep held.options.now.max_containers (lines_of text) in
-    IfErr-weaker c.behind.result (IsTextFault parts) (IsDeepAt first) (texts_deep first parts c.in_ok-reparsed.ensures.fits) c.behind.ensures.deep
-
 pub returns-clause-replacing : goal.returns-clause-replacing
 returns-clause-replacing g c =
-    replacing c.args.held.now.entities.now c.args.text c.args.held.now.head (map read_of c.args.held.now.units.now) c.in_ok-reparsed.reparsed c.requires.held c.in_ok-reparsed.ensures.read
+    replacing c.args.held.now.entities.now c.args.text c.args.held.now.head (map read_of c.args.held.now.units.now.items) c.in_ok-reparsed.reparsed c.requires.held c.in_ok-reparsed.ensures.read
     c.behind.result c.behind.ensures.place c.behind.ensures.tiles c.behind.ensures.head
 
 pub returns-clause-led : goal.returns-clause-led
@@ -150,7 +115,7 @@ returns-clause-led g c =
     let text = c.args.text in
     let setting : Setting = setting_in held in
     let E = held.entities.now in
-    let units : List HeldUnit = held.units.now in
+    let units : List HeldUnit = held.units.now.items in
     let rp = c.in_ok-reparsed.reparsed in
     let before : Table = table E (source_before held text) in
     let after : Table = table E (source_behind held text) in
@@ -169,7 +134,7 @@ returns-clause-read g c =
     let text = c.args.text in
     let setting : Setting = setting_in held in
     let E = held.entities.now in
-    let units : List HeldUnit = held.units.now in
+    let units : List HeldUnit = held.units.now.items in
     let rp = c.in_ok-reparsed.reparsed in
     let before : Table = table E (source_before held text) in
     let after : Table = table E (source_behind held text) in
@@ -188,7 +153,7 @@ returns-clause-reread g c =
     let text = c.args.text in
     let setting : Setting = setting_in held in
     let E = held.entities.now in
-    let units : List HeldUnit = held.units.now in
+    let units : List HeldUnit = held.units.now.items in
     let rp = c.in_ok-reparsed.reparsed in
     let before : Table = table E (source_before held text) in
     let after : Table = table E (source_behind held text) in
@@ -207,7 +172,7 @@ returns-clause-numbers g c =
     let text = c.args.text in
     let setting : Setting = setting_in held in
     let E = held.entities.now in
-    let units : List HeldUnit = held.units.now in
+    let units : List HeldUnit = held.units.now.items in
     let rp = c.in_ok-reparsed.reparsed in
     let before : Table = table E (source_before held text) in
     let after : Table = table E (source_behind held text) in
@@ -232,7 +197,7 @@ returns-clause-texts g c =
     let text = c.args.text in
     let setting : Setting = setting_in held in
     let E = held.entities.now in
-    let units : List HeldUnit = held.units.now in
+    let units : List HeldUnit = held.units.now.items in
     let rp = c.in_ok-reparsed.reparsed in
     let before : Table = table E (source_before held text) in
     let after : Table = table E (source_behind held text) in

@@ -1,35 +1,22 @@
-use Rattle.std.proofs.Common.{◌≡◌, ℕ, ◌+◌, List, Option, None, arith, map, subst, ap, ◌∙◌, sym, refl}
+use Rattle.std.proofs.Common.{◌≡◌, ℕ, List, Option, arith, map, subst, ◌∙◌, sym, refl}
 use Rattle.std.specs.Prelude.{IfErr}
 use Rattle.std.specs.List.{All}
-use Rattle.std.proofs.lemmas.Result.{IfErr-weaker, IfOk-weaker, on_ok_weaker}
-use Rattle.inlinespec.specs.LinkTails.{Table}
-use Rattle.blockspec.specs.UnitTree.{UnitTree}
-use Rattle.viewlaws.specs.UnitTexts.{asking_units, deep_from}
+use Rattle.std.proofs.lemmas.Result.{IfOk-weaker, on_ok_weaker}
+use Rattle.viewlaws.specs.UnitTexts.{asking_units}
 use Rattle.viewlaws.proofs.ReadingsUnder.{asking_texts_under, asking_units_under, deep_from_under}
 use Rattle.mdview.specs.HeldBlocks.{held_tile}
-use Rattle.mdview.specs.HeldTexts.{IsReread, IsTextFault, asking_in_parts, deep_in_parts, head_read, number_again}
+use Rattle.mdview.specs.HeldTexts.{IsReread, IsTextFault, asking_in_parts, head_read, number_again}
 use Rattle.mdview.specs.HeldUnit.{HeldUnit, unit_in}
 use Rattle.mdview.specs.LabelTargets.{led_after, led_by, target_held}
-use Rattle.mdview.specs.ReadingEnd.{OfTexts}
-use Rattle.mdview.specs.declared.fault.EditFault.{EditFault}
 use Rattle.mdview.specs.declared.reparse.Reparsed.{Reparsed}
 use Rattle.mdview.specs.declared.update.Update.{Update}
-use Rattle.mdview.proofs.EditTexts.{all_reread_under, deep_by_all, numbers_by_all, of_texts, texts_by_all}
+use Rattle.mdview.proofs.EditTexts.{all_reread_under, deep_by_all, numbers_by_all, texts_by_all}
 use Rattle.mdview.proofs.update.Update.of_prelude.Goals as goal
-
-pub returns-clause-fault : goal.returns-clause-fault
-returns-clause-fault g c =
-    let held = c.args.held.now in
-    let units : List HeldUnit = held.units.now in
-    let new = led_after held.labels.now c.in_ok-changes.changes in
-    let r : Reparsed = record { first = 0; next = 0; from = 0; meet = held.head; found = c.new.result } in
-    let parts = deep_in_parts held.options.now.max_spans held.entities.now new (head_read held.head r) units r in
-    IfErr-weaker c.behind.result (IsTextFault parts) OfTexts (of_texts parts) c.behind.ensures.deep
 
 pub returns-clause-reread : goal.returns-clause-reread
 returns-clause-reread g c =
     let held = c.args.held.now in
-    let units : List HeldUnit = held.units.now in
+    let units : List HeldUnit = held.units.now.items in
     let new = led_after held.labels.now c.in_ok-changes.changes in
     let after = led_by (map unit_in units) c.args.prelude.now in
     IfOk-weaker c.behind.result (λ (r : Update). All (IsReread held.entities.now new (map unit_in units)) r.again.items) (λ (r : Update). All (IsReread held.entities.now after (map unit_in units)) r.again.items)
@@ -38,7 +25,7 @@ returns-clause-reread g c =
 pub returns-clause-numbers : goal.returns-clause-numbers
 returns-clause-numbers g c =
     let held = c.args.held.now in
-    let units : List HeldUnit = held.units.now in
+    let units : List HeldUnit = held.units.now.items in
     let old = target_held held.labels.now in
     let new = led_after held.labels.now c.in_ok-changes.changes in
     let after = led_by (map unit_in units) c.args.prelude.now in
@@ -51,7 +38,7 @@ returns-clause-numbers g c =
 pub returns-clause-shallow : goal.returns-clause-shallow
 returns-clause-shallow g c =
     let held = c.args.held.now in
-    let units : List HeldUnit = held.units.now in
+    let units : List HeldUnit = held.units.now.items in
     let old = target_held held.labels.now in
     let new = led_after held.labels.now c.in_ok-changes.changes in
     let after = led_by (map unit_in units) c.args.prelude.now in
@@ -63,7 +50,7 @@ returns-clause-shallow g c =
 pub returns-clause-deep : goal.returns-clause-deep
 returns-clause-deep g c =
     let held = c.args.held.now in
-    let units : List HeldUnit = held.units.now in
+    let units : List HeldUnit = held.units.now.items in
     let old = target_held held.labels.now in
     let new = led_after held.labels.now c.in_ok-changes.changes in
     let after = led_by (map unit_in units) c.args.prelude.now in
@@ -75,7 +62,7 @@ returns-clause-deep g c =
 pub returns-clause-texts : goal.returns-clause-texts
 returns-clause-texts g c =
     let held = c.args.held.now in
-    let units : List HeldUnit = held.units.now in
+    let units : List HeldUnit = held.units.now.items in
     let old = target_held held.labels.now in
     let new = led_after held.labels.now c.in_ok-changes.changes in
     let after = led_by (map unit_in units) c.args.prelude.now in

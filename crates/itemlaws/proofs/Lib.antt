@@ -1,0 +1,6 @@
+pub mod TopLaws
+pub mod ItemsMeet
+pub mod JoinLines
+pub mod UnitsMeet
+pub mod DocumentItems
+pub mod JoinCuts

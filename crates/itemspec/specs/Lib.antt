@@ -1,0 +1,2 @@
+pub mod ListItems
+pub mod Joins

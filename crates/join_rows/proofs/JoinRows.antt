@@ -1,0 +1,53 @@
+-- Rows of the later items of lists, by computation: for each top-level block their lines in it, and how many inline texts stand before each.
+use Rattle.std.proofs.Common.{◌≡◌, [], ◌∷◌, refl, codes}
+use Rattle.join_rows.proofs.ReadJoins.{joins_read, join}
+
+-- a tight list
+tight : joins_read (codes "- a" ∷ codes "- b" ∷ codes "- c" ∷ []) ≡ (join 1 1 ∷ join 2 2 ∷ []) ∷ []
+unfolding joins_read
+tight = refl
+
+-- a loose one
+loose : joins_read (codes "- a" ∷ [] ∷ codes "- b" ∷ [] ∷ codes "- c" ∷ []) ≡ (join 2 1 ∷ join 4 2 ∷ []) ∷ []
+unfolding joins_read
+loose = refl
+
+-- an ordered one
+ordered : joins_read (codes "3. a" ∷ codes "9. b" ∷ codes "2. c" ∷ []) ≡ (join 1 1 ∷ join 2 2 ∷ []) ∷ []
+unfolding joins_read
+ordered = refl
+
+-- three lists
+parted : joins_read (codes "- a" ∷ codes "- b" ∷ codes "* c" ∷ codes "* d" ∷ codes "1. e" ∷ codes "2) f" ∷ []) ≡ (join 1 1 ∷ []) ∷ (join 1 1 ∷ []) ∷ [] ∷ [] ∷ []
+unfolding joins_read
+parted = refl
+
+-- several texts in an item
+texts : joins_read (codes "- a" ∷ [] ∷ codes "  b" ∷ codes "- | c | d |" ∷ codes "  | - | - |" ∷ codes "- e" ∷ []) ≡ (join 3 2 ∷ join 5 4 ∷ []) ∷ []
+unfolding joins_read
+texts = refl
+
+-- items that give no text
+no_texts : joins_read (codes "-" ∷ codes "- ```" ∷ codes "  x" ∷ codes "  ```" ∷ codes "- [a]: /u" ∷ codes "- b" ∷ []) ≡ (join 1 0 ∷ join 4 0 ∷ join 5 0 ∷ []) ∷ []
+unfolding joins_read
+no_texts = refl
+
+-- lists and quotes in items
+nested : joins_read (codes "- a" ∷ codes "  - b" ∷ codes "  - c" ∷ codes "- > d" ∷ codes "  > - e" ∷ codes "- f" ∷ []) ≡ (join 3 3 ∷ join 5 5 ∷ []) ∷ []
+unfolding joins_read
+nested = refl
+
+-- items in a quote
+in_a_quote : joins_read (codes "> - a" ∷ codes "> - b" ∷ []) ≡ [] ∷ []
+unfolding joins_read
+in_a_quote = refl
+
+-- blocks before and behind
+behind_others : joins_read (codes "# h" ∷ [] ∷ codes "x" ∷ [] ∷ codes "- a" ∷ codes "- b" ∷ [] ∷ codes "y" ∷ []) ≡ [] ∷ [] ∷ (join 1 1 ∷ []) ∷ [] ∷ []
+unfolding joins_read
+behind_others = refl
+
+-- an item of two lines that begins blank
+blank_item : joins_read (codes "-" ∷ codes "  a" ∷ codes "- b" ∷ codes "-" ∷ [] ∷ codes "- c" ∷ []) ≡ (join 2 1 ∷ join 3 2 ∷ join 5 2 ∷ []) ∷ []
+unfolding joins_read
+blank_item = refl

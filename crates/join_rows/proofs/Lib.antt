@@ -1,0 +1,4 @@
+pub mod ReadJoins
+mod JoinRows
+mod ListEditRows
+mod SeamEditRows

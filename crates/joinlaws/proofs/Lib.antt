@@ -1,0 +1,3 @@
+pub mod PartedLists
+pub mod NearLines
+pub mod ReadJoins

@@ -1,0 +1,10 @@
+//! Laws of edits that stop inside a list: what holds of the definitions of `joinspec`, whatever holds a text. Each law is the contract of a function with an
+//! empty body.
+#![tactic(auto)]
+
+mod stops;
+
+pub use stops::{
+    lists_meet_inside, readers_tell_joins, reading_stops_where_lists_go_on, stops_are_no_later,
+    units_are_handed_and_one_more,
+};
