@@ -6,7 +6,7 @@ import sys
 import rows_common as common
 from rows_edits import call_term, is_plain, source_term
 
-CRATES = ['mdtext', 'mdscan', 'mdpair', 'mdleaf', 'blockspec', 'block_rows', 'itemspec', 'inlinespec', 'inlinelaws', 'inline_rows', 'mdinline', 'blocklaws', 'mdblock', 'mdhtml',
+CRATES = ['mdtext', 'mdscan', 'mdpair', 'mdleaf', 'blockspec', 'block_rows', 'itemspec', 'inlinespec', 'inlinelaws', 'inline_rows', 'mdinline', 'blocklaws', 'itemlaws', 'mdblock', 'mdhtml',
           'viewspec', 'edit_rows', 'joinspec', 'join_rows']
 IN_A_FILE = 25
 ROWS = 300

@@ -4,3 +4,4 @@ pub mod JoinLines
 pub mod UnitsMeet
 pub mod DocumentItems
 pub mod JoinCuts
+pub mod LastJoins

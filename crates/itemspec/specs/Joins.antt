@@ -1,6 +1,6 @@
 -- At which lines a list may be parted: those that begin an item of a top-level list which is not its first one (CommonMark 5.2, 5.3).
-use Rattle.std.specs.Prelude.{ℕ, ◌+◌, ◌-◌, List, [], ◌∷◌, length, map}
-use Rattle.std.specs.List.{flat_map}
+use Rattle.std.specs.Prelude.{ℕ, suc, ◌+◌, ◌-◌, ◌==◌, Bool, List, [], ◌∷◌, length, map}
+use Rattle.std.specs.List.{flat_map, list_any}
 use Rattle.mdtext.specs.EntityTable.{EntityTable}
 use Rattle.blockspec.specs.BlockLine.{document_line}
 use Rattle.blockspec.specs.NodeTree.{texts_in_items}
@@ -14,6 +14,10 @@ later_lines (ItemList kind first later) = map (λ item. item.line) later
 -- the lines of a document at which a list may be parted
 abbrev pub joins : EntityTable → (lines : List (List ℕ)) → List ℕ
 joins entities lines = flat_map later_lines (top_blocks entities (map document_line lines))
+
+-- whether the last line is one of them
+abbrev pub is_joined : EntityTable → (lines : List (List ℕ)) → Bool
+is_joined entities lines = list_any (λ j. suc j == length lines) (joins entities lines)
 
 -- A later item of a list: its line, counted from the list's first one, and how many inline texts the items before it give.
 pub record Join : Type 0 where

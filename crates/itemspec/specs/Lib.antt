@@ -1,2 +1,3 @@
 pub mod ListItems
 pub mod Joins
+pub mod SummaryJoins

@@ -22,7 +22,9 @@ use Rattle.blocklaws.proofs.HandedLaws.{IsFirst, IsBehind, begun_first, front_un
 use Rattle.blocklaws.proofs.OpenLeafLaws.{drops_last}
 use Rattle.blocklaws.proofs.ReaderLaws.{summary_closed, summary_begins}
 use Rattle.blocklaws.proofs.UnitReaderLaws.{IsOne}
-use Rattle.mdblock.specs.held.Continuations.{begins_block}
+use Rattle.itemspec.specs.SummaryJoins.{joins_after}
+use Rattle.itemlaws.proofs.LastJoins.{joined_behind_held}
+use Rattle.mdblock.specs.held.Continuations.{begins_block, begins_item}
 use Rattle.mdblock.specs.held.LevelSteps.{BeginsBehind}
 use Rattle.mdblock.specs.held.HeldLevel.{IsShut, HoldsSummary, StandsFor, StandsForLast, HasGathered, GivesUnit, Fits, IsLazyRight, behind_over, found_between, is_shut}
 use Rattle.mdblock.specs.held.HeldNodes.{handed_groups, handed_last, handed_nodes}
@@ -233,6 +235,38 @@ stays_marked (summary before last b n) l same = no_second (is_apart_after last l
 no_lazy : (s : Summary) (l : BlockLine) → l.lazy ≡ false → IsLazyRight s l
 no_lazy s l z = λ w. absurd (not_both l.lazy w z)
 
+-- a line that begins a unit begins no later item
+begun_apart : (s : Summary) (l : BlockLine) → begins_after s l ≡ true → joins_after s l ≡ false
+unfolding begins_after joins_after
+begun_apart (summary before last b n) l e = go (is_apart_after last l) (is_blank_line l) (same_mark (mark_of last) (list_mark (begun l))) e
+  where
+    go : (x y z : Bool) → (x && not y && not z) ≡ true → (x && not y && z) ≡ false
+    go true false false e = refl
+    go true false true e = absurd (not_both true refl (sym e))
+    go true true z e = refl
+    go false y z e = refl
+
+inside_apart : (s : Summary) (l : BlockLine) → is_apart_after (last_in s) l ≡ false → joins_after s l ≡ false
+unfolding joins_after
+inside_apart (summary before last b n) l a = ap (λ z. z && not (is_blank_line l) && same_mark (mark_of last) (list_mark (begun l))) a
+
+blank_apart : (s : Summary) (l : BlockLine) → is_blank_line l ≡ true → joins_after s l ≡ false
+unfolding joins_after
+blank_apart (summary before last b n) l blank = go (is_apart_after last l) (is_blank_line l) blank
+  where
+    go : (x y : Bool) → y ≡ true → (x && not y && same_mark (mark_of last) (list_mark (begun l))) ≡ false
+    go true true e = refl
+    go false true e = refl
+    go x false e = absurd (not_both true refl (sym e))
+
+next_joins : (s : Summary) (l : BlockLine) → is_apart_after (last_in s) l ≡ true → is_blank_line l ≡ false → same_mark (mark_of (last_in s)) (list_mark (begun l)) ≡ true →
+    joins_after s l ≡ true
+unfolding joins_after
+next_joins (summary before last b n) l a blank same =
+    ap (λ z. z && not (is_blank_line l) && same_mark (mark_of last) (list_mark (begun l))) a
+    ∙ ap (λ z. not z && same_mark (mark_of last) (list_mark (begun l))) blank
+    ∙ same
+
 abbrev Begins : OpenUnit → BlockLine → Type 0
 Begins held l = (s : Summary) → HoldsSummary held s → begins_after s l ≡ true
 
@@ -243,6 +277,7 @@ hands_new limit fed old new l found b begins s h fits =
       b.0 s h ∙ ap (λ z. if z then option_map (found_between old.gathering.entities.now s fed) old.begin else None) (sym t),
       b.1 ∙ ap (λ z. if z then Some fed else old.begin) (sym t),
       subst (λ z. HoldsSummary new (line_added old.gathering.entities.now (suc limit) (read_behind z s) l)) (sym t) b.3,
+      b.4 ∙ sym (begun_apart s l t),
     )
 
 pub sinks_new : (limit : ℕ) (old : OpenUnit) (l : BlockLine) → sinks limit no_summary l ≡ true → Begins old l → SinksBehind limit old l
@@ -252,7 +287,7 @@ sinks_new limit old l w begins s h fits = apart_sinks limit s l (begins_apart s 
 abbrev OfLine : (limit : ℕ) → OpenUnit → BlockLine → OpenUnit → Type 0
 OfLine limit old l new =
     (s : Summary) → HoldsSummary old s → Fits limit s →
-    (begins_after s l ≡ false) × IsAdded old.gathering.entities.now limit false s [] [] l new.level new.gathering
+    (begins_after s l ≡ false) × IsAdded old.gathering.entities.now limit false s [] [] l new.level new.gathering × (new.joined ≡ joins_after s l)
 
 goes_on_with : (limit fed : ℕ) (old new : OpenUnit) (l : BlockLine) → new.gathering.entities.now ≡ old.gathering.entities.now → new.begin ≡ old.begin → OfLine limit old l new → HandsOn limit fed old l None new
 goes_on_with limit fed old new l same begin f s h fits =
@@ -264,12 +299,14 @@ goes_on_with limit fed old new l same begin f s h fits =
       begin ∙ ap (λ z. if z then Some fed else old.begin) (sym t),
       subst (λ z. HoldsSummary new (line_added e (suc limit) (read_behind z s) l)) (sym t)
           (subst (λ z. HasGathered new.gathering [] [] (handed_nodes z false (line_added e (suc limit) s l)) × StandsFor z 0 false new.level (line_added e (suc limit) s l)) (sym same) (w.1.1, w.1.2)),
+      w.2,
     )
 
-pub follows_on : (limit fed : ℕ) (old new : OpenUnit) (l : BlockLine) → new.gathering.entities.now ≡ old.gathering.entities.now → new.begin ≡ old.begin → l.lazy ≡ false →
+pub follows_on : (limit fed : ℕ) (old new : OpenUnit) (l : BlockLine) → new.gathering.entities.now ≡ old.gathering.entities.now → new.begin ≡ old.begin → new.joined ≡ false → l.lazy ≡ false →
     FollowsLine limit old.level old.gathering l new.level new.gathering → HandsOn limit fed old l None new
-follows_on limit fed old new l same begin z f =
-    goes_on_with limit fed old new l same begin (λ s h fits. let w = f false s [] [] (h.0, h.1, no_lazy s l z, fits) in (stays_in s l w.0, w.1))
+follows_on limit fed old new l same begin apart z f =
+    goes_on_with limit fed old new l same begin
+    (λ s h fits. let w = f false s [] [] (h.0, h.1, no_lazy s l z, fits) in (stays_in s l w.0, w.1, apart ∙ sym (inside_apart s l w.0)))
 
 -- a line that begins no block outside of what is open begins no unit
 no_unit : (s : Summary) (l : BlockLine) (c : Continuation) → ContinuesLast (last_in s) l c → begins_block c l ≡ false → begins_after s l ≡ false
@@ -285,11 +322,26 @@ no_unit s l (continuation.Outside opening) w e = stays_blank s l (is_true (is_bl
     is_true true e = refl
     is_true false e = absurd (not_both true refl e)
 
-pub adds_on : (limit fed : ℕ) (old new : OpenUnit) (l : BlockLine) (c : Continuation) → new.gathering.entities.now ≡ old.gathering.entities.now → new.begin ≡ old.begin → l.lazy ≡ false →
+-- of such a line it is told whether it begins the next item of the list that stands last
+item_joins : (s : Summary) (l : BlockLine) (c : Continuation) → ContinuesLast (last_in s) l c → begins_block c l ≡ false → joins_after s l ≡ begins_item c
+item_joins s l continuation.Matched w e = inside_apart s l w.0
+item_joins s l (continuation.Underlines level) w e = inside_apart s l w.0
+item_joins s l continuation.Delimits w e = inside_apart s l w.0
+item_joins s l continuation.Lazy w e = inside_apart s l w.0
+item_joins s l continuation.Between w e = blank_apart s l w.1
+item_joins s l (continuation.Next marker) w e = next_joins s l w.0 w.1 w.3
+item_joins s l (continuation.Outside opening) w e = blank_apart s l (is_true (is_blank_line l) e)
+  where
+    is_true : (b : Bool) → not b ≡ false → b ≡ true
+    is_true true e = refl
+    is_true false e = absurd (not_both true refl e)
+
+pub adds_on : (limit fed : ℕ) (old new : OpenUnit) (l : BlockLine) (c : Continuation) → new.gathering.entities.now ≡ old.gathering.entities.now → new.begin ≡ old.begin → new.joined ≡ begins_item c → l.lazy ≡ false →
     ContinuesLevel old.level l c → begins_block c l ≡ false → AddsLine limit old.level old.gathering l new.level new.gathering → HandsOn limit fed old l None new
-adds_on limit fed old new l c same begin z continues stays f =
+adds_on limit fed old new l c same begin next z continues stays f =
     goes_on_with limit fed old new l same begin
-    (λ s h fits. (no_unit s l c (continues old.gathering.entities.now 0 false s h.1 (no_lazy s l z)) stays, f false s [] [] (h.0, h.1, no_lazy s l z, fits)))
+    (λ s h fits. let w = continues old.gathering.entities.now 0 false s h.1 (no_lazy s l z) in
+    (no_unit s l c w stays, f false s [] [] (h.0, h.1, no_lazy s l z, fits), next ∙ sym (item_joins s l c w stays)))
 
 pub sinks_on : (limit : ℕ) (old : OpenUnit) (l : BlockLine) → l.lazy ≡ false → SinksLine limit old.level old.gathering l → SinksBehind limit old l
 sinks_on limit old l z f s h fits = f false s [] [] (h.0, h.1, no_lazy s l z, fits)
@@ -326,10 +378,10 @@ unfolding is_apart_after sinks_at sinks_first start
 blank_floats limit l b = sinks_is limit [] nothing_yet false 0 l ∙ ap (λ z. sinks_first (first_sinks limit) (unwrap_or (start_where z Free [] l) Paragraph) l) b
 
 pub blank_on : (limit fed : ℕ) (old new : OpenUnit) (l : BlockLine) → is_shut old.level.last ≡ true → is_blank_line l ≡ true → l.lazy ≡ false →
-    new.level ≡ record old.level { blank = true } → new.gathering ≡ old.gathering → new.begin ≡ old.begin → HandsOn limit fed old l None new
+    new.level ≡ record old.level { blank = true } → new.gathering ≡ old.gathering → new.begin ≡ old.begin → new.joined ≡ false → HandsOn limit fed old l None new
 unfolding line_added last_after begin_after ended_last handed_groups handed_last closed last_groups last_tip
-blank_on limit fed old new l shut b z level gathering begin =
-    goes_on_with limit fed old new l (ap (λ (g : Gathering). g.entities.now) gathering) begin (λ s h fits. (stays_blank s l b, added s h))
+blank_on limit fed old new l shut b z level gathering begin apart =
+    goes_on_with limit fed old new l (ap (λ (g : Gathering). g.entities.now) gathering) begin (λ s h fits. (stays_blank s l b, added s h, apart ∙ sym (blank_apart s l b)))
   where
     e : EntityTable
     e = old.gathering.entities.now
@@ -368,16 +420,16 @@ shut_of e at (open_block.Quote' p over last in_item begun blank spaced) st = abs
 shut_of e at (open_block.List' p over last in_item begun blank spaced list) st = absurd st
 
 -- A unit begins behind no lines, of which all blocks are over.
-pub begins_fresh : (limit fed : ℕ) (old held new : OpenUnit) (l : BlockLine) (found : Option FoundUnit) → GivesUnit old fed found → HoldsSummary held no_summary → new.begin ≡ Some fed →
+pub begins_fresh : (limit fed : ℕ) (old held new : OpenUnit) (l : BlockLine) (found : Option FoundUnit) → GivesUnit old fed found → HoldsSummary held no_summary → new.begin ≡ Some fed → new.joined ≡ false →
     held.gathering.entities.now ≡ old.gathering.entities.now → new.gathering.entities.now ≡ held.gathering.entities.now →
     BeginsBehind limit held.level held.gathering l new.level new.gathering → sinks limit no_summary l ≡ false → BeginsUnit limit fed old l found new
 unfolding line_added last_after mark_of closed last_groups handed_groups handed_last
-begins_fresh limit fed old held new l found given h begin same still f floats =
+begins_fresh limit fed old held new l found given h begin apart same still f floats =
     let mine = held.gathering.entities.now in
     let w = f false no_summary [] [] h.0 (h.1.0.0, h.1.0.1, h.1.0.2, h.1.0.3, h.1.0.4, shut_of mine _ held.level.last h.1.1, refl) (refl, λ _. refl) in
     let kept = subst (λ e. HasGathered new.gathering [] [] (handed_nodes e false (line_added mine (suc limit) no_summary l)) × StandsFor e 0 false new.level (line_added mine (suc limit) no_summary l))
     (sym still) (w.0, w.1) in
-    (given, begin, floats, subst (λ e. HoldsSummary new (line_added e (suc limit) no_summary l)) same kept)
+    (given, begin, floats, subst (λ e. HoldsSummary new (line_added e (suc limit) no_summary l)) same kept, apart)
 
 -- what a line that follows nothing leaves as it was
 pub same_held : (old : OpenUnit) (level : Level) (gathering : Gathering) → level ≡ old.level → gathering ≡ old.gathering → record old { level = level; gathering = gathering } ≡ old
@@ -393,7 +445,7 @@ holds_of : (limit : ℕ) (e mine : EntityTable) (own fed : ℕ) (held : OpenUnit
     HoldsSummary held (summary_of e (lines_held [] (map document_line ls)))
 unfolding Reads
 holds_of limit e mine own fed held ls same r =
-    let h = r.4.1 in
+    let h = r.4.2 in
     subst (λ z. HasGathered held.gathering [] [] (handed_nodes z false (summary_of e (lines_held [] (map document_line ls)))) × StandsFor z 0 false held.level (summary_of e (lines_held [] (map document_line ls))))
     (sym (same ∙ r.0)) ((h.0, h.1), h.2)
 
@@ -422,6 +474,7 @@ reads_next limit e mine own fed held new found text ls same still f r =
       deep,
       (
         w.2 ∙ ap (λ z. if begins_after s l then Some z else held.begin) r.2 ∙ ap (λ z. if begins_after s l then Some (length ls) else z) r.4.0 ∙ sym (open_next e ls text),
+        w.4 ∙ sym (joined_behind_held e ls text),
         (kept.0.0, kept.0.1, kept.1),
       ),
     )

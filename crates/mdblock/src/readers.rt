@@ -11,7 +11,8 @@ ghost use Rattle.blockspec.specs.SummaryDepth.{sinks};
 ghost use Rattle.mdblock.specs.held.Continuations.{IsBeginningOf};
 ghost use Rattle.mdblock.specs.held.HeldLevel.{HoldsSummary, GivesUnit};
 ghost use Rattle.blockspec.specs.LineSummary.{no_summary};
-ghost use Rattle.mdblock.specs.held.ReaderState.{AreKept, held_begin};
+ghost use Rattle.itemspec.specs.Joins.{is_joined};
+ghost use Rattle.mdblock.specs.held.ReaderState.{AreKept, held_begin, held_joined};
 ghost use Rattle.mdblock.specs.held.Reads.{Reads, BeginsUnit, HandsOn, SinksBehind, handed, open_begin};
 ghost use Rattle.mdtext.specs.EntityTable.{EntityTable};
 
@@ -32,6 +33,8 @@ struct OpenUnit<'e> {
     level: Level,
     gathering: Gathering<'e>,
     begin: Option<usize>,
+    /// Whether the last line began an item of the unit that is not its first one.
+    joined: bool,
 }
 
 /// Reads a text line by line, and hands out each unit when the line has come that begins the next one.
@@ -151,6 +154,18 @@ impl<'e> Reader<'e> {
             None => None,
         }
     }
+
+    /// Whether the last line that was read begins an item of a top-level list which is not the list's first one; false before any line, and after a
+    /// fault. Takes no memory.
+    pub fn joined(&self) -> bool
+        ensures value { result ≡ held_joined self.now.held }
+        ensures joined { (limit : ℕ) (e : EntityTable) (ls : List (List ℕ)) → Reads limit e self.now ls → result ≡ is_joined e ls }
+    {
+        match &self.held {
+            Some(held) => held.joined,
+            None => false,
+        }
+    }
 }
 
 impl<'e> OpenUnit<'e> {
@@ -158,12 +173,14 @@ impl<'e> OpenUnit<'e> {
         ensures empty { HoldsSummary result no_summary }
         ensures kept { AreKept result }
         ensures begin { result.begin ≡ begin }
+        ensures joined { result.joined ≡ false }
         ensures entities { result.gathering.entities.now ≡ entities.now }
     {
         OpenUnit {
             level: Level::new(alloc, false),
             gathering: Gathering::new(alloc, entities),
             begin,
+            joined: false,
         }
     }
 
@@ -182,12 +199,14 @@ impl<'e> OpenUnit<'e> {
         if self.level.is_shut() {
             if line.is_blank() {
                 self.level.pass_blank();
+                self.joined = false;
                 return Ok(None);
             }
             let opening = beginning(&line);
             return self.begin_unit(&mut line, opening, fed, limit);
         }
         if self.level.follow(&mut line, limit, &mut self.gathering)? {
+            self.joined = false;
             return Ok(None);
         }
         let continuation = self.level.continuation(&line);
@@ -196,6 +215,7 @@ impl<'e> OpenUnit<'e> {
         }
         self.level
             .add(&mut line, continuation, limit, &mut self.gathering)?;
+        self.joined = continuation.begins_item();
         Ok(None)
     }
 
@@ -227,6 +247,7 @@ impl<'e> OpenUnit<'e> {
         ensures kept { OnOk result (AreKept self.new) }
         ensures empty { OnOk result (HoldsSummary self.new no_summary) }
         ensures begin { OnOk result (self.new.begin ≡ Some fed) }
+        ensures joined { OnOk result (self.new.joined ≡ false) }
         ensures entities { OnOk result (self.new.gathering.entities.now ≡ self.old.gathering.entities.now) }
     {
         let next = OpenUnit::new(self.gathering.alloc(), self.gathering.entities(), Some(fed));

@@ -348,6 +348,53 @@ fn units_say_where_they_begin(rt: HostRuntime) -> Result<(), Fail> {
     Ok(())
 }
 
+/// Which lines of a text begin a later item of a top-level list, as `x`, and which don't, as `.`.
+fn joined(alloc: Global, text: &str) -> Result<String, AllocError> {
+    let entities = Entities::builtin(alloc)?;
+    let mut reader = Reader::new(alloc, &entities, LIMIT);
+    let mut count = Tally::new();
+    let mut out = String::new(alloc);
+    for line in text.lines() {
+        if reader.fed() == usize::MAX || line.len() > usize::MAX / 4 {
+            return Ok(out);
+        }
+        if reader.line(line, &mut count).is_err() {
+            out.push_str("!")?;
+        }
+        out.push_str(if reader.joined() { "x" } else { "." })?;
+    }
+    Ok(out)
+}
+
+#[test]
+fn later_items_are_told(rt: HostRuntime) -> Result<(), Fail> {
+    let a = rt.alloc();
+    for (text, want) in [
+        ("- a\n- b\n* c\n* d", ".x.x"),
+        (
+            "- a\n\n- b\n  - c\n  - d\nlazy\n- e\n\np\n- f",
+            "..x...x...",
+        ),
+        ("1. a\n3. b\n1) c\n7) d", ".x.x"),
+        ("- ```\n  - a\n- b\n```\n- c\n```\n- d\n- e", "..x....x"),
+        ("> - a\n> - b\n- c\n- # d\n- e", "...xx"),
+        ("-\n\n- a\n- - -\n- b", "..x.."),
+    ] {
+        assert_eq!(rt; joined(a, text)?.as_str(), want);
+    }
+    let entities = Entities::builtin(a)?;
+    let mut count = Tally::new();
+    let line = quoted(a, 65)?;
+    let mut reader = Reader::new(a, &entities, LIMIT);
+    assert!(rt; !reader.joined());
+    assert!(rt; matches!(reader.line("- a", &mut count), Ok(None)));
+    assert!(rt; matches!(reader.line("- b", &mut count), Ok(None)));
+    assert!(rt; reader.joined());
+    assert!(rt; line.len() == 66 && reader.line(line.as_str(), &mut count).is_err());
+    assert!(rt; !reader.joined());
+    Ok(())
+}
+
 fn reason<E: Error>(alloc: Global, fault: &E) -> Result<String, AllocError> {
     format!(in alloc; "{fault}")
 }

@@ -87,6 +87,16 @@ opening_of continuation.Between = None
 opening_of (continuation.Next marker) = None
 opening_of (continuation.Outside opening) = opening
 
+-- whether it begins the next item of a list
+abbrev pub begins_item : Continuation → Bool
+begins_item continuation.Matched = false
+begins_item (continuation.Underlines level) = false
+begins_item continuation.Delimits = false
+begins_item continuation.Lazy = false
+begins_item continuation.Between = false
+begins_item (continuation.Next marker) = true
+begins_item (continuation.Outside opening) = false
+
 -- Whether it begins a block, which no list holds: at the outermost level a unit.
 abbrev pub begins_block : Continuation → BlockLine → Bool
 begins_block continuation.Matched l = false

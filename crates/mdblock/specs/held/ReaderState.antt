@@ -1,17 +1,18 @@
 -- What callers see of a reader.
-use Rattle.std.specs.Prelude.{ℕ, List, Option, None, Some, length, map, string_bytes}
+use Rattle.std.specs.Prelude.{ℕ, Bool, false, List, Option, None, Some, length, map, string_bytes}
 use Rattle.mdtext.specs.EntityTable.{EntityTable}
 use Rattle.mdleaf.specs.LinkDefinition.{LinkDefinition, definition_of}
 use Rattle.mdblock.specs.declared.open_blocks.Level.{Level}
 use Rattle.mdblock.specs.declared.readers.OpenUnit.{OpenUnit}
 use Rattle.mdblock.specs.held.OpenPositions.{LevelIn}
 
--- what is read and not handed out yet
+-- what is read and not handed out yet, and whether the last line began a later item of it
 pub record UnitSoFar : Type 0 where
   pub level : Level
   pub definitions : List LinkDefinition
   pub texts : List (List ℕ)
   pub begin : Option ℕ
+  pub joined : Bool
 
 -- how many lines were read, by which entities and with how many containers allowed inside one another, and what is held, until a fault comes
 pub record ReaderState : Type 0 where
@@ -21,11 +22,15 @@ pub record ReaderState : Type 0 where
   pub held : Option UnitSoFar
 
 abbrev pub unit_so_far : OpenUnit → UnitSoFar
-unit_so_far held = record { level = held.level; definitions = map definition_of held.gathering.definitions.items; texts = map string_bytes held.gathering.texts.items; begin = held.begin }
+unit_so_far held = record { level = held.level; definitions = map definition_of held.gathering.definitions.items; texts = map string_bytes held.gathering.texts.items; begin = held.begin; joined = held.joined }
 
 abbrev pub held_begin : Option UnitSoFar → Option ℕ
 held_begin None = None
 held_begin (Some held) = held.begin
+
+abbrev pub held_joined : Option UnitSoFar → Bool
+held_joined None = false
+held_joined (Some held) = held.joined
 
 -- each position in what is held is that of a text that was handed in
 abbrev pub AreKept : OpenUnit → Type 0

@@ -14,6 +14,8 @@ use Rattle.mdblock.specs.held.ReaderState.{UnitSoFar, ReaderState}
 use Rattle.blockspec.specs.SummaryDepth.{sinks}
 use Rattle.blockspec.specs.UnitReader.{lines_held, read_behind}
 use Rattle.blockspec.specs.UnitTree.{FoundUnit}
+use Rattle.itemspec.specs.Joins.{is_joined}
+use Rattle.itemspec.specs.SummaryJoins.{joins_after}
 use Rattle.mdblock.specs.declared.readers.OpenUnit.{OpenUnit}
 
 abbrev pub last_of : List ℕ → Option ℕ
@@ -37,12 +39,14 @@ HandsOn limit fed old l found new =
     × (found ≡ (if begins_after s l then option_map (found_between old.gathering.entities.now s fed) old.begin else None))
     × (new.begin ≡ (if begins_after s l then Some fed else old.begin))
     × HoldsSummary new (line_added old.gathering.entities.now (suc limit) (read_behind (begins_after s l) s) l)
+    × (new.joined ≡ joins_after s l)
 
 -- The line begins a unit: what is held is handed out, and what is held then is the line's.
 abbrev pub BeginsUnit : (limit fed : ℕ) → (old : OpenUnit) → BlockLine → Option FoundUnit → (new : OpenUnit) → Type 0
 BeginsUnit limit fed old l found new =
     GivesUnit old fed found × (new.begin ≡ Some fed) × (sinks limit no_summary l ≡ false)
     × HoldsSummary new (line_added old.gathering.entities.now (suc limit) no_summary l)
+    × (new.joined ≡ false)
 
 -- the line begins a container too deep behind what is held
 abbrev pub SinksBehind : (limit : ℕ) → OpenUnit → BlockLine → Type 0
@@ -56,7 +60,8 @@ StandsForHeld entities held s =
 abbrev pub HoldsUnit : EntityTable → Option UnitSoFar → (lines : List (List ℕ)) → Type 0
 HoldsUnit entities None lines = ⊥
 HoldsUnit entities (Some held) lines =
-    (held.begin ≡ open_begin entities lines) × StandsForHeld entities held (summary_of entities (lines_held [] (map document_line lines)))
+    (held.begin ≡ open_begin entities lines) × (held.joined ≡ is_joined entities lines)
+    × StandsForHeld entities held (summary_of entities (lines_held [] (map document_line lines)))
 
 -- A reader that has read these lines, with no fault.
 unfoldable pub Reads : (limit : ℕ) → EntityTable → ReaderState → (lines : List (List ℕ)) → Type 0

@@ -1,7 +1,7 @@
 //! How a line continues what is open: it is one of its lines, or it ends it (CommonMark 4, 5.1, 5.2; GFM Tables (extension)).
 
 ghost use Rattle.std.specs.Prelude.{◌≡◌, true};
-ghost use Rattle.mdblock.specs.held.Continuations.{IsContinuationOf, ContinuesOpen, begins_block, opening_of};
+ghost use Rattle.mdblock.specs.held.Continuations.{IsContinuationOf, ContinuesOpen, begins_block, begins_item, opening_of};
 ghost use Rattle.mdblock.specs.held.ContainerContinuations.{ContinuesBetween, ContinuesInItem, ContinuesInQuote, ContinuesShut};
 ghost use Rattle.mdblock.specs.held.LinesAdded.{ContinuesLevel, IsUnfollowed};
 
@@ -38,6 +38,21 @@ impl Continuation {
             | Continuation::Lazy
             | Continuation::Between
             | Continuation::Next(_) => false,
+        }
+    }
+
+    /// Whether a line begins the next item of an open list.
+    pub(crate) fn begins_item(&self) -> bool
+        ensures { result ≡ begins_item self.now }
+    {
+        match self {
+            Continuation::Next(_) => true,
+            Continuation::Matched
+            | Continuation::Underlines(_)
+            | Continuation::Delimits
+            | Continuation::Lazy
+            | Continuation::Between
+            | Continuation::Outside(_) => false,
         }
     }
 

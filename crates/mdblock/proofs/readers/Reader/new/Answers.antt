@@ -9,5 +9,5 @@ pub returns-clause-reads : goal.returns-clause-reads
 returns-clause-reads c =
     let held = unit_so_far c.new.result in
     let empty = c.new.ensures.empty in
-    reads_none c.args.limit c.args.entities.now held c.new.ensures.begin
+    reads_none c.args.limit c.args.entities.now held c.new.ensures.begin c.new.ensures.joined
     (subst (λ e. StandsForHeld e held no_summary) c.new.ensures.entities (empty.0.0, empty.0.1, empty.1))
