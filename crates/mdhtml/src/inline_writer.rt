@@ -13,11 +13,10 @@ use crate::raw_html::write_raw;
 use mdinline::{InlineSink, SpanKind};
 use mdtext::{NoMemory, escape_text};
 use std::alloc::Global;
-use std::mem;
 
 /// A span that is open, by what is written at its end.
 #[derive(Drop)]
-enum OpenSpan {
+pub(crate) enum OpenSpan {
     /// A tag.
     Tag(&'static str),
     /// What stands behind an image's alternative text, with this title.
@@ -41,34 +40,33 @@ impl InlineWriter {
     ghost use Rattle.mdhtml.specs.held.InlineWriter.{writing_of};
     ghost use Rattle.mdhtml.specs.InlineWriting.{writing};
 
-    /// A writer that needs `begin` before it takes inlines. Takes no memory.
-    pub(crate) fn new(alloc: Global, options: Options) -> InlineWriter {
-        InlineWriter {
+    /// A writer of a text of which nothing is written yet. What `html` and `spans` have is let go, and their room is used.
+    pub(crate) fn begin_text(
+        alloc: Global,
+        options: Options,
+        html: String,
+        spans: Vec<OpenSpan>,
+    ) -> InlineWriter
+        ensures options { result.options ≡ options }
+        ensures nothing { writing_of result ≡ writing [] [] false }
+    {
+        let mut writer = InlineWriter {
             alloc,
             options,
-            html: String::new(alloc),
-            spans: Vec::new(alloc),
+            html,
+            spans,
             in_image: false,
-        }
+        };
+        writer.html.clear();
+        writer.spans.clear();
+        writer
     }
 
-    /// Begins a text: nothing of it is written yet. What `room` has is let go.
-    pub(crate) fn begin_text(&mut self, options: Options, room: String)
-        ensures options { self.new.options ≡ options }
-        ensures nothing { writing_of self.new ≡ writing [] [] false }
+    /// The HTML of the text that was taken, and room for open spans.
+    pub(crate) fn into_parts(self) -> (String, Vec<OpenSpan>)
+        ensures { result.0 ≡ self.html }
     {
-        self.options = options;
-        self.html = room;
-        self.html.clear();
-        self.spans.clear();
-        self.in_image = false;
-    }
-
-    /// The HTML of the text that was taken.
-    pub(crate) fn take_html(&mut self) -> String
-        ensures { string_bytes result ≡ string_bytes self.old.html }
-    {
-        mem::replace(&mut self.html, String::new(self.alloc))
+        (self.html, self.spans)
     }
 }
 

@@ -6,7 +6,7 @@ ghost use Rattle.mdinline.specs.declared.faults.InlineFault.TheVariants.{TooDeep
 ghost use Rattle.mdhtml.specs.BlockHtml.{ends_line};
 ghost use Rattle.mdhtml.specs.Limits.{HasLimits};
 
-use crate::inline_writer::InlineWriter;
+use crate::inline_writer::{InlineWriter, OpenSpan};
 use crate::options::Options;
 use crate::pieces::append_blocks;
 use crate::unit_texts::UnitTexts;
@@ -22,11 +22,12 @@ pub struct UnitWriter<'a> {
     alloc: Global,
     options: Options,
     reader: TextReader<'a>,
-    writer: InlineWriter,
     /// The HTML of the unit's texts.
     texts: Vec<String>,
     /// Room for the HTML of texts.
     spare: Vec<String>,
+    /// Room for the spans that are open in a text.
+    spans: Vec<OpenSpan>,
 }
 
 impl<'a> UnitWriter<'a> {
@@ -42,9 +43,9 @@ impl<'a> UnitWriter<'a> {
             alloc,
             options: *options,
             reader: TextReader::new(alloc, entities),
-            writer: InlineWriter::new(alloc, *options),
             texts: Vec::new(alloc),
             spare: Vec::new(alloc),
+            spans: Vec::new(alloc),
         }
     }
 
@@ -100,9 +101,7 @@ impl<'a> UnitWriter<'a> {
         ensures options { options_of self.new ≡ options_of self.old }
         ensures entities { entities_of self.new ≡ entities_of self.old }
     {
-        while let Some(html) = self.texts.pop() {
-            self.spare.push(html)?;
-        }
+        self.spare.append(&mut self.texts)?;
         Ok(())
     }
 
@@ -118,15 +117,14 @@ impl<'a> UnitWriter<'a> {
             Some(room) => room,
             None => String::with_capacity(self.alloc, text.len())?,
         };
-        let unused = InlineWriter::new(self.alloc, self.options);
-        let mut writer = mem::replace(&mut self.writer, unused);
-        writer.begin_text(self.options, room);
+        let spans = mem::replace(&mut self.spans, Vec::new(self.alloc));
+        let writer = InlineWriter::begin_text(self.alloc, self.options, room, spans);
         let limit = self.options.max_spans;
-        let mut written = self
+        let written = self
             .reader
             .read_into(text, labels, &mut Unasked, writer, limit)?;
-        let html = written.take_html();
-        self.writer = written;
+        let (html, spans) = written.into_parts();
+        self.spans = spans;
         Ok(html)
     }
 }

@@ -1,4 +1,4 @@
-use Rattle.std.proofs.Common.{ap, ◌∙◌}
+use Rattle.std.proofs.Common.{ap, ◌∙◌, string_bytes}
 use Rattle.inlinespec.specs.TextReading.{reading}
 use Rattle.inlinespec.specs.TextTree.{events_of}
 use Rattle.mdhtml.specs.declared.options.Options.{Options}
@@ -15,6 +15,6 @@ returns-clause-html g c =
     let text = c.args.text.now in
     let es = events_of (reading entities table text) in
     let o = c.args.self.now.options in
-    c.take_html-html.ensures
-    ∙ ap (λ w. w.html) (told.writing ∙ ap (λ (o : Options). after_events o (writing_of c.begin_text.new.self) es) c.begin_text.ensures.options ∙ ap (λ w. after_events o w es) c.begin_text.ensures.nothing)
+    ap string_bytes c.into_parts-html.ensures
+    ∙ ap (λ w. w.html) (told.writing ∙ ap (λ (o : Options). after_events o (writing_of c.begin_text-writer.result) es) c.begin_text-writer.ensures.options ∙ ap (λ w. after_events o w es) c.begin_text-writer.ensures.nothing)
     ∙ read_shown o entities table text
