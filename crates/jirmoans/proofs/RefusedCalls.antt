@@ -11,8 +11,3 @@ use Rattle.mdview.proofs.Outcomes.{refused_keeps}
 -- a refused call has changed nothing
 pub refused_leaves : (fault : EditFault) (old new : Document) (call : Call) → (answer_of (Err fault), new) ≡ outcome_of (is_starved {T = ChangedPieces} (Err fault)) old call → new ≡ old
 refused_leaves fault old new call is = refused_keeps old call fault (is_starved {T = ChangedPieces} (Err fault)) new is
-
--- and its refusal is the one that the old preview tells
-pub refused_is : (fault : EditFault) (old new : Document) (call : Call) → (answer_of (Err fault), new) ≡ outcome_of (is_starved {T = ChangedPieces} (Err fault)) old call
-    → (answer_of (Err fault), old) ≡ outcome_of (is_starved {T = ChangedPieces} (Err fault)) old call
-refused_is fault old new call is = ap (λ (held : Document). (answer_of (Err fault), held)) (sym (refused_leaves fault old new call is)) ∙ is

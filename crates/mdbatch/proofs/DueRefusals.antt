@@ -13,11 +13,6 @@ none_due lines few small =
     let b : nat_lt 16777216 (size_of lines) ≡ false = grind (arith, nat_tests) in
     rw (a, b) refl
 
-pub too_many : (lines : List (List ℕ)) → 1000000 < length lines → refusal lines ≡ Some TooManyLines
-too_many lines many =
-    let a : nat_lt 1000000 (length lines) ≡ true = grind (arith, nat_tests) in
-    rw a refl
-
 pub too_large : (lines : List (List ℕ)) → length lines ≤ 1000000 → 16777216 < size_of lines → refusal lines ≡ Some TooLarge
 too_large lines few large =
     let a : nat_lt 1000000 (length lines) ≡ false = grind (arith, nat_tests) in

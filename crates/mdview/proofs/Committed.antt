@@ -29,11 +29,6 @@ committed_rendered options units r fit all =
     all_replaced (IsRendered options) (all_renewed units r.again.items) r.units.items r.first (r.next - r.first)
     (all_rendered options (map unit_in units) units r.again.items refl all fit.written) fit.pieces
 
-pub pieces_are : (options : Options) (units : List HeldUnit) → All (IsRendered options) units → map piece_of units ≡ map (unit_piece options) (map read_of units)
-pieces_are options [] all = refl
-pieces_are options (u ∷ units) all =
-    ap (λ p. p ∷ map piece_of units) (all 0 u (omega arith)) ∙ ap (λ ps. unit_piece options u.read ∷ ps) (pieces_are options units (λ k d below. all (suc k) d (omega arith)))
-
 -- a unit before those that go has its number afterwards
 same_number : (r : Update) (i : ℕ) → i < r.next → (one : Again) → (one.unit == i) ≡ true → (number_after r one.unit == i) ≡ true
 same_number r i below one e =
@@ -77,39 +72,3 @@ committed_brings {A} g options units r patch fit is small =
 
 abbrev in_units : List UnitTree → ℕ
 in_units trees = sum_by texts_in trees
-
-texts_by_units : (units : List HeldUnit) → sum_by (λ (u : HeldUnit). texts_in u.read.unit) units ≡ in_units (map unit_in units)
-texts_by_units [] = refl
-texts_by_units (u ∷ units) =
-    sum_by-cons (λ (u : HeldUnit). texts_in u.read.unit) u units ∙ ap (λ n. texts_in u.read.unit + n) (texts_by_units units) ∙ sym (sum_by-cons texts_in (unit_in u) (map unit_in units))
-
-texts_of_units : (units : List HeldUnit) → texts_of (map read_of units) ≡ in_units (map unit_in units)
-texts_of_units [] = refl
-texts_of_units (u ∷ units) =
-    sum_by-cons (λ (u : ReadUnit). texts_in u.unit) (read_of u) (map read_of units) ∙ ap (λ n. texts_in u.read.unit + n) (texts_of_units units) ∙ sym (sum_by-cons texts_in (unit_in u) (map unit_in units))
-
-pub texts_ascend : (i j : ℕ) (units : List HeldUnit) → i ≤ j → texts_before i units ≤ texts_before j units
-texts_ascend i j units below =
-    let f : HeldUnit → ℕ = λ u. texts_in u.read.unit in
-    let part = sum_by-take-drop f (take j units) i in
-    let same : sum_by f (take i (take j units)) ≡ texts_before i units = ap (sum_by f) (take-take i j units below) in
-    omega (arith, part, same)
-
--- the texts of the units that are held afterwards
-pub committed_texts : (units add : List HeldUnit) (again : List Again) (first next : ℕ) → first ≤ next
-    → texts_of (map read_of (replaced (all_renewed units again) first (next - first) add)) + texts_before next units
-    ≡ texts_before first units + texts_of (map read_of add) + texts_before (length units) units
-committed_texts units add again first next order =
-    let trees : List UnitTree = map unit_in units in
-    let new : texts_of (map read_of (replaced (all_renewed units again) first (next - first) add)) ≡ in_units (replaced trees first (next - first) (map unit_in add)) =
-    texts_of_units (replaced (all_renewed units again) first (next - first) add)
-    ∙ ap in_units (map_replaced unit_in (all_renewed units again) add first (next - first) ∙ ap (λ fs. replaced fs first (next - first) (map unit_in add)) (unit_trees_stay units again)) in
-    let one = sum_by-append texts_in (take first trees ++ map unit_in add) (drop (first + (next - first)) trees) in
-    let two = sum_by-append texts_in (take first trees) (map unit_in add) in
-    let behind : in_units (drop (first + (next - first)) trees) ≡ in_units (drop next trees) = ap (λ n. in_units (drop n trees)) (omega arith) in
-    let all = sum_by-take-drop texts_in trees next in
-    let added = texts_of_units add in
-    let front : texts_before first units ≡ in_units (take first trees) = texts_by_units (take first units) ∙ ap in_units (sym (take-map unit_in first units)) in
-    let until : texts_before next units ≡ in_units (take next trees) = texts_by_units (take next units) ∙ ap in_units (sym (take-map unit_in next units)) in
-    let whole : texts_before (length units) units ≡ in_units trees = ap (sum_by (λ (u : HeldUnit). texts_in u.read.unit)) (take_all (length units) units (omega arith)) ∙ texts_by_units units in
-    omega (arith, new, one, two, behind, all, added, front, until, whole)

@@ -137,7 +137,3 @@ module _ (setting : Setting) (lines : List (List ℕ)) (defined : Defined) (fits
       → IfErr result (IsUndefiningAt (undefining_line setting lines))
   undefined None result is ends = rw ends tt
   undefined (Some line) result is ends = rw ends (undefining ∙ is)
-
-pub of_definitions : (o : Option ℕ) (targets : BTreeMap (List ℕ) Target) (result : Result (BTreeMap (List ℕ) Target) EditFault) → EndsAt o targets result → IfErr result OfDefinitions
-of_definitions None targets result ends = rw ends tt
-of_definitions (Some line) targets result ends = rw ends tt

@@ -78,23 +78,6 @@ held_count e lines head held w = sym (length-map held tile_in) ∙ ap (λ z. len
 tree_of : ℕ × UnitTree → UnitTree
 tree_of t = t.1
 
-held_trees : (held : List ReadUnit) → map (λ (u : ReadUnit). u.unit) held ≡ map tree_of (map tile_in held)
-unfolding tree_of
-held_trees [] = refl
-held_trees (u ∷ held) = ap (λ z. u.unit ∷ z) (held_trees held)
-
-found_trees : (found : List FoundUnit) → map (λ (f : FoundUnit). f.unit) found ≡ map tree_of (map tile_of found)
-unfolding tree_of
-found_trees [] = refl
-found_trees (f ∷ found) = ap (λ z. f.unit ∷ z) (found_trees found)
-
-pub held_tree : (e : EntityTable) (lines : List (List ℕ)) (head : ℕ) (held : List ReadUnit) (i : ℕ) → HoldsUnits e lines head held
-    → option_map (λ (u : ReadUnit). u.unit) (slice_get held i) ≡ option_map (λ (f : FoundUnit). f.unit) (slice_get (units e lines) i)
-held_tree e lines head held i w =
-    sym (slice_get-map (λ (u : ReadUnit). u.unit) held i)
-    ∙ ap (λ z. slice_get z i) (held_trees held ∙ ap (map tree_of) w.tiles ∙ sym (found_trees (units e lines)))
-    ∙ slice_get-map (λ (f : FoundUnit). f.unit) (units e lines) i
-
 -- ---- first lines
 
 size_of_tile : ℕ × UnitTree → ℕ

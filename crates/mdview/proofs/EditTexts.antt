@@ -51,17 +51,6 @@ use Rattle.mdview.proofs.Replacing.{head_behind}
 
 -- ---- refusals
 
-pub blocks_refused : (setting : Setting) (source : Source) (fault : EditFault) → OfBlocks fault → IsDeepAt (first_too_deep setting.options.max_containers source.lines) fault
-    → IsRefusedBy (nesting_refusal setting source) fault
-blocks_refused setting source (NestedTooDeep line) of deep = ap (λ o. option_or (option_map nested_too_deep o) (inline_refusal setting source)) deep
-blocks_refused setting source NoMemory of deep = tt
-blocks_refused setting source (InlineTooDeep line) of deep = absurd of
-blocks_refused setting source (NotDefinitions line) of deep = absurd of
-blocks_refused setting source TooManyLines of deep = absurd of
-blocks_refused setting source TooLarge of deep = absurd of
-blocks_refused setting source (OutOfRange lines) of deep = absurd of
-blocks_refused setting source (BreakInLine index) of deep = absurd of
-
 pub nested_in_none : (setting : Setting) (source : Source) → first_too_deep setting.options.max_containers source.lines ≡ None → nesting_refusal setting source ≡ inline_refusal setting source
 nested_in_none setting source none = ap (λ o. option_or (option_map nested_too_deep o) (inline_refusal setting source)) none
 
@@ -74,16 +63,6 @@ texts_refused due deep is TooManyLines h = absurd h
 texts_refused due deep is TooLarge h = absurd h
 texts_refused due deep is (OutOfRange lines) h = absurd h
 texts_refused due deep is (BreakInLine index) h = absurd h
-
-pub texts_deep : (first deep : Option ℕ) → first ≡ None → (fault : EditFault) → IsTextFault deep fault → IsDeepAt first fault
-texts_deep first deep none (InlineTooDeep line) h = none
-texts_deep first deep none NoMemory h = tt
-texts_deep first deep none (NestedTooDeep line) h = absurd h
-texts_deep first deep none (NotDefinitions line) h = absurd h
-texts_deep first deep none TooManyLines h = absurd h
-texts_deep first deep none TooLarge h = absurd h
-texts_deep first deep none (OutOfRange lines) h = absurd h
-texts_deep first deep none (BreakInLine index) h = absurd h
 
 -- what holds of a result
 pub both_ok : {X Y : Type 0} (r : Result X Y) (P Q R : X → Type 0) → ((x : X) → P x → Q x → R x) → IfOk r P → IfOk r Q → IfOk r R

@@ -164,14 +164,6 @@ module _ (old new : Entries) (key q : List ℕ) where
       by true e = ap is_some (is ∙ ap (λ b. cond b (Some None) (at q old)) (both ∙ e))
       by false e = ap is_some (is ∙ ap (λ b. cond b (Some None) (at q old)) (both ∙ e))
 
--- a label that has room already
-pub room_stays : (old : Entries) (key q : List ℕ) → is_some (at key old) ≡ true → is_some (at q old) ≡ (bytes_eq q key || is_some (at q old))
-room_stays old key q some = by (bytes_eq q key) refl
-  where
-    by : (b : Bool) → bytes_eq q key ≡ b → is_some (at q old) ≡ (b || is_some (at q old))
-    by true e = ap (λ l. is_some (at l old)) ((bytes_eq-Decides q key).0 e) ∙ some
-    by false e = refl
-
 -- each label so far has room, or is to come
 pub room_next : (key q : List ℕ) (old new others : Bool) → new ≡ (bytes_eq q key || old) → (old || (is_at (slice_cmp nat_cmp q) key || others)) ≡ true → (new || others) ≡ true
 room_next key q old new others is some = ap (λ b. b || others) is ∙ by (bytes_eq q key) old (ap (λ b. old || (b || others)) (sym (is_eq-slice_cmp q key)) ∙ some)
@@ -180,10 +172,6 @@ room_next key q old new others is some = ap (λ b. b || others) is ∙ by (bytes
     by true o h = refl
     by false true h = refl
     by false false h = h
-
-pub room_all : (b : Bool) → (b || false) ≡ true → b ≡ true
-room_all true h = refl
-room_all false h = h
 
 -- ---- labels that were asked for
 

@@ -160,22 +160,3 @@ shallow_still setting lines head prelude labels held blocks texts =
 
 pub near_still : (e : EntityTable) (lines : List (List ℕ)) (head : ℕ) (held : List HeldUnit) → HoldsUnits e lines head (map read_of held) → length lines ≤ 1000000 → head + sum_by lines_in held < 2 ^ 64
 near_still e lines head held blocks few = let all = lines_are e lines head held blocks in omega (arith, all, few)
-
--- no more texts asked than there are
-filter_short : {A : Type 0} (p : A → Bool) (xs : List A) → length (filter p xs) ≤ length xs
-filter_short p [] = omega arith
-filter_short p (x ∷ xs) = by (p x) (filter_short p xs)
-  where
-    by : (b : Bool) → length (filter p xs) ≤ length xs → length (cond b (x ∷ filter p xs) (filter p xs)) ≤ suc (length xs)
-    by true h = omega (arith, h)
-    by false h = omega (arith, h)
-
-pub asked_within : (e : EntityTable) (old new : Table) (units : List HeldUnit) → asking_texts e old new (map unit_in units) ≤ texts_of (map read_of units)
-asked_within e old new [] = omega arith
-asked_within e old new (u ∷ units) =
-    let rest = asked_within e old new units in
-    let one = filter_short (asks_changed old new) (readings_under e old u.read.unit) in
-    let many = length-map u.read.unit.texts (reading_of e old) in
-    let a = sum_by-cons (asking_in e old new) u.read.unit (map unit_in units) in
-    let b = sum_by-cons (λ (v : ReadUnit). texts_in v.unit) u.read (map read_of units) in
-    omega (arith, rest, one, many, a, b)

@@ -44,19 +44,6 @@ use Rattle.mdview.proofs.Outcomes.{refused_at_once, refused_by_reading, same_pat
 
 -- ---- why the lines of a prelude are refused
 
-pub prelude_refused : (held : Document) (lines : List (List ℕ)) (fault : EditFault) → RefusesPrelude fault lines → IsUndefiningAt (undefining_line (setting_of held) (map without_nul lines)) fault
-    → (answer_of (Err fault), held) ≡ outcome_of (is_starved {T = ChangedPieces} (Err fault)) held (set_prelude lines)
-prelude_refused held lines (BreakInLine index) why at = refused_at_once held (set_prelude lines) (BreakInLine index) why
-prelude_refused held lines TooManyLines why at = refused_at_once held (set_prelude lines) TooManyLines why
-prelude_refused held lines TooLarge why at = refused_at_once held (set_prelude lines) TooLarge why
-prelude_refused held lines (NotDefinitions line) why at =
-    refused_by_reading held (set_prelude lines) (NotDefinitions line) why
-    (ap (λ o. option_or (option_map not_definitions o) (inline_refusal (setting_of held) (put (source_of held) (set_prelude lines)))) at)
-prelude_refused held lines NoMemory why at = starves held (set_prelude lines) why
-prelude_refused held lines (OutOfRange count) why at = absurd why
-prelude_refused held lines (NestedTooDeep line) why at = absurd why
-prelude_refused held lines (InlineTooDeep line) why at = absurd why
-
 -- ---- what it leaves
 
 -- what is known of units that are read again for a new prelude

@@ -97,7 +97,3 @@ module _ (texts : List (String Global)) (all : List (List ℕ)) (i : ℕ) (t : S
         ∙ ap (λ l. length l) (filter-append p (map f (take (i + 1) all)) (map f (drop (i + 1) all)))
         ∙ length-append (filter p (map f (take (i + 1) all))) (filter p (map f (drop (i + 1) all))) in
         omega (arith, whole)
-
--- all texts
-pub taken_all : (texts : List (String Global)) (all : List (List ℕ)) (i : ℕ) → map string_bytes texts ≡ all → length texts ≤ i → take i all ≡ all
-taken_all texts all i is past = let same = sym (length-map texts string_bytes) ∙ ap (λ l. length l) is in take_all i all (omega (arith, past, same))

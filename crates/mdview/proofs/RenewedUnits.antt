@@ -24,14 +24,6 @@ unit_trees_stay units [] = refl
 unit_trees_stay units (one ∷ again) =
     unit_trees_stay (map_at (renewed one) one.unit units) again ∙ map_changed unit_in (renewed one) (λ u. refl) one.unit units
 
-trees_read : (units : List HeldUnit) → map (λ (u : ReadUnit). u.unit) (map read_of units) ≡ map unit_in units
-trees_read [] = refl
-trees_read (u ∷ units) = ap (λ trees. u.read.unit ∷ trees) (trees_read units)
-
--- the trees of units as they are read
-pub renewed_trees : (units : List HeldUnit) (again : List Again) → map (λ (u : ReadUnit). u.unit) (map read_of (all_renewed units again)) ≡ map (λ (u : ReadUnit). u.unit) (map read_of units)
-renewed_trees units again = trees_read (all_renewed units again) ∙ unit_trees_stay units again ∙ sym (trees_read units)
-
 -- one that is read again is rendered where its piece is its HTML
 one_rendered : (options : Options) (one : Again) (i : ℕ) (units : List HeldUnit) → All (IsRendered options) units → IfSome (slice_get (map unit_in units) i) (λ u. IsWritten options (u ∷ []) (record { unit = 0; inlines = one.inlines; piece = one.piece }))
     → All (IsRendered options) (map_at (renewed one) i units)

@@ -23,21 +23,3 @@ texts_more units u =
 
 pub found_at : (units : List HeldUnit) (i : ℕ) (u : HeldUnit) → i < length units → slice_get (map unit_in units) i ≡ Some (unit_in (get_or units i u))
 found_at units i u below = slice_get-map unit_in units i ∙ ap (option_map unit_in) (slice_get-get_or units i u below)
-
-pub fits_at : (units : List HeldUnit) (one : Again) (i : ℕ) (u : HeldUnit) → i < length units → one.unit ≡ i → u ≡ get_or units i u
-    → length one.inlines.items ≡ texts_in u.read.unit → Fits (map unit_in units) one
-fits_at units one i u below is at all =
-    let here : slice_get (map unit_in units) one.unit ≡ Some (unit_in u) = ap (slice_get (map unit_in units)) is ∙ found_at units i u below ∙ ap (λ v. Some (unit_in v)) (sym at) in
-    rw here all
-
-pub written_at : (options : Options) (units : List HeldUnit) (one : Again) (i : ℕ) (u : HeldUnit) → i < length units → one.unit ≡ i → u ≡ get_or units i u
-    → string_bytes one.piece ≡ html_of options u.read.unit one.inlines.items → IsWritten options (map unit_in units) one
-written_at options units one i u below is at piece =
-    let here : slice_get (map unit_in units) one.unit ≡ Some (unit_in u) = ap (slice_get (map unit_in units)) is ∙ found_at units i u below ∙ ap (λ v. Some (unit_in v)) (sym at) in
-    rw here piece
-
-pub reread_at : (e : EntityTable) (labels : Table) (units : List HeldUnit) (one : Again) (i : ℕ) (u : HeldUnit) → i < length units → one.unit ≡ i → u ≡ get_or units i u
-    → one.inlines.items ≡ readings_under e labels u.read.unit → IsReread e labels (map unit_in units) one
-reread_at e labels units one i u below is at read =
-    let here : slice_get (map unit_in units) one.unit ≡ Some (unit_in u) = ap (slice_get (map unit_in units)) is ∙ found_at units i u below ∙ ap (λ v. Some (unit_in v)) (sym at) in
-    rw here read

@@ -159,9 +159,6 @@ module _ (e : EntityTable) (old new : Table) (limit begin first : ℕ) (units : 
 pub member_at : {A : Type 0} (xs : List A) (i : ℕ) (x : A) → i < length xs → x ≡ get_or xs i x → slice_get xs i ≡ Some x
 member_at xs i x below at = slice_get-get_or xs i x below ∙ ap (λ y. Some y) (sym at)
 
-pub same_member : {A : Type 0} (xs : List A) (i : ℕ) (x y : A) → i < length xs → x ≡ get_or xs i x → slice_get xs i ≡ Some y → x ≡ y
-same_member xs i x y below at h = ap (λ o. unwrap_or o x) (sym (member_at xs i x below at) ∙ h)
-
 -- there is one
 pub the_member : {A : Type 0} (xs : List A) (i : ℕ) → i < length xs → (x : A) × (x ≡ get_or xs i x)
 the_member [] i below = absurd (omega (arith, below))
