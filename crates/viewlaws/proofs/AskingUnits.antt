@@ -58,11 +58,6 @@ asking_renumbered e old new f from to (x ∷ xs) same = by (asks_again e old new
     by true rest = ap (λ n. n ∷ map f (asking_units e old new (from + 1) xs)) here ∙ ap (λ l. to ∷ l) rest
     by false rest = rest
 
--- where the numbers stay
-pub asking_kept : (e : EntityTable) (old new : Table) (f : ℕ → ℕ) (from : ℕ) (xs : List UnitTree) → ((k : ℕ) → k < length xs → f (from + k) ≡ from + k)
-    → map f (asking_units e old new from xs) ≡ asking_units e old new from xs
-asking_kept e old new f from xs same = asking_renumbered e old new f from from xs same
-
 -- ---- in the words of what an edit changes
 
 trees_shifted : (k : ℕ) (found : List FoundUnit) → trees_in (map (shift_found k) found) ≡ trees_in found
