@@ -11,6 +11,7 @@ use crate::command::{Command, Header};
 use crate::device::Feed;
 use crate::fault::ToolFault;
 use crate::header::header;
+use memchr::memchr;
 use std::alloc::Global;
 use std::marker::Model;
 
@@ -213,22 +214,21 @@ impl Script {
 }
 
 /// Where the first LF stands.
+#[tactic(auto, using(crate::proofs::Searches::first_found, crate::proofs::Searches::none_found))]
 fn first_break(bytes: &[u8]) -> Option<usize>
     ensures some { IfSome result (λ at. (at < length bytes.now) × (get_or bytes.now at 0 ≡ 10) × (has_break (take at bytes.now) ≡ false)) }
     ensures none { IfNone result (has_break bytes.now ≡ false) }
 {
-    for at in 0..bytes.len() {
-        if bytes[at] == b'\n' {
-            return Some(at);
-        }
-    }
-    None
+    memchr(b'\n', bytes)
 }
 
-/// Takes the first bytes away.
+/// Takes the first bytes away: the others are moved to their place.
+#[tactic(auto, using(crate::proofs::Searches::moved_down))]
 fn drop_front(bytes: &mut Vec<u8>, count: usize)
     requires { count ≤ length bytes.old.items }
     ensures { bytes.new.items ≡ drop count bytes.old.items }
 {
-    bytes.drain(..count);
+    let left = bytes.len() - count;
+    bytes.copy_within(count.., 0);
+    bytes.truncate(left);
 }
