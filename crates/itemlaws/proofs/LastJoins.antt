@@ -1,5 +1,5 @@
 -- Whether the last line begins a later item, as the lines that a reader holds and their summary tell.
-use Rattle.std.proofs.Common.{◌≡◌, ℕ, suc, ◌<◌, Bool, true, false, not, ◌&&◌, ◌||◌, List, [], ◌∷◌, ◌++◌, length, map, refl, sym, ◌∙◌, ap, subst, arith, length-append}
+use Rattle.std.proofs.Common.{◌≡◌, ℕ, suc, ◌<◌, Bool, true, false, not, ◌&&◌, ◌||◌, List, [], ◌∷◌, ◌++◌, length, map, refl, sym, ◌∙◌, ap, arith, length-append}
 use Rattle.std.proofs.lemmas.Bool.Decides.{nat_tests}
 use Rattle.std.proofs.lemmas.List.{map-append, append-nil}
 use Rattle.std.proofs.lemmas.List.Folds.{list_any-append}
@@ -8,10 +8,10 @@ use Rattle.std.specs.Prelude.{◌==◌, if◌then◌else◌}
 use Rattle.mdtext.specs.EntityTable.{EntityTable}
 use Rattle.blockspec.specs.BlockLine.{BlockLine, document_line, is_blank_line}
 use Rattle.blockspec.specs.BlockStart.{Kind, Paragraph, SetextHeading, Table, AtxHeading, ThematicBreak, FencedCode, IndentedCode, HtmlBlock, Holds, begun}
-use Rattle.blockspec.specs.BlockUnits.{depth_of, groups_within, visible_in}
+use Rattle.blockspec.specs.BlockUnits.{depth_of, groups_within}
 use Rattle.blockspec.specs.LineSummary.{Summary, last_at, last_of, summary_within, summary_of, is_apart_after, mark_of}
 use Rattle.blockspec.specs.Meetings.{joins_behind, joins_list}
-use Rattle.blockspec.specs.Stretches.{Stretch, Tail, Empty, Going, Over, no_lines, cut_by, cut_within, tip_within}
+use Rattle.blockspec.specs.Stretches.{Stretch, Tail, Empty, Going, Over, no_lines, cut_by, tip_within}
 use Rattle.blockspec.specs.UnitBegin.{begins_unit, list_mark, same_mark, tail_mark}
 use Rattle.blockspec.specs.UnitReader.{lines_held}
 use Rattle.blocklaws.proofs.DocumentLaws.{map_length}
