@@ -3,6 +3,8 @@ pub mod Removed
 pub mod Inserted
 pub mod Packed
 pub mod LastAt
+pub mod MarkSums
 pub mod Moved
+pub mod Skipped
 pub mod WeightSums
 pub mod Replacements

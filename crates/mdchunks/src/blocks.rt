@@ -1,11 +1,12 @@
-//! A chunk: at most 64 members in their order, with room for 64, and what they weigh together.
+//! A chunk: at most 64 members in their order, with room for 64, and what they weigh together, and all their marks.
 
 ghost use Rattle.std.specs.Prelude.{◌≡◌, ◌≤◌, ◌<◌, ◌+◌, ◌++◌, [], length, take, drop, IfOk, slice_index_or, slice_set};
 ghost use Rattle.std.specs.Vec.{vec_len, vec_capacity};
 ghost use Rattle.std.specs.Vec.Iter.{into_iter_items};
 ghost use Rattle.mdchunks.specs.Lists.{replaced, weigh};
+ghost use Rattle.mdchunks.specs.Marks.{AreMarksOf};
 
-use crate::weights::{Change, Weighed, sum_weights};
+use crate::weights::{Change, Weighed, all_marks, sum_weights};
 use std::alloc::{AllocError, Global};
 use std::marker::Model;
 use std::mem;
@@ -17,27 +18,32 @@ pub(crate) const FULL: usize = 64;
 pub(crate) struct Block<T: Weighed> {
     items: Vec<T>,
     weight: usize,
+    marks: u64,
 }
 
 impl<T: Weighed> Model for Block<T> {
     ghost use Rattle.std.specs.Prelude.{◌≡◌, ◌≤◌, List, length};
     ghost use Rattle.std.specs.Vec.{vec_capacity};
     ghost use Rattle.mdchunks.specs.Lists.{weigh};
+    ghost use Rattle.mdchunks.specs.Marks.{AreMarksOf};
 
     ghost Value = { List T };
 
     ghost view = { λ b. b.items.items };
 
-    ghost invariant = { λ b. (length b.items.items ≤ 64) × (64 ≤ vec_capacity b.items) × (b.weight ≡ weigh T.weight b.items.items) };
+    ghost invariant = { λ b. (length b.items.items ≤ 64) × (64 ≤ vec_capacity b.items) × (b.weight ≡ weigh T.weight b.items.items)
+        × AreMarksOf T.marks b.items.items b.marks };
 }
 
 impl<T: Weighed + Drop> Block<T> {
+    #[tactic(auto, using(crate::proofs::MarkSums::marks_none))]
     pub(crate) fn empty(alloc: Global) -> Result<Block<T>, AllocError>
         ensures { IfOk result (λ b. b ≡ []) }
     {
         Ok(Block {
             items: Vec::with_capacity(alloc, FULL)?,
             weight: 0,
+            marks: 0,
         })
     }
 
@@ -62,6 +68,13 @@ impl<T: Weighed + Drop> Block<T> {
         self.weight
     }
 
+    /// Bits of which none is shared with marks that no member has.
+    pub(crate) fn marks(&self) -> u64
+        ensures { AreMarksOf T.marks self.now result }
+    {
+        self.marks
+    }
+
     /// Drops so many members from a place on.
     pub(crate) fn remove(&mut self, from: usize, gone: usize)
         requires { from + gone ≤ length self.old }
@@ -70,6 +83,7 @@ impl<T: Weighed + Drop> Block<T> {
         if gone > 0 {
             self.items.drain(from..from + gone);
             self.weight = sum_weights(&self.items);
+            self.marks = all_marks(&self.items);
         }
     }
 
@@ -81,9 +95,11 @@ impl<T: Weighed + Drop> Block<T> {
     {
         splice_list(&mut self.items, at, removed, &mut added);
         self.weight = sum_weights(&self.items);
+        self.marks = all_marks(&self.items);
     }
 
     /// Moves all members to the end of a list.
+    #[tactic(auto, using(crate::proofs::MarkSums::marks_none))]
     pub(crate) fn pour(&mut self, all: &mut Vec<T>)
         requires { vec_len all.old + 64 ≤ vec_capacity all.old }
         ensures empty { self.new ≡ [] }
@@ -92,6 +108,7 @@ impl<T: Weighed + Drop> Block<T> {
     {
         all.append(&mut self.items).unwrap();
         self.weight = 0;
+        self.marks = 0;
     }
 
     /// Takes the members of another one behind its own.
@@ -101,6 +118,7 @@ impl<T: Weighed + Drop> Block<T> {
     {
         self.items.append(&mut other.items).unwrap();
         self.weight = sum_weights(&self.items);
+        self.marks = all_marks(&self.items);
     }
 
     /// Lets its members go, and takes as many others as there are, up to a number.
@@ -112,6 +130,7 @@ impl<T: Weighed + Drop> Block<T> {
         self.items.clear();
         fill_list(&mut self.items, source, size);
         self.weight = sum_weights(&self.items);
+        self.marks = all_marks(&self.items);
     }
 
     /// Exchanges the member of a number for another.
@@ -122,6 +141,7 @@ impl<T: Weighed + Drop> Block<T> {
     {
         mem::swap(&mut self.items[i], member);
         self.weight = sum_weights(&self.items);
+        self.marks = all_marks(&self.items);
     }
 
     /// Changes the member of a number.
@@ -133,6 +153,7 @@ impl<T: Weighed + Drop> Block<T> {
     {
         change.change(&mut self.items[i]);
         self.weight = sum_weights(&self.items);
+        self.marks = all_marks(&self.items);
     }
 }
 

@@ -6,7 +6,7 @@ ghost use Rattle.mdchunks.specs.Lists.{replaced, weigh};
 ghost use Rattle.mdchunks.specs.Sequences.{HasRoom, IsLastAt, Sequence};
 
 use crate::blocks::{Block, FULL};
-use crate::iters::Iter;
+use crate::iters::{Iter, weight_ahead};
 use crate::places;
 use crate::places::{exchange, find, member, weight_before};
 use crate::splices::splice;
@@ -106,6 +106,14 @@ impl<T: Weighed + Drop> Chunks<T> {
         ensures { result ≡ weigh T.weight (take i self.now.items) }
     {
         weight_before(&self.blocks, i)
+    }
+
+    /// What `count` members from a number on weigh together, up to the greatest number.
+    pub fn weight_between(&self, from: usize, count: usize) -> usize
+        requires { from + count ≤ length self.now.items }
+        ensures { result ≡ weigh T.weight (take count (drop from self.now.items)) }
+    {
+        weight_ahead(self.iter_from(from), count)
     }
 
     /// The last member that begins at or below a weight, or the first one; nothing where there is none.

@@ -1,12 +1,13 @@
 //! Members of a sequence, lent in order.
 
-ghost use Rattle.std.specs.Prelude.{◌≡◌, ◌≤◌, drop, length};
+ghost use Rattle.std.specs.Prelude.{◌≡◌, ◌≤◌, drop, length, take};
 ghost use Rattle.std.specs.List.{All};
 ghost use Rattle.std.specs.Iterator.{YieldsFirstRef, item_count};
-ghost use Rattle.mdchunks.specs.Lists.{IsFilled, joined};
+ghost use Rattle.mdchunks.specs.Lists.{IsFilled, joined, weigh};
+ghost use Rattle.mdchunks.specs.Marks.{IsApart};
 
 use crate::blocks::Block;
-use crate::places::locate;
+use crate::places::{first_marked, locate};
 use crate::weights::Weighed;
 use std::marker::Model;
 
@@ -38,6 +39,35 @@ impl<'a, T: Weighed + Drop> Iter<'a, T> {
             inside: items,
             rest: &[],
         }
+    }
+
+    /// Those behind the next `n`.
+    pub fn ahead(&self, n: usize) -> Iter<'a, T>
+        requires { n ≤ length self.now }
+        ensures { result ≡ drop n self.now }
+    {
+        if n <= self.inside.len() {
+            return Iter {
+                inside: &self.inside[n..],
+                rest: self.rest,
+            };
+        }
+        Iter::from(self.rest, n - self.inside.len())
+    }
+
+    /// Skips whole chunks in which no member has one of these marks, where one begins, and says how many members that are.
+    pub fn skip_apart(&mut self, marks: u64) -> usize
+        ensures within { result ≤ length self.old }
+        ensures rest { self.new ≡ drop result self.old }
+        ensures apart { All (IsApart T.marks marks) (take result self.old) }
+    {
+        if self.inside.len() > 0 {
+            return 0;
+        }
+        let rest = self.rest;
+        let place = first_marked(rest, marks);
+        self.rest = &rest[place.block..];
+        place.inside
     }
 
     /// The members of some chunks from a place on.
@@ -80,4 +110,18 @@ impl<'a, T: Weighed + Drop> Iterator for Iter<'a, T> {
         self.rest = rest;
         Some(first)
     }
+}
+
+/// What the next members weigh together.
+pub(crate) fn weight_ahead<T: Weighed + Drop>(mut ahead: Iter<'_, T>, count: usize) -> usize
+    ensures { result ≡ weigh T.weight (take count ahead.entry) }
+{
+    let mut sum: usize = 0;
+    for _ in 0..count {
+        match ahead.next() {
+            Some(member) => sum = sum.saturating_add(member.weight()),
+            None => return sum,
+        }
+    }
+    sum
 }

@@ -2,7 +2,8 @@
 //!
 //! Contracts see a [`Chunks`] as the list of its members, and as room for more. What an edit needs is made beforehand by
 //! [`Chunks::reserve_splice`]; [`Chunks::splice`] then takes no memory. Each chunk knows what its members weigh together, so the
-//! weight in front of a member is told by adding the chunks' weights and then those inside one chunk.
+//! weight in front of a member is told by adding the chunks' weights and then those inside one chunk. It knows all their marks too,
+//! so those that may have a mark are found without a look at the others.
 #![tactic(auto)]
 
 mod blocks;

@@ -3,6 +3,7 @@
 ghost use Rattle.std.specs.Prelude.{◌≡◌, ◌≤◌, ◌<◌, ◌+◌, ◌-◌, ◌^◌, [], MatchOption, get_or, length, min, slice_index_or, slice_set, take};
 ghost use Rattle.std.specs.List.{All};
 ghost use Rattle.mdchunks.specs.Lists.{IsFilled, joined, weigh};
+ghost use Rattle.mdchunks.specs.Marks.{IsApart};
 ghost use Rattle.mdchunks.specs.Sequences.{IsLastAt};
 
 use crate::blocks::Block;
@@ -118,6 +119,37 @@ pub(crate) fn weight_before<T: Weighed + Drop>(blocks: &[Block<T>], at: usize) -
         left -= block.len();
     }
     sum
+}
+
+/// Where the first chunk begins of which a member may have one of these marks: the chunk, and how many members stand before it.
+pub(crate) fn first_marked<T: Weighed + Drop>(blocks: &[Block<T>], marks: u64) -> Place
+    ensures within { result.block ≤ length blocks.now }
+    ensures members { result.inside ≡ length (joined (take result.block blocks.now)) }
+    ensures apart { All (IsApart T.marks marks) (joined (take result.block blocks.now)) }
+{
+    let mut skipped: usize = 0;
+    for i in 0..blocks.len() {
+        let block = &blocks[i];
+        if block.marks() & marks != 0 {
+            return Place {
+                block: i,
+                inside: skipped,
+            };
+        }
+        match skipped.checked_add(block.len()) {
+            Some(more) => skipped = more,
+            None => {
+                return Place {
+                    block: i,
+                    inside: skipped,
+                };
+            }
+        }
+    }
+    Place {
+        block: blocks.len(),
+        inside: skipped,
+    }
 }
 
 /// The last member that begins at or below a weight, or the first one.

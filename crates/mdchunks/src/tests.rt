@@ -5,8 +5,14 @@ use std::test::Fail;
 impl Weighed for u32 {
     ghost weight = { λ x. x };
 
+    ghost marks = { λ x. x };
+
     fn weight(&self) -> usize {
         *self as usize
+    }
+
+    fn marks(&self) -> u64 {
+        u64::from(*self)
     }
 }
 

@@ -1,22 +1,34 @@
-//! What members weigh.
+//! What members weigh, and the marks by which they are looked for.
 
 ghost use Rattle.std.specs.Prelude.{◌≡◌, ◌+◌, ℕ, length, string_bytes};
 ghost use Rattle.mdchunks.specs.Lists.{weigh};
+ghost use Rattle.mdchunks.specs.Marks.{AreMarksOf};
 
-/// What has a weight, as the number of its lines.
+/// What has a weight, as the number of its lines, and marks: bits of what it is looked for by.
 pub trait Weighed {
     ghost weight: { Self → ℕ };
 
+    ghost marks: { Self → ℕ };
+
     fn weight(&self) -> usize
         ensures { result ≡ weight self.now };
+
+    fn marks(&self) -> u64
+        ensures { result ≡ marks self.now };
 }
 
-/// A line weighs its bytes, with one for its end.
+/// A line weighs its bytes, with one for its end. It has no marks.
 impl Weighed for String {
     ghost weight = { λ line. length (string_bytes line) + 1 };
 
+    ghost marks = { λ _. 0 };
+
     fn weight(&self) -> usize {
         self.len() + 1
+    }
+
+    fn marks(&self) -> u64 {
+        0
     }
 }
 
@@ -48,4 +60,16 @@ pub(crate) fn sum_weights<T: Weighed>(items: &[T]) -> usize
         sum = sum.saturating_add(item.weight());
     }
     sum
+}
+
+/// The marks of all.
+#[tactic(auto, using(crate::proofs::MarkSums::marks_more, crate::proofs::MarkSums::marks_none))]
+pub(crate) fn all_marks<T: Weighed>(items: &[T]) -> u64
+    ensures { AreMarksOf T.marks items.now result }
+{
+    let mut all: u64 = 0;
+    for item in items {
+        all = all | item.marks();
+    }
+    all
 }

@@ -32,7 +32,7 @@ found_led (Some t) led is = sym is
 same_bytes : (key q : List ℕ) → is_at (slice_cmp nat_cmp q) key ≡ bytes_eq key q
 same_bytes key q = is_eq-slice_cmp q key ∙ nat_list_eq_equiv.symm q key
 
-key_is : (key q : List ℕ) → is_at (slice_cmp nat_cmp q) key ≡ true → key ≡ q
+pub key_is : (key q : List ℕ) → is_at (slice_cmp nat_cmp q) key ≡ true → key ≡ q
 key_is key q e = (bytes_eq-Decides key q).0 (sym (same_bytes key q) ∙ e)
 
 -- ---- one entry alone

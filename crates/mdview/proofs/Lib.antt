@@ -38,3 +38,5 @@ pub mod LineWeights
 pub mod Ahead
 pub mod FewUnits
 pub mod WhereReading
+pub mod LabelMarkLaws
+pub mod PassedUnits

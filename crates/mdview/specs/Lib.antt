@@ -16,3 +16,4 @@ pub mod LabelTargets
 pub mod ToldLabels
 pub mod Update
 pub mod MarkedPieces
+pub mod LabelMarks

@@ -1,7 +1,9 @@
 //! A unit that is held: with what its texts read as, and its HTML.
 
 ghost use Rattle.std.specs.Prelude.{◌≡◌, length, string_bytes};
+ghost use Rattle.mdview.specs.LabelMarks.{held_marks};
 
+use crate::label_marks::marks_in;
 use mdblock::{Found, Unit};
 use mdchunks::Weighed;
 use mdinline::Parsed;
@@ -13,11 +15,13 @@ pub(crate) struct HeldUnit {
     found: Found,
     inlines: Vec<Parsed>,
     piece: String,
+    marks: u64,
 }
 
 impl Model for HeldUnit {
     ghost use Rattle.std.specs.Prelude.{◌≡◌, length, string_bytes};
     ghost use Rattle.mdview.specs.HeldUnit.{HeldUnit, held_unit_code};
+    ghost use Rattle.mdview.specs.LabelMarks.{unit_marks};
 
     ghost Value = { HeldUnit };
 
@@ -25,7 +29,7 @@ impl Model for HeldUnit {
 
     ghost view = { λ u. record { read = record { lines = u.found.lines; unit = u.found.unit; readings = u.inlines.items }; piece = string_bytes u.piece } };
 
-    ghost invariant = { λ u. length u.inlines.items ≡ length u.found.unit.texts };
+    ghost invariant = { λ u. (length u.inlines.items ≡ length u.found.unit.texts) × (u.marks ≡ unit_marks u.found.unit u.inlines.items) };
 }
 
 impl HeldUnit {
@@ -34,10 +38,12 @@ impl HeldUnit {
         requires { length inlines.items ≡ length found.unit.texts }
         ensures { result ≡ record { read = record { lines = found.lines; unit = found.unit; readings = inlines.items }; piece = string_bytes piece } }
     {
+        let marks = marks_in(found.unit(), &inlines);
         HeldUnit {
             found,
             inlines,
             piece,
+            marks,
         }
     }
 
@@ -61,6 +67,13 @@ impl HeldUnit {
         &self.inlines
     }
 
+    /// The marks of the labels that it defines or a text of it asked for.
+    fn label_marks(&self) -> u64
+        ensures { result ≡ held_marks self.now }
+    {
+        self.marks
+    }
+
     pub(crate) fn piece(&self) -> &str
         ensures { result.now ≡ self.now.piece }
     {
@@ -75,16 +88,23 @@ impl HeldUnit {
           piece = string_bytes piece;
         } }
     {
+        self.marks = marks_in(self.found.unit(), &inlines);
         self.inlines = inlines;
         self.piece = piece;
     }
 }
 
-/// A unit weighs its lines, so that the chunks tell where units begin.
+/// A unit weighs its lines, so that the chunks tell where units begin. It has the marks of the labels that it names.
 impl Weighed for HeldUnit {
     ghost weight = { λ u. u.read.lines };
 
+    ghost marks = { held_marks };
+
     fn weight(&self) -> usize {
         self.lines()
+    }
+
+    fn marks(&self) -> u64 {
+        self.label_marks()
     }
 }

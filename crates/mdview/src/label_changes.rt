@@ -1,7 +1,8 @@
 //! What an edit or a new prelude changes of where labels lead.
 
-ghost use Rattle.std.specs.Prelude.{◌≡◌, ◌≤◌, ◌++◌, ℕ, List, IfOk, None, drop, is_some, length, map, option_copied, take, true};
+ghost use Rattle.std.specs.Prelude.{◌≡◌, ◌≤◌, ◌++◌, ℕ, List, IfOk, None, drop, false, is_some, length, map, option_copied, take, true};
 ghost use Rattle.std.specs.BTreeMap.{keys};
+ghost use Rattle.std.specs.Int.RustNames.{bit_and};
 ghost use Rattle.std.specs.Cmp.Lexicographic.{slice_cmp};
 ghost use Rattle.std.specs.List.{list_any};
 ghost use Rattle.std.specs.Map.Iter.{ShowsInOrder, deref};
@@ -9,9 +10,11 @@ ghost use Rattle.std.specs.Option.{option_to_list};
 ghost use Rattle.std.specs.Ordering.{eq_by_cmp, nat_cmp};
 ghost use Rattle.std.specs.Set.{is_member};
 ghost use Rattle.mdview.specs.HeldUnit.{unit_in};
+ghost use Rattle.mdview.specs.LabelMarks.{label_mark};
 ghost use Rattle.mdview.specs.LabelTargets.{HasRoom, IsElsewhere, Leads, LeadsAfter, at, led_after, target_held};
 
 use crate::held_labels::HeldLabels;
+use crate::label_marks::marks_of_keys;
 use crate::preludes::Prelude;
 use crate::reparse::Reparsed;
 use crate::touched_labels::TouchedLabels;
@@ -88,6 +91,13 @@ impl LabelChanges {
         ensures { result ≡ true → (label : List ℕ) → at label self.now.targets.entries ≡ None }
     {
         self.targets.is_empty()
+    }
+
+    /// The marks of the labels that lead elsewhere after the edit.
+    pub(crate) fn marks(&self) -> u64
+        ensures { (label : List ℕ) → bit_and (label_mark label) result ≡ 0 → is_some (at label self.now.targets.entries) ≡ false }
+    {
+        marks_of_keys(&self.targets)
     }
 
     /// Whether a label was asked for that leads elsewhere after the edit.

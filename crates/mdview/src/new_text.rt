@@ -56,12 +56,9 @@ impl<'a> NewText<'a> {
         requires old { length (old_lines self.now) ≤ 1000000 }
         ensures { result ≡ drop from (lines_of self.now) }
     {
-        LinesAhead::new(
-            self.at - from,
-            self.lines.iter_from(from),
-            Iter::of(self.added),
-            self.lines.iter_from(self.at + self.gone),
-        )
+        let front = self.lines.iter_from(from);
+        let back = front.ahead(self.at + self.gone - from);
+        LinesAhead::new(self.at - from, front, Iter::of(self.added), back)
     }
 
     /// The line of this number, the first of those ahead.

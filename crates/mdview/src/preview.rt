@@ -249,7 +249,7 @@ impl Preview {
         if add.len() > MAX_LINES - (lines - del) {
             return Err(EditFault::TooManyLines);
         }
-        let gone = self.lines.weight_before(at + del) - self.lines.weight_before(at);
+        let gone = self.lines.weight_between(at, del);
         let kept = self.size - gone;
         let added = clean_size(add);
         if added > MAX_SIZE - kept {

@@ -19,6 +19,7 @@ ghost use Rattle.mdview.specs.LabelTargets.{IsElsewhere};
 use crate::fault::EditFault;
 use crate::held_labels::LabelsAfter;
 use crate::held_units::HeldUnit;
+use crate::marked_units::{line_from, next_marked};
 use crate::text_room::TextRoom;
 use mdblock::{Found, Unit};
 use mdchunks::{Change, Chunks};
@@ -188,14 +189,15 @@ impl<'a> TextReader<'a> {
         if self.labels.changes.is_empty() {
             return Ok(());
         }
-        let mut begin = begin;
+        let marks = self.labels.changes.marks();
         let mut rest = units.iter_from(first);
-        for i in first..next {
+        let mut i = next_marked(units, &mut rest, first, next, marks);
+        while i < next {
             let unit = rest.next().unwrap();
             if let Err(fault) = self.read_if_concerned(i, unit, room, again, count) {
-                return Err(fault_in_unit(fault, begin));
+                return Err(fault_in_unit(fault, line_from(units, first, begin, i)));
             }
-            begin = begin.saturating_add(unit.lines());
+            i = next_marked(units, &mut rest, i + 1, next, marks);
         }
         Ok(())
     }

@@ -1,17 +1,21 @@
 //! The labels that an edit or a new prelude touches, and where they lead after it.
 
 ghost use Rattle.std.specs.Prelude.{◌≡◌, ◌≤◌, length, ◌∷◌, ◌++◌, [], ℕ, List, IfOk, None, OnOk, map, option_copied, option_map, true};
+ghost use Rattle.std.specs.Int.RustNames.{bit_and};
 ghost use Rattle.std.specs.Option.{option_or};
 ghost use Rattle.inlinespec.specs.LabelMap.{target_of};
 ghost use Rattle.mdleaf.specs.LinkDefinition.{definition_of};
 ghost use Rattle.viewspec.specs.Changes.{is_same_target};
 ghost use Rattle.mdview.specs.HeldTexts.{between};
 ghost use Rattle.mdview.specs.HeldUnit.{unit_in};
+ghost use Rattle.mdview.specs.LabelMarks.{label_mark};
 ghost use Rattle.mdview.specs.LabelTargets.{definitions_by};
 ghost use Rattle.mdview.specs.ToldLabels.{Sees, Touches, elsewhere_in, labels_by, labels_in, said_in, told, told_in};
 
 use crate::held_labels::HeldLabels;
 use crate::held_units::HeldUnit;
+use crate::label_marks::marks_of_keys;
+use crate::marked_units::next_marked;
 use crate::preludes::{Prelude, or_beside};
 use mdblock::{Definition, Found, Unit};
 use mdchunks::Chunks;
@@ -124,6 +128,14 @@ impl TouchedLabels {
         Ok(())
     }
 
+    /// The marks of the labels that are touched.
+    fn marks(&self) -> u64
+        ensures { (label : List ℕ) → bit_and (label_mark label) result ≡ 0 → told self.now label ≡ None }
+    {
+        marks_of_keys(&self.targets)
+    }
+
+    /// Units that define no label that is touched are passed by their marks.
     fn define_held(
         &mut self,
         units: &Chunks<HeldUnit>,
@@ -134,9 +146,12 @@ impl TouchedLabels {
         requires within { next ≤ length units.now.items }
         ensures { OnOk result (Sees (definitions_by (map unit_in (between first next units.now.items))) self.old self.new) }
     {
+        let marks = self.marks();
         let mut rest = units.iter_from(first);
-        for _ in first..next {
+        let mut i = next_marked(units, &mut rest, first, next, marks);
+        while i < next {
             self.define(rest.next().unwrap().unit())?;
+            i = next_marked(units, &mut rest, i + 1, next, marks);
         }
         Ok(())
     }

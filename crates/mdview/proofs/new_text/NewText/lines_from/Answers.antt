@@ -1,5 +1,5 @@
-use Rattle.std.proofs.Common.{◌-◌, ◌++◌, ◌∙◌, ap, arith, drop, map, string_bytes, take}
-use Rattle.std.proofs.lemmas.List.{length-map}
+use Rattle.std.proofs.Common.{◌≡◌, ◌+◌, ◌-◌, ◌++◌, ◌∙◌, ap, arith, drop, map, string_bytes, take}
+use Rattle.std.proofs.lemmas.List.{drop-drop, length-map}
 use Rattle.mdview.proofs.Ahead.{lines_from_is}
 use Rattle.mdview.proofs.new_text.NewText.lines_from.Goals as goal
 
@@ -13,8 +13,11 @@ returns c =
     let gone = c.args.self.now.gone in
     let from = c.args.from in
     let fits = c.args.self.now.within in
+    let same : from + ((at + gone) - from) ≡ at + gone = omega (arith, c.requires.order) in
+    let back : c.ahead-back.result ≡ drop (at + gone) lines =
+    c.ahead-back.ensures ∙ ap (drop ((at + gone) - from)) c.iter_from-front.ensures ∙ drop-drop ((at + gone) - from) from lines ∙ ap (λ n. drop n lines) same in
     c.new.ensures
-    ∙ ap (λ xs. map string_bytes (take (at - from) xs ++ c.of.result ++ c.iter_from-2.result)) c.iter_from.ensures
-    ∙ ap (λ xs. map string_bytes (take (at - from) (drop from lines) ++ xs ++ c.iter_from-2.result)) c.of.ensures
-    ∙ ap (λ xs. map string_bytes (take (at - from) (drop from lines) ++ c.args.self.now.added.now ++ xs)) c.iter_from-2.ensures
+    ∙ ap (λ xs. map string_bytes (take (at - from) xs ++ c.of.result ++ c.ahead-back.result)) c.iter_from-front.ensures
+    ∙ ap (λ xs. map string_bytes (take (at - from) (drop from lines) ++ xs ++ c.ahead-back.result)) c.of.ensures
+    ∙ ap (λ xs. map string_bytes (take (at - from) (drop from lines) ++ c.args.self.now.added.now ++ xs)) back
     ∙ lines_from_is lines c.args.self.now.added.now at gone from c.requires.order (omega (arith, fits))

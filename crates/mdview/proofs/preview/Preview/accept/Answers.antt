@@ -9,14 +9,9 @@ use Rattle.mdview.proofs.LineWeights.{gone_is}
 use Rattle.mdview.proofs.Sizes.{size_part}
 use Rattle.mdview.proofs.preview.Preview.accept.Goals as goal
 
-pub overflow_sub-gone : goal.overflow_sub-gone
-overflow_sub-gone c =
-    let e = gone_is c.self.inside.lines.items c.args.at c.args.del c.weight_before-2.result c.weight_before.result (omega arith) c.weight_before-2.ensures c.weight_before.ensures in
-    omega (arith, e)
-
 pub overflow_sub-kept : goal.overflow_sub-kept
 overflow_sub-kept c =
-    let e = gone_is c.self.inside.lines.items c.args.at c.args.del c.weight_before-2.result c.weight_before.result (omega arith) c.weight_before-2.ensures c.weight_before.ensures in
+    let e = gone_is c.self.inside.lines.items c.args.at c.args.del c.weight_between-gone.result (omega arith) c.weight_between-gone.ensures in
     let part = size_part (map string_bytes c.self.inside.lines.items) c.args.at c.args.del in
     omega (arith, e, part)
 
@@ -26,8 +21,8 @@ returns-then-added-kept-clause-err c =
     let long : length ls ≡ length c.self.inside.lines.items = length-map c.self.inside.lines.items string_bytes in
     let add : List (List ℕ) = map (λ line. line.now) c.args.add.now in
     let added : length add ≡ length c.args.add.now = length-map c.args.add.now (λ line. line.now) in
-    let gone_size : ℕ = c.weight_before.result - c.weight_before-2.result in
-    let gone = (gone_is c.self.inside.lines.items c.args.at c.args.del c.weight_before-2.result c.weight_before.result (omega arith) c.weight_before-2.ensures c.weight_before.ensures).1 in
+    let gone_size : ℕ = c.weight_between-gone.result in
+    let gone = gone_is c.self.inside.lines.items c.args.at c.args.del c.weight_between-gone.result (omega arith) c.weight_between-gone.ensures in
     let is = due_of_parts ls c.args.at c.args.del add gone_size (omega arith) (sym c.first_line_break.ensures ∙ c.in_default.is) gone (omega arith) (omega arith) in
     let large : nat_lt 16777216 (size_of ls - gone_size + size_of (map without_nul add)) ≡ true = grind (arith, nat_tests) in
     rw (← c.self.view_is, is, large) refl
@@ -38,8 +33,8 @@ returns-clause-ok c =
     let long : length ls ≡ length c.self.inside.lines.items = length-map c.self.inside.lines.items string_bytes in
     let add : List (List ℕ) = map (λ line. line.now) c.args.add.now in
     let added : length add ≡ length c.args.add.now = length-map c.args.add.now (λ line. line.now) in
-    let gone_size : ℕ = c.weight_before.result - c.weight_before-2.result in
-    let gone = (gone_is c.self.inside.lines.items c.args.at c.args.del c.weight_before-2.result c.weight_before.result (omega arith) c.weight_before-2.ensures c.weight_before.ensures).1 in
+    let gone_size : ℕ = c.weight_between-gone.result in
+    let gone = gone_is c.self.inside.lines.items c.args.at c.args.del c.weight_between-gone.result (omega arith) c.weight_between-gone.ensures in
     let is = due_of_parts ls c.args.at c.args.del add gone_size (omega arith) (sym c.first_line_break.ensures ∙ c.in_default.is) gone (omega arith) (omega arith) in
     let after = put_of_parts ls c.args.at c.args.del add gone_size (omega arith) gone (omega arith) (omega arith) in
     let small : nat_lt 16777216 (size_of ls - gone_size + size_of (map without_nul add)) ≡ false = grind (arith, nat_tests) in
@@ -53,8 +48,8 @@ returns-clause-small c =
     let long : length ls ≡ length c.self.inside.lines.items = length-map c.self.inside.lines.items string_bytes in
     let add : List (List ℕ) = map (λ line. line.now) c.args.add.now in
     let added : length add ≡ length c.args.add.now = length-map c.args.add.now (λ line. line.now) in
-    let gone_size : ℕ = c.weight_before.result - c.weight_before-2.result in
-    let gone = (gone_is c.self.inside.lines.items c.args.at c.args.del c.weight_before-2.result c.weight_before.result (omega arith) c.weight_before-2.ensures c.weight_before.ensures).1 in
+    let gone_size : ℕ = c.weight_between-gone.result in
+    let gone = gone_is c.self.inside.lines.items c.args.at c.args.del c.weight_between-gone.result (omega arith) c.weight_between-gone.ensures in
     let after = put_of_parts ls c.args.at c.args.del add gone_size (omega arith) gone (omega arith) (omega arith) in
     let small : size_of (put ls (call_of c.args.at c.args.del add)) ≤ 16777216 = omega arith in
     rw (← c.self.view_is) (after.1, small)
