@@ -3,7 +3,7 @@ ghost use Rattle.viewspec.specs.Patch.{brings, brought};
 ghost use Rattle.mdview.specs.Document.{pieces_of};
 
 use crate::marks::marks;
-use crate::patch_pieces::{PatchPieces, is_within};
+use crate::patch_pieces::{PatchPieces, is_within, passed};
 use crate::preview::Preview;
 use std::alloc::{AllocError, Global};
 use std::marker::Model;
@@ -32,7 +32,14 @@ impl Patch {
         ensures { IfOk result (λ pieces. pieces ≡ brought self.now 0 (pieces_of preview.now)) }
     {
         let again = marks(preview.alloc(), &self.again, preview.units())?;
-        Ok(PatchPieces::new(self.first, self.added, again, preview.pieces()))
+        let front = passed(self.first, &again, preview.units());
+        Ok(PatchPieces::new(
+            self.first,
+            self.added,
+            again,
+            front,
+            preview.pieces_from(front),
+        ))
     }
 
     /// The preview's piece `i`, where the patch brings it.

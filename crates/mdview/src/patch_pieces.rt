@@ -1,6 +1,6 @@
 //! The pieces that a patch brings.
 
-ghost use Rattle.std.specs.Prelude.{◌≡◌, ◌<◌, ◌+◌, ◌^◌, ◌&&◌, false, get_or, length, nat_lt, not};
+ghost use Rattle.std.specs.Prelude.{◌≡◌, ◌≤◌, ◌<◌, ◌+◌, ◌^◌, ◌&&◌, [], ℕ, List, drop, false, true, get_or, length, nat_lt, not};
 ghost use Rattle.std.specs.Iterator.{YieldsFirstBy, item_count};
 ghost use Rattle.mdview.specs.MarkedPieces.{marked};
 
@@ -31,21 +31,22 @@ impl<'a> Model for PatchPieces<'a> {
 }
 
 impl<'a> PatchPieces<'a> {
-    /// Of these pieces the `added` ones from number `first` on and those with a mark.
+    /// Of these pieces, the first of which has number `number`, the `added` ones from number `first` on and those with a mark.
     pub(crate) fn new(
         first: usize,
         added: usize,
         again: Vec<bool>,
+        number: usize,
         pieces: Pieces<'a>,
     ) -> PatchPieces<'a>
-        requires { length pieces < 2 ^ 64 }
-        ensures { result ≡ marked first added again.items 0 pieces.entry }
+        requires { number + length pieces < 2 ^ 64 }
+        ensures { result ≡ marked first added again.items number pieces.entry }
     {
         PatchPieces {
             first,
             added,
             again,
-            number: 0,
+            number,
             rest: pieces,
         }
     }
@@ -59,6 +60,9 @@ impl<'a> Iterator for PatchPieces<'a> {
     ghost remaining = { item_count (λ rest. rest) };
 
     fn next(&mut self) -> Option<(usize, &'a str)> {
+        if is_past(self.first, self.added, &self.again, self.number) {
+            return None;
+        }
         while let Some(piece) = self.rest.next() {
             let number = self.number;
             self.number += 1;
@@ -75,6 +79,31 @@ pub(crate) fn is_within(first: usize, added: usize, number: usize) -> bool
     ensures { result ≡ (not (nat_lt number first) && nat_lt number (first + added)) }
 {
     number >= first && number - first < added
+}
+
+/// How many of so many pieces stand in front of all that the patch brings, as far as that is known: all in front of the new ones, where none was made again.
+pub(crate) fn passed(first: usize, again: &[bool], units: usize) -> usize
+    ensures within { result ≤ units }
+    ensures passed { (added : ℕ) (pieces : List (List ℕ)) → marked first added again.now 0 pieces ≡ marked first added again.now result (drop result pieces) }
+{
+    if again.is_empty() {
+        first.min(units)
+    } else {
+        0
+    }
+}
+
+/// Whether this piece and those behind it are none that the patch brings, as far as that is known.
+fn is_past(first: usize, added: usize, again: &[bool], number: usize) -> bool
+    ensures { result ≡ true → (pieces : List (List ℕ)) → marked first added again.now number pieces ≡ [] }
+{
+    if !again.is_empty() {
+        return false;
+    }
+    if number < first {
+        return false;
+    }
+    number - first >= added
 }
 
 fn is_marked(marks: &[bool], number: usize) -> bool
