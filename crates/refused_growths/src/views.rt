@@ -10,7 +10,7 @@ pub fn show_the_same(alloc: Global, one: &Preview, other: &Preview) -> Result<bo
     Ok(one.as_str() == other.as_str())
 }
 
-/// All that the calls of a preview lend: its lines and units, each with all that is read of it, and what is past its end.
+/// All that the calls of a preview lend: its lines, one after the other and by number, its prelude, its units, each with all that is read of it, and what is past its end.
 fn shown(alloc: Global, preview: &Preview) -> Result<String, AllocError> {
     let mut out = String::with_capacity(alloc, 1 << 13)?;
     write!(
@@ -20,11 +20,18 @@ fn shown(alloc: Global, preview: &Preview) -> Result<String, AllocError> {
         preview.units(),
         preview.options()
     )?;
+    write!(&mut out, "{:?}\n", preview.entities().get("auml"))?;
     for line in preview.lines() {
         write!(&mut out, "{line:?}\n")?;
     }
+    for number in 0..preview.len() {
+        write!(&mut out, "{number} {:?}\n", preview.line(number))?;
+    }
     for line in preview.prelude() {
         write!(&mut out, "prelude {line:?}\n")?;
+    }
+    for line in preview.definitions().lines() {
+        write!(&mut out, "definitions {line:?}\n")?;
     }
     for piece in preview.pieces() {
         write!(&mut out, "{piece:?}\n")?;
@@ -47,5 +54,9 @@ fn show_unit(preview: &Preview, number: usize, out: &mut String) -> Result<(), A
         "{:?}\n{:?}\n",
         preview.unit(number),
         preview.inlines(number)
-    )
+    )?;
+    match preview.walk(number)? {
+        Some(walk) => write!(out, "{} nodes\n", walk.count() / 2),
+        None => write!(out, "no walk\n"),
+    }
 }
