@@ -128,6 +128,11 @@ module _ (entities : EntityTable) (text : List ℕ) (handed : List Event) (old :
       all_settled (reverse old.openings.unused.items) handed xs ps h.shows
       ∙ ap (λ es. handed ++ es) (sym text_is ∙ ap as_text (sym paired.shown) ∙ sym (tokens_text entities text new.begun.items new.tokens.items))
 
+  -- where nothing is kept, what was handed out are the events of the pieces
+  pub holds_no_more : old.tokens.items ≡ [] → settled (reverse ps) ≡ handed ++ []
+  unfolding settled
+  holds_no_more none = all_settled (reverse old.openings.unused.items) handed [] ps (empty none)
+
 -- what tests say
 
 pub no_items : {X : Type 0} (xs : List X) (b : Bool) → b ≡ (length xs == 0) → b ≡ true → xs ≡ []

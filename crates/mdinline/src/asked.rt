@@ -33,10 +33,15 @@ impl Asked {
     ghost use Rattle.std.specs.Cmp.Lexicographic.{slice_cmp};
     ghost use Rattle.std.specs.Ordering.{nat_cmp};
 
-    /// The labels of a set.
+    /// The labels of a set. For most texts no label is looked up.
     pub(crate) fn of(alloc: Global, set: BTreeSet<Label, Global>) -> Result<Asked, NoMemory>
         ensures { IfOk result (λ asked. asked ≡ set.keys) }
     {
+        if set.is_empty() {
+            return Ok(Asked {
+                labels: Vec::new(alloc),
+            });
+        }
         Ok(Asked {
             labels: set.into_iter().collect(alloc)?,
         })

@@ -1,6 +1,6 @@
 //! The reading of texts (CommonMark 6; GFM Strikethrough (extension)).
 
-ghost use Rattle.std.specs.Prelude.{◌≡◌, ◌+◌, ◌-◌, ◌∷◌, ◌++◌, ◌<◌, ◌≤◌, [], true, ℕ, List, All, IfOk, IfSome, IsErrOf, OnOk, length, option_map, slice_index};
+ghost use Rattle.std.specs.Prelude.{◌≡◌, ◌+◌, ◌-◌, ◌∷◌, ◌++◌, ◌<◌, ◌≤◌, [], true, ℕ, List, All, IfOk, IfSome, IsErrOf, OnOk, length, option_map, reverse, slice_index};
 ghost use Rattle.std.specs.Str.{IsCharBoundary};
 ghost use Rattle.mdtext.specs.EntityTable.{EntityTable};
 ghost use Rattle.mdscan.specs.Spans.{IsEndAfter, part};
@@ -110,6 +110,20 @@ impl<'a> TextReader<'a> {
         let mut at = 0;
         while at < text.len() {
             at = self.step(text, at, labels, asked, sink)?;
+        }
+        self.end(text, sink)?;
+        Ok(())
+    }
+
+    /// Hands out what is still pending at the end of a text: nothing in most texts.
+    fn end<S: InlineSink>(&mut self, text: &str, sink: &mut S) -> Result<(), AllocError>
+        requires { All (IsTokenOf text.now) self.old.pending.tokens.items }
+        ensures takes { OnOk result ((es : List Event) × S.takes sink.old es sink.new × ((handed : List Event) (ps : List settled.Piece)
+            → HoldsPieces self.old.entities.now text.now handed self.old.pending ps → settled.settled (reverse ps) ≡ handed ++ es)) }
+        ensures entities { self.new.entities ≡ self.old.entities }
+    {
+        if self.pending.is_empty() {
+            return Ok(());
         }
         self.pending.settle(0)?;
         self.flush(text, sink)?;

@@ -6,11 +6,10 @@ use Rattle.inlinespec.specs.Settled.{Piece, settled}
 use Rattle.inlinespec.specs.TextReading.{reading}
 use Rattle.inlinespec.specs.TextTree.{events_of}
 use Rattle.mdinline.specs.held.Brackets.{AreBracketsOf, IsBehindBracket}
-use Rattle.mdinline.specs.held.LeafEvents.{IsTokenOf, tokens_events}
+use Rattle.mdinline.specs.held.LeafEvents.{IsTokenOf}
 use Rattle.mdinline.specs.held.ReadPending.{HoldsPieces}
 use Rattle.mdinline.specs.held.ReadSteps.{LeadsTo}
 use Rattle.mdinline.specs.held.ReadTo.{IsReadTo}
-use Rattle.mdinline.proofs.ReadHolding.{holds_all}
 use Rattle.mdinline.proofs.ReadSteps.{ends_in, leads_more, leads_nowhere}
 use Rattle.mdinline.proofs.readers.TextReader.read_all.Goals as goal
 
@@ -59,9 +58,6 @@ loop-at-preserved g c =
       );
     }
 
-pub flush-requires : goal.flush-requires
-flush-requires g c = c.in_ok-settle.ensures.tokens c.args.text.now c.loop-at.invariant.tokens
-
 pub returns-clause-takes : goal.returns-clause-takes
 returns-clause-takes g c =
     let entities = c.args.self.now.entities.now in
@@ -70,13 +66,11 @@ returns-clause-takes g c =
     let before = c.loop-at.invariant.reads in
     let here = before.6 in
     let end = ends_in entities table text c.loop-at.at before.1 before.2 c.loop-at-test.false before.4 in
-    let kept = here.pieces in
-    let paired = c.in_ok-settle.ensures.pieces entities text kept.kept in
-    let es = tokens_events entities text c.settle.new.self.begun.items c.settle.new.self.tokens.items in
-    let all : before.0 ++ es ≡ events_of (reading entities table text) = sym (ap (λ ps. settled (reverse ps)) end.0 ∙ holds_all entities text before.0 c.loop-at.self.pending before.2 kept c.settle.new.self paired) in
-    let handed = rw here.entities_same at c.in_ok-flush.ensures.handed in
-    subst (λ fs. g.S.InlineSink.takes c.args.sink.now fs c.flush.new.sink) all
-    (g.met.S.InlineSink.takes_more c.args.sink.now c.loop-at.sink c.flush.new.sink before.0 es before.3 handed)
+    let now = c.in_ok-end.ensures.takes in
+    let held = subst (λ (e : EntityTable). HoldsPieces e text before.0 c.loop-at.self.pending before.2) (sym here.entities_same) here.pieces in
+    let all : before.0 ++ now.0 ≡ events_of (reading entities table text) = sym (ap (λ ps. settled (reverse ps)) end.0 ∙ now.2 before.0 before.2 held) in
+    subst (λ fs. g.S.InlineSink.takes c.args.sink.now fs c.end.new.sink) all
+    (g.met.S.InlineSink.takes_more c.args.sink.now c.loop-at.sink c.end.new.sink before.0 now.0 before.3 now.1)
 
 pub returns-clause-asks : goal.returns-clause-asks
 returns-clause-asks g c =
