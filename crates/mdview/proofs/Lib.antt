@@ -23,6 +23,7 @@ pub mod UnitsBetween
 pub mod Splices
 pub mod Committed
 pub mod LineEndings
+pub mod PlainLines
 pub mod MarkedLaws
 pub mod Definings
 pub mod HeldTiles

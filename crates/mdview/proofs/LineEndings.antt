@@ -10,7 +10,7 @@ any-first : (b : Bool) (n m : ℕ) (rest : Bool) → nat_lt n m ≡ rest → nat
 any-first true n m rest h = grind (arith, nat_tests)
 any-first false n m rest h = one_less n m ∙ h
 
-any-placed : (p : ℕ → Bool) (xs : List ℕ) → nat_lt (position_or_len p xs) (length xs) ≡ list_any p xs
+pub any-placed : (p : ℕ → Bool) (xs : List ℕ) → nat_lt (position_or_len p xs) (length xs) ≡ list_any p xs
 any-placed p [] = refl
 any-placed p (x ∷ xs) = any-first (p x) (position_or_len p xs) (length xs) (list_any p xs) (any-placed p xs)
 

@@ -3,6 +3,7 @@ use Rattle.std.specs.Prelude.{ℕ, ◌+◌, ◌-◌, Bool, ◌||◌, List, [], �
 use Rattle.std.specs.List.{list_any}
 use Rattle.mdview.specs.declared.fault.EditFault.{EditFault}
 use Rattle.mdview.specs.declared.fault.EditFault.TheVariants.{OutOfRange, BreakInLine, TooManyLines, TooLarge}
+use Rattle.mdtext.specs.ByteClass.{in_class}
 use Rattle.mdtext.specs.Lines.{without_nul}
 use Rattle.mdview.specs.Lists.{replaced}
 use Rattle.viewspec.specs.Calls.{Call, edit, set_prelude}
@@ -28,6 +29,10 @@ put_source source call = record { lines = put source.lines call; prelude = put_p
 -- whether LF or CR stands in the line
 abbrev pub has_line_ending : List ℕ → Bool
 has_line_ending line = list_any (λ byte. (byte == 10) || (byte == 13)) line
+
+-- whether LF, CR or U+0000 stands in the line: one in which none does is taken as it is
+abbrev pub has_special : List ℕ → Bool
+has_special line = list_any (in_class (0 ∷ 10 ∷ 13 ∷ [])) line
 
 -- the first line with a line ending in it, where the lines are numbered from i
 abbrev pub first_with_ending : ℕ → List (List ℕ) → Option ℕ

@@ -1,14 +1,34 @@
 //! What the limits of a text are tested on; none of it takes memory.
-ghost use Rattle.std.specs.Prelude.{◌≡◌, ◌-◌, ◌^◌, ◌≤◌, ◌+◌, length, map, min, sum_by, string_bytes};
+ghost use Rattle.std.specs.Prelude.{◌≡◌, ◌-◌, ◌^◌, ◌≤◌, ◌+◌, false, length, map, min, sum_by, string_bytes, true};
+ghost use Rattle.std.specs.List.{list_any};
 ghost use Rattle.mdtext.specs.Lines.{without_nul};
 ghost use Rattle.mdview.specs.Document.{size_of};
-ghost use Rattle.mdview.specs.Edit.{has_line_ending, first_with_ending};
+ghost use Rattle.mdview.specs.Edit.{has_line_ending, has_special, first_with_ending};
 
 use mdtext::{Class, clean_len, first_special};
 
 pub(crate) const MAX_LINES: usize = 1_000_000;
 
 pub(crate) const MAX_SIZE: usize = 16_777_216;
+
+/// Whether no line ending and no U+0000 stands in any of the lines. So it is in most texts, and then no line is searched again.
+pub(crate) fn are_plain(lines: &[&str]) -> bool
+    ensures { result ≡ true → list_any has_special (map (λ line. line.now) lines.now) ≡ false }
+{
+    for line in lines {
+        if has_special(line) {
+            return false;
+        }
+    }
+    true
+}
+
+fn has_special(line: &str) -> bool
+    ensures { result ≡ has_special line.now }
+{
+    let bytes = line.as_bytes();
+    first_special(bytes, &Class::of(b"\0\n\r")) < bytes.len()
+}
 
 /// Whether a line ending stands in the line.
 pub(crate) fn has_line_break(line: &str) -> bool
@@ -18,10 +38,14 @@ pub(crate) fn has_line_break(line: &str) -> bool
     first_special(bytes, &Class::of(b"\n\r")) < bytes.len()
 }
 
-/// The first line that holds a line ending.
-pub(crate) fn first_line_break(lines: &[&str]) -> Option<usize>
+/// The first line that holds a line ending; all are known to be plain, or nothing is known of them.
+pub(crate) fn first_line_break(lines: &[&str], are_plain: bool) -> Option<usize>
+    requires { are_plain ≡ true → list_any has_special (map (λ line. line.now) lines.now) ≡ false }
     ensures { result ≡ first_with_ending 0 (map (λ line. line.now) lines.now) }
 {
+    if are_plain {
+        return None;
+    }
     for i in 0..lines.len() {
         if has_line_break(lines[i]) {
             return Some(i);
@@ -30,13 +54,28 @@ pub(crate) fn first_line_break(lines: &[&str]) -> Option<usize>
     None
 }
 
-/// The size of lines after NUL is replaced, up to the greatest number.
-pub(crate) fn clean_size(lines: &[&str]) -> usize
+/// The size of lines after NUL is replaced, up to the greatest number; all are known to be plain, or nothing is known of them.
+pub(crate) fn clean_size(lines: &[&str], are_plain: bool) -> usize
+    requires { are_plain ≡ true → list_any has_special (map (λ line. line.now) lines.now) ≡ false }
     ensures { result ≡ min (size_of (map without_nul (map (λ line. line.now) lines.now))) (2 ^ 64 - 1) }
 {
+    if are_plain {
+        return plain_size(lines);
+    }
     let mut size: usize = 0;
     for line in lines {
         size = size.saturating_add(clean_len(line)).saturating_add(1);
+    }
+    size
+}
+
+/// The size of lines as they are, up to the greatest number.
+fn plain_size(lines: &[&str]) -> usize
+    ensures { result ≡ min (size_of (map (λ line. line.now) lines.now)) (2 ^ 64 - 1) }
+{
+    let mut size: usize = 0;
+    for line in lines {
+        size = size.saturating_add(line.len()).saturating_add(1);
     }
     size
 }

@@ -1,20 +1,21 @@
 //! A prelude: definitions that are handed in beside a text.
 
-ghost use Rattle.std.specs.Prelude.{◌≡◌, ◌≤◌, ◌+◌, [], ℕ, List, None, Some, IfErr, IfOk, IsSome, OnOk, length, map, option_map, string_bytes};
+ghost use Rattle.std.specs.Prelude.{◌≡◌, ◌≤◌, ◌+◌, [], ℕ, List, None, Some, IfErr, IfOk, IsSome, OnOk, false, length, map, option_map, string_bytes, true};
+ghost use Rattle.std.specs.List.{list_any};
 ghost use Rattle.std.specs.Map.Iter.{ShowsInOrder, deref};
 ghost use Rattle.std.specs.Option.{option_or};
 ghost use Rattle.inlinespec.specs.LabelMap.{target_in, target_of};
 ghost use Rattle.mdhtml.specs.Limits.{HasLimits};
 ghost use Rattle.mdtext.specs.Lines.{without_nul};
 ghost use Rattle.mdview.specs.Document.{size_of};
-ghost use Rattle.mdview.specs.Edit.{due_of_prelude};
+ghost use Rattle.mdview.specs.Edit.{due_of_prelude, has_special};
 ghost use Rattle.mdview.specs.Preludes.{IsDefinedBy, IsUndefiningAt, RefusesPrelude, target_beside};
 ghost use Rattle.viewspec.specs.Refusals.{undefining_line};
 
 use crate::clean::clean_lines;
 use crate::defining::read_definitions;
 use crate::fault::EditFault;
-use crate::limits::{MAX_LINES, MAX_SIZE, clean_size, first_line_break};
+use crate::limits::{MAX_LINES, MAX_SIZE, are_plain, clean_size, first_line_break};
 use crate::lines::Lines;
 use mdchunks::Iter;
 use mdhtml::Options;
@@ -82,8 +83,9 @@ impl Prelude {
         ensures lines { C.lines count.new ≤ C.lines count.old + length lines.now }
         ensures inlines { C.inlines count.new ≡ C.inlines count.old }
     {
-        accept(lines)?;
-        let lines = clean_lines(alloc, lines)?;
+        let are_plain = are_plain(lines);
+        accept(lines, are_plain)?;
+        let lines = clean_lines(alloc, lines, are_plain)?;
         let targets = read_definitions(alloc, &lines, entities, options, count)?;
         Ok(Prelude { lines, targets })
     }
@@ -112,21 +114,22 @@ impl Labels for Prelude {
     }
 }
 
-/// Why the lines are refused as a prelude, whatever the memory. Takes none.
-fn accept(lines: &[&str]) -> Result<(), EditFault>
+/// Why the lines are refused as a prelude, whatever the memory. Takes none. All are known to be plain, or nothing is known of them.
+fn accept(lines: &[&str], are_plain: bool) -> Result<(), EditFault>
+    requires { are_plain ≡ true → list_any has_special (map (λ line. line.now) lines.now) ≡ false }
     ensures ok { OnOk result (due_of_prelude (map (λ line. line.now) lines.now) ≡ None) }
     ensures err { IfErr result (λ fault. RefusesPrelude fault (map (λ line. line.now) lines.now)) }
     ensures due { IfErr result (λ fault. due_of_prelude (map (λ line. line.now) lines.now) ≡ Some fault) }
     ensures few { OnOk result (length lines.now ≤ 1000000) }
     ensures small { OnOk result (size_of (map without_nul (map (λ line. line.now) lines.now)) ≤ 16777216) }
 {
-    if let Some(index) = first_line_break(lines) {
+    if let Some(index) = first_line_break(lines, are_plain) {
         return Err(EditFault::BreakInLine { index });
     }
     if lines.len() > MAX_LINES {
         return Err(EditFault::TooManyLines);
     }
-    if clean_size(lines) > MAX_SIZE {
+    if clean_size(lines, are_plain) > MAX_SIZE {
         return Err(EditFault::TooLarge);
     }
     Ok(())

@@ -1,4 +1,5 @@
-ghost use Rattle.std.specs.Prelude.{◌≡◌, ◌≤◌, ◌+◌, List, None, Some, IfErr, IfOk, IsSome, OnOk, drop, length, map, option_map, slice_get};
+ghost use Rattle.std.specs.Prelude.{◌≡◌, ◌≤◌, ◌+◌, List, None, Some, IfErr, IfOk, IsSome, OnOk, drop, false, length, map, option_map, slice_get, true};
+ghost use Rattle.std.specs.List.{list_any};
 ghost use Rattle.mdhtml.specs.Limits.{HasLimits};
 ghost use Rattle.blockspec.specs.BlockUnits.{begins, units};
 ghost use Rattle.blockspec.specs.UnitTree.{UnitTree};
@@ -8,7 +9,7 @@ ghost use Rattle.viewspec.specs.Calls.{due_at_once, put, set_prelude};
 ghost use Rattle.viewspec.specs.Changes.{lines_due, texts_read};
 ghost use Rattle.viewspec.specs.Patch.{Brings};
 ghost use Rattle.mdview.specs.Document.{empty, pieces_of, readings_of, setting_of, size_of, source_of};
-ghost use Rattle.mdview.specs.Edit.{call_of, due};
+ghost use Rattle.mdview.specs.Edit.{call_of, due, has_special};
 ghost use Rattle.mdview.specs.HeldUnit.{HeldUnit, piece_of, shown_in, unit_edges};
 ghost use Rattle.mdview.specs.Outcome.{answer_of, is_starved, outcome_of};
 ghost use Rattle.mdview.specs.Preludes.{IsUndefining};
@@ -18,7 +19,7 @@ use crate::commit::{commit, commit_readings};
 use crate::fault::EditFault;
 use crate::held_labels::HeldLabels;
 use crate::held_units::HeldUnit;
-use crate::limits::{MAX_LINES, MAX_SIZE, clean_size, first_line_break};
+use crate::limits::{MAX_LINES, MAX_SIZE, are_plain, clean_size, first_line_break};
 use crate::lines::Lines;
 use crate::new_text::NewText;
 use crate::patch::Patch;
@@ -238,8 +239,16 @@ impl Preview {
 }
 
 impl Preview {
-    /// The size of the text after the edit, or why it is refused, whatever the memory. Takes none.
-    fn accept(&self, at: usize, del: usize, add: &[&str]) -> Result<usize, EditFault>
+    /// The size of the text after the edit, or why it is refused, whatever the memory. Takes none. All lines that come are known to be plain, or nothing
+    /// is known of them.
+    fn accept(
+        &self,
+        at: usize,
+        del: usize,
+        add: &[&str],
+        are_plain: bool,
+    ) -> Result<usize, EditFault>
+        requires { are_plain ≡ true → list_any has_special (map (λ line. line.now) add.now) ≡ false }
         ensures ok { IfOk result (λ size. (due self.now.lines (call_of at del (map (λ line. line.now) add.now)) ≡ None)
             × (size ≡ size_of (put (source_of self.now) (call_of at del (map (λ line. line.now) add.now))).lines)) }
         ensures err { IfErr result (λ fault. due self.now.lines (call_of at del (map (λ line. line.now) add.now)) ≡ Some fault) }
@@ -251,7 +260,7 @@ impl Preview {
         if at > lines || del > lines - at {
             return Err(EditFault::OutOfRange { lines });
         }
-        if let Some(index) = first_line_break(add) {
+        if let Some(index) = first_line_break(add, are_plain) {
             return Err(EditFault::BreakInLine { index });
         }
         if add.len() > MAX_LINES - (lines - del) {
@@ -259,7 +268,7 @@ impl Preview {
         }
         let gone = self.lines.weight_between(at, del);
         let kept = self.size - gone;
-        let added = clean_size(add);
+        let added = clean_size(add, are_plain);
         if added > MAX_SIZE - kept {
             return Err(EditFault::TooLarge);
         }
@@ -291,8 +300,9 @@ impl Preview {
         ensures inlines { C.inlines count.new ≤ C.inlines count.old + texts_read (setting_of self.old) (source_of self.old) (call_of at del (map (λ line. line.now) add.now)) }
         ensures uncounted { IsSome (due_at_once (source_of self.old) (call_of at del (map (λ line. line.now) add.now))) → count.new ≡ count.old }
     {
-        let size = self.accept(at, del, add)?;
-        let mut new_lines = clean_lines(self.alloc, add)?;
+        let are_plain = are_plain(add);
+        let size = self.accept(at, del, add, are_plain)?;
+        let mut new_lines = clean_lines(self.alloc, add, are_plain)?;
         let held = HeldText {
             alloc: self.alloc,
             entities: &self.entities,
