@@ -23,7 +23,7 @@ pub mod UnitsBetween
 pub mod Splices
 pub mod Committed
 pub mod LineEndings
-pub mod MarkedLaws
+pub mod BroughtLaws
 pub mod Definings
 pub mod HeldTiles
 pub mod ReadStretches

@@ -1,4 +1,4 @@
-ghost use Rattle.std.specs.Prelude.{◌≡◌, ◌≤◌, ◌+◌, List, None, Some, IfErr, IfOk, IsSome, OnOk, drop, length, map, option_map, slice_get};
+ghost use Rattle.std.specs.Prelude.{◌≡◌, ◌≤◌, ◌+◌, List, None, Some, IfErr, IfOk, IsSome, OnOk, length, map, option_map, slice_get};
 ghost use Rattle.mdhtml.specs.Limits.{HasLimits};
 ghost use Rattle.blockspec.specs.BlockUnits.{begins, units};
 ghost use Rattle.blockspec.specs.UnitTree.{UnitTree};
@@ -216,14 +216,6 @@ impl Preview {
         ensures { result ≡ pieces_of self.now }
     {
         Pieces::new(self.units.iter_from(0))
-    }
-
-    /// The same from a number on.
-    pub(crate) fn pieces_from(&self, from: usize) -> Pieces<'_>
-        requires { from ≤ length (pieces_of self.now) }
-        ensures { result ≡ drop from (pieces_of self.now) }
-    {
-        Pieces::new(self.units.iter_from(from))
     }
 
     /// The HTML of the unit of this number; nothing where the text has fewer.
