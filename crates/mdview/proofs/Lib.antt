@@ -24,7 +24,7 @@ pub mod Splices
 pub mod Committed
 pub mod LineEndings
 pub mod PlainLines
-pub mod MarkedLaws
+pub mod BroughtLaws
 pub mod Definings
 pub mod HeldTiles
 pub mod ReadStretches

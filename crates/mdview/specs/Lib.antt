@@ -15,5 +15,5 @@ pub mod NewText
 pub mod LabelTargets
 pub mod ToldLabels
 pub mod Update
-pub mod MarkedPieces
+pub mod BroughtPieces
 pub mod LabelMarks

@@ -14,7 +14,6 @@ mod limits;
 mod lines;
 mod lines_ahead;
 mod marked_units;
-mod marks;
 mod new_text;
 mod patch;
 mod patch_pieces;

@@ -2,8 +2,7 @@ ghost use Rattle.std.specs.Prelude.{◌≡◌, [], None, IfOk, option_map, slice
 ghost use Rattle.viewspec.specs.Patch.{brings, brought};
 ghost use Rattle.mdview.specs.Document.{pieces_of};
 
-use crate::marks::marks;
-use crate::patch_pieces::{PatchPieces, is_within, passed};
+use crate::patch_pieces::{PatchPieces, is_within};
 use crate::preview::Preview;
 use std::alloc::{AllocError, Global};
 use std::marker::Model;
@@ -31,14 +30,13 @@ impl Patch {
     pub fn pieces<'a>(&self, preview: &'a Preview) -> Result<PatchPieces<'a>, AllocError>
         ensures { IfOk result (λ pieces. pieces ≡ brought self.now 0 (pieces_of preview.now)) }
     {
-        let again = marks(preview.alloc(), &self.again, preview.units())?;
-        let front = passed(self.first, &again, preview.units());
+        let again = self.again.to_vec(preview.alloc())?;
         Ok(PatchPieces::new(
             self.first,
             self.added,
             again,
-            front,
-            preview.pieces_from(front),
+            preview.pieces(),
+            preview.units(),
         ))
     }
 

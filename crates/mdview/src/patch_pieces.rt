@@ -1,8 +1,11 @@
 //! The pieces that a patch brings.
 
-ghost use Rattle.std.specs.Prelude.{◌≡◌, ◌≤◌, ◌<◌, ◌+◌, ◌^◌, ◌&&◌, [], ℕ, List, drop, false, true, get_or, length, nat_lt, not};
+ghost use Rattle.std.specs.Prelude.{◌≡◌, ◌==◌, ◌≤◌, ◌<◌, ◌+◌, ◌&&◌, ℕ, length, nat_lt, not, true, false};
 ghost use Rattle.std.specs.Iterator.{YieldsFirstBy, item_count};
-ghost use Rattle.mdview.specs.MarkedPieces.{marked};
+ghost use Rattle.std.specs.List.{list_any};
+ghost use Rattle.std.specs.List.Sorted.{IsNonDecreasing};
+ghost use Rattle.viewspec.specs.Patch.{brings};
+ghost use Rattle.mdview.specs.BroughtPieces.{changed, changed_pieces};
 
 use crate::pieces::Pieces;
 use std::marker::Model;
@@ -12,41 +15,46 @@ use std::marker::Model;
 pub struct PatchPieces<'a> {
     first: usize,
     added: usize,
-    /// For each piece, whether it was made again; empty where none was.
-    again: Vec<bool>,
+    /// The numbers of the pieces that were made again, in rising order.
+    again: Vec<usize>,
     /// The number of the first piece of `rest`.
     number: usize,
+    /// How many pieces there are.
+    count: usize,
     rest: Pieces<'a>,
 }
 
 impl<'a> Model for PatchPieces<'a> {
-    ghost use Rattle.std.specs.Prelude.{◌<◌, ◌+◌, ◌^◌, ℕ, List, length};
-    ghost use Rattle.mdview.specs.MarkedPieces.{marked};
+    ghost use Rattle.std.specs.Prelude.{◌≡◌, ◌+◌, ℕ, List, length};
+    ghost use Rattle.std.specs.List.Sorted.{IsNonDecreasing};
+    ghost use Rattle.mdview.specs.BroughtPieces.{changed_pieces};
 
     ghost Value = { List (ℕ × List ℕ) };
 
-    ghost view = { λ p. marked p.first p.added p.again.items p.number p.rest };
+    ghost view = { λ p. changed_pieces p.first p.added p.again.items p.number p.rest };
 
-    ghost invariant = { λ p. p.number + length p.rest < 2 ^ 64 };
+    ghost invariant = { λ p. IsNonDecreasing p.again.items × (p.number + length p.rest ≡ p.count) };
 }
 
 impl<'a> PatchPieces<'a> {
-    /// Of these pieces, the first of which has number `number`, the `added` ones from number `first` on and those with a mark.
+    /// Of these pieces, the `added` ones from number `first` on and those of the numbers `again`.
     pub(crate) fn new(
         first: usize,
         added: usize,
-        again: Vec<bool>,
-        number: usize,
+        mut again: Vec<usize>,
         pieces: Pieces<'a>,
+        count: usize,
     ) -> PatchPieces<'a>
-        requires { number + length pieces < 2 ^ 64 }
-        ensures { result ≡ marked first added again.items number pieces.entry }
+        requires { length pieces ≡ count }
+        ensures { result ≡ changed_pieces first added again.items 0 pieces.entry }
     {
+        again.sort_unstable();
         PatchPieces {
             first,
             added,
             again,
-            number,
+            number: 0,
+            count,
             rest: pieces,
         }
     }
@@ -60,17 +68,16 @@ impl<'a> Iterator for PatchPieces<'a> {
     ghost remaining = { item_count (λ rest. rest) };
 
     fn next(&mut self) -> Option<(usize, &'a str)> {
-        if is_past(self.first, self.added, &self.again, self.number) {
-            return None;
-        }
-        while let Some(piece) = self.rest.next() {
-            let number = self.number;
-            self.number += 1;
-            if is_within(self.first, self.added, number) || is_marked(&self.again, number) {
-                return Some((number, piece));
+        let number = next_brought(self.first, self.added, &self.again, self.number, self.count);
+        self.rest.pass(number - self.number);
+        self.number = number;
+        match self.rest.next() {
+            Some(piece) => {
+                self.number = number + 1;
+                Some((number, piece))
             }
+            None => None,
         }
-        None
     }
 }
 
@@ -81,36 +88,49 @@ pub(crate) fn is_within(first: usize, added: usize, number: usize) -> bool
     number >= first && number - first < added
 }
 
-/// How many of so many pieces stand in front of all that the patch brings, as far as that is known: all in front of the new ones, where none was made again.
-pub(crate) fn passed(first: usize, again: &[bool], units: usize) -> usize
-    ensures within { result ≤ units }
-    ensures passed { (added : ℕ) (pieces : List (List ℕ)) → marked first added again.now 0 pieces ≡ marked first added again.now result (drop result pieces) }
+/// The least number from `from` on of a piece that the patch brings; `end` where none below it is.
+fn next_brought(first: usize, added: usize, again: &[usize], from: usize, end: usize) -> usize
+    requires rising { IsNonDecreasing again.now }
+    requires within { from ≤ end }
+    ensures low { from ≤ result }
+    ensures high { result ≤ end }
+    ensures before { (k : ℕ) → from ≤ k → k < result → brings (changed first added again.now) k ≡ false }
+    ensures there { result < end → brings (changed first added again.now) result ≡ true }
 {
-    if again.is_empty() {
-        first.min(units)
+    let new = next_new(first, added, from, end);
+    let listed = next_listed(again, from, end);
+    new.min(listed).min(end)
+}
+
+/// The least number from `from` on that is one of the `added` ones from `first` on; no less than `end` where none below it is.
+fn next_new(first: usize, added: usize, from: usize, end: usize) -> usize
+    requires { from ≤ end }
+    ensures low { from ≤ result }
+    ensures before { (k : ℕ) → from ≤ k → k < result → k < end → (not (nat_lt k first) && nat_lt k (first + added)) ≡ false }
+    ensures there { result < end → (not (nat_lt result first) && nat_lt result (first + added)) ≡ true }
+{
+    if added == 0 {
+        end
+    } else if from < first {
+        first
+    } else if from - first < added {
+        from
     } else {
-        0
+        end
     }
 }
 
-/// Whether this piece and those behind it are none that the patch brings, as far as that is known.
-fn is_past(first: usize, added: usize, again: &[bool], number: usize) -> bool
-    ensures { result ≡ true → (pieces : List (List ℕ)) → marked first added again.now number pieces ≡ [] }
+/// The least of these numbers from `from` on; no less than `end` where none is below it.
+fn next_listed(numbers: &[usize], from: usize, end: usize) -> usize
+    requires rising { IsNonDecreasing numbers.now }
+    requires within { from ≤ end }
+    ensures low { from ≤ result }
+    ensures before { (k : ℕ) → from ≤ k → k < result → k < end → list_any (λ j. j == k) numbers.now ≡ false }
+    ensures there { result < end → list_any (λ j. j == result) numbers.now ≡ true }
 {
-    if !again.is_empty() {
-        return false;
-    }
-    if number < first {
-        return false;
-    }
-    number - first >= added
-}
-
-fn is_marked(marks: &[bool], number: usize) -> bool
-    ensures { result ≡ get_or marks.now number false }
-{
-    match marks.get(number) {
-        Some(mark) => *mark,
-        None => false,
+    let place = numbers.partition_point(|number| *number < from);
+    match numbers.get(place) {
+        Some(number) => *number,
+        None => end,
     }
 }

@@ -1,4 +1,4 @@
-ghost use Rattle.std.specs.Prelude.{◌≡◌, map};
+ghost use Rattle.std.specs.Prelude.{◌≡◌, ◌≤◌, drop, length, map};
 ghost use Rattle.mdview.specs.HeldUnit.{HeldUnit, piece_of};
 ghost use Rattle.std.specs.Iterator.{YieldsFirstRef, item_count};
 
@@ -26,6 +26,14 @@ impl<'a> Pieces<'a> {
         ensures { result ≡ map piece_of rest.entry }
     {
         Pieces { rest }
+    }
+
+    /// Passes the next `n`.
+    pub(crate) fn pass(&mut self, n: usize)
+        requires { n ≤ length self.old }
+        ensures { self.new ≡ drop n self.old }
+    {
+        self.rest = self.rest.ahead(n);
     }
 }
 

@@ -1,4 +1,4 @@
-ghost use Rattle.std.specs.Prelude.{◌≡◌, ◌≤◌, ◌+◌, List, None, Some, IfErr, IfOk, IsSome, OnOk, drop, false, length, map, option_map, slice_get, true};
+ghost use Rattle.std.specs.Prelude.{◌≡◌, ◌≤◌, ◌+◌, List, None, Some, IfErr, IfOk, IsSome, OnOk, false, length, map, option_map, slice_get, true};
 ghost use Rattle.std.specs.List.{list_any};
 ghost use Rattle.mdhtml.specs.Limits.{HasLimits};
 ghost use Rattle.blockspec.specs.BlockUnits.{begins, units};
@@ -217,14 +217,6 @@ impl Preview {
         ensures { result ≡ pieces_of self.now }
     {
         Pieces::new(self.units.iter_from(0))
-    }
-
-    /// The same from a number on.
-    pub(crate) fn pieces_from(&self, from: usize) -> Pieces<'_>
-        requires { from ≤ length (pieces_of self.now) }
-        ensures { result ≡ drop from (pieces_of self.now) }
-    {
-        Pieces::new(self.units.iter_from(from))
     }
 
     /// The HTML of the unit of this number; nothing where the text has fewer.
