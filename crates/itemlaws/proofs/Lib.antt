@@ -5,3 +5,4 @@ pub mod UnitsMeet
 pub mod DocumentItems
 pub mod JoinCuts
 pub mod LastJoins
+pub mod MarkLines

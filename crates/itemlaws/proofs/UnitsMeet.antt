@@ -84,22 +84,22 @@ tops_shift k (t ∷ ts) = ap (λ z. z ∷ map top_group (map (moved_top k) ts)) 
 
 -- ---- texts and definitions of items
 
-texts_together : (a b : ItemNodes) → texts_in_items (items_before a b) ≡ texts_in_items a ++ texts_in_items b
+pub texts_together : (a b : ItemNodes) → texts_in_items (items_before a b) ≡ texts_in_items a ++ texts_in_items b
 unfolding texts_in_items
 texts_together no_item_nodes b = refl
 texts_together (item_node nodes a) b = ap (λ z. texts_in nodes ++ z) (texts_together a b) ∙ sym (append_assoc (texts_in nodes) (texts_in_items a) (texts_in_items b))
 
-definitions_together : (a b : ItemNodes) → definitions_in_items (items_before a b) ≡ definitions_in_items a ++ definitions_in_items b
+pub definitions_together : (a b : ItemNodes) → definitions_in_items (items_before a b) ≡ definitions_in_items a ++ definitions_in_items b
 unfolding definitions_in_items
 definitions_together no_item_nodes b = refl
 definitions_together (item_node nodes a) b =
     ap (λ z. definitions_in nodes ++ z) (definitions_together a b) ∙ sym (append_assoc (definitions_in nodes) (definitions_in_items a) (definitions_in_items b))
 
-list_texts : (kind : ListKind) (t : Bool) (items : ItemNodes) → texts_in (part_before (Listed kind t items) no_nodes) ≡ texts_in_items items
+pub list_texts : (kind : ListKind) (t : Bool) (items : ItemNodes) → texts_in (part_before (Listed kind t items) no_nodes) ≡ texts_in_items items
 unfolding texts_in
 list_texts kind t items = append-nil (texts_in_items items)
 
-list_definitions : (kind : ListKind) (t : Bool) (items : ItemNodes) → definitions_in (part_before (Listed kind t items) no_nodes) ≡ definitions_in_items items
+pub list_definitions : (kind : ListKind) (t : Bool) (items : ItemNodes) → definitions_in (part_before (Listed kind t items) no_nodes) ≡ definitions_in_items items
 unfolding definitions_in
 list_definitions kind t items = append-nil (definitions_in_items items)
 

@@ -1,3 +1,4 @@
 pub mod ListItems
+pub mod ItemMarks
 pub mod Joins
 pub mod SummaryJoins

@@ -11,6 +11,7 @@ use Rattle.mdinline.specs.declared.faults.InlineFault.{InlineFault}
 use Rattle.mdinline.specs.declared.faults.InlineFault.TheVariants as inline
 use Rattle.viewspec.specs.LabelTable.{with_units}
 use Rattle.viewspec.specs.Setting.{Setting}
+use Rattle.mdblock.specs.FoundLists.{found_unit}
 use Rattle.mdview.specs.declared.fault.EditFault.{EditFault}
 use Rattle.mdview.specs.declared.fault.EditFault.TheVariants.{OutOfRange, BreakInLine, TooManyLines, TooLarge, NestedTooDeep, InlineTooDeep, NoMemory, NotDefinitions}
 use Rattle.mdbatch.specs.declared.gathered.Gathered.{Gathered}
@@ -29,19 +30,19 @@ woven_more setting [] all found old new last woven = λ labels. written_behind s
 woven_more setting (waits ∷ waiting) all found old new last (front, rest, order, written, woven) = (
   front,
   rest ++ found ∷ [],
-  ap (λ l. l ++ found ∷ []) order ∙ append_assoc front (waits.found ∷ rest) (found ∷ []),
+  ap (λ l. l ++ found ∷ []) order ∙ append_assoc front (found_unit waits.found ∷ rest) (found ∷ []),
   written,
   woven_more setting waiting rest found old new last woven,
 )
 
 -- a unit waits behind the others
 pub woven_kept : (setting : Setting) (waiting : List Waiting) (all : List FoundUnit) (last : Waiting) (html new : List ℕ) → string_bytes last.before ≡ html → new ≡ []
-    → IsWoven setting all waiting html → IsWoven setting (all ++ last.found ∷ []) (waiting ++ last ∷ []) new
+    → IsWoven setting all waiting html → IsWoven setting (all ++ found_unit last.found ∷ []) (waiting ++ last ∷ []) new
 woven_kept setting [] all last html new same none woven = (all, [], refl, rw same woven, rw none (λ labels. none_written setting labels []))
 woven_kept setting (waits ∷ waiting) all last html new same none (front, rest, order, written, woven) = (
   front,
-  rest ++ last.found ∷ [],
-  ap (λ l. l ++ last.found ∷ []) order ∙ append_assoc front (waits.found ∷ rest) (last.found ∷ []),
+  rest ++ found_unit last.found ∷ [],
+  ap (λ l. l ++ found_unit last.found ∷ []) order ∙ append_assoc front (found_unit waits.found ∷ rest) (found_unit last.found ∷ []),
   written,
   woven_kept setting waiting rest last html new same none woven,
 )
@@ -62,24 +63,24 @@ cut_more setting all more waiting line cut = record {
 module _ (setting : Setting) (labels : Table) where
   -- the first of those that wait is written, with what stands before it
   pub next_written : (all : List FoundUnit) (waits : Waiting) (waiting : List Waiting) (html old mid before new : List ℕ) → before ≡ mid ++ string_bytes waits.before
-      → WritesUnits setting labels (waits.found ∷ []) before new → IsWrittenTo setting labels all (waits ∷ waiting) html old mid
+      → WritesUnits setting labels (found_unit waits.found ∷ []) before new → IsWrittenTo setting labels all (waits ∷ waiting) html old mid
       → IsWrittenTo setting labels all waiting html old new
   next_written all waits waiting html old mid before new behind last (done, todo, order, written, (front, rest, parts, writes, woven)) = (
-    (done ++ front) ++ waits.found ∷ [],
+    (done ++ front) ++ found_unit waits.found ∷ [],
     rest,
-    order ∙ ap (λ l. done ++ l) parts ∙ sym (append_assoc done front (waits.found ∷ rest)) ∙ sym (append_assoc (done ++ front) (waits.found ∷ []) rest),
-    written_behind setting labels (done ++ front) (waits.found ∷ []) old before new
+    order ∙ ap (λ l. done ++ l) parts ∙ sym (append_assoc done front (found_unit waits.found ∷ rest)) ∙ sym (append_assoc (done ++ front) (found_unit waits.found ∷ []) rest),
+    written_behind setting labels (done ++ front) (found_unit waits.found ∷ []) old before new
         (written_behind setting labels done front old mid before written (moved_behind setting labels front (string_bytes waits.before) mid before behind (writes labels))) last,
     woven,
   )
 
   -- or it is the first that is too deep
-  pub next_deep : (all : List FoundUnit) (waits : Waiting) (waiting : List Waiting) (html old mid : List ℕ) (line : ℕ) → deep_line setting labels (waits.found ∷ []) ≡ Some line
+  pub next_deep : (all : List FoundUnit) (waits : Waiting) (waiting : List Waiting) (html old mid : List ℕ) (line : ℕ) → deep_line setting labels (found_unit waits.found ∷ []) ≡ Some line
       → IsWrittenTo setting labels all (waits ∷ waiting) html old mid → deep_line setting labels all ≡ Some line
   next_deep all waits waiting html old mid line deep (done, todo, order, written, (front, rest, parts, writes, woven)) =
       ap (deep_line setting labels) (order ∙ ap (λ l. done ++ l) parts)
-      ∙ deep_behind setting labels done (front ++ waits.found ∷ rest) line written.within
-      (deep_behind setting labels front (waits.found ∷ rest) line (writes labels).within (deep_in_front setting labels (waits.found ∷ []) rest line deep))
+      ∙ deep_behind setting labels done (front ++ found_unit waits.found ∷ rest) line written.within
+      (deep_behind setting labels front (found_unit waits.found ∷ rest) line (writes labels).within (deep_in_front setting labels (found_unit waits.found ∷ []) rest line deep))
 
   -- behind those that waited stands what was written behind the last of them
   pub all_written_to : (all : List FoundUnit) (html mid new : List ℕ) → new ≡ mid ++ html → IsWrittenTo setting labels all [] html [] mid → WritesUnits setting labels all [] new
@@ -111,7 +112,7 @@ pub unit_fault : (setting : Setting) (labels : Table) (all : List FoundUnit) (wa
     → (fault ≡ inline.TooDeep → is_deep_unit setting.options setting.entities labels waits.found.unit ≡ true) → IsWrittenTo setting labels all (waits ∷ waiting) html old mid
     → IsTextFault (deep_line setting labels all) (text_fault_of fault waits.found.begin)
 unit_fault setting labels all waits waiting html old mid inline.TooDeep deep written =
-    next_deep setting labels all waits waiting html old mid waits.found.begin (one_deep setting labels waits.found (deep refl)) written
+    next_deep setting labels all waits waiting html old mid waits.found.begin (one_deep setting labels (found_unit waits.found) (deep refl)) written
 unit_fault setting labels all waits waiting html old mid inline.NoMemory deep written = tt
 
 -- ---- under the labels of the whole text

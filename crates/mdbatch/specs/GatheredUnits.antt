@@ -3,6 +3,7 @@ use Rattle.std.specs.Prelude.{◌≡◌, ◌==◌, ℕ, Bool, List, [], ◌∷�
 use Rattle.std.specs.List.{All, list_any}
 use Rattle.inlinespec.specs.LinkTails.{Table}
 use Rattle.blockspec.specs.UnitTree.{FoundUnit}
+use Rattle.mdblock.specs.FoundLists.{found_unit}
 use Rattle.mdhtml.specs.BlockHtml.{ends_line}
 use Rattle.mdhtml.specs.WrittenUnits.{entities_of, options_of}
 use Rattle.mdhtml.specs.declared.unit_writer.UnitWriter.{UnitWriter}
@@ -28,7 +29,7 @@ IsWritten setting found html = (labels : Table) → WritesUnits setting labels f
 abbrev pub IsWoven : Setting → List FoundUnit → List Waiting → List ℕ → Type 0
 IsWoven setting all [] html = IsWritten setting all html
 IsWoven setting all (waits ∷ waiting) html =
-    (front : List FoundUnit) × (rest : List FoundUnit) × (all ≡ front ++ waits.found ∷ rest) × IsWritten setting front (string_bytes waits.before)
+    (front : List FoundUnit) × (rest : List FoundUnit) × (all ≡ front ++ found_unit waits.found ∷ rest) × IsWritten setting front (string_bytes waits.before)
     × IsWoven setting rest waiting html
 
 -- at this line begins the first unit, of those that do not wait, in which spans lie too deep; the units before it are written or wait

@@ -1,8 +1,9 @@
 //! What is read of a whole text before all its labels are known.
 ghost use Rattle.std.specs.Prelude.{List, ◌≡◌, ◌++◌, ◌∷◌, [], IfErr, IfOk, OnOk, false, string_bytes};
 ghost use Rattle.std.specs.List.{list_any};
-ghost use Rattle.std.specs.Option.{option_to_list};
+ghost use Rattle.std.specs.Option.{option_map, option_to_list};
 ghost use Rattle.blockspec.specs.UnitTree.{FoundUnit};
+ghost use Rattle.mdblock.specs.FoundLists.{found_unit};
 ghost use Rattle.viewspec.specs.Setting.{Setting};
 ghost use Rattle.mdview.specs.declared.fault.EditFault.TheVariants.{NoMemory};
 ghost use Rattle.mdbatch.specs.GatheredUnits.{Gathers, HasGathered, closes_bracket, setting_of};
@@ -60,7 +61,7 @@ impl Gathered {
     ) -> Result<(), EditFault>
         requires { HasGathered (setting_of writer.old) self.old }
         ensures gathers { (all : List FoundUnit) → Gathers (setting_of writer.old) all self.old
-            → OnOk result (Gathers (setting_of writer.old) (all ++ option_to_list found) self.new) }
+            → OnOk result (Gathers (setting_of writer.old) (all ++ option_to_list (option_map found_unit found)) self.new) }
         ensures setting { setting_of writer.new ≡ setting_of writer.old }
         ensures fault { IfErr result (λ fault. fault ≡ NoMemory) }
     {
@@ -80,7 +81,7 @@ impl Gathered {
     ) -> Result<(), EditFault>
         requires { HasGathered (setting_of writer.old) self.old }
         ensures gathers { (all : List FoundUnit) → Gathers (setting_of writer.old) all self.old
-            → OnOk result (Gathers (setting_of writer.old) (all ++ found ∷ []) self.new) }
+            → OnOk result (Gathers (setting_of writer.old) (all ++ found_unit found ∷ []) self.new) }
         ensures setting { setting_of writer.new ≡ setting_of writer.old }
         ensures fault { IfErr result (λ fault. fault ≡ NoMemory) }
     {

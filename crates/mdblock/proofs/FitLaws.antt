@@ -44,7 +44,7 @@ begins_apart (summary before last b n) l e = (three_facts (is_apart_after last l
 
 -- ---- a line that begins a block
 
-ended_fits : (e : EntityTable) (limit : ℕ) (last : Last) → FitsLast limit last → FitsLast limit (ended_last e last)
+pub ended_fits : (e : EntityTable) (limit : ℕ) (last : Last) → FitsLast limit last → FitsLast limit (ended_last e last)
 unfolding ended_last container_part
 ended_fits e limit nothing_yet f = tt
 ended_fits e limit (ended_block g) f = f

@@ -296,7 +296,7 @@ item_over level inner list new_inner new_list before after is ends in_item group
           fresh = done.2;
         }
 
-list_stands : (e : EntityTable) (at : ℕ) (x : OpenBlock) (inner : Level) (list : OpenList) (groups : List Group) (b : ℕ) (gap : Bool) (p : Part) → IsListOf inner list x → StandsForList at list groups gap p → IsEmpty true inner →
+pub list_stands : (e : EntityTable) (at : ℕ) (x : OpenBlock) (inner : Level) (list : OpenList) (groups : List Group) (b : ℕ) (gap : Bool) (p : Part) → IsListOf inner list x → StandsForList at list groups gap p → IsEmpty true inner →
     StandsForLast e at x groups (ended_block (group_with b gap p))
 list_stands e at (open_block.List' q over last in_item begun blank spaced held) inner list groups b gap p is st fresh =
     (subst (λ z. StandsForList at z groups gap p) is.1 st, subst (IsEmpty true) is.0 fresh)

@@ -3,7 +3,9 @@ pub mod CloseLaws
 pub mod CloseLeafLaws
 pub mod ClosingLaws
 pub mod ContinuationLaws
+pub mod EndedItemLaws
 pub mod FitLaws
+pub mod HeldMarks
 pub mod HeldNodesLaws
 pub mod FirstBytes
 pub mod HtmlEnds
@@ -13,6 +15,7 @@ pub mod LeafLaws
 pub mod LeafTexts
 pub mod LeafTurns
 pub mod Markers
+pub mod NextItemLaws
 pub mod NextLineLaws
 pub mod ParagraphLaws
 pub mod PlacedNodes

@@ -2,7 +2,7 @@
 use Rattle.std.proofs.Common.{◌≡◌, ℕ, suc, ◌+◌, ◌-◌, Bool, true, false, not, ◌&&◌, List, [], ◌∷◌, ◌++◌, length, map, Option, Some, None, refl, sym, ◌∙◌, ap, subst, arith}
 use Rattle.std.proofs.lemmas.List.{map-append, append-nil, length-append}
 use Rattle.std.specs.Option.{option_map, option_to_list}
-use Rattle.std.specs.Prelude.{if◌then◌else◌, unwrap_or}
+use Rattle.std.specs.Prelude.{if◌then◌else◌, IfSome, unwrap_or}
 use Rattle.mdtext.specs.EntityTable.{EntityTable}
 use Rattle.blockspec.specs.BlockLine.{BlockLine, document_line, is_blank_line}
 use Rattle.blockspec.specs.BlockStart.{Free, Paragraph, start, start_where, begun}
@@ -22,15 +22,18 @@ use Rattle.blocklaws.proofs.HandedLaws.{IsFirst, IsBehind, begun_first, front_un
 use Rattle.blocklaws.proofs.OpenLeafLaws.{drops_last}
 use Rattle.blocklaws.proofs.ReaderLaws.{summary_closed, summary_begins}
 use Rattle.blocklaws.proofs.UnitReaderLaws.{IsOne}
+use Rattle.itemspec.specs.ItemMarks.{ItemMark, list_marks, marks_next}
 use Rattle.itemspec.specs.SummaryJoins.{joins_after}
 use Rattle.itemlaws.proofs.LastJoins.{joined_behind_held}
+use Rattle.mdblock.specs.FoundLists.{FoundList, AreJoinsOf, found_unit, join_mark}
 use Rattle.mdblock.specs.held.Continuations.{begins_block, begins_item}
 use Rattle.mdblock.specs.held.LevelSteps.{BeginsBehind}
-use Rattle.mdblock.specs.held.HeldLevel.{IsShut, HoldsSummary, StandsFor, StandsForLast, HasGathered, GivesUnit, Fits, IsLazyRight, behind_over, found_between, is_shut}
+use Rattle.mdblock.specs.held.HeldLevel.{IsShut, HoldsSummary, StandsFor, StandsForLast, HasGathered, GivesUnit, Fits, IsLazyRight, behind_over, found_between, list_between, is_shut}
 use Rattle.mdblock.specs.held.HeldNodes.{handed_groups, handed_last, handed_nodes}
 use Rattle.mdblock.specs.held.LinesAdded.{ContinuesLast, ContinuesLevel, IsAdded, AddsLine, FollowsLine, SinksLine}
 use Rattle.mdblock.specs.held.ReaderState.{ReaderState, unit_so_far}
-use Rattle.mdblock.specs.held.Reads.{Reads, BeginsUnit, HandsOn, SinksBehind, handed, open_begin, last_of}
+use Rattle.mdblock.specs.held.Reads.{Reads, BeginsUnit, HandsOn, SinksBehind, handed, held_marks, mark_after, open_begin}
+use Rattle.mdblock.specs.held.Reads.{last_of}
 use Rattle.mdblock.specs.declared.gathering.Gathering.{Gathering}
 use Rattle.mdblock.specs.declared.open_blocks.Continuation.{Continuation}
 use Rattle.mdblock.specs.declared.open_blocks.Continuation.TheVariants as continuation
@@ -41,14 +44,10 @@ use Rattle.mdblock.specs.declared.readers.OpenUnit.{OpenUnit}
 use Rattle.mdblock.proofs.CloseLaws.{not_both}
 use Rattle.mdblock.proofs.ContinuationLaws.{shut_outside}
 use Rattle.mdblock.proofs.FitLaws.{first_sinks, sinks_is, begins_apart, held_lines_fit}
+use Rattle.mdblock.proofs.HeldMarks.{begin_held, begin_is, last_behind, lines_mapped, with_line, marks_read, joins_between}
 use Rattle.mdblock.proofs.LevelLines.{apart_sinks}
 
 -- ---- the last unit
-
-last_behind : (ns : List ℕ) (n : ℕ) → last_of (ns ++ n ∷ []) ≡ Some n
-last_behind [] n = refl
-last_behind (m ∷ []) n = refl
-last_behind (m ∷ k ∷ ns) n = last_behind (k ∷ ns) n
 
 -- one unit has all lines from its first one on
 only_unit : (gs : List Group) (n : ℕ) (v : FoundUnit) → found_units gs n ≡ v ∷ [] → v ≡ record { begin = v.begin; lines = n - v.begin; unit = unit_of (nodes_of gs) }
@@ -56,11 +55,6 @@ unfolding found_units nodes_of
 only_unit [] n v e = absurd (let x : ⊥ = cc in x)
 only_unit (g ∷ []) n v e = let s : record { begin = g.begin; lines = n - g.begin; unit = unit_of (nodes_of (g ∷ [])) } ≡ v = cc in subst (λ (z : FoundUnit). z ≡ record { begin = z.begin; lines = n - z.begin; unit = unit_of (nodes_of (g ∷ [])) }) s refl
 only_unit (g ∷ h ∷ gs) n v e = absurd (let x : ⊥ = cc in x)
-
--- the lines before what is held, if a unit is
-abbrev begin_held : ℕ → List ℕ → Option ℕ
-begin_held k [] = None
-begin_held k (n ∷ ns) = Some k
 
 -- all units, where one at most is held behind others
 abbrev WithLast : (f : ℕ → FoundUnit) → List FoundUnit → List FoundUnit
@@ -108,10 +102,6 @@ units_last_of e xs =
     ∙ with_last f (front_units e [] xs) U (front_lines [] xs) (held_one e xs) (held_behind e [] xs) (λ v is. held_is e xs v is (begin_zero U v is (held_one e xs)))
     ∙ ap (WithLast f) (sym all)
 
-lines_mapped : (ls : List (List ℕ)) → length (map document_line ls) ≡ length ls
-lines_mapped [] = refl
-lines_mapped (l ∷ ls) = ap suc (lines_mapped ls)
-
 -- What was handed out and the unit that is held are all.
 pub units_last : (e : EntityTable) (ls : List (List ℕ)) →
     units e ls ≡ handed e ls ++ option_to_list (option_map (found_between e (summary_of e (lines_held [] (map document_line ls))) (length ls)) (open_begin e ls))
@@ -125,22 +115,6 @@ units_last e ls =
     ∙ ap (WithLast (found_between e (summary_of e (lines_held [] xs)) (length ls))) (sym d)
 
 -- ---- one line more
-
--- where the unit that is held begins
-begin_is : (e : EntityTable) (xs : List BlockLine) → last_of (begins_in (units_of e xs)) ≡ begin_held (front_lines [] xs) (begins_in (units_of e (lines_held [] xs)))
-begin_is e xs = ap (λ z. last_of (begins_in z)) (front_and_held e [] xs) ∙ go (front_units e [] xs) (units_of e (lines_held [] xs)) (held_one e xs) (held_behind e [] xs)
-  where
-    k : ℕ
-    k = front_lines [] xs
-
-    go : (front us : List FoundUnit) → IsOne (begins_in us) → IsBehind front us → last_of (begins_in (front ++ map (shift_found k) us)) ≡ begin_held k (begins_in us)
-    go [] [] one behind = refl
-    go (u ∷ front) [] one behind = absurd behind
-    go front (v ∷ []) one behind =
-        let x = shift_found k v in
-        let at : x.begin ≡ k = omega (arith, one) in
-        ap last_of (map-append (λ (u : FoundUnit). u.begin) front (x ∷ [])) ∙ last_behind (begins_in front) x.begin ∙ ap (λ z. Some z) at
-    go front (v ∷ w ∷ us) one behind = absurd one
 
 begin_next : (e : EntityTable) (xs : List BlockLine) (l : BlockLine) →
     last_of (begins_in (units_of e (xs ++ l ∷ []))) ≡ (if begins_unit (lines_held [] xs) l then Some (length xs) else last_of (begins_in (units_of e xs)))
@@ -164,10 +138,6 @@ begin_next e xs l =
     go false b =
         ap (begin_held (front_lines [] xs)) (begins_next e H l ∙ ap (λ z. if z then begins_in (units_of e H) ++ length H ∷ [] else begins_in (units_of e H)) b)
         ∙ sym (begin_is e xs)
-
--- the lines with one more
-with_line : (ls : List (List ℕ)) (l : List ℕ) → map document_line (ls ++ l ∷ []) ≡ map document_line ls ++ document_line l ∷ []
-with_line ls l = map-append document_line ls (l ∷ [])
 
 open_next : (e : EntityTable) (ls : List (List ℕ)) (l : List ℕ) →
     open_begin e (ls ++ l ∷ []) ≡ (if begins_after (summary_of e (lines_held [] (map document_line ls))) (document_line l) then Some (length ls) else open_begin e ls)
@@ -228,11 +198,11 @@ stays_blank : (s : Summary) (l : BlockLine) → is_blank_line l ≡ true → beg
 unfolding begins_after
 stays_blank (summary before last b n) l blank = no_third (is_apart_after last l) (is_blank_line l) (same_mark (mark_of last) (list_mark (begun l))) blank
 
-stays_marked : (s : Summary) (l : BlockLine) → same_mark (mark_of (last_in s)) (list_mark (begun l)) ≡ true → begins_after s l ≡ false
+pub stays_marked : (s : Summary) (l : BlockLine) → same_mark (mark_of (last_in s)) (list_mark (begun l)) ≡ true → begins_after s l ≡ false
 unfolding begins_after
 stays_marked (summary before last b n) l same = no_second (is_apart_after last l) (is_blank_line l) (same_mark (mark_of last) (list_mark (begun l))) same
 
-no_lazy : (s : Summary) (l : BlockLine) → l.lazy ≡ false → IsLazyRight s l
+pub no_lazy : (s : Summary) (l : BlockLine) → l.lazy ≡ false → IsLazyRight s l
 no_lazy s l z = λ w. absurd (not_both l.lazy w z)
 
 -- a line that begins a unit begins no later item
@@ -259,7 +229,7 @@ blank_apart (summary before last b n) l blank = go (is_apart_after last l) (is_b
     go false true e = refl
     go x false e = absurd (not_both true refl (sym e))
 
-next_joins : (s : Summary) (l : BlockLine) → is_apart_after (last_in s) l ≡ true → is_blank_line l ≡ false → same_mark (mark_of (last_in s)) (list_mark (begun l)) ≡ true →
+pub next_joins : (s : Summary) (l : BlockLine) → is_apart_after (last_in s) l ≡ true → is_blank_line l ≡ false → same_mark (mark_of (last_in s)) (list_mark (begun l)) ≡ true →
     joins_after s l ≡ true
 unfolding joins_after
 next_joins (summary before last b n) l a blank same =
@@ -270,43 +240,63 @@ next_joins (summary before last b n) l a blank same =
 abbrev Begins : OpenUnit → BlockLine → Type 0
 Begins held l = (s : Summary) → HoldsSummary held s → begins_after s l ≡ true
 
-pub hands_new : (limit fed : ℕ) (old new : OpenUnit) (l : BlockLine) (found : Option FoundUnit) → BeginsUnit limit fed old l found new → Begins old l → HandsOn limit fed old l found new
+pub hands_new : (limit fed : ℕ) (old new : OpenUnit) (l : BlockLine) (found : Option FoundList) → BeginsUnit limit fed old l found new → Begins old l → HandsOn limit fed old l found new
 hands_new limit fed old new l found b begins s h fits =
     let t = begins s h in (
       apart_sinks limit s l (begins_apart s l t) ∙ b.2,
-      b.0 s h ∙ ap (λ z. if z then option_map (found_between old.gathering.entities.now s fed) old.begin else None) (sym t),
+      b.0 s h ∙ ap (λ z. if z then option_map (list_between old.gathering.entities.now s (held_marks old) fed) old.begin else None) (sym t),
       b.1 ∙ ap (λ z. if z then Some fed else old.begin) (sym t),
       subst (λ z. HoldsSummary new (line_added old.gathering.entities.now (suc limit) (read_behind z s) l)) (sym t) b.3,
       b.4 ∙ sym (begun_apart s l t),
+      subst (λ z. held_marks new ≡ marks_next z (joins_after s l) (held_marks old) (mark_after old.gathering.entities.now s (fed - unwrap_or old.begin 0))) (sym t) (ap (map join_mark) b.5),
     )
 
 pub sinks_new : (limit : ℕ) (old : OpenUnit) (l : BlockLine) → sinks limit no_summary l ≡ true → Begins old l → SinksBehind limit old l
 sinks_new limit old l w begins s h fits = apart_sinks limit s l (begins_apart s l (begins s h)) ∙ w
 
 -- what holds of the level, of the summary that is held
-abbrev OfLine : (limit : ℕ) → OpenUnit → BlockLine → OpenUnit → Type 0
-OfLine limit old l new =
+abbrev OfLine : (limit fed : ℕ) → OpenUnit → BlockLine → OpenUnit → Type 0
+OfLine limit fed old l new =
     (s : Summary) → HoldsSummary old s → Fits limit s →
     (begins_after s l ≡ false) × IsAdded old.gathering.entities.now limit false s [] [] l new.level new.gathering × (new.joined ≡ joins_after s l)
+    × (held_marks new ≡ marks_next false (joins_after s l) (held_marks old) (mark_after old.gathering.entities.now s (fed - unwrap_or old.begin 0)))
 
-goes_on_with : (limit fed : ℕ) (old new : OpenUnit) (l : BlockLine) → new.gathering.entities.now ≡ old.gathering.entities.now → new.begin ≡ old.begin → OfLine limit old l new → HandsOn limit fed old l None new
+pub goes_on_with : (limit fed : ℕ) (old new : OpenUnit) (l : BlockLine) → new.gathering.entities.now ≡ old.gathering.entities.now → new.begin ≡ old.begin → OfLine limit fed old l new → HandsOn limit fed old l None new
 goes_on_with limit fed old new l same begin f s h fits =
     let w = f s h fits in
     let t = w.0 in
     let e = old.gathering.entities.now in (
       w.1.0,
-      ap (λ z. if z then option_map (found_between e s fed) old.begin else None) (sym t),
+      ap (λ z. if z then option_map (list_between e s (held_marks old) fed) old.begin else None) (sym t),
       begin ∙ ap (λ z. if z then Some fed else old.begin) (sym t),
       subst (λ z. HoldsSummary new (line_added e (suc limit) (read_behind z s) l)) (sym t)
           (subst (λ z. HasGathered new.gathering [] [] (handed_nodes z false (line_added e (suc limit) s l)) × StandsFor z 0 false new.level (line_added e (suc limit) s l)) (sym same) (w.1.1, w.1.2)),
       w.2,
+      subst (λ z. held_marks new ≡ marks_next z (joins_after s l) (held_marks old) (mark_after e s (fed - unwrap_or old.begin 0))) (sym t) w.3,
     )
 
-pub follows_on : (limit fed : ℕ) (old new : OpenUnit) (l : BlockLine) → new.gathering.entities.now ≡ old.gathering.entities.now → new.begin ≡ old.begin → new.joined ≡ false → l.lazy ≡ false →
-    FollowsLine limit old.level old.gathering l new.level new.gathering → HandsOn limit fed old l None new
-follows_on limit fed old new l same begin apart z f =
+-- a line that begins no item leaves those that are marked
+abbrev NoItem : (limit : ℕ) → OpenUnit → BlockLine → OpenUnit → Type 0
+NoItem limit old l new =
+    (s : Summary) → HoldsSummary old s → Fits limit s →
+    (begins_after s l ≡ false) × IsAdded old.gathering.entities.now limit false s [] [] l new.level new.gathering × (joins_after s l ≡ false)
+
+no_item_on : (limit fed : ℕ) (old new : OpenUnit) (l : BlockLine) → new.gathering.entities.now ≡ old.gathering.entities.now → new.begin ≡ old.begin → new.joined ≡ false → new.joins ≡ old.joins →
+    NoItem limit old l new → HandsOn limit fed old l None new
+no_item_on limit fed old new l same begin apart joins f =
     goes_on_with limit fed old new l same begin
-    (λ s h fits. let w = f false s [] [] (h.0, h.1, no_lazy s l z, fits) in (stays_in s l w.0, w.1, apart ∙ sym (inside_apart s l w.0)))
+    (λ s h fits. let w = f s h fits in (
+      w.0,
+      w.1,
+      apart ∙ sym w.2,
+      ap (λ z. map join_mark z.items) joins ∙ ap (λ z. marks_next false z (held_marks old) (mark_after old.gathering.entities.now s (fed - unwrap_or old.begin 0))) (sym w.2),
+    ))
+
+pub follows_on : (limit fed : ℕ) (old new : OpenUnit) (l : BlockLine) → new.gathering.entities.now ≡ old.gathering.entities.now → new.begin ≡ old.begin → new.joined ≡ false → new.joins ≡ old.joins → l.lazy ≡ false →
+    FollowsLine limit old.level old.gathering l new.level new.gathering → HandsOn limit fed old l None new
+follows_on limit fed old new l same begin apart joins z f =
+    no_item_on limit fed old new l same begin apart joins
+    (λ s h fits. let w = f false s [] [] (h.0, h.1, no_lazy s l z, fits) in (stays_in s l w.0, w.1, inside_apart s l w.0))
 
 -- a line that begins no block outside of what is open begins no unit
 no_unit : (s : Summary) (l : BlockLine) (c : Continuation) → ContinuesLast (last_in s) l c → begins_block c l ≡ false → begins_after s l ≡ false
@@ -336,12 +326,12 @@ item_joins s l (continuation.Outside opening) w e = blank_apart s l (is_true (is
     is_true true e = refl
     is_true false e = absurd (not_both true refl e)
 
-pub adds_on : (limit fed : ℕ) (old new : OpenUnit) (l : BlockLine) (c : Continuation) → new.gathering.entities.now ≡ old.gathering.entities.now → new.begin ≡ old.begin → new.joined ≡ begins_item c → l.lazy ≡ false →
-    ContinuesLevel old.level l c → begins_block c l ≡ false → AddsLine limit old.level old.gathering l new.level new.gathering → HandsOn limit fed old l None new
-adds_on limit fed old new l c same begin next z continues stays f =
-    goes_on_with limit fed old new l same begin
+pub adds_on : (limit fed : ℕ) (old new : OpenUnit) (l : BlockLine) (c : Continuation) → new.gathering.entities.now ≡ old.gathering.entities.now → new.begin ≡ old.begin → new.joined ≡ false → new.joins ≡ old.joins → l.lazy ≡ false →
+    ContinuesLevel old.level l c → begins_block c l ≡ false → begins_item c ≡ false → AddsLine limit old.level old.gathering l new.level new.gathering → HandsOn limit fed old l None new
+adds_on limit fed old new l c same begin apart joins z continues stays none f =
+    no_item_on limit fed old new l same begin apart joins
     (λ s h fits. let w = continues old.gathering.entities.now 0 false s h.1 (no_lazy s l z) in
-    (no_unit s l c w stays, f false s [] [] (h.0, h.1, no_lazy s l z, fits), next ∙ sym (item_joins s l c w stays)))
+    (no_unit s l c w stays, f false s [] [] (h.0, h.1, no_lazy s l z, fits), item_joins s l c w stays ∙ none))
 
 pub sinks_on : (limit : ℕ) (old : OpenUnit) (l : BlockLine) → l.lazy ≡ false → SinksLine limit old.level old.gathering l → SinksBehind limit old l
 sinks_on limit old l z f s h fits = f false s [] [] (h.0, h.1, no_lazy s l z, fits)
@@ -378,10 +368,10 @@ unfolding is_apart_after sinks_at sinks_first start
 blank_floats limit l b = sinks_is limit [] nothing_yet false 0 l ∙ ap (λ z. sinks_first (first_sinks limit) (unwrap_or (start_where z Free [] l) Paragraph) l) b
 
 pub blank_on : (limit fed : ℕ) (old new : OpenUnit) (l : BlockLine) → is_shut old.level.last ≡ true → is_blank_line l ≡ true → l.lazy ≡ false →
-    new.level ≡ record old.level { blank = true } → new.gathering ≡ old.gathering → new.begin ≡ old.begin → new.joined ≡ false → HandsOn limit fed old l None new
+    new.level ≡ record old.level { blank = true } → new.gathering ≡ old.gathering → new.begin ≡ old.begin → new.joined ≡ false → new.joins ≡ old.joins → HandsOn limit fed old l None new
 unfolding line_added last_after begin_after ended_last handed_groups handed_last closed last_groups last_tip
-blank_on limit fed old new l shut b z level gathering begin apart =
-    goes_on_with limit fed old new l (ap (λ (g : Gathering). g.entities.now) gathering) begin (λ s h fits. (stays_blank s l b, added s h, apart ∙ sym (blank_apart s l b)))
+blank_on limit fed old new l shut b z level gathering begin apart joins =
+    no_item_on limit fed old new l (ap (λ (g : Gathering). g.entities.now) gathering) begin apart joins (λ s h fits. (stays_blank s l b, added s h, blank_apart s l b))
   where
     e : EntityTable
     e = old.gathering.entities.now
@@ -420,16 +410,16 @@ shut_of e at (open_block.Quote' p over last in_item begun blank spaced) st = abs
 shut_of e at (open_block.List' p over last in_item begun blank spaced list) st = absurd st
 
 -- A unit begins behind no lines, of which all blocks are over.
-pub begins_fresh : (limit fed : ℕ) (old held new : OpenUnit) (l : BlockLine) (found : Option FoundUnit) → GivesUnit old fed found → HoldsSummary held no_summary → new.begin ≡ Some fed → new.joined ≡ false →
+pub begins_fresh : (limit fed : ℕ) (old held new : OpenUnit) (l : BlockLine) (found : Option FoundList) → GivesUnit old fed found → HoldsSummary held no_summary → new.begin ≡ Some fed → new.joined ≡ false → new.joins.items ≡ [] →
     held.gathering.entities.now ≡ old.gathering.entities.now → new.gathering.entities.now ≡ held.gathering.entities.now →
     BeginsBehind limit held.level held.gathering l new.level new.gathering → sinks limit no_summary l ≡ false → BeginsUnit limit fed old l found new
 unfolding line_added last_after mark_of closed last_groups handed_groups handed_last
-begins_fresh limit fed old held new l found given h begin apart same still f floats =
+begins_fresh limit fed old held new l found given h begin apart none same still f floats =
     let mine = held.gathering.entities.now in
     let w = f false no_summary [] [] h.0 (h.1.0.0, h.1.0.1, h.1.0.2, h.1.0.3, h.1.0.4, shut_of mine _ held.level.last h.1.1, refl) (refl, λ _. refl) in
     let kept = subst (λ e. HasGathered new.gathering [] [] (handed_nodes e false (line_added mine (suc limit) no_summary l)) × StandsFor e 0 false new.level (line_added mine (suc limit) no_summary l))
     (sym still) (w.0, w.1) in
-    (given, begin, floats, subst (λ e. HoldsSummary new (line_added e (suc limit) no_summary l)) same kept, apart)
+    (given, begin, floats, subst (λ e. HoldsSummary new (line_added e (suc limit) no_summary l)) same kept, apart, none)
 
 -- what a line that follows nothing leaves as it was
 pub same_held : (old : OpenUnit) (level : Level) (gathering : Gathering) → level ≡ old.level → gathering ≡ old.gathering → record old { level = level; gathering = gathering } ≡ old
@@ -445,7 +435,7 @@ holds_of : (limit : ℕ) (e mine : EntityTable) (own fed : ℕ) (held : OpenUnit
     HoldsSummary held (summary_of e (lines_held [] (map document_line ls)))
 unfolding Reads
 holds_of limit e mine own fed held ls same r =
-    let h = r.4.2 in
+    let h = r.4.3 in
     subst (λ z. HasGathered held.gathering [] [] (handed_nodes z false (summary_of e (lines_held [] (map document_line ls)))) × StandsFor z 0 false held.level (summary_of e (lines_held [] (map document_line ls))))
     (sym (same ∙ r.0)) ((h.0, h.1), h.2)
 
@@ -454,7 +444,7 @@ too_deep_fits : (limit : ℕ) (e mine : EntityTable) (own fed : ℕ) (held : Ope
 unfolding Reads
 too_deep_fits limit e mine own fed held ls r = held_lines_fit e limit (map document_line ls) r.3
 
-pub reads_next : (limit : ℕ) (e mine : EntityTable) (own fed : ℕ) (held new : OpenUnit) (found : Option FoundUnit) (text : List ℕ) (ls : List (List ℕ)) →
+pub reads_next : (limit : ℕ) (e mine : EntityTable) (own fed : ℕ) (held new : OpenUnit) (found : Option FoundList) (text : List ℕ) (ls : List (List ℕ)) →
     held.gathering.entities.now ≡ mine → new.gathering.entities.now ≡ mine → HandsOn own fed held (document_line text) found new →
     Reads limit e (state_of mine own fed held) ls → Reads limit e (state_of mine own (fed + 1) new) (ls ++ text ∷ [])
 unfolding Reads
@@ -475,6 +465,7 @@ reads_next limit e mine own fed held new found text ls same still f r =
       (
         w.2 ∙ ap (λ z. if begins_after s l then Some z else held.begin) r.2 ∙ ap (λ z. if begins_after s l then Some (length ls) else z) r.4.0 ∙ sym (open_next e ls text),
         w.4 ∙ sym (joined_behind_held e ls text),
+        marks_read e ls text (held_marks held) (held_marks new) fed held.begin r.2 r.4.0 r.4.2 (subst (λ z. held_marks new ≡ marks_next (begins_after s l) (joins_after s l) (held_marks held) (mark_after z s (fed - unwrap_or held.begin 0))) there w.5),
         (kept.0.0, kept.0.1, kept.1),
       ),
     )
@@ -486,28 +477,59 @@ reads_next limit e mine own fed held new found text ls same still f r =
         ap (λ z. summary_of e (lines_held [] z)) (with_line ls text)
         ∙ held_summary_next e limit (map document_line ls) (document_line text) w (ap (deep_within limit) (sym (with_line ls text)) ∙ v)
 
-pub hands_next : (limit : ℕ) (e mine : EntityTable) (own fed : ℕ) (held new : OpenUnit) (found : Option FoundUnit) (text : List ℕ) (ls : List (List ℕ)) →
-    held.gathering.entities.now ≡ mine → HandsOn own fed held (document_line text) found new →
-    Reads limit e (state_of mine own fed held) ls → handed e (ls ++ text ∷ []) ≡ handed e ls ++ option_to_list found
+-- what is handed out with a line
+given_next : (limit : ℕ) (e mine : EntityTable) (own fed : ℕ) (held new : OpenUnit) (found : Option FoundList) (text : List ℕ) (ls : List (List ℕ)) →
+    held.gathering.entities.now ≡ mine → HandsOn own fed held (document_line text) found new → Reads limit e (state_of mine own fed held) ls →
+    found ≡ (let s = summary_of e (lines_held [] (map document_line ls)) in
+    if begins_after s (document_line text) then option_map (list_between e s (held_marks held) (length ls)) (open_begin e ls) else None)
 unfolding Reads
-hands_next limit e mine own fed held new found text ls same f r =
+given_next limit e mine own fed held new found text ls same f r =
     let s = summary_of e (lines_held [] (map document_line ls)) in
     let l = document_line text in
     let w = subst (λ z. HandsOn z fed held l found new) r.1 f s (holds_of limit e mine own fed held ls same r) (too_deep_fits limit e mine own fed held ls r) in
-    let given : found ≡ (if begins_after s l then option_map (found_between e s (length ls)) (open_begin e ls) else None) =
+    let marks = held_marks held in
     w.1
-    ∙ ap (λ z. if begins_after s l then option_map (found_between z s fed) held.begin else None) (same ∙ r.0)
-    ∙ ap (λ z. if begins_after s l then option_map (found_between e s z) held.begin else None) r.2
-    ∙ ap (λ z. if begins_after s l then option_map (found_between e s (length ls)) z else None) r.4.0 in
+    ∙ ap (λ z. if begins_after s l then option_map (list_between z s marks fed) held.begin else None) (same ∙ r.0)
+    ∙ ap (λ z. if begins_after s l then option_map (list_between e s marks z) held.begin else None) r.2
+    ∙ ap (λ z. if begins_after s l then option_map (list_between e s marks (length ls)) z else None) r.4.0
+
+-- a unit without its later items
+unit_between : (e : EntityTable) (s : Summary) (marks : List ItemMark) (n : ℕ) (begin : Option ℕ) → option_map found_unit (option_map (list_between e s marks n) begin) ≡ option_map (found_between e s n) begin
+unit_between e s marks n None = refl
+unit_between e s marks n (Some k) = refl
+
+pub hands_next : (limit : ℕ) (e mine : EntityTable) (own fed : ℕ) (held new : OpenUnit) (found : Option FoundList) (text : List ℕ) (ls : List (List ℕ)) →
+    held.gathering.entities.now ≡ mine → HandsOn own fed held (document_line text) found new →
+    Reads limit e (state_of mine own fed held) ls → handed e (ls ++ text ∷ []) ≡ handed e ls ++ option_to_list (option_map found_unit found)
+hands_next limit e mine own fed held new found text ls same f r =
+    let s = summary_of e (lines_held [] (map document_line ls)) in
+    let l = document_line text in
+    let given = given_next limit e mine own fed held new found text ls same f r in
     handed_next e ls text
     ∙ go (begins_after s l)
-    ∙ ap (λ z. handed e ls ++ option_to_list z) (sym given)
+    ∙ ap (λ z. handed e ls ++ option_to_list (option_map found_unit z)) (sym given)
   where
+    S : Summary
+    S = summary_of e (lines_held [] (map document_line ls))
+
     go : (b : Bool) →
         (if b then units e ls else handed e ls)
-        ≡ handed e ls ++ option_to_list (if b then option_map (found_between e (summary_of e (lines_held [] (map document_line ls))) (length ls)) (open_begin e ls) else None)
-    go true = units_last e ls
+        ≡ handed e ls ++ option_to_list (option_map found_unit (if b then option_map (list_between e S (held_marks held) (length ls)) (open_begin e ls) else None))
+    go true = units_last e ls ∙ ap (λ z. handed e ls ++ option_to_list z) (sym (unit_between e S (held_marks held) (length ls) (open_begin e ls)))
     go false = sym (append-nil (handed e ls))
+
+pub joins_next : (limit : ℕ) (e mine : EntityTable) (own fed : ℕ) (held new : OpenUnit) (found : Option FoundList) (text : List ℕ) (ls : List (List ℕ)) →
+    held.gathering.entities.now ≡ mine → HandsOn own fed held (document_line text) found new → Reads limit e (state_of mine own fed held) ls → IfSome found (AreJoinsOf e ls)
+unfolding Reads
+joins_next limit e mine own fed held new found text ls same f r =
+    let s = summary_of e (lines_held [] (map document_line ls)) in
+    subst (λ z. IfSome z (AreJoinsOf e ls)) (sym (given_next limit e mine own fed held new found text ls same f r))
+    (go (begins_after s (document_line text)) (joins_between e ls s (held_marks held) (length ls) r.4.2))
+  where
+    go : (b : Bool) → IfSome (option_map (list_between e (summary_of e (lines_held [] (map document_line ls))) (held_marks held) (length ls)) (open_begin e ls)) (AreJoinsOf e ls) →
+        IfSome (if b then option_map (list_between e (summary_of e (lines_held [] (map document_line ls))) (held_marks held) (length ls)) (open_begin e ls) else None) (AreJoinsOf e ls)
+    go true w = w
+    go false w = tt
 
 pub deep_next : (limit : ℕ) (e mine : EntityTable) (own fed : ℕ) (held : OpenUnit) (text : List ℕ) (ls : List (List ℕ)) →
     held.gathering.entities.now ≡ mine → SinksBehind own held (document_line text) →
@@ -519,14 +541,29 @@ deep_next limit e mine own fed held text ls same f r =
     ∙ ap (λ z. if z then Some (length ls) else None)
     (subst (λ z. SinksBehind z held (document_line text)) r.1 f s (holds_of limit e mine own fed held ls same r) (too_deep_fits limit e mine own fed held ls r))
 
-pub finish_hands : (limit : ℕ) (e mine : EntityTable) (own fed : ℕ) (held : OpenUnit) (found : Option FoundUnit) (ls : List (List ℕ)) →
-    held.gathering.entities.now ≡ mine → GivesUnit held fed found → Reads limit e (state_of mine own fed held) ls → units e ls ≡ handed e ls ++ option_to_list found
+given_last : (limit : ℕ) (e mine : EntityTable) (own fed : ℕ) (held : OpenUnit) (found : Option FoundList) (ls : List (List ℕ)) →
+    held.gathering.entities.now ≡ mine → GivesUnit held fed found → Reads limit e (state_of mine own fed held) ls →
+    found ≡ option_map (list_between e (summary_of e (lines_held [] (map document_line ls))) (held_marks held) (length ls)) (open_begin e ls)
 unfolding Reads
+given_last limit e mine own fed held found ls same gives r =
+    let s = summary_of e (lines_held [] (map document_line ls)) in
+    let marks = held_marks held in
+    gives s (holds_of limit e mine own fed held ls same r)
+    ∙ ap (λ z. option_map (list_between z s marks fed) held.begin) (same ∙ r.0)
+    ∙ ap (λ z. option_map (list_between e s marks z) held.begin) r.2
+    ∙ ap (λ z. option_map (list_between e s marks (length ls)) z) r.4.0
+
+pub finish_hands : (limit : ℕ) (e mine : EntityTable) (own fed : ℕ) (held : OpenUnit) (found : Option FoundList) (ls : List (List ℕ)) →
+    held.gathering.entities.now ≡ mine → GivesUnit held fed found → Reads limit e (state_of mine own fed held) ls → units e ls ≡ handed e ls ++ option_to_list (option_map found_unit found)
 finish_hands limit e mine own fed held found ls same gives r =
     let s = summary_of e (lines_held [] (map document_line ls)) in
-    let there = same ∙ r.0 in
     units_last e ls
-    ∙ ap (λ z. handed e ls ++ option_to_list (option_map (found_between z s (length ls)) (open_begin e ls))) (sym there)
-    ∙ ap (λ z. handed e ls ++ option_to_list (option_map (found_between held.gathering.entities.now s z) (open_begin e ls))) (sym r.2)
-    ∙ ap (λ z. handed e ls ++ option_to_list (option_map (found_between held.gathering.entities.now s fed) z)) (sym r.4.0)
-    ∙ ap (λ z. handed e ls ++ option_to_list z) (sym (gives s (holds_of limit e mine own fed held ls same r)))
+    ∙ ap (λ z. handed e ls ++ option_to_list z) (sym (unit_between e s (held_marks held) (length ls) (open_begin e ls)))
+    ∙ ap (λ z. handed e ls ++ option_to_list (option_map found_unit z)) (sym (given_last limit e mine own fed held found ls same gives r))
+
+pub finish_joins : (limit : ℕ) (e mine : EntityTable) (own fed : ℕ) (held : OpenUnit) (found : Option FoundList) (ls : List (List ℕ)) →
+    held.gathering.entities.now ≡ mine → GivesUnit held fed found → Reads limit e (state_of mine own fed held) ls → IfSome found (AreJoinsOf e ls)
+unfolding Reads
+finish_joins limit e mine own fed held found ls same gives r =
+    subst (λ z. IfSome z (AreJoinsOf e ls)) (sym (given_last limit e mine own fed held found ls same gives r))
+    (joins_between e ls (summary_of e (lines_held [] (map document_line ls))) (held_marks held) (length ls) r.4.2)

@@ -6,6 +6,7 @@ use Rattle.blockspec.specs.Stretches.{cut_from, all_of}
 use Rattle.blockspec.specs.ListGroups.{grouped}
 use Rattle.blockspec.specs.LineSummary.{no_summary}
 use Rattle.blockspec.specs.UnitReader.{lines_held}
+use Rattle.itemspec.specs.ItemMarks.{list_marks}
 use Rattle.itemspec.specs.Joins.{is_joined}
 use Rattle.itemspec.specs.ListItems.{tops_of}
 use Rattle.mdblock.specs.held.ReaderState.{UnitSoFar, ReaderState, held_begin, held_joined}
@@ -21,11 +22,15 @@ joined_none : (e : EntityTable) → false ≡ is_joined e []
 unfolding cut_from all_of tops_of
 joined_none e = refl
 
-pub reads_none : (limit : ℕ) (e : EntityTable) (held : UnitSoFar) → held.begin ≡ None → held.joined ≡ false → StandsForHeld e held no_summary →
+marks_none : (e : EntityTable) → [] ≡ list_marks e []
+unfolding cut_from all_of tops_of
+marks_none e = refl
+
+pub reads_none : (limit : ℕ) (e : EntityTable) (held : UnitSoFar) → held.begin ≡ None → held.joined ≡ false → held.marks ≡ [] → StandsForHeld e held no_summary →
     Reads limit e (record { entities = e; limit = limit; fed = 0; held = Some held }) []
 unfolding Reads lines_held
-reads_none limit e held b j s =
-    (refl, refl, refl, none_deep limit, (b ∙ begin_none e, j ∙ joined_none e, subst (StandsForHeld e held) (sym (summary_none e)) s))
+reads_none limit e held b j m s =
+    (refl, refl, refl, none_deep limit, (b ∙ begin_none e, j ∙ joined_none e, m ∙ marks_none e, subst (StandsForHeld e held) (sym (summary_none e)) s))
 
 pub reads_begin : (limit : ℕ) (e : EntityTable) (reading : ReaderState) (ls : List (List ℕ)) → Reads limit e reading ls → held_begin reading.held ≡ open_begin e ls
 unfolding Reads

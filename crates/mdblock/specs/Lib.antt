@@ -1,4 +1,5 @@
 pub mod BlockView
+pub mod FoundLists
 pub mod Positions
 pub mod held
 pub use Rattle.mdleaf.specs.LinkDefinition

@@ -2,6 +2,7 @@
 pub mod ClosedViews
 pub mod ContainerContinuations
 pub mod Continuations
+pub mod EndedItems
 pub mod HandedIn
 pub mod HeldLevel
 pub mod HeldNodes

@@ -85,6 +85,20 @@ impl<'e> Gathering<'e> {
         text.replace_range(..leading.rest, "")
     }
 
+    /// How many texts were taken in. Takes no memory.
+    pub(crate) fn texts_len(&self) -> usize
+        ensures { result ≡ length self.now.texts.items }
+    {
+        self.texts.len()
+    }
+
+    /// How many definitions were taken in. Takes no memory.
+    pub(crate) fn definitions_len(&self) -> usize
+        ensures { result ≡ length self.now.definitions.items }
+    {
+        self.definitions.len()
+    }
+
     /// The definitions and the texts.
     pub(crate) fn parts(self) -> (Vec<Definition>, Vec<String>)
         ensures definitions { result.0 ≡ self.entry.definitions }

@@ -18,7 +18,7 @@ pub use faults::BlockFault;
 pub use mdleaf::Definition;
 pub use mdscan::Align;
 pub use readers::Reader;
-pub use units::{Found, Unit};
+pub use units::{Found, Join, Unit};
 
 #[cfg(test)]
 mod tests;

@@ -9,6 +9,7 @@ ghost use Rattle.mdblock.specs.held.HeldLevel.{StandsFor, ClosesAll, EndsIn, is_
 ghost use Rattle.blockspec.specs.LineSummary.{no_summary};
 ghost use Rattle.mdtext.specs.EntityTable.{EntityTable};
 ghost use Rattle.mdblock.specs.held.Continuations.{IsBeginningOf, IsContinuationOf, ContinuesOpen};
+ghost use Rattle.mdblock.specs.held.EndedItems.{EndsLastItem, KeepsNext};
 ghost use Rattle.mdblock.specs.held.LevelSteps.{GrowsLeaf, IsOpenLeaf, AddsButBlank, EndsAll, IsAllOver, IsEmpty, IsInside, IsVerbatim, MarksBlank};
 ghost use Rattle.mdblock.specs.held.LinesAdded.{AddsLine, ContinuesLevel, FollowsLine, IsUnfollowed, SinksLine};
 ghost use Rattle.mdblock.specs.held.OpenPositions.{LevelIn};
@@ -22,7 +23,7 @@ use crate::block_starts::{BlockStart, beginning};
 use crate::blocks::Block;
 use crate::closed_blocks::{with_found, with_item, with_list, with_quote};
 use crate::container::block_quotes;
-use crate::container::list_items::{Entry, enter_item};
+use crate::container::list_items::{Entry, end_item, enter_item};
 use crate::container::lists::OpenList;
 use crate::faults::BlockFault;
 use crate::gathering::Gathering;
@@ -191,6 +192,23 @@ impl Level {
             spaced,
         };
         Ok(())
+    }
+
+    #[tactic(auto, using(crate::proofs::Within::growing))]
+    /// Ends the item that is open in a list which stands last.
+    pub(crate) fn end_item(&mut self, gathering: &mut Gathering) -> Result<(), AllocError>
+        requires { LevelIn (length gathering.old.texts.items) self.old }
+        ensures within { OnOk result (LevelIn (length gathering.new.texts.items) self.new) }
+        ensures entities { gathering.new.entities.now ≡ gathering.old.entities.now }
+        ensures ends { OnOk result (EndsLastItem self.old gathering.old self.new gathering.new) }
+        ensures keeps { OnOk result (KeepsNext self.old self.new) }
+    {
+        match &mut self.last {
+            OpenBlock::Shut => Ok(()),
+            OpenBlock::Leaf(_) => Ok(()),
+            OpenBlock::Quote(_) => Ok(()),
+            OpenBlock::List(inner, list) => end_item(inner, list, gathering),
+        }
     }
 
     /// Reads one line more, where at most `room` containers may be open inside one another.

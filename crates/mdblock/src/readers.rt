@@ -1,14 +1,17 @@
 //! The reading of a text line by line, and the handing out of its units.
 
-ghost use Rattle.std.specs.Prelude.{List, [], ℕ, ◌≡◌, ◌+◌, ◌*◌, ◌^◌, ◌<◌, ◌≤◌, false, true, None, Some, IfErr, IfOk, OnOk, OnErr, IsErrOf, ◌∷◌, ◌++◌, is_some, length};
-ghost use Rattle.std.specs.Option.{option_to_list};
+ghost use Rattle.std.specs.Prelude.{List, [], ℕ, ◌≡◌, ◌+◌, ◌-◌, ◌*◌, ◌^◌, ◌<◌, ◌≤◌, false, true, None, Some, IfErr, IfOk, IfSome, OnOk, OnErr, IsErrOf, ◌∷◌, ◌++◌, is_some, length, unwrap_or};
+ghost use Rattle.std.specs.Option.{option_map, option_to_list};
 ghost use Rattle.mdtext.specs.Counted.{counted};
 ghost use Rattle.mdblock.specs.declared.faults.BlockFault.TheVariants.{Failed, NestedTooDeep};
 ghost use Rattle.blockspec.specs.BlockLine.{document_line};
 ghost use Rattle.blockspec.specs.BlockUnits.{units};
 ghost use Rattle.blockspec.specs.Nesting.{first_too_deep};
 ghost use Rattle.blockspec.specs.SummaryDepth.{sinks};
-ghost use Rattle.mdblock.specs.held.Continuations.{IsBeginningOf};
+ghost use Rattle.mdblock.specs.FoundLists.{AreJoinsOf, found_unit, join_mark};
+ghost use Rattle.mdblock.specs.held.Continuations.{IsBeginningOf, IsContinuationOf, ContinuesOpen, begins_item};
+ghost use Rattle.mdblock.specs.held.EndedItems.{IsNextIn};
+ghost use Rattle.mdblock.specs.held.LinesAdded.{ContinuesLevel};
 ghost use Rattle.mdblock.specs.held.HeldLevel.{HoldsSummary, GivesUnit};
 ghost use Rattle.blockspec.specs.LineSummary.{no_summary};
 ghost use Rattle.itemspec.specs.Joins.{is_joined};
@@ -20,8 +23,8 @@ use crate::block_starts::{BlockStart, beginning};
 use crate::faults::BlockFault;
 use crate::gathering::Gathering;
 use crate::lines::Line;
-use crate::open_blocks::Level;
-use crate::units::Found;
+use crate::open_blocks::{Continuation, Level};
+use crate::units::{Found, Join};
 use mdtext::{Count, Entities};
 use std::alloc::{AllocError, Global};
 use std::marker::Model;
@@ -33,7 +36,9 @@ struct OpenUnit<'e> {
     level: Level,
     gathering: Gathering<'e>,
     begin: Option<usize>,
-    /// Whether the last line began an item of the unit that is not its first one.
+    /// The items of the unit but its first one.
+    joins: Vec<Join>,
+    /// Whether the last line began one of them.
     joined: bool,
 }
 
@@ -57,7 +62,9 @@ impl<'e> Model for Reader<'e> {
     ghost use Rattle.std.specs.Coded.{codes};
     ghost use Rattle.mdleaf.specs.LinkDefinition.{definition_code};
 
-    ghost coded = { Prim.hlevel (codes, level.the_row.coded, definition_code) };
+    ghost use Rattle.mdblock.specs.FoundLists.{mark_code};
+
+    ghost coded = { Prim.hlevel (codes, level.the_row.coded, definition_code, mark_code) };
 
     ghost view = { λ r. record { entities = r.entities.now; limit = r.limit; fed = r.fed; held = option_map unit_so_far r.held } };
 
@@ -96,7 +103,8 @@ impl<'e> Reader<'e> {
         ensures failed_before { IsErrOf result Failed → self.old.held ≡ None }
         ensures reads { OnOk result ((limit : ℕ) (e : EntityTable) (ls : List (List ℕ)) → Reads limit e self.old ls → Reads limit e self.new (ls ++ text.now ∷ [])) }
         ensures hands { IfOk result (λ found. (limit : ℕ) (e : EntityTable) (ls : List (List ℕ)) → Reads limit e self.old ls
-            → handed e (ls ++ text.now ∷ []) ≡ handed e ls ++ option_to_list found) }
+            → handed e (ls ++ text.now ∷ []) ≡ handed e ls ++ option_to_list (option_map found_unit found)) }
+        ensures joins { IfOk result (λ found. (limit : ℕ) (e : EntityTable) (ls : List (List ℕ)) → Reads limit e self.old ls → IfSome found (AreJoinsOf e ls)) }
         ensures deep { IsErrOf result NestedTooDeep → (limit : ℕ) (e : EntityTable) (ls : List (List ℕ)) → Reads limit e self.old ls
             → first_too_deep limit (ls ++ text.now ∷ []) ≡ Some (length ls) }
         ensures lines { C.lines count.new ≡ counted (C.lines count.old) }
@@ -127,7 +135,8 @@ impl<'e> Reader<'e> {
         ensures failed { self.entry.held ≡ None → IsErrOf result Failed }
         ensures failed_before { IsErrOf result Failed → self.entry.held ≡ None }
         ensures hands { IfOk result (λ found. (limit : ℕ) (e : EntityTable) (ls : List (List ℕ)) → Reads limit e self.entry ls
-            → units e ls ≡ handed e ls ++ option_to_list found) }
+            → units e ls ≡ handed e ls ++ option_to_list (option_map found_unit found)) }
+        ensures joins { IfOk result (λ found. (limit : ℕ) (e : EntityTable) (ls : List (List ℕ)) → Reads limit e self.entry ls → IfSome found (AreJoinsOf e ls)) }
     {
         let fed = self.fed;
         match self.held {
@@ -174,12 +183,14 @@ impl<'e> OpenUnit<'e> {
         ensures kept { AreKept result }
         ensures begin { result.begin ≡ begin }
         ensures joined { result.joined ≡ false }
+        ensures joins { result.joins.items ≡ [] }
         ensures entities { result.gathering.entities.now ≡ entities.now }
     {
         OpenUnit {
             level: Level::new(alloc, false),
             gathering: Gathering::new(alloc, entities),
             begin,
+            joins: Vec::new(alloc),
             joined: false,
         }
     }
@@ -213,10 +224,59 @@ impl<'e> OpenUnit<'e> {
         if continuation.begins_block(&line) {
             return self.begin_unit(&mut line, continuation.opening(), fed, limit);
         }
+        if continuation.begins_item() {
+            self.next_item(&mut line, continuation, fed, limit)?;
+            return Ok(None);
+        }
         self.level
             .add(&mut line, continuation, limit, &mut self.gathering)?;
-        self.joined = continuation.begins_item();
+        self.joined = false;
         Ok(None)
+    }
+
+    /// Reads the first line of the next item of the unit, behind all that the items before it give.
+    fn next_item(
+        &mut self,
+        line: &mut Line,
+        continuation: Continuation,
+        fed: usize,
+        limit: usize,
+    ) -> Result<(), BlockFault>
+        requires kept { AreKept self.old }
+        requires continuation { IsContinuationOf line.old continuation }
+        requires step { ContinuesOpen self.old.level.last line.old continuation }
+        requires last { ContinuesLevel self.old.level line.old continuation }
+        requires next { IsNextIn self.old.level.last line.old continuation }
+        requires item { begins_item continuation ≡ true }
+        requires whole { line.old.lazy ≡ false }
+        ensures kept { OnOk result (AreKept self.new) }
+        ensures entities { OnOk result (self.new.gathering.entities.now ≡ self.old.gathering.entities.now) }
+        ensures next { OnOk result (HandsOn limit fed self.old line.old None self.new) }
+        ensures deep { IsErrOf result NestedTooDeep → SinksBehind limit self.old line.old }
+        ensures fault { IfErr result (λ fault. fault ≡ Failed → ⊥) }
+    {
+        self.level.end_item(&mut self.gathering)?;
+        let join = self.join_after(fed);
+        self.joins.push(join)?;
+        self.level
+            .add(line, continuation, limit, &mut self.gathering)?;
+        self.joined = true;
+        Ok(())
+    }
+
+    /// An item that begins after `fed` lines, where the items before it are over.
+    fn join_after(&self, fed: usize) -> Join
+        ensures { join_mark result ≡ record {
+          line = fed - unwrap_or self.now.begin 0;
+          texts = length self.now.gathering.texts.items;
+          definitions = length self.now.gathering.definitions.items;
+        } }
+    {
+        Join {
+            line: fed.saturating_sub(self.begin.unwrap_or(0)),
+            texts: self.gathering.texts_len(),
+            definitions: self.gathering.definitions_len(),
+        }
     }
 
     /// Reads the first line of the next unit, and takes out the one before it.
@@ -248,6 +308,7 @@ impl<'e> OpenUnit<'e> {
         ensures empty { OnOk result (HoldsSummary self.new no_summary) }
         ensures begin { OnOk result (self.new.begin ≡ Some fed) }
         ensures joined { OnOk result (self.new.joined ≡ false) }
+        ensures joins { OnOk result (self.new.joins.items ≡ []) }
         ensures entities { OnOk result (self.new.gathering.entities.now ≡ self.old.gathering.entities.now) }
     {
         let next = OpenUnit::new(self.gathering.alloc(), self.gathering.entities(), Some(fed));
@@ -270,6 +331,7 @@ impl<'e> OpenUnit<'e> {
                 blocks,
                 definitions,
                 texts,
+                self.joins,
             ))),
         }
     }

@@ -395,6 +395,58 @@ fn later_items_are_told(rt: HostRuntime) -> Result<(), Fail> {
     Ok(())
 }
 
+/// The later items of each unit of a text, as the number of its lines before each and that of the inline texts; units are parted by `|`.
+fn joins(alloc: Global, text: &str) -> Result<String, AllocError> {
+    let entities = Entities::builtin(alloc)?;
+    let mut reader = Reader::new(alloc, &entities, LIMIT);
+    let mut count = Tally::new();
+    let mut out = String::new(alloc);
+    for line in text.lines() {
+        if reader.fed() == usize::MAX || line.len() > usize::MAX / 4 {
+            return Ok(out);
+        }
+        if let Ok(Some(found)) = reader.line(line, &mut count) {
+            show_joins(&found, &mut out)?;
+        }
+    }
+    if let Ok(Some(found)) = reader.finish() {
+        show_joins(&found, &mut out)?;
+    }
+    Ok(out)
+}
+
+fn show_joins(found: &Found, out: &mut String) -> Result<(), AllocError> {
+    for join in found.joins() {
+        write!(out, "{}/{} ", join.line, join.texts)?;
+    }
+    out.push_str("|")
+}
+
+#[test]
+fn units_have_their_later_items(rt: HostRuntime) -> Result<(), Fail> {
+    let a = rt.alloc();
+    for (text, want) in [
+        ("- a\n- b\n* c\n* d", "1/1 |1/1 |"),
+        (
+            "# h\n\nx\n\n3. a\n9. b\n\n2. c\n\ny\n1) z",
+            "||1/1 3/2 |||",
+        ),
+        (
+            "- a\n\n  b\n- | c | d |\n  | - | - |\n- e",
+            "3/2 5/4 |",
+        ),
+        ("-\n- ```\n  x\n  ```\n- [a]: /u\n- b", "1/0 4/0 5/0 |"),
+        (
+            "- a\n  - b\n  - c\n- > d\n  > - e\n- f",
+            "3/3 5/5 |",
+        ),
+        ("> - a\n> - b\n\n- c\nlazy\n- d", "|2/1 |"),
+    ] {
+        assert_eq!(rt; joins(a, text)?.as_str(), want);
+    }
+    Ok(())
+}
+
 fn reason<E: Error>(alloc: Global, fault: &E) -> Result<String, AllocError> {
     format!(in alloc; "{fault}")
 }

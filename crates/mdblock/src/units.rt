@@ -3,6 +3,7 @@
 ghost use Rattle.std.specs.Prelude.{◌≡◌, length, map, string_bytes};
 ghost use Rattle.mdleaf.specs.LinkDefinition.{definition_of};
 ghost use Rattle.mdblock.specs.BlockView.{blocks_view};
+ghost use Rattle.mdblock.specs.FoundLists.{join_mark};
 ghost use Rattle.mdblock.specs.Positions.{BlocksIn};
 
 use crate::blocks::Block;
@@ -63,32 +64,46 @@ impl Unit {
     }
 }
 
+/// A later item of a unit that is a list: the list may be parted before it.
+#[derive(Clone, Copy, Debug, PartialEq, Eq)]
+pub struct Join {
+    /// How many lines of the unit stand before it.
+    pub line: usize,
+    /// How many inline texts the items before it give.
+    pub texts: usize,
+    /// How many definitions they give.
+    pub(crate) definitions: usize,
+}
+
 /// A unit where it was found. Only this crate makes one.
 #[derive(Debug, Drop)]
 pub struct Found {
     begin: usize,
     lines: usize,
     unit: Unit,
+    joins: Vec<Join>,
 }
 
 impl Model for Found {
-    ghost use Rattle.blockspec.specs.UnitTree.{FoundUnit, found_code};
+    ghost use Rattle.std.specs.Prelude.{map};
+    ghost use Rattle.mdblock.specs.FoundLists.{FoundList, list_code, join_mark};
 
-    ghost Value = { FoundUnit };
+    ghost Value = { FoundList };
 
-    ghost coded = { found_code };
+    ghost coded = { list_code };
 
-    ghost view = { λ f. record { begin = f.begin; lines = f.lines; unit = f.unit } };
+    ghost view = { λ f. record { begin = f.begin; lines = f.lines; unit = f.unit; marks = map join_mark f.joins.items } };
 }
 
 impl Found {
-    /// A unit, with where its first line stands and how many lines it has.
+    /// A unit, with where its first line stands, how many lines it has, and the later items of a list.
     pub(crate) fn new(
         begin: usize,
         lines: usize,
         blocks: Vec<Block>,
         definitions: Vec<Definition>,
         texts: Vec<String>,
+        joins: Vec<Join>,
     ) -> Found
         requires { BlocksIn (length texts.items) (blocks_view blocks.items) }
         ensures { result ≡ record {
@@ -99,6 +114,7 @@ impl Found {
             definitions = map definition_of definitions.items;
             texts = map string_bytes texts.items;
           };
+          marks = map join_mark joins.items;
         } }
     {
         Found {
@@ -109,6 +125,7 @@ impl Found {
                 definitions,
                 texts,
             },
+            joins,
         }
     }
 
@@ -131,6 +148,13 @@ impl Found {
         ensures { result.now ≡ self.now.unit }
     {
         &self.unit
+    }
+
+    /// The later items of a unit that is a list, in document order; none of any other. Takes no memory.
+    pub fn joins(&self) -> &[Join]
+        ensures { map join_mark result.now ≡ self.now.marks }
+    {
+        &self.joins
     }
 }
 
@@ -159,6 +183,12 @@ mod tests {
         })?;
         let mut texts = Vec::new(alloc);
         texts.push(String::from_str(alloc, "t")?)?;
+        let mut joins = Vec::new(alloc);
+        joins.push(Join {
+            line: 1,
+            texts: 2,
+            definitions: 0,
+        })?;
         let found = Found {
             begin: 3,
             lines: 2,
@@ -167,6 +197,7 @@ mod tests {
                 definitions,
                 texts,
             },
+            joins,
         };
         assert_eq!(rt; found.begin(), 3);
         assert_eq!(rt; found.lines(), 2);
@@ -175,6 +206,9 @@ mod tests {
         assert_eq!(rt; found.unit().definitions()[0].label.as_str(), "a");
         assert_eq!(rt; found.unit().texts().len(), 1);
         assert_eq!(rt; found.unit().texts()[0].as_str(), "t");
+        assert_eq!(rt; found.joins().len(), 1);
+        assert_eq!(rt; found.joins()[0].line, 1);
+        assert_eq!(rt; found.joins()[0].texts, 2);
         Ok(())
     }
 }

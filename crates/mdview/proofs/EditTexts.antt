@@ -34,6 +34,7 @@ use Rattle.viewlaws.proofs.LabelsLead.{units_lead}
 use Rattle.viewlaws.proofs.ReadingsUnder.{all_under, asking_texts_under, asking_units_under, deep_found_under, deep_from_under}
 use Rattle.viewlaws.proofs.Splices.{MeetsBehind, from_above, meets_behind}
 use Rattle.viewlaws.proofs.UnitTiles.{units_end}
+use Rattle.mdblock.specs.FoundLists.{found_unit}
 use Rattle.mdview.specs.declared.fault.EditFault.{EditFault}
 use Rattle.mdview.specs.declared.fault.EditFault.TheVariants.{OutOfRange, BreakInLine, TooManyLines, TooLarge, NestedTooDeep, InlineTooDeep, NoMemory, NotDefinitions}
 use Rattle.mdview.specs.declared.new_text.NewText.{NewText}
@@ -176,7 +177,7 @@ module _ (setting : Setting) (text : NewText) (prelude : HeldPrelude) (was : ℕ
   s : IsSpliced e (old_lines text) (new_lines text) p
   s = spliced e (old_lines text) (new_lines text) p (is_edit e text)
 
-  found_is : reparsed.found.items ≡ stretch
+  found_is : map found_unit reparsed.found.items ≡ stretch
   found_is = r.found ∙ ap (λ n. units e (drop n (take reparsed.meet (new_lines text)))) r.from ∙ ap (λ n. units e (drop (from_line p) (take n (new_lines text)))) r.meet
 
   from_front : {A : Type 0} (xs : List A) → between 0 reparsed.first xs ≡ take (units_before p) xs
@@ -198,12 +199,12 @@ module _ (setting : Setting) (text : NewText) (prelude : HeldPrelude) (was : ℕ
   back_tiles = ap (map held_tile) (to_end held) ∙ sym (drop-map held_tile (units_before p + units_removed p) held) ∙ ap (drop (units_before p + units_removed p)) (tiles_are e (old_lines text) was held w)
 
   -- the trees behind the edit
-  pub new_trees : ((take reparsed.first (map unit_in held) ++ trees_in reparsed.found.items) ++ drop reparsed.next (map unit_in held)) ≡ trees_in (units e (new_lines text))
+  pub new_trees : ((take reparsed.first (map unit_in held) ++ trees_in (map found_unit reparsed.found.items)) ++ drop reparsed.next (map unit_in held)) ≡ trees_in (units e (new_lines text))
   unfolding s
   new_trees =
-      ap (λ n. (take n (map unit_in held) ++ trees_in reparsed.found.items) ++ drop reparsed.next (map unit_in held)) r.first
-      ∙ ap (λ n. (take (units_before p) (map unit_in held) ++ trees_in reparsed.found.items) ++ drop n (map unit_in held)) r.next
-      ∙ ap (λ us. (take (units_before p) us ++ trees_in reparsed.found.items) ++ drop (units_before p + units_removed p) us) (trees_are e (old_lines text) was held w)
+      ap (λ n. (take n (map unit_in held) ++ trees_in (map found_unit reparsed.found.items)) ++ drop reparsed.next (map unit_in held)) r.first
+      ∙ ap (λ n. (take (units_before p) (map unit_in held) ++ trees_in (map found_unit reparsed.found.items)) ++ drop n (map unit_in held)) r.next
+      ∙ ap (λ us. (take (units_before p) us ++ trees_in (map found_unit reparsed.found.items)) ++ drop (units_before p + units_removed p) us) (trees_are e (old_lines text) was held w)
       ∙ ap (λ us. (take (units_before p) (trees_in (units e (old_lines text))) ++ trees_in us) ++ drop (units_before p + units_removed p) (trees_in (units e (old_lines text)))) found_is
       ∙ sym (trees_spliced setting before after (old_lines text) (new_lines text) p s)
 
@@ -247,19 +248,19 @@ module _ (setting : Setting) (text : NewText) (prelude : HeldPrelude) (was : ℕ
   unfolding s
   front_line = by (nat_eq reparsed.from 0) refl
     where
-      by : (t : Bool) → nat_eq reparsed.from 0 ≡ t → deep_from limit e after (if t then front_of reparsed.meet reparsed.found.items else was) (take (units_before p) (map tile_of (units e (old_lines text))))
+      by : (t : Bool) → nat_eq reparsed.from 0 ≡ t → deep_from limit e after (if t then front_of reparsed.meet (map found_unit reparsed.found.items) else was) (take (units_before p) (map tile_of (units e (old_lines text))))
           ≡ deep_from limit e after (front_of (length (old_lines text)) (units e (old_lines text))) (take (units_before p) (map tile_of (units e (old_lines text))))
       by true h =
           let from : from_line p ≡ 0 = let a = r.from in grind (arith, nat_tests, h, a) in
           let none : units_before p ≡ 0 = s.first ∙ ap (λ n. length (units e (take n (old_lines text)))) from ∙ ap (λ us. length us) (no_units e) in
-          ap (λ n. deep_from limit e after (front_of reparsed.meet reparsed.found.items) (take n (map tile_of (units e (old_lines text))))) none
+          ap (λ n. deep_from limit e after (front_of reparsed.meet (map found_unit reparsed.found.items)) (take n (map tile_of (units e (old_lines text))))) none
           ∙ ap (λ n. deep_from limit e after (front_of (length (old_lines text)) (units e (old_lines text))) (take n (map tile_of (units e (old_lines text))))) (sym none)
       by false h = ap (λ n. deep_from limit e after n (take (units_before p) (map tile_of (units e (old_lines text))))) w.before
 
   pub deep_is : (two : Table) → ((label : List ℕ) → two label ≡ after label) → length (old_lines text) ≤ 1000000 → length (new_lines text) ≤ 1000000
       → deep_in_parts limit e two (head_read was reparsed) held reparsed ≡ deep_found limit e after (units e (new_lines text))
   deep_is two g few small =
-      ap (λ o. option_or o (option_or (option_map (line_on reparsed.from) (deep_found limit e two reparsed.found.items)) (deep_from limit e two reparsed.meet (map held_tile (between reparsed.next (length held) held))))) front
+      ap (λ o. option_or o (option_or (option_map (line_on reparsed.from) (deep_found limit e two (map found_unit reparsed.found.items))) (deep_from limit e two reparsed.meet (map held_tile (between reparsed.next (length held) held))))) front
       ∙ ap (λ o. option_or inside_front (option_or o (deep_from limit e two reparsed.meet (map held_tile (between reparsed.next (length held) held))))) middle
       ∙ ap (λ o. option_or inside_front (option_or (option_map (λ line. from_line p + line) (deep_found limit e after stretch)) o)) back
       ∙ sym (deep_spliced limit e after (old_lines text) (new_lines text) p (is_edit e text))
@@ -281,9 +282,9 @@ module _ (setting : Setting) (text : NewText) (prelude : HeldPrelude) (was : ℕ
           length_take_le : (n : ℕ) (xs : List (List ℕ)) → length (take n xs) ≤ length xs
           length_take_le n xs = let size = length-take n xs in grind (arith, size)
 
-      middle : option_map (line_on reparsed.from) (deep_found limit e two reparsed.found.items) ≡ option_map (λ line. from_line p + line) (deep_found limit e after stretch)
+      middle : option_map (line_on reparsed.from) (deep_found limit e two (map found_unit reparsed.found.items)) ≡ option_map (λ line. from_line p + line) (deep_found limit e after stretch)
       middle =
-          ap (option_map (line_on reparsed.from)) (deep_found_under limit e two after g reparsed.found.items ∙ ap (deep_found limit e after) found_is)
+          ap (option_map (line_on reparsed.from)) (deep_found_under limit e two after g (map found_unit reparsed.found.items) ∙ ap (deep_found limit e after) found_is)
           ∙ ap (λ n. option_map (line_on n) (deep_found limit e after stretch)) r.from
           ∙ on_small (from_line p) (length (drop (from_line p) (take (meeting_line p) (new_lines text)))) stretch above (begins_within e (drop (from_line p) (take (meeting_line p) (new_lines text))))
 
@@ -328,8 +329,8 @@ module _ (e : EntityTable) (before after : Table) (limit : ℕ) (held : List Hel
 
   pub deep_by_all : (head : ℕ) → deep_in_parts limit e after head held r ≡ deep_from limit e after r.meet (map held_tile held)
   deep_by_all head =
-      ap (λ us. option_or (deep_from limit e after head (map held_tile us)) (option_or (option_map (line_on r.from) (deep_found limit e after r.found.items)) (deep_from limit e after r.meet (map held_tile (between r.next (length held) held))))) (none_front held)
-      ∙ ap (λ us. option_or (option_map (line_on r.from) (deep_found limit e after us)) (deep_from limit e after r.meet (map held_tile (between r.next (length held) held)))) found
+      ap (λ us. option_or (deep_from limit e after head (map held_tile us)) (option_or (option_map (line_on r.from) (deep_found limit e after (map found_unit r.found.items))) (deep_from limit e after r.meet (map held_tile (between r.next (length held) held))))) (none_front held)
+      ∙ ap (λ us. option_or (option_map (line_on r.from) (deep_found limit e after us)) (deep_from limit e after r.meet (map held_tile (between r.next (length held) held)))) (ap (map found_unit) found)
       ∙ ap (λ us. deep_from limit e after r.meet (map held_tile us)) (all_back held)
 
   pub numbers_by_all : asking_in_parts e before after held r.first r.next ≡ asking_units e before after 0 (map unit_in held)
@@ -341,7 +342,7 @@ module _ (e : EntityTable) (before after : Table) (limit : ℕ) (held : List Hel
   pub texts_by_all : texts_in_parts e before after held r ≡ asking_texts e before after (map unit_in held)
   texts_by_all =
       let a = ap (λ us. asking_texts e before after (map unit_in us)) (none_front held) in
-      let b = ap (λ us. sum_by texts_in (trees_in us)) found in
+      let b = ap (λ us. sum_by texts_in (trees_in us)) (ap (map found_unit) found) in
       let c = ap (λ us. asking_texts e before after (map unit_in us)) (all_back held) in
       let x : asking_texts e before after [] ≡ 0 = refl in
       let y : sum_by texts_in [] ≡ 0 = refl in

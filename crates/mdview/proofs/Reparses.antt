@@ -2,14 +2,16 @@
 use Rattle.std.proofs.Common.{◌≡◌, ℕ, ◌+◌, ◌-◌, ◌<◌, ◌≤◌, ◌⊎◌, inl, inr, Bool, true, false, ◌&&◌, List, [], ◌∷◌, ◌++◌, Option, Some, None, length, map, take, drop, get_or, refl, ap, ◌∙◌, sym, subst, arith, max, nat_lt}
 use Rattle.std.specs.Prelude.{Contains, nat_eq, nat_le}
 use Rattle.std.specs.List.{All, filter, fold, list_any}
-use Rattle.std.specs.Option.{option_to_list}
+use Rattle.std.specs.Option.{option_map, option_to_list}
 use Rattle.std.proofs.lemmas.Bool.Decides.{nat_tests}
+use Rattle.std.proofs.lemmas.List.{map-append}
 use Rattle.std.proofs.lemmas.List.Elements.{All-nil}
 use Rattle.std.proofs.Math.Seq.{drop-length, take-length}
 use Rattle.mdtext.specs.EntityTable.{EntityTable}
 use Rattle.blockspec.specs.BlockUnits.{begins, units}
 use Rattle.blockspec.specs.Nesting.{first_too_deep}
 use Rattle.blockspec.specs.UnitTree.{FoundUnit}
+use Rattle.mdblock.specs.FoundLists.{FoundList, found_unit}
 use Rattle.mdblock.specs.declared.faults.BlockFault.{BlockFault}
 use Rattle.mdblock.specs.declared.faults.BlockFault.TheVariants as block
 use Rattle.mdblock.specs.held.ReaderState.{ReaderState}
@@ -30,6 +32,11 @@ use Rattle.mdview.specs.NewText.{lines_of}
 use Rattle.mdview.specs.declared.new_text.NewText.{NewText}
 use Rattle.mdview.proofs.EditPlaces.{begins_are, begins_many}
 use Rattle.mdview.proofs.ReadStretches.{is_edit, meets_later, none_more, stretch_next, stretch_none, stretch_rest, stretch_size, tells_begin}
+
+-- units that are pushed, without their later items
+pub units_pushed : (old new : List FoundList) (unit : Option FoundList) → new ≡ old ++ option_to_list unit → map found_unit new ≡ map found_unit old ++ option_to_list (option_map found_unit unit)
+units_pushed old new None is = ap (map found_unit) is ∙ map-append found_unit old []
+units_pushed old new (Some one) is = ap (map found_unit) is ∙ map-append found_unit old (one ∷ [])
 
 -- What was read above a line: no unit begins in both texts there.
 pub record ReadAbove (limit : ℕ) (e : EntityTable) (new : List (List ℕ)) (p : Places) (reader : ReaderState) (found : List FoundUnit) (line : ℕ) : Type 0 where

@@ -7,6 +7,7 @@ use Rattle.blockspec.specs.BlockUnits.{units}
 use Rattle.viewspec.specs.Stretch.{Places, from_line}
 use Rattle.viewlaws.specs.UnitTiles.{front_of, tile_of}
 use Rattle.viewlaws.proofs.TileSplices.{front_kept, front_read}
+use Rattle.mdblock.specs.FoundLists.{found_unit}
 use Rattle.mdview.specs.HeldBlocks.{HoldsUnits, IsReplacing, IsReread, old_lines, places_of, tile_in}
 use Rattle.mdview.specs.HeldUnit.{ReadUnit, read_of}
 use Rattle.mdview.specs.NewText.{lines_of}
@@ -17,14 +18,14 @@ use Rattle.mdview.specs.declared.update.Update.{Update}
 use Rattle.mdview.proofs.ReadStretches.{is_edit}
 
 module _ (e : EntityTable) (text : NewText) (was : ℕ) (held : List ReadUnit) (reparsed : Reparsed) (w : HoldsUnits e (old_lines text) was held) (r : IsReread e text reparsed) where
-  pub head_behind : (head : ℕ) → head ≡ (if nat_eq reparsed.from 0 then front_of reparsed.meet reparsed.found.items else was)
+  pub head_behind : (head : ℕ) → head ≡ (if nat_eq reparsed.from 0 then front_of reparsed.meet (map found_unit reparsed.found.items) else was)
       → head ≡ front_of (length (lines_of text)) (units e (lines_of text))
   head_behind head is = is ∙ by (nat_eq reparsed.from 0) refl
     where
       p : Places
       p = places_of e text
 
-      by : (t : Bool) → nat_eq reparsed.from 0 ≡ t → (if t then front_of reparsed.meet reparsed.found.items else was) ≡ front_of (length (lines_of text)) (units e (lines_of text))
+      by : (t : Bool) → nat_eq reparsed.from 0 ≡ t → (if t then front_of reparsed.meet (map found_unit reparsed.found.items) else was) ≡ front_of (length (lines_of text)) (units e (lines_of text))
       by true h =
           let from : reparsed.from ≡ 0 = grind (arith, nat_tests, h) in
           ap (front_of reparsed.meet) (r.found ∙ ap (λ n. units e (drop n (take reparsed.meet (lines_of text)))) from)
@@ -38,8 +39,8 @@ module _ (e : EntityTable) (text : NewText) (was : ℕ) (held : List ReadUnit) (
           clash zero other = grind (arith, nat_tests, zero, other)
 
   pub replacing : (result : Result Update EditFault) → IfOk result (λ u. (u.first ≡ reparsed.first) × (u.next ≡ reparsed.next))
-      → IfOk result (λ u. map tile_in (map read_of u.units.items) ≡ map tile_of reparsed.found.items)
-      → IfOk result (λ u. u.head ≡ (if nat_eq reparsed.from 0 then front_of reparsed.meet reparsed.found.items else was)) → IfOk result (IsReplacing e text)
+      → IfOk result (λ u. map tile_in (map read_of u.units.items) ≡ map tile_of (map found_unit reparsed.found.items))
+      → IfOk result (λ u. u.head ≡ (if nat_eq reparsed.from 0 then front_of reparsed.meet (map found_unit reparsed.found.items) else was)) → IfOk result (IsReplacing e text)
   replacing (Ok update) place tiles head = record {
     first = place.0 ∙ r.first;
     next = place.1 ∙ r.next;

@@ -3,6 +3,7 @@ use Rattle.std.specs.Prelude.{◌≡◌, ◌+◌, ◌-◌, ℕ, Bool, false, Lis
 use Rattle.mdtext.specs.EntityTable.{EntityTable}
 use Rattle.blockspec.specs.BlockUnits.{begins, units}
 use Rattle.blockspec.specs.UnitTree.{UnitTree}
+use Rattle.mdblock.specs.FoundLists.{found_unit}
 use Rattle.mdblock.specs.declared.faults.BlockFault.{BlockFault}
 use Rattle.mdblock.specs.declared.faults.BlockFault.TheVariants as block
 use Rattle.viewspec.specs.Stretch.{Places, from_line, meeting_line, units_before, units_removed}
@@ -56,7 +57,7 @@ pub record IsReread (e : EntityTable) (text : NewText) (r : Reparsed) : Type 0 w
   pub meet : r.meet ≡ meeting_line (places_of e text)
   pub first : r.first ≡ units_before (places_of e text)
   pub next : r.next ≡ units_before (places_of e text) + units_removed (places_of e text)
-  pub found : r.found.items ≡ units e (drop r.from (take r.meet (new_lines text)))
+  pub found : map found_unit r.found.items ≡ units e (drop r.from (take r.meet (new_lines text)))
 
 -- what it brings: units that take the place of old ones, and how many lines stand before the first unit then
 pub record IsReplacing (e : EntityTable) (text : NewText) (update : Update) : Type 0 where

@@ -1,9 +1,10 @@
 //! Reads the lines of a prelude, which are definitions and nothing else.
 
 ghost use Rattle.std.specs.Prelude.{List, [], ◌≡◌, ◌≤◌, ◌<◌, ◌+◌, ◌*◌, ◌^◌, ◌∷◌, ◌++◌, IfErr, IfOk, None, OnOk, length, map, string_bytes, take};
-ghost use Rattle.std.specs.Option.{option_to_list};
+ghost use Rattle.std.specs.Option.{option_map, option_to_list};
 ghost use Rattle.blockspec.specs.BlockUnits.{units};
 ghost use Rattle.blockspec.specs.UnitTree.{FoundUnit};
+ghost use Rattle.mdblock.specs.FoundLists.{found_unit};
 ghost use Rattle.mdhtml.specs.Limits.{HasLimits};
 ghost use Rattle.mdleaf.specs.LinkDefinition.{definition_of};
 ghost use Rattle.viewspec.specs.LabelTable.{with_definitions, with_units};
@@ -90,7 +91,7 @@ impl Defined {
 
     /// Takes the definitions of the next unit, if there is one.
     fn take(&mut self, found: Option<Found>) -> Result<(), NoMemory>
-        ensures { (all : List FoundUnit) → Defines all self.old → OnOk result (Defines (all ++ option_to_list found) self.new) }
+        ensures { (all : List FoundUnit) → Defines all self.old → OnOk result (Defines (all ++ option_to_list (option_map found_unit found)) self.new) }
     {
         let Some(found) = found else {
             return Ok(());

@@ -9,6 +9,8 @@ ghost use Rattle.std.specs.Map.Iter.{ShowsInOrder, deref};
 ghost use Rattle.std.specs.Option.{option_to_list};
 ghost use Rattle.std.specs.Ordering.{eq_by_cmp, nat_cmp};
 ghost use Rattle.std.specs.Set.{is_member};
+ghost use Rattle.mdblock.specs.FoundLists.{found_unit};
+ghost use Rattle.viewlaws.specs.UnitTexts.{trees_in};
 ghost use Rattle.mdview.specs.HeldUnit.{unit_in};
 ghost use Rattle.mdview.specs.LabelMarks.{label_mark};
 ghost use Rattle.mdview.specs.LabelTargets.{HasRoom, IsElsewhere, Leads, LeadsAfter, at, led_after, target_held};
@@ -38,7 +40,7 @@ impl LabelChanges {
         requires next { reparsed.now.next ≤ length held.now.units.now.items }
         requires led { Leads held.now.labels.now (map unit_in held.now.units.now.items) held.now.prelude.now }
         ensures led { IfOk result (LeadsAfter held.now.labels.now
-            (take reparsed.now.first (map unit_in held.now.units.now.items) ++ map (λ found. found.unit) reparsed.now.found.items ++ drop reparsed.now.next (map unit_in held.now.units.now.items))
+            (take reparsed.now.first (map unit_in held.now.units.now.items) ++ trees_in (map found_unit reparsed.now.found.items) ++ drop reparsed.now.next (map unit_in held.now.units.now.items))
             held.now.prelude.now) }
         ensures elsewhere { IfOk result (IsElsewhere held.now.labels.now) }
     {

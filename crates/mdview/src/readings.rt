@@ -3,6 +3,7 @@
 ghost use Rattle.std.specs.Prelude.{◌≡◌, ◌+◌, ◌≤◌, ◌<◌, ◌^◌, ◌++◌, ◌∷◌, List, [], None, Some, IfOk, IfErr, IsErrOf, OnOk, false, if◌then◌else◌, length, map, option_map, slice_get, string_bytes, sum_by, true};
 ghost use Rattle.std.specs.List.{All, list_any};
 ghost use Rattle.blockspec.specs.UnitTree.{UnitTree};
+ghost use Rattle.mdblock.specs.FoundLists.{found_unit};
 ghost use Rattle.mdhtml.specs.Limits.{HasLimits};
 ghost use Rattle.mdinline.specs.declared.faults.InlineFault.TheVariants.{TooDeep};
 ghost use Rattle.viewspec.specs.Changes.{asks_changed};
@@ -69,14 +70,14 @@ impl<'a> TextReader<'a> {
     ) -> Result<Vec<HeldUnit>, EditFault>
         requires limits { HasLimits self.now.options.now }
         ensures all { IfOk result (λ units. length units.items ≡ length found.items) }
-        ensures tiles { IfOk result (λ units. map tile_in (map read_of units.items) ≡ map tile_of found.items) }
+        ensures tiles { IfOk result (λ units. map tile_in (map read_of units.items) ≡ map tile_of (map found_unit found.items)) }
         ensures pieces { IfOk result (λ units. All (IsRendered self.now.options.now) units.items) }
         ensures read { IfOk result (λ units. All (IsReadUnder (entities_in room.old) (labels_behind self.now)) units.items) }
-        ensures shallow { OnOk result (deep_found self.now.options.now.max_spans (entities_in room.old) (labels_behind self.now) found.items ≡ None) }
-        ensures deep { IfErr result (IsTextFault (option_map (line_on from) (deep_found self.now.options.now.max_spans (entities_in room.old) (labels_behind self.now) found.items))) }
+        ensures shallow { OnOk result (deep_found self.now.options.now.max_spans (entities_in room.old) (labels_behind self.now) (map found_unit found.items) ≡ None) }
+        ensures deep { IfErr result (IsTextFault (option_map (line_on from) (deep_found self.now.options.now.max_spans (entities_in room.old) (labels_behind self.now) (map found_unit found.items)))) }
         ensures room { entities_in room.new ≡ entities_in room.old }
         ensures lines { C.lines count.new ≡ C.lines count.old }
-        ensures inlines { C.inlines count.new ≤ C.inlines count.old + sum_by texts_in (trees_in found.items) }
+        ensures inlines { C.inlines count.new ≤ C.inlines count.old + sum_by texts_in (trees_in (map found_unit found.items)) }
     {
         let mut units = Vec::with_capacity(self.alloc, found.len())?;
         for one in found {
@@ -97,7 +98,7 @@ impl<'a> TextReader<'a> {
     ) -> Result<HeldUnit, InlineFault>
         requires limits { HasLimits self.now.options.now }
         ensures unit { IfOk result (λ unit. unit.read.unit ≡ found.unit) }
-        ensures tile { IfOk result (λ unit. tile_in unit.read ≡ tile_of found) }
+        ensures tile { IfOk result (λ unit. tile_in unit.read ≡ tile_of (found_unit found)) }
         ensures piece { IfOk result (IsRendered self.now.options.now) }
         ensures read { IfOk result (IsReadUnder (entities_in room.old) (labels_behind self.now)) }
         ensures shallow { OnOk result (is_deep_under self.now.options.now.max_spans (entities_in room.old) (labels_behind self.now) found.unit ≡ false) }

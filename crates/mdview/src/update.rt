@@ -3,6 +3,7 @@
 ghost use Rattle.std.specs.Prelude.{◌≡◌, ℕ, List, ◌≤◌, ◌<◌, ◌+◌, ◌^◌, ◌++◌, [], IfErr, IfOk, None, OnOk, drop, if◌then◌else◌, length, map, nat_eq, sum_by, take};
 ghost use Rattle.std.specs.List.{All};
 ghost use Rattle.blockspec.specs.Nesting.{first_too_deep};
+ghost use Rattle.mdblock.specs.FoundLists.{found_unit};
 ghost use Rattle.viewspec.specs.Changes.{texts_due};
 ghost use Rattle.viewspec.specs.LabelTable.{table};
 ghost use Rattle.viewspec.specs.Refusals.{inline_refusal, nesting_refusal};
@@ -158,7 +159,7 @@ impl Update {
         ensures fit { IfOk result (IsFitFor held.now.options.now (map unit_in held.now.units.now.items)) }
         ensures place { IfOk result (λ r. (r.first ≡ reparsed.first) × (r.next ≡ reparsed.next)) }
         ensures units { IfOk result (λ r. length r.units.items ≡ length reparsed.found.items) }
-        ensures tiles { IfOk result (λ r. map tile_in (map read_of r.units.items) ≡ map tile_of reparsed.found.items) }
+        ensures tiles { IfOk result (λ r. map tile_in (map read_of r.units.items) ≡ map tile_of (map found_unit reparsed.found.items)) }
         ensures head { IfOk result (λ r. r.head ≡ head_read held.now.head reparsed) }
         ensures changes { IfOk result (λ r. r.changes ≡ changes) }
         ensures read { IfOk result (λ r. All (IsReadUnder held.now.entities.now (led_after held.now.labels.now changes)) r.units.items) }
@@ -258,7 +259,7 @@ fn head_behind(held: usize, reparsed: &Reparsed) -> usize
 
 /// How many lines stand before the first unit of a text of which these were found from its front up to line `meet`.
 fn head_of(found: &[Found], meet: usize) -> usize
-    ensures { result ≡ front_of meet found.now }
+    ensures { result ≡ front_of meet (map found_unit found.now) }
 {
     match found.first() {
         Some(one) => one.begin(),

@@ -6,7 +6,9 @@ use Rattle.mdleaf.specs.LinkDefinition.{LinkDefinition, definition_of}
 use Rattle.blockspec.specs.BlockLine.{BlockLine, is_blank_line}
 use Rattle.blockspec.specs.BlockStart.{Kind, FencedCode, Quote, Item}
 use Rattle.blockspec.specs.Laziness.{Text, is_text}
+use Rattle.itemspec.specs.ItemMarks.{ItemMark}
 use Rattle.mdblock.specs.BlockView.{kind_view, blocks_view, items_view}
+use Rattle.mdblock.specs.FoundLists.{FoundList, join_mark}
 use Rattle.mdblock.specs.held.HeldNodes.{ListSoFar, list_of, over_nodes, handed_nodes, closed_nodes, tasked}
 use Rattle.blockspec.specs.LineSummary.{Summary, summary, Last, nothing_yet, ended_block, open_leaf, open_container, closed, summary_gap, summary_tip}
 use Rattle.blockspec.specs.ListGroups.{Part, Leaves, Quoted, Listed, Group, kind_of, items_before, is_tight_inside}
@@ -184,9 +186,14 @@ ClosesAll level old blocks new =
 abbrev pub found_between : EntityTable → Summary → (fed begin : ℕ) → FoundUnit
 found_between entities s fed begin = record { begin = begin; lines = fed - begin; unit = unit_of (closed_nodes entities false s) }
 
+-- the same with its later items
+abbrev pub list_between : EntityTable → Summary → List ItemMark → (fed begin : ℕ) → FoundList
+list_between entities s marks fed begin = record { begin = begin; lines = fed - begin; unit = unit_of (closed_nodes entities false s); marks = marks }
+
 -- What a reader holds gives the unit of its lines, if one has begun.
-abbrev pub GivesUnit : OpenUnit → (fed : ℕ) → Option FoundUnit → Type 0
-GivesUnit held fed found = (s : Summary) → HoldsSummary held s → found ≡ option_map (found_between held.gathering.entities.now s fed) held.begin
+abbrev pub GivesUnit : OpenUnit → (fed : ℕ) → Option FoundList → Type 0
+GivesUnit held fed found =
+    (s : Summary) → HoldsSummary held s → found ≡ option_map (list_between held.gathering.entities.now s (map join_mark held.joins.items) fed) held.begin
 
 -- whether a paragraph is open at the end
 abbrev pub EndsIn : Level → Bool → Type 0

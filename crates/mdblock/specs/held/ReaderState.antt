@@ -2,16 +2,19 @@
 use Rattle.std.specs.Prelude.{ℕ, Bool, false, List, Option, None, Some, length, map, string_bytes}
 use Rattle.mdtext.specs.EntityTable.{EntityTable}
 use Rattle.mdleaf.specs.LinkDefinition.{LinkDefinition, definition_of}
+use Rattle.itemspec.specs.ItemMarks.{ItemMark}
+use Rattle.mdblock.specs.FoundLists.{join_mark}
 use Rattle.mdblock.specs.declared.open_blocks.Level.{Level}
 use Rattle.mdblock.specs.declared.readers.OpenUnit.{OpenUnit}
 use Rattle.mdblock.specs.held.OpenPositions.{LevelIn}
 
--- what is read and not handed out yet, and whether the last line began a later item of it
+-- what is read and not handed out yet, its later items where it is a list, and whether the last line began one of them
 pub record UnitSoFar : Type 0 where
   pub level : Level
   pub definitions : List LinkDefinition
   pub texts : List (List ℕ)
   pub begin : Option ℕ
+  pub marks : List ItemMark
   pub joined : Bool
 
 -- how many lines were read, by which entities and with how many containers allowed inside one another, and what is held, until a fault comes
@@ -22,7 +25,14 @@ pub record ReaderState : Type 0 where
   pub held : Option UnitSoFar
 
 abbrev pub unit_so_far : OpenUnit → UnitSoFar
-unit_so_far held = record { level = held.level; definitions = map definition_of held.gathering.definitions.items; texts = map string_bytes held.gathering.texts.items; begin = held.begin; joined = held.joined }
+unit_so_far held = record {
+  level = held.level;
+  definitions = map definition_of held.gathering.definitions.items;
+  texts = map string_bytes held.gathering.texts.items;
+  begin = held.begin;
+  marks = map join_mark held.joins.items;
+  joined = held.joined;
+}
 
 abbrev pub held_begin : Option UnitSoFar → Option ℕ
 held_begin None = None

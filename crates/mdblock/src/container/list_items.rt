@@ -1,6 +1,6 @@
 //! From line to line inside a list: its open item goes on, ends, or the next one begins (CommonMark 5.2, 5.3).
 
-ghost use Rattle.std.specs.Prelude.{◌≡◌, ◌≤◌, IfOk, OnOk, length};
+ghost use Rattle.std.specs.Prelude.{◌≡◌, ◌≤◌, IfOk, OnOk, false, length};
 ghost use Rattle.mdblock.specs.BlockView.{items_view};
 ghost use Rattle.mdblock.specs.Positions.{ItemsIn};
 ghost use Rattle.mdblock.specs.held.Continuations.{IsContinuationOf};
@@ -67,7 +67,7 @@ pub(crate) fn enter_item(
 
 #[tactic(auto, using(crate::proofs::Within::growing))]
 /// Ends the item that is open in a list.
-fn end_item(
+pub(crate) fn end_item(
     inner: &mut Level,
     list: &mut OpenList,
     gathering: &mut Gathering,
@@ -79,6 +79,8 @@ fn end_item(
     ensures grows { length gathering.old.texts.items ≤ length gathering.new.texts.items }
     ensures entities { gathering.new.entities.now ≡ gathering.old.entities.now }
     ensures ends { OnOk result (EndsItem inner.old list.old gathering.old inner.new list.new gathering.new) }
+    ensures shut { OnOk result (list.new.item_open ≡ false) }
+    ensures kind { OnOk result (list.new.kind ≡ list.old.kind) }
 {
     if list.is_open() {
         let item = mem::replace(inner, Level::new(gathering.alloc(), true));

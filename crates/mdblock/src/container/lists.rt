@@ -100,6 +100,7 @@ impl OpenList {
     pub(crate) fn push(&mut self, blocks: Vec<Block>, gap: bool) -> Result<(), AllocError>
         ensures pushed { OnOk result (list_view self.new ≡ list_view_with self.old blocks.items gap) }
         ensures ended { OnOk result (self.new.item_open ≡ false) }
+        ensures kind { self.new.kind ≡ self.old.kind }
         ensures within { OnOk result ((n : ℕ) → ItemsIn n (items_view self.old.items.items) → BlocksIn n (blocks_view blocks.items)
             → ItemsIn n (items_view self.new.items.items)) }
     {

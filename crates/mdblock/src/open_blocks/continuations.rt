@@ -3,6 +3,7 @@
 ghost use Rattle.std.specs.Prelude.{◌≡◌, true};
 ghost use Rattle.mdblock.specs.held.Continuations.{IsContinuationOf, ContinuesOpen, begins_block, begins_item, opening_of};
 ghost use Rattle.mdblock.specs.held.ContainerContinuations.{ContinuesBetween, ContinuesInItem, ContinuesInQuote, ContinuesShut};
+ghost use Rattle.mdblock.specs.held.EndedItems.{IsNextIn, IsNextOf};
 ghost use Rattle.mdblock.specs.held.LinesAdded.{ContinuesLevel, IsUnfollowed};
 
 use crate::block_starts::{BlockStart, beginning, continues_lazily};
@@ -78,6 +79,7 @@ impl Level {
         ensures continuation { IsContinuationOf line.now result }
         ensures step { ContinuesOpen self.now.last line.now result }
         ensures last { IsUnfollowed self.now.last line.now → ContinuesLevel self.now line.now result }
+        ensures next { IsNextIn self.now.last line.now result }
     {
         match &self.last {
             OpenBlock::Shut => outside_or_lazy(line),
@@ -112,6 +114,7 @@ impl Level {
         ensures continuation { IsContinuationOf line.now result }
         ensures item { ContinuesInItem self.now list.now line.now result }
         ensures between { ContinuesBetween list.now line.now result }
+        ensures next { IsNextOf list.now line.now result }
     {
         if line.is_lazy() {
             return Continuation::Lazy;

@@ -5,6 +5,7 @@ use Rattle.std.specs.List.{All}
 use Rattle.mdhtml.specs.BlockHtml.{ends_line}
 use Rattle.mdhtml.specs.WrittenUnits.{is_deep_unit, written_unit}
 use Rattle.viewspec.specs.Setting.{Setting}
+use Rattle.mdblock.specs.FoundLists.{found_unit}
 use Rattle.mdbatch.specs.BatchHtml.{IsTextFault, deep_line, text_fault_of}
 use Rattle.mdbatch.specs.GatheredUnits.{EndsLine, IsWrittenTo, setting_of}
 use Rattle.mdbatch.specs.TextLabels.{target_on_page}
@@ -26,7 +27,7 @@ loop-waits-preserved c =
     let before = string_bytes c.put_behind.new.out in
     let new = string_bytes c.append_unit.new.out in
     let table = target_on_page c.args.labels.now in
-    let found = c.in-Some.waits.found in
+    let found = found_unit c.in-Some.waits.found in
     let rest = c.next.new.self.rest.items in
     let same = c.loop-waits.invariant.setting in
     let writes = c.in_default.ensures.html ∙ ap (λ unit. before ++ written_unit (setting_of c.loop-waits.writer).options (setting_of c.loop-waits.writer).entities table unit) c.unit.ensures

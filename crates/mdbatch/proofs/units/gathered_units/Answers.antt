@@ -1,12 +1,13 @@
 use Rattle.std.proofs.Common.{◌++◌, ◌∙◌, [], ◌∷◌, Err, ap, arith, eqb-true, refl, rules, subst, sym}
 use Rattle.std.proofs.lemmas.List.{nil_from_length}
-use Rattle.std.specs.Option.{option_to_list}
+use Rattle.std.specs.Option.{option_map, option_to_list}
 use Rattle.mdtext.specs.Lines.{split_lines}
 use Rattle.blockspec.specs.BlockUnits.{units}
 use Rattle.blockspec.specs.Nesting.{first_too_deep}
 use Rattle.mdblock.specs.held.ReaderState.{ReaderState}
 use Rattle.mdblock.specs.held.Reads.{handed}
 use Rattle.mdview.specs.Document.{size_of}
+use Rattle.mdblock.specs.FoundLists.{found_unit}
 use Rattle.mdbatch.specs.BatchHtml.{IsReadFault}
 use Rattle.viewspec.specs.Setting.{Setting}
 use Rattle.mdbatch.specs.GatheredUnits.{Gathers, setting_of}
@@ -62,7 +63,7 @@ loop-rest-preserved c =
         next_fed (split_lines c.args.text.now) ls (split_lines c.loop-rest.rest.now) line later before.1 c.next_line.ensures.lines,
         c.in-Ok.ensures.reads limit e ls before.2,
         subst (λ units. Gathers (record { entities = c.args.entities.now; options = c.args.options.now }) units c.take.new.self) (sym (c.in-Ok.ensures.hands limit e ls before.2))
-            (subst (λ (s : Setting). Gathers s (handed e ls ++ option_to_list c.in-Ok.found) c.take.new.self) setting taken),
+            (subst (λ (s : Setting). Gathers s (handed e ls ++ option_to_list (option_map found_unit c.in-Ok.found)) c.take.new.self) setting taken),
       );
       setting = c.take.ensures.setting ∙ setting;
     }
@@ -78,7 +79,7 @@ returns-clause-gathers c =
     let taken = c.in_ok-take-in-Ok-finish.ensures.gathers (handed e ls) (subst (λ (s : Setting). Gathers s (handed e ls) c.loop-rest.gathered) (sym setting) before.3) in
     subst (λ lines. Gathers (record { entities = e; options = c.args.options.now }) (units e lines) c.take-in-Ok-finish.new.self) (sym all)
     (subst (λ units. Gathers (record { entities = c.args.entities.now; options = c.args.options.now }) units c.take-in-Ok-finish.new.self) (sym (c.in-Ok-finish.ensures.hands limit e ls before.2))
-    (subst (λ (s : Setting). Gathers s (handed e ls ++ option_to_list c.in-Ok-finish.last) c.take-in-Ok-finish.new.self) setting taken))
+    (subst (λ (s : Setting). Gathers s (handed e ls ++ option_to_list (option_map found_unit c.in-Ok-finish.last)) c.take-in-Ok-finish.new.self) setting taken))
 
 pub returns-clause-nesting : goal.returns-clause-nesting
 returns-clause-nesting c =

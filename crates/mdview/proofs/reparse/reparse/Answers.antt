@@ -1,8 +1,9 @@
 use Rattle.std.proofs.Common.{rules, ◌≡◌, ◌≤◌, ◌<◌, ◌+◌, ◌-◌, ◌++◌, ◌∷◌, ℕ, List, Some, [], Err, false, inl, inr, ap, arith, drop, get_or, length, map, refl, subst, sym, take, ◌∙◌}
 use Rattle.std.specs.Prelude.{Contains}
-use Rattle.std.specs.Option.{option_to_list}
+use Rattle.std.specs.Option.{option_map, option_to_list}
 use Rattle.blockspec.specs.BlockUnits.{begins, units}
 use Rattle.blockspec.specs.Nesting.{first_too_deep}
+use Rattle.mdblock.specs.FoundLists.{found_unit}
 use Rattle.mdblock.specs.held.Reads.{Reads, handed, open_begin}
 use Rattle.mdtext.specs.EntityTable.{EntityTable}
 use Rattle.viewspec.specs.Stretch.{from_line, is_meeting}
@@ -17,7 +18,7 @@ use Rattle.mdview.specs.HeldUnit.{HeldUnit}
 use Rattle.mdview.specs.declared.resuming.UnitStart.{UnitStart}
 use Rattle.mdview.proofs.EditPlaces.{begins_many}
 use Rattle.mdview.proofs.ReadStretches.{is_edit}
-use Rattle.mdview.proofs.Reparses.{ReadAbove, begin_told, begins_reading, deep_at, deep_told, ended, few_read, found_all, met_all, met_told, new_fits, next_ends, next_is, in_new, read_first, read_next, unmet_told}
+use Rattle.mdview.proofs.Reparses.{ReadAbove, begin_told, begins_reading, deep_at, deep_told, ended, few_read, found_all, met_all, met_told, new_fits, next_ends, next_is, in_new, read_first, read_next, units_pushed, unmet_told}
 use Rattle.mdview.proofs.reparse.reparse.Goals as goal
 
 pub loop-line-init : goal.loop-line-init
@@ -36,8 +37,8 @@ loop-line-init g c =
       inlines = search rules;
       same = search rules;
       forward = search rules;
-      above = subst (λ n. ReadAbove limit e new p c.new-reader.result c.new-found.result.items n) (sym s.0)
-          (read_first limit e (old_lines text) new p (is_edit e text) c.new-reader.result c.new-found.result.items c.new-reader.ensures.reads c.new-found.ensures.items);
+      above = subst (λ n. ReadAbove limit e new p c.new-reader.result (map found_unit c.new-found.result.items) n) (sym s.0)
+          (read_first limit e (old_lines text) new p (is_edit e text) c.new-reader.result (map found_unit c.new-found.result.items) c.new-reader.ensures.reads (ap (map found_unit) c.new-found.ensures.items));
       ahead = subst (λ (next : UnitStart). IsAhead (map lines_in c.args.held.now.units.now.items) p.old_begins next.unit next.line (line_before p r.from)) (sym c.at-cursor.ensures.1) s.2;
     }
 
@@ -55,7 +56,7 @@ returns-in_err-push_some-in-Ok-clause-stretch g c =
     let inv = c.loop-line.invariant in
     let below : line < length new = omega (arith, c.loop-line-test.true, c.len-line-end.ensures) in
     let order : from_line p ≤ line = omega (arith, s.0, c.loop-line.auto.line) in
-    let few = few_read limit e old new p (is_edit e text) c.loop-line.reader c.loop-line.found.items line (omega (arith, below)) inv.above in
+    let few = few_read limit e old new p (is_edit e text) c.loop-line.reader (map found_unit c.loop-line.found.items) line (omega (arith, below)) inv.above in
     omega (arith, few, inv.lines, c.line-in-loop-line.ensures.lines, s.0)
 
 pub returns-in-Err-clause-stretch : goal.returns-in-Err-clause-stretch
@@ -72,7 +73,7 @@ returns-in-Err-clause-stretch g c =
     let inv = c.loop-line.invariant in
     let below : line < length new = omega (arith, c.loop-line-test.true, c.len-line-end.ensures) in
     let order : from_line p ≤ line = omega (arith, s.0, c.loop-line.auto.line) in
-    let few = few_read limit e old new p (is_edit e text) c.loop-line.reader c.loop-line.found.items line (omega (arith, below)) inv.above in
+    let few = few_read limit e old new p (is_edit e text) c.loop-line.reader (map found_unit c.loop-line.found.items) line (omega (arith, below)) inv.above in
     omega (arith, few, inv.lines, c.line-in-loop-line.ensures.lines, s.0)
 
 pub returns-in-Some-clause-stretch : goal.returns-in-Some-clause-stretch
@@ -89,7 +90,7 @@ returns-in-Some-clause-stretch g c =
     let inv = c.loop-line.invariant in
     let below : line < length new = omega (arith, c.loop-line-test.true, c.len-line-end.ensures) in
     let order : from_line p ≤ line = omega (arith, s.0, c.loop-line.auto.line) in
-    let few = few_read limit e old new p (is_edit e text) c.loop-line.reader c.loop-line.found.items line (omega (arith, below)) inv.above in
+    let few = few_read limit e old new p (is_edit e text) c.loop-line.reader (map found_unit c.loop-line.found.items) line (omega (arith, below)) inv.above in
     omega (arith, few, inv.lines, c.line-in-loop-line.ensures.lines, s.0)
 
 pub returns-in-Err-clause-deep : goal.returns-in-Err-clause-deep
@@ -108,7 +109,7 @@ returns-in-Err-clause-deep g c =
     let order : from_line p ≤ line = omega (arith, s.0, c.loop-line.auto.line) in
     subst (IsDeepAt (first_too_deep limit new)) (sym c.fault_in_line.ensures.value)
     (deep_told (first_too_deep limit new) c.in-Err.fault line
-    (λ is. deep_at limit e old new p (is_edit e text) c.requires.fits c.loop-line.reader c.loop-line.found.items line [] order below
+    (λ is. deep_at limit e old new p (is_edit e text) c.requires.fits c.loop-line.reader (map found_unit c.loop-line.found.items) line [] order below
     (λ (limit : ℕ) (e : EntityTable) (ls : List (List ℕ)) (h : Reads limit e c.loop-line.reader ls).
     subst (λ t. first_too_deep limit (ls ++ t ∷ []) ≡ Some (length ls)) c.line.ensures.value (c.in-Err.ensures.deep (ap Err is) limit e ls h))
     inv.above))
@@ -131,14 +132,14 @@ returns-in-Some-clause-fits g c =
     let reads = λ (limit : ℕ) (e : EntityTable) (ls : List (List ℕ)) (h : Reads limit e c.loop-line.reader ls).
     subst (λ t. Reads limit e c.line-in-loop-line.new.self (ls ++ t ∷ [])) is (c.in-Ok.ensures.reads limit e ls h) in
     let hands = λ (limit : ℕ) (e : EntityTable) (ls : List (List ℕ)) (h : Reads limit e c.loop-line.reader ls).
-    subst (λ t. handed e (ls ++ t ∷ []) ≡ handed e ls ++ option_to_list c.in-Ok.unit) is (c.in-Ok.ensures.hands limit e ls h) in
+    subst (λ t. handed e (ls ++ t ∷ []) ≡ handed e ls ++ option_to_list (option_map found_unit c.in-Ok.unit)) is (c.in-Ok.ensures.hands limit e ls h) in
     let ls = drop (from_line p) (take line new) in
     let begun = is_at (line - r.from) (open_begin e (ls ++ get_or new line [] ∷ [])) in
     let told = begin_told limit e old new p (is_edit e text) line [] order below begun (ap (λ n. is_at (line - n) (open_begin e (ls ++ get_or new line [] ∷ []))) s.0) in
     let ahead = subst (λ (us : Sequence HeldUnit). IsAhead (map lines_in us.items) p.old_begins c.loop-line.cursor.next.unit c.loop-line.cursor.next.line (line_before p line)) (sym inv.same) inv.ahead in
     let both = met_told begun (is_meeting p line) (c.in-Some.ensures.met limit e (ls ++ get_or new line [] ∷ []) (reads limit e ls inv.above.reads) ahead) in
-    let m = met_all limit e old new p (is_edit e text) c.requires.fits c.loop-line.reader c.line-in-loop-line.new.self c.loop-line.found.items c.push_some.new.found.items c.in-Ok.unit line []
-    order below reads hands c.in_ok-push_some-in-Ok.ensures (told.0 both.0) both.1 inv.above in
+    let m = met_all limit e old new p (is_edit e text) c.requires.fits c.loop-line.reader c.line-in-loop-line.new.self (map found_unit c.loop-line.found.items) (map found_unit c.push_some.new.found.items) (option_map found_unit c.in-Ok.unit) line []
+    order below reads hands (units_pushed c.loop-line.found.items c.push_some.new.found.items c.in-Ok.unit c.in_ok-push_some-in-Ok.ensures) (told.0 both.0) both.1 inv.above in
     m.2
 
 pub returns-in-Some-clause-read : goal.returns-in-Some-clause-read
@@ -159,14 +160,14 @@ returns-in-Some-clause-read g c =
     let reads = λ (limit : ℕ) (e : EntityTable) (ls : List (List ℕ)) (h : Reads limit e c.loop-line.reader ls).
     subst (λ t. Reads limit e c.line-in-loop-line.new.self (ls ++ t ∷ [])) is (c.in-Ok.ensures.reads limit e ls h) in
     let hands = λ (limit : ℕ) (e : EntityTable) (ls : List (List ℕ)) (h : Reads limit e c.loop-line.reader ls).
-    subst (λ t. handed e (ls ++ t ∷ []) ≡ handed e ls ++ option_to_list c.in-Ok.unit) is (c.in-Ok.ensures.hands limit e ls h) in
+    subst (λ t. handed e (ls ++ t ∷ []) ≡ handed e ls ++ option_to_list (option_map found_unit c.in-Ok.unit)) is (c.in-Ok.ensures.hands limit e ls h) in
     let ls = drop (from_line p) (take line new) in
     let begun = is_at (line - r.from) (open_begin e (ls ++ get_or new line [] ∷ [])) in
     let told = begin_told limit e old new p (is_edit e text) line [] order below begun (ap (λ n. is_at (line - n) (open_begin e (ls ++ get_or new line [] ∷ []))) s.0) in
     let ahead = subst (λ (us : Sequence HeldUnit). IsAhead (map lines_in us.items) p.old_begins c.loop-line.cursor.next.unit c.loop-line.cursor.next.line (line_before p line)) (sym inv.same) inv.ahead in
     let both = met_told begun (is_meeting p line) (c.in-Some.ensures.met limit e (ls ++ get_or new line [] ∷ []) (reads limit e ls inv.above.reads) ahead) in
-    let m = met_all limit e old new p (is_edit e text) c.requires.fits c.loop-line.reader c.line-in-loop-line.new.self c.loop-line.found.items c.push_some.new.found.items c.in-Ok.unit line []
-    order below reads hands c.in_ok-push_some-in-Ok.ensures (told.0 both.0) both.1 inv.above in
+    let m = met_all limit e old new p (is_edit e text) c.requires.fits c.loop-line.reader c.line-in-loop-line.new.self (map found_unit c.loop-line.found.items) (map found_unit c.push_some.new.found.items) (option_map found_unit c.in-Ok.unit) line []
+    order below reads hands (units_pushed c.loop-line.found.items c.push_some.new.found.items c.in-Ok.unit c.in_ok-push_some-in-Ok.ensures) (told.0 both.0) both.1 inv.above in
     let sizes = map lines_in c.loop-line.cursor.units.now.items in
     let cursor = c.met_at.new.cursor in
     record {
@@ -196,7 +197,7 @@ loop-line-preserved g c =
     let reads = λ (limit : ℕ) (e : EntityTable) (ls : List (List ℕ)) (h : Reads limit e c.loop-line.reader ls).
     subst (λ t. Reads limit e c.line-in-loop-line.new.self (ls ++ t ∷ [])) is (c.in-Ok.ensures.reads limit e ls h) in
     let hands = λ (limit : ℕ) (e : EntityTable) (ls : List (List ℕ)) (h : Reads limit e c.loop-line.reader ls).
-    subst (λ t. handed e (ls ++ t ∷ []) ≡ handed e ls ++ option_to_list c.in-Ok.unit) is (c.in-Ok.ensures.hands limit e ls h) in
+    subst (λ t. handed e (ls ++ t ∷ []) ≡ handed e ls ++ option_to_list (option_map found_unit c.in-Ok.unit)) is (c.in-Ok.ensures.hands limit e ls h) in
     let ls = drop (from_line p) (take line new) in
     let begun = is_at (line - r.from) (open_begin e (ls ++ get_or new line [] ∷ [])) in
     let told = begin_told limit e old new p (is_edit e text) line [] order below begun (ap (λ n. is_at (line - n) (open_begin e (ls ++ get_or new line [] ∷ []))) s.0) in
@@ -213,8 +214,8 @@ loop-line-preserved g c =
       inlines = c.line-in-loop-line.ensures.inlines ∙ inv.inlines;
       same = search rules;
       forward = search rules;
-      above = read_next limit e old new p (is_edit e text) c.loop-line.reader c.line-in-loop-line.new.self c.loop-line.found.items c.push_some.new.found.items c.in-Ok.unit line []
-          order below reads hands c.in_ok-push_some-in-Ok.ensures not_here inv.above;
+      above = read_next limit e old new p (is_edit e text) c.loop-line.reader c.line-in-loop-line.new.self (map found_unit c.loop-line.found.items) (map found_unit c.push_some.new.found.items) (option_map found_unit c.in-Ok.unit) line []
+          order below reads hands (units_pushed c.loop-line.found.items c.push_some.new.found.items c.in-Ok.unit c.in_ok-push_some-in-Ok.ensures) not_here inv.above;
       ahead = ahead_later sizes p.old_begins moved.next.unit moved.next.line (line_before p line) (line_before p (line + 1)) later
           (subst (λ (us : Sequence HeldUnit). IsAhead (map lines_in us.items) p.old_begins moved.next.unit moved.next.line (line_before p line)) inv.same (c.met_at.ensures.ahead e ahead));
     }
@@ -234,8 +235,8 @@ returns-in_err-push_some-in-Ok-finish-clause-stretch g c =
     let from = from_above e old new p (is_edit e text) in
     let within = in_new limit e old new p (is_edit e text) in
     let last : line ≡ length new = omega (arith, c.loop-line.auto.line-end, c.loop-line-test.false, c.len-line-end.ensures, s.0, from, within) in
-    let above = subst (λ n. ReadAbove limit e new p c.loop-line.reader c.loop-line.found.items n) last inv.above in
-    let few = few_read limit e old new p (is_edit e text) c.loop-line.reader c.loop-line.found.items (length new) (omega arith) above in
+    let above = subst (λ n. ReadAbove limit e new p c.loop-line.reader (map found_unit c.loop-line.found.items) n) last inv.above in
+    let few = few_read limit e old new p (is_edit e text) c.loop-line.reader (map found_unit c.loop-line.found.items) (length new) (omega arith) above in
     omega (arith, few, inv.lines, s.0, last)
 
 pub returns-in-Err-finish-clause-stretch : goal.returns-in-Err-finish-clause-stretch
@@ -253,8 +254,8 @@ returns-in-Err-finish-clause-stretch g c =
     let from = from_above e old new p (is_edit e text) in
     let within = in_new limit e old new p (is_edit e text) in
     let last : line ≡ length new = omega (arith, c.loop-line.auto.line-end, c.loop-line-test.false, c.len-line-end.ensures, s.0, from, within) in
-    let above = subst (λ n. ReadAbove limit e new p c.loop-line.reader c.loop-line.found.items n) last inv.above in
-    let few = few_read limit e old new p (is_edit e text) c.loop-line.reader c.loop-line.found.items (length new) (omega arith) above in
+    let above = subst (λ n. ReadAbove limit e new p c.loop-line.reader (map found_unit c.loop-line.found.items) n) last inv.above in
+    let few = few_read limit e old new p (is_edit e text) c.loop-line.reader (map found_unit c.loop-line.found.items) (length new) (omega arith) above in
     omega (arith, few, inv.lines, s.0, last)
 
 pub returns-clause-stretch : goal.returns-clause-stretch
@@ -272,8 +273,8 @@ returns-clause-stretch g c =
     let from = from_above e old new p (is_edit e text) in
     let within = in_new limit e old new p (is_edit e text) in
     let last : line ≡ length new = omega (arith, c.loop-line.auto.line-end, c.loop-line-test.false, c.len-line-end.ensures, s.0, from, within) in
-    let above = subst (λ n. ReadAbove limit e new p c.loop-line.reader c.loop-line.found.items n) last inv.above in
-    let few = few_read limit e old new p (is_edit e text) c.loop-line.reader c.loop-line.found.items (length new) (omega arith) above in
+    let above = subst (λ n. ReadAbove limit e new p c.loop-line.reader (map found_unit c.loop-line.found.items) n) last inv.above in
+    let few = few_read limit e old new p (is_edit e text) c.loop-line.reader (map found_unit c.loop-line.found.items) (length new) (omega arith) above in
     omega (arith, few, inv.lines, s.0, last)
 
 pub returns-clause-fits : goal.returns-clause-fits
@@ -291,8 +292,8 @@ returns-clause-fits g c =
     let from = from_above e old new p (is_edit e text) in
     let within = in_new limit e old new p (is_edit e text) in
     let last : line ≡ length new = omega (arith, c.loop-line.auto.line-end, c.loop-line-test.false, c.len-line-end.ensures, s.0, from, within) in
-    let above = subst (λ n. ReadAbove limit e new p c.loop-line.reader c.loop-line.found.items n) last inv.above in
-    let meet = ended limit e old new p (is_edit e text) c.loop-line.reader c.loop-line.found.items above in
+    let above = subst (λ n. ReadAbove limit e new p c.loop-line.reader (map found_unit c.loop-line.found.items) n) last inv.above in
+    let meet = ended limit e old new p (is_edit e text) c.loop-line.reader (map found_unit c.loop-line.found.items) above in
     new_fits limit e old new p (is_edit e text) c.requires.fits (length new) meet (none_deep limit e c.loop-line.reader (drop (from_line p) (take (length new) new)) above.reads)
 
 pub returns-clause-read : goal.returns-clause-read
@@ -310,10 +311,10 @@ returns-clause-read g c =
     let from = from_above e old new p (is_edit e text) in
     let within = in_new limit e old new p (is_edit e text) in
     let last : line ≡ length new = omega (arith, c.loop-line.auto.line-end, c.loop-line-test.false, c.len-line-end.ensures, s.0, from, within) in
-    let above = subst (λ n. ReadAbove limit e new p c.loop-line.reader c.loop-line.found.items n) last inv.above in
-    let meet = ended limit e old new p (is_edit e text) c.loop-line.reader c.loop-line.found.items above in
-    let units_are = found_all limit e old new p (is_edit e text) c.loop-line.found.items c.push_some-in-Ok-finish.new.found.items c.in-Ok-finish.unit c.loop-line.reader
-    c.in_ok-push_some-in-Ok-finish.ensures c.in-Ok-finish.ensures.hands above in
+    let above = subst (λ n. ReadAbove limit e new p c.loop-line.reader (map found_unit c.loop-line.found.items) n) last inv.above in
+    let meet = ended limit e old new p (is_edit e text) c.loop-line.reader (map found_unit c.loop-line.found.items) above in
+    let units_are = found_all limit e old new p (is_edit e text) (map found_unit c.loop-line.found.items) (map found_unit c.push_some-in-Ok-finish.new.found.items) (option_map found_unit c.in-Ok-finish.unit) c.loop-line.reader
+    (units_pushed c.loop-line.found.items c.push_some-in-Ok-finish.new.found.items c.in-Ok-finish.unit c.in_ok-push_some-in-Ok-finish.ensures) c.in-Ok-finish.ensures.hands above in
     record {
       from = s.0;
       meet = c.len-2.ensures ∙ sym meet;

@@ -1,4 +1,5 @@
 use Rattle.std.proofs.Common.{◌≡◌, ◌+◌, ◌≤◌, ◌-◌, drop, map}
+use Rattle.mdblock.specs.FoundLists.{found_unit}
 use Rattle.viewlaws.specs.UnitTiles.{IsAhead}
 use Rattle.mdview.specs.HeldBlocks.{line_before, lines_in, places_of}
 use Rattle.mdview.specs.NewText.{lines_of}
@@ -14,7 +15,7 @@ invariant-loop-line g l = record {
   inlines : g.C.Count.inlines l.count ≡ g.C.Count.inlines l.fn.count;
   same : l.cursor.units.now ≡ l.held.units.now;
   forward : l.first ≤ l.cursor.next.unit;
-  above : ReadAbove l.held.options.now.max_containers l.held.entities.now (lines_of l.text) (places_of l.held.entities.now l.text) l.reader l.found.items l.line;
+  above : ReadAbove l.held.options.now.max_containers l.held.entities.now (lines_of l.text) (places_of l.held.entities.now l.text) l.reader (map found_unit l.found.items) l.line;
   ahead : IsAhead (map lines_in l.held.units.now.items) (places_of l.held.entities.now l.text).old_begins l.cursor.next.unit l.cursor.next.line
       (line_before (places_of l.held.entities.now l.text) l.line);
 }

@@ -4,6 +4,7 @@ use Rattle.std.proofs.lemmas.List.Elements.{All-push}
 use Rattle.inlinespec.specs.LabelMap.{target_in}
 use Rattle.mdhtml.specs.BlockHtml.{ends_line}
 use Rattle.mdhtml.specs.WrittenUnits.{entities_of, is_deep_unit, options_of, written_unit}
+use Rattle.mdblock.specs.FoundLists.{found_unit}
 use Rattle.mdbatch.specs.GatheredUnits.{EndsLine, IsWoven, closes_bracket, setting_of}
 use Rattle.viewspec.specs.LabelTable.{with_definitions}
 use Rattle.viewlaws.proofs.LabelsLead.{labels_more}
@@ -16,11 +17,11 @@ returns-then-is_some-clause-gathers c = λ all before.
     let adds = c.in_ok-add_definitions.ensures ∙ ap (with_definitions c.args.self.now.labels) (c.definitions.ensures ∙ ap (λ unit. unit.definitions) c.unit.ensures) in
     let some = sym c.is_some.ensures ∙ c.if-is_some.true in
     record {
-      labels = labels_more all c.args.found _ _ before.labels adds;
+      labels = labels_more all (found_unit c.args.found) _ _ before.labels adds;
       lines = before.lines;
       line = λ none. not_none _ some none;
       woven = λ none. not_none _ some none;
-      cut = λ line is. cut_more (setting_of c.args.writer.now) all c.args.found c.args.self.now.waiting.items line (before.cut line is);
+      cut = λ line is. cut_more (setting_of c.args.writer.now) all (found_unit c.args.found) c.args.self.now.waiting.items line (before.cut line is);
     }
 
 pub returns-then-may_ask-clause-gathers : goal.returns-then-may_ask-clause-gathers
@@ -35,11 +36,11 @@ returns-then-may_ask-clause-gathers c = λ all before.
     let ends = subst (λ h. ends_line (string_bytes h) ≡ true) (sym waits.3) (before.line none) in
     let woven = woven_kept setting held all one (string_bytes c.args.self.now.html) new (ap string_bytes waits.3) c.in_ok-keep.ensures.html (before.woven none) in
     record {
-      labels = labels_more all c.args.found _ _ before.labels (c.keep.ensures.labels ∙ adds);
+      labels = labels_more all (found_unit c.args.found) _ _ before.labels (c.keep.ensures.labels ∙ adds);
       lines = subst (All EndsLine) (sym waits.1) (All-push EndsLine held one before.lines ends);
       line = λ stays. subst (λ l. ends_line l ≡ true) (sym c.in_ok-keep.ensures.html) refl;
-      woven = λ stays. subst (λ items. IsWoven setting (all ++ c.args.found ∷ []) items new) (sym waits.1)
-          (subst (λ found. IsWoven setting (all ++ found ∷ []) (held ++ one ∷ []) new) waits.2 woven);
+      woven = λ stays. subst (λ items. IsWoven setting (all ++ found_unit c.args.found ∷ []) items new) (sym waits.1)
+          (subst (λ found. IsWoven setting (all ++ found_unit found ∷ []) (held ++ one ∷ []) new) waits.2 woven);
       cut = λ line is. not_both _ line (c.keep.ensures.too_deep ∙ none) is;
     }
 
@@ -47,7 +48,7 @@ pub returns-in-Ok-clause-gathers : goal.returns-in-Ok-clause-gathers
 returns-in-Ok-clause-gathers c = λ all before.
     let adds = c.in_ok-add_definitions.ensures ∙ ap (with_definitions c.args.self.now.labels) (c.definitions.ensures ∙ ap (λ unit. unit.definitions) c.unit.ensures) in
     let setting = setting_of c.args.writer.now in
-    let found = c.args.found in
+    let found = found_unit c.args.found in
     let mid = string_bytes c.args.self.now.html in
     let new = string_bytes c.append_unit.new.out in
     let table = target_in c.args.no_labels.now in
@@ -68,7 +69,7 @@ pub returns-in-Err-TooDeep-clause-gathers : goal.returns-in-Err-TooDeep-clause-g
 returns-in-Err-TooDeep-clause-gathers c = λ all before.
     let adds = c.in_ok-add_definitions.ensures ∙ ap (with_definitions c.args.self.now.labels) (c.definitions.ensures ∙ ap (λ unit. unit.definitions) c.unit.ensures) in
     let setting = setting_of c.args.writer.now in
-    let found = c.args.found in
+    let found = found_unit c.args.found in
     let table = target_in c.args.no_labels.now in
     let none = is_none _ (sym c.is_some.ensures ∙ c.if-is_some.false) in
     let free = ap (λ unit. list_any closes_bracket unit.texts) (sym c.unit-2.ensures) ∙ c.may_ask.ensures c.if-may_ask.false in

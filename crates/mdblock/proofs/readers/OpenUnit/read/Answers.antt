@@ -16,7 +16,7 @@ returns-then-is_blank-clause-next c =
     let new = record old { level = c.pass_blank.new.self; joined = false } in
     subst (λ z. HandsOn c.args.limit c.args.fed old z None new) c.new-line.ensures
     (blank_on c.args.limit c.args.fed old new l (sym c.is_shut.ensures ∙ c.if-is_shut.true)
-    (sym c.is_blank.ensures ∙ c.if-is_blank.true) (ap (λ (z : BlockLine). z.lazy) c.new-line.ensures) c.pass_blank.ensures refl refl refl)
+    (sym c.is_blank.ensures ∙ c.if-is_blank.true) (ap (λ (z : BlockLine). z.lazy) c.new-line.ensures) c.pass_blank.ensures refl refl refl refl)
 
 pub returns-then-is_shut-clause-next : goal.returns-then-is_shut-clause-next
 returns-then-is_shut-clause-next c =
@@ -48,7 +48,7 @@ returns-then-branch-clause-next c =
     let old = c.args.self.now in
     let new = record old { level = c.follow.new.self; gathering = c.follow.new.gathering; joined = false } in
     subst (λ z. HandsOn c.args.limit c.args.fed old z None new) c.new-line.ensures
-    (follows_on c.args.limit c.args.fed old new l c.in_ok-follow.ensures.entities refl refl (ap (λ (z : BlockLine). z.lazy) c.new-line.ensures) (c.in_ok-follow.ensures.adds c.if-branch.true))
+    (follows_on c.args.limit c.args.fed old new l c.in_ok-follow.ensures.entities refl refl refl (ap (λ (z : BlockLine). z.lazy) c.new-line.ensures) (c.in_ok-follow.ensures.adds c.if-branch.true))
 
 pub returns-then-begins_block-clause-next : goal.returns-then-begins_block-clause-next
 returns-then-begins_block-clause-next c =
@@ -105,8 +105,8 @@ returns-clause-next c =
     let lazy = ap (λ (z : BlockLine). z.lazy) line_is in
     let continues = c.continuation-continuation.ensures.last
     (subst (λ (z : Level). IsUnfollowed z.last line) (sym passes.0) (subst (IsUnfollowed old.level.last) (sym passes.1) passes.3)) in
-    let new = record old { level = c.add.new.self; gathering = c.add.new.gathering; joined = c.begins_item-self.result } in
+    let new = record old { level = c.add.new.self; gathering = c.add.new.gathering; joined = false } in
     subst (λ z. HandsOn c.args.limit c.args.fed z (document_line c.args.text.now) None new) held_is
     (subst (λ z. HandsOn c.args.limit c.args.fed held z None new) line_is
-    (adds_on c.args.limit c.args.fed held new line c.continuation-continuation.result c.in_ok-add.ensures.entities refl c.begins_item-self.ensures lazy continues
-    (sym c.begins_block.ensures ∙ c.if-begins_block.false) c.in_ok-add.ensures.adds))
+    (adds_on c.args.limit c.args.fed held new line c.continuation-continuation.result c.in_ok-add.ensures.entities refl refl refl lazy continues
+    (sym c.begins_block.ensures ∙ c.if-begins_block.false) (sym c.begins_item.ensures ∙ c.if-begins_item.false) c.in_ok-add.ensures.adds))

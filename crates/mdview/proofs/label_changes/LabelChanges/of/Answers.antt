@@ -1,6 +1,9 @@
 use Rattle.std.proofs.Common.{arith, length-drop, ◌≡◌, ◌∙◌, ◌-◌, ◌++◌, None, ap, drop, length, map, sym, take}
 use Rattle.std.specs.Option.{option_or}
 use Rattle.std.proofs.lemmas.List.{drop-map, take-map, take_all}
+use Rattle.std.proofs.lemmas.Simd.{map-map}
+use Rattle.blockspec.specs.UnitTree.{FoundUnit}
+use Rattle.mdblock.specs.FoundLists.{found_unit}
 use Rattle.viewspec.specs.LabelTable.{table_of}
 use Rattle.mdview.specs.HeldUnit.{unit_in}
 use Rattle.mdview.specs.LabelTargets.{at, definitions_by, target_held}
@@ -37,6 +40,8 @@ returns-clause-led c = λ q.
     edit_leads front gone found back q (at q c.in_ok-changed.field-0.entries) (told c.define_all.new.self q) (target_held held.labels.now q) (target_beside held.prelude.now q) is (c.in_ok-changed.ensures q) before
     ∙ ap (λ us. option_or (table_of (definitions_by (us ++ found ++ back)) q) (target_beside held.prelude.now q)) (sym (take-map unit_in first units))
     ∙ ap (λ us. option_or (table_of (definitions_by (take first (map unit_in units) ++ found ++ us)) q) (target_beside held.prelude.now q)) (sym (drop-map unit_in next units))
+    ∙ ap (λ us. option_or (table_of (definitions_by (take first (map unit_in units) ++ us ++ drop next (map unit_in units))) q) (target_beside held.prelude.now q))
+    (sym (map-map (λ (one : FoundUnit). one.unit) found_unit c.args.reparsed.now.found.items))
 
 pub returns-clause-elsewhere : goal.returns-clause-elsewhere
 returns-clause-elsewhere c = λ q.

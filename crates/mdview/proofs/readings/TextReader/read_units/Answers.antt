@@ -2,6 +2,7 @@ use Rattle.std.proofs.Common.{◌≡◌, ◌++◌, arith, map, rules, subst, ap,
 use Rattle.std.specs.List.{sum_by}
 use Rattle.std.proofs.lemmas.List.{nil_from_length}
 use Rattle.std.proofs.lemmas.List.Sums.{sum_by-cons}
+use Rattle.mdblock.specs.FoundLists.{found_unit}
 use Rattle.viewlaws.specs.UnitTexts.{deep_found, is_deep_under, trees_in}
 use Rattle.viewlaws.specs.UnitTiles.{tile_of}
 use Rattle.mdview.specs.HeldBlocks.{tile_in}
@@ -21,15 +22,15 @@ loop-one-preserved g c =
     let limit = c.args.self.now.options.now.max_spans in
     let e = entities_in c.args.room.now in
     let L = labels_behind c.args.self.now in
-    let texts = ap (λ l. sum_by texts_in (trees_in l)) step ∙ sum_by-cons texts_in one.unit (trees_in rest) in
+    let texts = ap (λ l. sum_by texts_in (trees_in (map found_unit l))) step ∙ sum_by-cons texts_in one.unit (trees_in (map found_unit rest)) in
     rw items (record {
-      tiles = tiles_next c.loop-one.units.items c.in-Ok.unit one rest c.args.found.items c.in-Ok.ensures.tile
-          (subst (λ xs. map tile_in (map read_of c.loop-one.units.items) ++ map tile_of xs ≡ map tile_of c.args.found.items) step c.loop-one.invariant.tiles);
+      tiles = tiles_next c.loop-one.units.items c.in-Ok.unit (found_unit one) (map found_unit rest) (map found_unit c.args.found.items) c.in-Ok.ensures.tile
+          (subst (λ xs. map tile_in (map read_of c.loop-one.units.items) ++ map tile_of (map found_unit xs) ≡ map tile_of (map found_unit c.args.found.items)) step c.loop-one.invariant.tiles);
       all = search rules;
       pieces = all_more (IsRendered c.args.self.now.options.now) c.loop-one.units.items c.in-Ok.unit c.loop-one.invariant.pieces c.in-Ok.ensures.piece;
       read = all_more (IsReadUnder e L) c.loop-one.units.items c.in-Ok.unit c.loop-one.invariant.read (subst (λ z. IsReadUnder z L c.in-Ok.unit) c.loop-one.invariant.room c.in-Ok.ensures.read);
-      shallow = c.loop-one.invariant.shallow ∙ ap (deep_found limit e L) step
-          ∙ deep_later limit e L one rest (ap (λ z. is_deep_under limit z L one.unit) (sym c.loop-one.invariant.room) ∙ c.in-Ok.ensures.shallow);
+      shallow = c.loop-one.invariant.shallow ∙ ap (λ xs. deep_found limit e L (map found_unit xs)) step
+          ∙ deep_later limit e L (found_unit one) (map found_unit rest) (ap (λ z. is_deep_under limit z L one.unit) (sym c.loop-one.invariant.room) ∙ c.in-Ok.ensures.shallow);
       room = c.read_unit.ensures.room ∙ c.loop-one.invariant.room;
       lines = c.read_unit.ensures.lines ∙ c.loop-one.invariant.lines;
       inlines = omega (arith, c.read_unit.ensures.inlines, c.loop-one.invariant.inlines, texts);
@@ -37,5 +38,5 @@ loop-one-preserved g c =
 
 pub returns-clause-tiles : goal.returns-clause-tiles
 returns-clause-tiles g c =
-    tiles_ended c.loop-one.units.items c.loop-one.one-iterator.rest.items c.args.found.items
-    (nil_from_length _ (omega (arith, c.in-None.ensures.steps.0, c.loop-one.one-iterator.rest.ok.0))) c.loop-one.invariant.tiles
+    tiles_ended c.loop-one.units.items (map found_unit c.loop-one.one-iterator.rest.items) (map found_unit c.args.found.items)
+    (ap (map found_unit) (nil_from_length _ (omega (arith, c.in-None.ensures.steps.0, c.loop-one.one-iterator.rest.ok.0)))) c.loop-one.invariant.tiles

@@ -1,5 +1,6 @@
 use Rattle.std.proofs.Common.{◌≡◌, ◌+◌, ◌≤◌, ◌++◌, length, map}
 use Rattle.std.specs.List.{All, sum_by}
+use Rattle.mdblock.specs.FoundLists.{found_unit}
 use Rattle.viewlaws.specs.UnitTexts.{deep_found, trees_in}
 use Rattle.viewlaws.specs.UnitTiles.{tile_of}
 use Rattle.mdview.specs.HeldBlocks.{tile_in}
@@ -10,13 +11,13 @@ use Rattle.mdview.proofs.readings.TextReader.read_units.Given as goal
 -- the units so far were read and counted, and in none of them do spans lie too deep
 abbrev pub invariant-loop-one : goal.invariant-loop-one
 invariant-loop-one g l = record {
-  tiles : map tile_in (map read_of l.units.items) ++ map tile_of l.one-iterator.rest.items ≡ map tile_of l.fn.found.items;
+  tiles : map tile_in (map read_of l.units.items) ++ map tile_of (map found_unit l.one-iterator.rest.items) ≡ map tile_of (map found_unit l.fn.found.items);
   all : length l.units.items + length l.one-iterator.rest.items ≡ length l.fn.found.items;
   pieces : All (IsRendered l.fn.self.options.now) l.units.items;
   read : All (IsReadUnder (entities_in l.fn.room) (labels_behind l.fn.self)) l.units.items;
-  shallow : deep_found l.fn.self.options.now.max_spans (entities_in l.fn.room) (labels_behind l.fn.self) l.fn.found.items
-      ≡ deep_found l.fn.self.options.now.max_spans (entities_in l.fn.room) (labels_behind l.fn.self) l.one-iterator.rest.items;
+  shallow : deep_found l.fn.self.options.now.max_spans (entities_in l.fn.room) (labels_behind l.fn.self) (map found_unit l.fn.found.items)
+      ≡ deep_found l.fn.self.options.now.max_spans (entities_in l.fn.room) (labels_behind l.fn.self) (map found_unit l.one-iterator.rest.items);
   room : entities_in l.room ≡ entities_in l.fn.room;
   lines : g.C.Count.lines l.count ≡ g.C.Count.lines l.fn.count;
-  inlines : g.C.Count.inlines l.count + sum_by texts_in (trees_in l.one-iterator.rest.items) ≤ g.C.Count.inlines l.fn.count + sum_by texts_in (trees_in l.fn.found.items);
+  inlines : g.C.Count.inlines l.count + sum_by texts_in (trees_in (map found_unit l.one-iterator.rest.items)) ≤ g.C.Count.inlines l.fn.count + sum_by texts_in (trees_in (map found_unit l.fn.found.items));
 }

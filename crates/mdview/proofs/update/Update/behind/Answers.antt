@@ -2,6 +2,7 @@ use Rattle.std.proofs.Common.{◌≡◌, ℕ, ◌++◌, List, arith, length, map
 use Rattle.std.specs.List.{All}
 use Rattle.std.specs.Option.{option_or}
 use Rattle.viewlaws.specs.UnitTexts.{asking_texts, asking_units, deep_found, deep_from}
+use Rattle.mdblock.specs.FoundLists.{found_unit}
 use Rattle.mdview.specs.HeldBlocks.{held_tile}
 use Rattle.mdview.specs.HeldTexts.{IsReadUnder, IsReread, IsTextFault, between, deep_in_parts, entities_in, head_read, line_on, number_again}
 use Rattle.mdview.specs.HeldUnit.{HeldUnit, unit_in}
@@ -27,7 +28,7 @@ returns-in_err-read_again-clause-deep g c =
     let old = target_held c.args.held.now.labels.now in
     let new = led_after c.args.held.now.labels.now c.args.changes in
     let r = c.args.reparsed in
-    let front = option_or (option_map (line_on r.from) (deep_found limit E new r.found.items)) (deep_from limit E new r.meet (map held_tile (between r.next (length units) units))) in
+    let front = option_or (option_map (line_on r.from) (deep_found limit E new (map found_unit r.found.items))) (deep_from limit E new r.meet (map held_tile (between r.next (length units) units))) in
     let deep = subst (λ n. IsTextFault (deep_from limit E new n (map held_tile (between 0 r.first units))) c.in_err-read_again.field-0.0) c.head_behind-head.ensures
     (subst (λ z. IsTextFault (deep_from limit z new c.head_behind-head.result (map held_tile (between 0 r.first units))) c.in_err-read_again.field-0.0) c.new-room.ensures c.in_err-read_again.ensures.deep) in
     returned c.from_residual.result c.in_err-read_again.field-0.0 (IsTextFault (deep_in_parts limit E new (head_read c.args.held.now.head r) units r)) c.from_residual.ensures.1
@@ -42,13 +43,13 @@ returns-in_err-units-clause-deep g c =
     let new = led_after c.args.held.now.labels.now c.args.changes in
     let r = c.args.reparsed in
     let r2 : entities_in c.read_again.new.room ≡ E = c.read_again.ensures.room ∙ c.new-room.ensures in
-    let front = option_or (option_map (line_on r.from) (deep_found limit E new r.found.items)) (deep_from limit E new r.meet (map held_tile (between r.next (length units) units))) in
+    let front = option_or (option_map (line_on r.from) (deep_found limit E new (map found_unit r.found.items))) (deep_from limit E new r.meet (map held_tile (between r.next (length units) units))) in
     let none = ap (λ n. deep_from limit E new n (map held_tile (between 0 r.first units))) (sym c.head_behind-head.ensures)
     ∙ ap (λ z. deep_from limit z new c.head_behind-head.result (map held_tile (between 0 r.first units))) (sym c.new-room.ensures) ∙ c.in_ok-read_again.ensures.shallow in
-    let deep = subst (λ z. IsTextFault (option_map (line_on r.from) (deep_found limit z new r.found.items)) c.in_err-units.field-0.0) r2 c.in_err-units.ensures.deep in
+    let deep = subst (λ z. IsTextFault (option_map (line_on r.from) (deep_found limit z new (map found_unit r.found.items))) c.in_err-units.field-0.0) r2 c.in_err-units.ensures.deep in
     returned c.from_residual-in_err-units.result c.in_err-units.field-0.0 (IsTextFault (deep_in_parts limit E new (head_read c.args.held.now.head r) units r)) c.from_residual-in_err-units.ensures.1
     (fault_behind (deep_from limit E new (head_read c.args.held.now.head r) (map held_tile (between 0 r.first units))) front c.in_err-units.field-0.0 none
-    (fault_in_front (option_map (line_on r.from) (deep_found limit E new r.found.items)) (deep_from limit E new r.meet (map held_tile (between r.next (length units) units))) c.in_err-units.field-0.0 deep))
+    (fault_in_front (option_map (line_on r.from) (deep_found limit E new (map found_unit r.found.items))) (deep_from limit E new r.meet (map held_tile (between r.next (length units) units))) c.in_err-units.field-0.0 deep))
 
 pub returns-in_err-read_again-2-clause-deep : goal.returns-in_err-read_again-2-clause-deep
 returns-in_err-read_again-2-clause-deep g c =
@@ -60,15 +61,15 @@ returns-in_err-read_again-2-clause-deep g c =
     let r = c.args.reparsed in
     let r2 : entities_in c.read_again.new.room ≡ E = c.read_again.ensures.room ∙ c.new-room.ensures in
     let r3 : entities_in c.read_units.new.room ≡ E = c.read_units.ensures.room ∙ r2 in
-    let front = option_or (option_map (line_on r.from) (deep_found limit E new r.found.items)) (deep_from limit E new r.meet (map held_tile (between r.next (length units) units))) in
+    let front = option_or (option_map (line_on r.from) (deep_found limit E new (map found_unit r.found.items))) (deep_from limit E new r.meet (map held_tile (between r.next (length units) units))) in
     let none = ap (λ n. deep_from limit E new n (map held_tile (between 0 r.first units))) (sym c.head_behind-head.ensures)
     ∙ ap (λ z. deep_from limit z new c.head_behind-head.result (map held_tile (between 0 r.first units))) (sym c.new-room.ensures) ∙ c.in_ok-read_again.ensures.shallow in
-    let few = ap (option_map (line_on r.from)) (ap (λ z. deep_found limit z new r.found.items) (sym r2) ∙ c.in_ok-units.ensures.shallow) in
+    let few = ap (option_map (line_on r.from)) (ap (λ z. deep_found limit z new (map found_unit r.found.items)) (sym r2) ∙ c.in_ok-units.ensures.shallow) in
     let deep = subst (λ n. IsTextFault (deep_from limit E new r.meet (map held_tile (between r.next n units))) c.in_err-read_again-2.field-0.0) c.len.ensures
     (subst (λ z. IsTextFault (deep_from limit z new r.meet (map held_tile (between r.next c.len.result units))) c.in_err-read_again-2.field-0.0) r3 c.in_err-read_again-2.ensures.deep) in
     returned c.from_residual-in_err-read_again-2.result c.in_err-read_again-2.field-0.0 (IsTextFault (deep_in_parts limit E new (head_read c.args.held.now.head r) units r)) c.from_residual-in_err-read_again-2.ensures.1
     (fault_behind (deep_from limit E new (head_read c.args.held.now.head r) (map held_tile (between 0 r.first units))) front c.in_err-read_again-2.field-0.0 none
-    (fault_behind (option_map (line_on r.from) (deep_found limit E new r.found.items)) (deep_from limit E new r.meet (map held_tile (between r.next (length units) units))) c.in_err-read_again-2.field-0.0 few deep))
+    (fault_behind (option_map (line_on r.from) (deep_found limit E new (map found_unit r.found.items))) (deep_from limit E new r.meet (map held_tile (between r.next (length units) units))) c.in_err-read_again-2.field-0.0 few deep))
 
 pub returns-clause-shallow : goal.returns-clause-shallow
 returns-clause-shallow g c =
@@ -80,10 +81,10 @@ returns-clause-shallow g c =
     let r = c.args.reparsed in
     let r2 : entities_in c.read_again.new.room ≡ E = c.read_again.ensures.room ∙ c.new-room.ensures in
     let r3 : entities_in c.read_units.new.room ≡ E = c.read_units.ensures.room ∙ r2 in
-    let front = option_or (option_map (line_on r.from) (deep_found limit E new r.found.items)) (deep_from limit E new r.meet (map held_tile (between r.next (length units) units))) in
+    let front = option_or (option_map (line_on r.from) (deep_found limit E new (map found_unit r.found.items))) (deep_from limit E new r.meet (map held_tile (between r.next (length units) units))) in
     let none = ap (λ n. deep_from limit E new n (map held_tile (between 0 r.first units))) (sym c.head_behind-head.ensures)
     ∙ ap (λ z. deep_from limit z new c.head_behind-head.result (map held_tile (between 0 r.first units))) (sym c.new-room.ensures) ∙ c.in_ok-read_again.ensures.shallow in
-    let few = ap (option_map (line_on r.from)) (ap (λ z. deep_found limit z new r.found.items) (sym r2) ∙ c.in_ok-units.ensures.shallow) in
+    let few = ap (option_map (line_on r.from)) (ap (λ z. deep_found limit z new (map found_unit r.found.items)) (sym r2) ∙ c.in_ok-units.ensures.shallow) in
     let last = ap (λ n. deep_from limit E new r.meet (map held_tile (between r.next n units))) (sym c.len.ensures)
     ∙ ap (λ z. deep_from limit z new r.meet (map held_tile (between r.next c.len.result units))) (sym r3) ∙ c.in_ok-read_again-2.ensures.shallow in
     ap (λ o. option_or o front) none ∙ ap (λ o. option_or o (deep_from limit E new r.meet (map held_tile (between r.next (length units) units)))) few ∙ last
