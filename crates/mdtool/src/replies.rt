@@ -7,6 +7,7 @@ ghost use Rattle.mdview.specs.FaultReasons.{reason_of};
 ghost use Rattle.mdview.specs.Outcome.{answer_of};
 ghost use Rattle.mdtool.specs.Replies.{html_reply, edit_reply, refused_reply, piece_reply, pieces_reply, patch_line};
 
+use itoa::Buffer;
 use mdview::{EditFault, Patch, Preview};
 use std::alloc::{AllocError, Global};
 
@@ -77,7 +78,11 @@ fn patch_reply(alloc: Global, patch: &Patch) -> Result<String, AllocError>
 fn push_piece(number: usize, text: &str, reply: &mut String) -> Result<(), AllocError>
     ensures { OnOk result (string_bytes reply.new ≡ string_bytes reply.old ++ piece_reply number text.now) }
 {
-    let len = text.len();
-    write!(reply, "piece {number} {len}\n")?;
+    let mut digits = Buffer::new();
+    reply.push_str("piece ")?;
+    reply.push_str(digits.format(number))?;
+    reply.push_str(" ")?;
+    reply.push_str(digits.format(text.len()))?;
+    reply.push_str("\n")?;
     reply.push_str(text)
 }

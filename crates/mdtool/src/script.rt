@@ -20,6 +20,8 @@ const CHUNK: usize = 16384;
 /// A script that is read line by line. A line ends at LF alone; a last line without LF counts if it is not empty.
 #[derive(Drop)]
 pub struct Script {
+    /// Room for the next bytes of the feed.
+    chunk: [u8; CHUNK],
     taken: Vec<u8>,
     /// Where the bytes begin that no line has used yet.
     start: usize,
@@ -49,6 +51,7 @@ impl Script {
         ensures { result ≡ fresh }
     {
         Script {
+            chunk: [0; CHUNK],
             taken: Vec::new(alloc),
             start: 0,
             searched: 0,
@@ -165,16 +168,15 @@ impl Script {
         ensures weight { OnOk result (R.calls_left feed.new * 16384 + length self.new.bytes ≤ R.calls_left feed.old * 16384 + length self.old.bytes) }
         ensures falls { OnOk result (R.calls_left feed.new + (if self.new.is_ended then 0 else 1) < R.calls_left feed.old + 1) }
     {
-        let mut chunk = [0; CHUNK];
-        let Ok(count) = feed.get(&mut chunk) else {
+        self.drop_used();
+        let Ok(count) = feed.get(&mut self.chunk) else {
             return Err(ToolFault::Read);
         };
         if count == 0 {
             self.is_ended = true;
             return Ok(());
         }
-        self.drop_used();
-        if self.taken.extend_from_slice(&chunk[..count]).is_err() {
+        if self.taken.extend_from_slice(&self.chunk[..count]).is_err() {
             return Err(ToolFault::NoMemory);
         }
         Ok(())
