@@ -1,3 +1,2 @@
 pub mod AsBox
 pub mod Called
-pub mod RefusedCalls

@@ -5,6 +5,7 @@ use Rattle.blockspec.specs.BlockLine.{document_line}
 use Rattle.block_rows.proofs.ReadText.{deep_line}
 use Rattle.inline_rows.specs.Opened.{inline_words}
 use Rattle.itemspec.specs.ListItems.{with_item, tops_of, top_blocks}
+use Rattle.itemspec.specs.ItemMarks.{ItemMark, item_marks, list_marks}
 use Rattle.itemspec.specs.Joins.{Join, block_joins}
 use Rattle.viewspec.specs.Setting.{Setting, Source}
 use Rattle.viewspec.specs.Calls.{Call}
@@ -27,6 +28,9 @@ facts from meet near stop lines texts = record { from = from; meet = meet; near 
 abbrev pub join : (line texts : ℕ) → Join
 join line texts = record { line = line; texts = texts }
 
+abbrev pub mark : (line texts definitions : ℕ) → ItemMark
+mark line texts definitions = record { line = line; texts = texts; definitions = definitions }
+
 unfoldable pub stops_read : Setting → Source → Call → Facts
 unfolding deep_line inline_words tops_of with_item
 stops_read setting source call =
@@ -37,3 +41,8 @@ stops_read setting source call =
 unfoldable pub joins_read : List (List ℕ) → List (List Join)
 unfolding deep_line tops_of with_item
 joins_read lines = map block_joins (top_blocks builtin_table (map document_line lines))
+
+-- the later items of all lists of some lines, with what stands before each
+unfoldable pub marks_read : List (List ℕ) → List ItemMark
+unfolding deep_line tops_of with_item item_marks
+marks_read lines = list_marks builtin_table (map document_line lines)

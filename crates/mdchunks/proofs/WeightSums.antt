@@ -3,7 +3,7 @@ use Rattle.std.proofs.Common.{◌≡◌, ℕ, ◌+◌, ◌-◌, ◌^◌, ◌<◌
 use Rattle.std.proofs.lemmas.List.{drop_more, length-drop, take_all}
 use Rattle.std.proofs.lemmas.List.Sums.{sum_by_more, sum_by-append}
 use Rattle.mdchunks.specs.Lists.{joined, weigh}
-use Rattle.mdchunks.proofs.Joined.{joined_more, take_inside}
+use Rattle.mdchunks.proofs.Joined.{take_inside}
 use Rattle.mdchunks.proofs.Moved.{some_left}
 
 pub weigh_more : {A : Type 0} (w : A → ℕ) (xs : List A) (i : ℕ) (d : A) → i < length xs →
@@ -18,11 +18,6 @@ pub weigh_inside : {A : Type 0} (w : A → ℕ) (xss : List (List A)) (i k at : 
     min (weigh w (joined (take i xss)) + weigh w (take k (get_or xss i d))) (2 ^ 64 - 1) ≡ weigh w (take at (joined xss))
 weigh_inside w xss i k at d here within e =
     weigh-append w (joined (take i xss)) (take k (get_or xss i d)) ∙ ap (weigh w) (sym (take_inside xss i k at d here within e))
-
--- those of one list more
-pub weigh_list : {A : Type 0} (w : A → ℕ) (xss : List (List A)) (i : ℕ) (d : List A) → i < length xss →
-    min (weigh w (joined (take i xss)) + weigh w (get_or xss i d)) (2 ^ 64 - 1) ≡ weigh w (joined (take (i + 1) xss))
-weigh_list w xss i d here = weigh-append w (joined (take i xss)) (get_or xss i d) ∙ ap (weigh w) (sym (joined_more xss i d here))
 
 -- the member that comes next
 pub weigh_next : {A : Type 0} (w : A → ℕ) (xs rest later : List A) (i : ℕ) (x : A) → rest ≡ drop i xs → rest ≡ x ∷ later →

@@ -2,7 +2,7 @@
 use Rattle.std.proofs.Common.{◌≡◌, ℕ, ◌+◌, ◌-◌, ◌≤◌, List, [], ◌∷◌, length, take, drop, map, refl, ap, arith, String, Global, string_bytes, sym, ◌∙◌}
 use Rattle.std.specs.Prelude.{sum_by}
 use Rattle.std.specs.List.{drop-map, take-map}
-use Rattle.std.proofs.lemmas.List.Sums.{sum_by-cons, sum_by-take-drop}
+use Rattle.std.proofs.lemmas.List.Sums.{sum_by-cons}
 use Rattle.mdchunks.specs.Lists.{weigh}
 use Rattle.mdview.specs.Document.{size_of}
 use Rattle.mdview.proofs.Sizes.{size_part}
@@ -15,15 +15,6 @@ sum_is : (lines : List (String Global)) → sum_by line_weight lines ≡ size_of
 sum_is [] = refl
 sum_is (line ∷ lines) =
     sum_by-cons line_weight line lines ∙ ap (λ n. line_weight line + n) (sum_is lines) ∙ sym (sum_by-cons (λ (l : List ℕ). length l + 1) (string_bytes line) (map string_bytes lines))
-
--- no more than the greatest number
-pub weight_is : (lines : List (String Global)) (n : ℕ) → size_of (map string_bytes lines) ≤ 16777216
-    → weigh line_weight (take n lines) ≡ size_of (take n (map string_bytes lines))
-weight_is lines n small =
-    let f : List ℕ → ℕ = λ line. length line + 1 in
-    let part : size_of (take n (map string_bytes lines)) + size_of (drop n (map string_bytes lines)) ≡ size_of (map string_bytes lines) = sum_by-take-drop f (map string_bytes lines) n in
-    let front : sum_by line_weight (take n lines) ≡ size_of (take n (map string_bytes lines)) = sum_is (take n lines) ∙ ap size_of (sym (take-map string_bytes n lines)) in
-    omega (arith, small, part, front)
 
 -- what the lines weigh that go
 pub gone_is : (lines : List (String Global)) (at del gone : ℕ) → size_of (map string_bytes lines) ≤ 16777216 → gone ≡ weigh line_weight (take del (drop at lines))
