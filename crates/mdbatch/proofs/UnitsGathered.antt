@@ -18,7 +18,8 @@ use Rattle.mdbatch.specs.declared.gathered.Gathered.{Gathered}
 use Rattle.mdbatch.specs.declared.gathered.Waiting.{Waiting}
 use Rattle.mdview.specs.Preludes.{HeldPrelude}
 use Rattle.mdbatch.specs.TextLabels.{page_table, target_by}
-use Rattle.mdbatch.specs.BatchHtml.{IsTextFault, WritesUnits, deep_line, text_fault_of}
+use Rattle.mdbatch.specs.BatchHtml.{WritesUnits, deep_line}
+use Rattle.mdview.specs.HeldTexts.{IsTextFault, text_fault_in}
 use Rattle.mdbatch.specs.GatheredUnits.{Gathers, IsCut, IsWoven, IsWrittenTo, closes_bracket}
 use Rattle.mdbatch.proofs.PageTargets.{leads_on_page}
 use Rattle.mdbatch.proofs.UnitsWritten.{deep_behind, deep_in_front, deep_under, moved_behind, none_written, one_deep, written_behind, written_under}
@@ -110,7 +111,7 @@ module _ (setting : Setting) (labels : Table) where
 -- a unit that waited is too deep, and none before it is
 pub unit_fault : (setting : Setting) (labels : Table) (all : List FoundUnit) (waits : Waiting) (waiting : List Waiting) (html old mid : List ℕ) (fault : InlineFault)
     → (fault ≡ inline.TooDeep → is_deep_unit setting.options setting.entities labels waits.found.unit ≡ true) → IsWrittenTo setting labels all (waits ∷ waiting) html old mid
-    → IsTextFault (deep_line setting labels all) (text_fault_of fault waits.found.begin)
+    → IsTextFault (deep_line setting labels all) (text_fault_in fault waits.found.begin)
 unit_fault setting labels all waits waiting html old mid inline.TooDeep deep written =
     next_deep setting labels all waits waiting html old mid waits.found.begin (one_deep setting labels (found_unit waits.found) (deep refl)) written
 unit_fault setting labels all waits waiting html old mid inline.NoMemory deep written = tt

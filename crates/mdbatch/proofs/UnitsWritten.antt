@@ -1,5 +1,5 @@
 -- Units that are written one after the other.
-use Rattle.std.proofs.Common.{◌≡◌, ◌||◌, ℕ, Bool, true, false, List, [], ◌∷◌, ◌++◌, Option, Some, None, map, cond, find, option_map, refl, ap, sym, ◌∙◌, append_assoc, append-nil}
+use Rattle.std.proofs.Common.{◌≡◌, ◌||◌, ℕ, true, false, List, [], ◌∷◌, ◌++◌, Option, Some, None, map, cond, find, option_map, refl, ap, sym, ◌∙◌, append_assoc, append-nil}
 use Rattle.std.proofs.lemmas.List.{map-append}
 use Rattle.std.proofs.lemmas.List.Folds.{concat-append, find-append}
 use Rattle.std.specs.List.{concat, list_any}
@@ -7,14 +7,14 @@ use Rattle.std.proofs.lemmas.Bool.{or_parts}
 use Rattle.std.specs.Option.{option_or}
 use Rattle.mdtext.specs.EntityTable.{EntityTable}
 use Rattle.inlinespec.specs.LinkTails.{Table}
-use Rattle.inlinespec.specs.TextTree.{Agree, asked, inl}
-use Rattle.inlinelaws.proofs.AskedLabels.{same_asked, same_inl}
+use Rattle.inlinespec.specs.TextTree.{asked, inl}
 use Rattle.blockspec.specs.UnitTree.{FoundUnit}
 use Rattle.mdhtml.specs.BlockHtml.{blocks_html, texts_html}
 use Rattle.mdhtml.specs.WrittenUnits.{is_deep_text, is_deep_unit, read_html, written_unit}
 use Rattle.viewspec.specs.Refusals.{is_deep, is_too_deep}
 use Rattle.viewspec.specs.Setting.{Setting}
 use Rattle.viewspec.specs.View.{ViewedUnit, reading_of, viewed, viewed_with}
+use Rattle.viewlaws.proofs.ReadingsUnder.{all_under}
 use Rattle.viewlaws.proofs.UnaskedTexts.{asks_none, reads_alike}
 use Rattle.mdbatch.specs.GatheredUnits.{closes_bracket}
 use Rattle.mdbatch.specs.BatchHtml.{WritesUnits, begin_in, deep_line, piece_in, pieces_of}
@@ -95,22 +95,6 @@ module _ (setting : Setting) (labels : Table) where
   deep_behind front rest line none deep = deep_append front rest ∙ ap (λ d. option_or d (deep_line setting labels rest)) none ∙ deep
 
 -- ---- the same under other labels
-
-agree_all : (one other : Table) (labels : List (List ℕ)) → ((label : List ℕ) → one label ≡ other label) → Agree one other labels
-agree_all one other [] same = tt
-agree_all one other (label ∷ labels) same = (same label, agree_all one other labels same)
-
-reads_under : (e : EntityTable) (one other : Table) (text : List ℕ) → ((label : List ℕ) → one label ≡ other label) → reading_of e one text ≡ reading_of e other text
-reads_under e one other text same =
-    let agree = agree_all one other (asked e one text) same in
-    ap (λ z. record { tree = z; asked = asked e one text }) (same_inl one other e text agree)
-    ∙ ap (λ z. record { tree = inl e other text; asked = z }) (same_asked one other e text agree)
-
-all_under : (e : EntityTable) (one other : Table) (texts : List (List ℕ)) → ((label : List ℕ) → one label ≡ other label)
-    → map (reading_of e one) texts ≡ map (reading_of e other) texts
-all_under e one other [] same = refl
-all_under e one other (text ∷ texts) same =
-    ap (λ r. r ∷ map (reading_of e one) texts) (reads_under e one other text same) ∙ ap (λ rs. reading_of e other text ∷ rs) (all_under e one other texts same)
 
 pub viewed_under : (setting : Setting) (one other : Table) (found : List FoundUnit) → ((label : List ℕ) → one label ≡ other label)
     → map (viewed setting one) found ≡ map (viewed setting other) found

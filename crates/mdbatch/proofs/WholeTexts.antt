@@ -8,7 +8,8 @@ use Rattle.mdview.specs.declared.fault.EditFault.{EditFault}
 use Rattle.mdview.specs.declared.fault.EditFault.TheVariants.{OutOfRange, BreakInLine, TooManyLines, TooLarge, NestedTooDeep, InlineTooDeep, NoMemory, NotDefinitions}
 use Rattle.mdview.specs.Edit.{refusal}
 use Rattle.mdview.specs.Preludes.{HeldPrelude}
-use Rattle.mdbatch.specs.BatchHtml.{IsFaultOf, IsReadFault, IsTextFault, TextHtml, WritesPage, deep_on_page}
+use Rattle.mdbatch.specs.BatchHtml.{IsFaultOf, IsReadFault, TextHtml, WritesPage, deep_on_page}
+use Rattle.mdview.specs.HeldTexts.{IsTextFault}
 
 -- where no refusal of lines or bytes is due, what the reading of the lines gives is the answer
 pub text_html : (result : Result (String Global) EditFault) (setting : Setting) (prelude : HeldPrelude) (lines : List (List ℕ)) → refusal lines ≡ None

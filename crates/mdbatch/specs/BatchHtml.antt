@@ -3,8 +3,6 @@ use Rattle.std.specs.Prelude.{◌≡◌, ℕ, List, [], ◌++◌, Option, Some, 
 use Rattle.std.specs.Global.{Global}
 use Rattle.std.specs.List.{concat}
 use Rattle.inlinespec.specs.LinkTails.{Table}
-use Rattle.mdinline.specs.declared.faults.InlineFault.{InlineFault}
-use Rattle.mdinline.specs.declared.faults.InlineFault.TheVariants as inline
 use Rattle.blockspec.specs.BlockUnits.{units}
 use Rattle.blockspec.specs.Nesting.{first_too_deep}
 use Rattle.mdblock.specs.declared.faults.BlockFault.{BlockFault}
@@ -44,11 +42,6 @@ fault_of block.NestedTooDeep line = NestedTooDeep line
 fault_of block.NoMemory line = NoMemory
 fault_of block.Failed line = NoMemory
 
--- that for a fault of the reading of the texts of a unit which begins at a line
-abbrev pub text_fault_of : InlineFault → ℕ → EditFault
-text_fault_of inline.TooDeep line = InlineTooDeep line
-text_fault_of inline.NoMemory line = NoMemory
-
 -- a fault of the reading of a text in which this line, if any, begins a container too many
 abbrev pub IsReadFault : (nested : Option ℕ) → EditFault → Type 0
 IsReadFault nested (NestedTooDeep line) = nested ≡ Some line
@@ -59,17 +52,6 @@ IsReadFault nested TooLarge = ⊥
 IsReadFault nested (OutOfRange lines) = ⊥
 IsReadFault nested (BreakInLine index) = ⊥
 IsReadFault nested (NotDefinitions line) = ⊥
-
--- a fault of the reading of its inline texts, where at this line, if any, the first unit begins in which spans lie too deep
-abbrev pub IsTextFault : (deep : Option ℕ) → EditFault → Type 0
-IsTextFault deep (InlineTooDeep line) = deep ≡ Some line
-IsTextFault deep NoMemory = Unit {0}
-IsTextFault deep (NestedTooDeep line) = ⊥
-IsTextFault deep TooManyLines = ⊥
-IsTextFault deep TooLarge = ⊥
-IsTextFault deep (OutOfRange lines) = ⊥
-IsTextFault deep (BreakInLine index) = ⊥
-IsTextFault deep (NotDefinitions line) = ⊥
 
 -- one of these
 abbrev pub IsFaultOf : (nested deep : Option ℕ) → EditFault → Type 0

@@ -8,7 +8,8 @@ ghost use Rattle.mdhtml.specs.Limits.{HasLimits};
 ghost use Rattle.mdhtml.specs.BlockHtml.{ends_line};
 ghost use Rattle.mdview.specs.Document.{size_of};
 ghost use Rattle.mdview.specs.Preludes.{IsDefinedBy};
-ghost use Rattle.mdbatch.specs.BatchHtml.{IsFaultOf, IsTextFault, TextHtml, WritesPage, WritesUnits, deep_line, deep_on_page, text_fault_of};
+ghost use Rattle.mdbatch.specs.BatchHtml.{IsFaultOf, TextHtml, WritesPage, WritesUnits, deep_line, deep_on_page};
+ghost use Rattle.mdview.specs.HeldTexts.{IsTextFault, text_fault_in};
 ghost use Rattle.mdbatch.specs.GatheredUnits.{EndsLine, Gathers, HasGathered, IsWoven, IsWrittenTo, setting_of};
 ghost use Rattle.mdbatch.specs.TextLabels.{page_table, target_on_page};
 ghost use Rattle.mdbatch.specs.ViewHtml.{ViewHtml};
@@ -141,7 +142,7 @@ fn put_behind(html: String, out: &mut String) -> Result<(), NoMemory>
 }
 
 fn fault_in_unit(fault: InlineFault, begin: usize) -> EditFault
-    ensures { result ≡ text_fault_of fault begin }
+    ensures { result ≡ text_fault_in fault begin }
 {
     match fault {
         InlineFault::TooDeep => EditFault::InlineTooDeep { line: begin },

@@ -6,7 +6,8 @@ use Rattle.mdhtml.specs.BlockHtml.{ends_line}
 use Rattle.mdhtml.specs.WrittenUnits.{is_deep_unit, written_unit}
 use Rattle.viewspec.specs.Setting.{Setting}
 use Rattle.mdblock.specs.FoundLists.{found_unit}
-use Rattle.mdbatch.specs.BatchHtml.{IsTextFault, deep_line, text_fault_of}
+use Rattle.mdbatch.specs.BatchHtml.{deep_line}
+use Rattle.mdview.specs.HeldTexts.{IsTextFault, text_fault_in}
 use Rattle.mdbatch.specs.GatheredUnits.{EndsLine, IsWrittenTo, setting_of}
 use Rattle.mdbatch.specs.TextLabels.{target_on_page}
 use Rattle.mdbatch.proofs.UnitsGathered.{lines_joined, next_written, unit_fault}
@@ -59,7 +60,7 @@ returns-in-Err-clause-fault c = λ all html woven.
     let mid = string_bytes c.loop-waits.out in
     let same = c.loop-waits.invariant.setting in
     let waits = c.in-Some.waits in
-    subst (IsTextFault (deep_line setting table all)) (sym (c.fault_in_unit.ensures ∙ ap (text_fault_of c.in-Err.fault) c.begin.ensures))
+    subst (IsTextFault (deep_line setting table all)) (sym (c.fault_in_unit.ensures ∙ ap (text_fault_in c.in-Err.fault) c.begin.ensures))
     (unit_fault setting table all waits c.next.new.self.rest.items html old mid c.in-Err.fault
     (λ is. ap (λ (s : Setting). is_deep_unit s.options s.entities table waits.found.unit) (sym same)
     ∙ ap (is_deep_unit (setting_of c.loop-waits.writer).options (setting_of c.loop-waits.writer).entities table) (sym c.unit.ensures) ∙ c.in-Err.ensures.too_deep (ap Err is))
