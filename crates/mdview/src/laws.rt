@@ -1,8 +1,11 @@
 //! What holds of any list of edits and new preludes.
-ghost use Rattle.std.specs.Prelude.{◌≡◌, ℕ, List};
+ghost use Rattle.std.specs.Prelude.{◌≡◌, ℕ, Bool, Err, List};
 ghost use Rattle.mdhtml.specs.declared.options.Options.{Options};
 ghost use Rattle.viewspec.specs.Setting.{Setting};
-ghost use Rattle.mdview.specs.Document.{document, empty, nothing};
+ghost use Rattle.viewspec.specs.Calls.{Call};
+ghost use Rattle.mdview.specs.declared.fault.EditFault.{EditFault};
+ghost use Rattle.mdview.specs.Document.{Document, document, empty, nothing};
+ghost use Rattle.mdview.specs.Outcome.{answer_of, outcome_of};
 ghost use Rattle.mdview.specs.Run.{Turn, after, held_after};
 
 /// After any list of edits and new preludes, each answered as `Preview::edit` or `Preview::set_prelude` answers, the preview is
@@ -12,4 +15,10 @@ pub fn edits_leave_the_present_text()
     ensures { (entities : List (List ℕ × List ℕ)) (options : Options) (turns : List Turn)
         → let setting : Setting = record { entities = entities; options = options } in
         held_after (empty entities options) turns ≡ document setting (after setting nothing turns) }
+{}
+
+/// A call that is refused changes nothing, whyever: where `Preview::edit` or `Preview::set_prelude` answers a fault, the preview is as it was, with all that
+/// it shows.
+pub fn refused_calls_change_nothing()
+    ensures { (held new : Document) (call : Call) (fault : EditFault) (starved : Bool) → (answer_of (Err fault), new) ≡ outcome_of starved held call → new ≡ held }
 {}

@@ -30,7 +30,7 @@ mod touched_labels;
 mod update;
 
 pub use fault::EditFault;
-pub use laws::edits_leave_the_present_text;
+pub use laws::{edits_leave_the_present_text, refused_calls_change_nothing};
 pub use lines::Lines;
 pub use mdblock::{Align, Block, Definition, Item, ListKind, Unit};
 pub use mdhtml::{Breaks, Options};
