@@ -44,7 +44,7 @@ pub(crate) struct Level {
     /// Whether a block has begun here, or a paragraph of definitions alone.
     begun: bool,
     /// Whether the last line was blank, and no content of fenced code or an HTML block.
-    blank: bool,
+    pub(crate) blank: bool,
     /// Whether such a line parts two of the blocks.
     pub(crate) spaced: bool,
 }
@@ -119,6 +119,28 @@ impl Level {
             OpenBlock::Leaf(leaf) => leaf.is_text(),
             OpenBlock::Quote(inner) => inner.ends_in_text(),
             OpenBlock::List(inner, list) => list.is_open() && inner.ends_in_text(),
+        }
+    }
+
+    /// Whether a gap parts two blocks of the last item of the list that stands last.
+    pub(crate) fn is_parted(&self) -> bool {
+        match &self.last {
+            OpenBlock::List(inner, list) => {
+                if list.is_open() {
+                    inner.spaced
+                } else {
+                    list.is_parted()
+                }
+            }
+            _ => false,
+        }
+    }
+
+    /// The list that stands last.
+    pub(crate) fn into_list(self) -> OpenList {
+        match self.last {
+            OpenBlock::List(_, list) => list,
+            _ => unreachable!(),
         }
     }
 

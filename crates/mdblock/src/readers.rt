@@ -20,11 +20,13 @@ ghost use Rattle.mdblock.specs.held.Reads.{Reads, BeginsUnit, HandsOn, SinksBehi
 ghost use Rattle.mdtext.specs.EntityTable.{EntityTable};
 
 use crate::block_starts::{BlockStart, beginning};
+use crate::container::lists::OpenList;
 use crate::faults::BlockFault;
 use crate::gathering::Gathering;
 use crate::lines::Line;
 use crate::open_blocks::{Continuation, Level};
 use crate::units::{Found, Join};
+use mdleaf::Definition;
 use mdtext::{Count, Entities};
 use std::alloc::{AllocError, Global};
 use std::marker::Model;
@@ -40,6 +42,17 @@ struct OpenUnit<'e> {
     joins: Vec<Join>,
     /// Whether the last line began one of them.
     joined: bool,
+}
+
+/// What is held of a list whose last line has begun another item of it.
+#[derive(Drop)]
+pub(crate) struct Front {
+    pub(crate) begin: usize,
+    pub(crate) lines: usize,
+    pub(crate) list: OpenList,
+    pub(crate) definitions: Vec<Definition>,
+    pub(crate) texts: Vec<String>,
+    pub(crate) joins: Vec<Join>,
 }
 
 /// Reads a text line by line, and hands out each unit when the line has come that begins the next one.
@@ -61,7 +74,6 @@ impl<'e> Model for Reader<'e> {
     ghost use Rattle.mdblock.specs.contracts.open_blocks.Level as level;
     ghost use Rattle.std.specs.Coded.{codes};
     ghost use Rattle.mdleaf.specs.LinkDefinition.{definition_code};
-
     ghost use Rattle.mdblock.specs.FoundLists.{mark_code};
 
     ghost coded = { Prim.hlevel (codes, level.the_row.coded, definition_code, mark_code) };
@@ -177,6 +189,21 @@ impl<'e> Reader<'e> {
     }
 }
 
+impl<'e> Reader<'e> {
+    pub(crate) fn alloc(&self) -> Global {
+        self.alloc
+    }
+
+    /// What is held of a list whose next item the last line has begun.
+    pub(crate) fn into_front(self) -> Front {
+        let fed = self.fed;
+        let Some(held) = self.held else {
+            unreachable!()
+        };
+        held.into_front(fed)
+    }
+}
+
 impl<'e> OpenUnit<'e> {
     fn new(alloc: Global, entities: &'e Entities, begin: Option<usize>) -> OpenUnit<'e>
         ensures empty { HoldsSummary result no_summary }
@@ -276,6 +303,7 @@ impl<'e> OpenUnit<'e> {
             line: fed.saturating_sub(self.begin.unwrap_or(0)),
             texts: self.gathering.texts_len(),
             definitions: self.gathering.definitions_len(),
+            loose: self.level.is_parted() || self.level.blank,
         }
     }
 
@@ -315,12 +343,27 @@ impl<'e> OpenUnit<'e> {
         mem::replace(self, next).into_unit(fed)
     }
 
+    /// The list that is held, whose next item the line has begun that is the last of `fed`.
+    fn into_front(self, fed: usize) -> Front {
+        let begin = self.begin.unwrap_or(0);
+        let (definitions, texts) = self.gathering.parts();
+        Front {
+            begin,
+            lines: fed.saturating_sub(begin),
+            list: self.level.into_list(),
+            definitions,
+            texts,
+            joins: self.joins,
+        }
+    }
+
     /// The unit that is held, which ends after `fed` lines.
     fn into_unit(self, fed: usize) -> Result<Option<Found>, AllocError>
         requires { AreKept self }
         ensures { IfOk result (λ found. GivesUnit self.entry fed found) }
     {
         let mut gathering = self.gathering;
+        let parted = self.level.is_parted();
         let blocks = self.level.close(&mut gathering)?;
         let (definitions, texts) = gathering.parts();
         match self.begin {
@@ -332,6 +375,7 @@ impl<'e> OpenUnit<'e> {
                 definitions,
                 texts,
                 self.joins,
+                parted,
             ))),
         }
     }

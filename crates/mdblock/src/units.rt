@@ -73,6 +73,8 @@ pub struct Join {
     pub texts: usize,
     /// How many definitions they give.
     pub(crate) definitions: usize,
+    /// Whether a gap stands before it, or parts two blocks of the item before it.
+    pub(crate) loose: bool,
 }
 
 /// A unit where it was found. Only this crate makes one.
@@ -82,6 +84,8 @@ pub struct Found {
     lines: usize,
     unit: Unit,
     joins: Vec<Join>,
+    /// Whether a gap parts two blocks of the last item of a list.
+    parted: bool,
 }
 
 impl Model for Found {
@@ -104,6 +108,7 @@ impl Found {
         definitions: Vec<Definition>,
         texts: Vec<String>,
         joins: Vec<Join>,
+        parted: bool,
     ) -> Found
         requires { BlocksIn (length texts.items) (blocks_view blocks.items) }
         ensures { result ≡ record {
@@ -126,6 +131,7 @@ impl Found {
                 texts,
             },
             joins,
+            parted,
         }
     }
 
@@ -155,6 +161,13 @@ impl Found {
         ensures { map join_mark result.now ≡ self.now.marks }
     {
         &self.joins
+    }
+
+    /// Whether a gap parts two blocks of its last item, where it is a list.
+    pub(crate) fn is_parted(&self) -> bool
+        ensures { result ≡ self.now.parted }
+    {
+        self.parted
     }
 }
 
@@ -188,6 +201,7 @@ mod tests {
             line: 1,
             texts: 2,
             definitions: 0,
+            loose: false,
         })?;
         let found = Found {
             begin: 3,
@@ -198,6 +212,7 @@ mod tests {
                 texts,
             },
             joins,
+            parted: false,
         };
         assert_eq!(rt; found.begin(), 3);
         assert_eq!(rt; found.lines(), 2);

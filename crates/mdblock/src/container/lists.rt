@@ -27,6 +27,8 @@ pub(crate) struct OpenList {
     items: Vec<Item>,
     item_open: bool,
     needed: usize,
+    /// Whether a gap parts two blocks of the item that ended last.
+    parted: bool,
 }
 
 impl OpenList {
@@ -45,6 +47,7 @@ impl OpenList {
             items: Vec::new(alloc),
             item_open: true,
             needed,
+            parted: false,
         }
     }
 
@@ -53,6 +56,13 @@ impl OpenList {
         ensures { result ≡ self.now.item_open }
     {
         self.item_open
+    }
+
+    /// Whether a gap parts two blocks of the item that ended last.
+    pub(crate) fn is_parted(&self) -> bool
+        ensures { result ≡ self.now.parted }
+    {
+        self.parted
     }
 
     /// Whether a line that is neither blank nor lazy has the columns that the open item needs.
@@ -100,6 +110,7 @@ impl OpenList {
     pub(crate) fn push(&mut self, blocks: Vec<Block>, gap: bool) -> Result<(), AllocError>
         ensures pushed { OnOk result (list_view self.new ≡ list_view_with self.old blocks.items gap) }
         ensures ended { OnOk result (self.new.item_open ≡ false) }
+        ensures parted { OnOk result (self.new.parted ≡ gap) }
         ensures kind { self.new.kind ≡ self.old.kind }
         ensures within { OnOk result ((n : ℕ) → ItemsIn n (items_view self.old.items.items) → BlocksIn n (blocks_view blocks.items)
             → ItemsIn n (items_view self.new.items.items)) }
@@ -107,7 +118,22 @@ impl OpenList {
         self.items.push(Item { blocks })?;
         self.loose = self.loose || gap;
         self.item_open = false;
+        self.parted = gap;
         Ok(())
+    }
+
+    /// The list without the item that has just begun, and with these behind the ones that are over, which are loose by themselves or not.
+    pub(crate) fn with_later(
+        mut self,
+        mut later: Vec<Item>,
+        loose: bool,
+    ) -> Result<Block, AllocError> {
+        self.items.append(&mut later)?;
+        Ok(Block::List {
+            kind: self.kind,
+            tight: !(self.loose || loose),
+            items: self.items,
+        })
     }
 
     /// What the list is at its end.
