@@ -5,4 +5,5 @@ pub mod UnitsMeet
 pub mod DocumentItems
 pub mod JoinCuts
 pub mod LastJoins
+pub mod LastParted
 pub mod MarkLines
