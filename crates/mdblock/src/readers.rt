@@ -1,6 +1,6 @@
 //! The reading of a text line by line, and the handing out of its units.
 
-ghost use Rattle.std.specs.Prelude.{List, [], ℕ, ◌≡◌, ◌+◌, ◌-◌, ◌*◌, ◌^◌, ◌<◌, ◌≤◌, false, true, None, Some, IfErr, IfOk, IfSome, OnOk, OnErr, IsErrOf, ◌∷◌, ◌++◌, is_some, length, unwrap_or};
+ghost use Rattle.std.specs.Prelude.{List, [], ℕ, ◌≡◌, ◌+◌, ◌-◌, ◌*◌, ◌^◌, ◌<◌, ◌≤◌, false, true, None, Some, IfErr, IfOk, IfSome, OnOk, OnErr, IsErrOf, ◌∷◌, ◌++◌, ◌||◌, drop, is_some, length, unwrap_or};
 ghost use Rattle.std.specs.Option.{option_map, option_to_list};
 ghost use Rattle.mdtext.specs.Counted.{counted};
 ghost use Rattle.mdblock.specs.declared.faults.BlockFault.TheVariants.{Failed, NestedTooDeep};
@@ -8,11 +8,11 @@ ghost use Rattle.blockspec.specs.BlockLine.{document_line};
 ghost use Rattle.blockspec.specs.BlockUnits.{units};
 ghost use Rattle.blockspec.specs.Nesting.{first_too_deep};
 ghost use Rattle.blockspec.specs.SummaryDepth.{sinks};
-ghost use Rattle.mdblock.specs.FoundLists.{AreJoinsOf, found_unit, join_mark};
+ghost use Rattle.mdblock.specs.FoundLists.{AreJoinsOf, StandsForUnit, found_unit, join_mark};
 ghost use Rattle.mdblock.specs.held.Continuations.{IsBeginningOf, IsContinuationOf, ContinuesOpen, begins_item};
 ghost use Rattle.mdblock.specs.held.EndedItems.{IsNextIn};
 ghost use Rattle.mdblock.specs.held.LinesAdded.{ContinuesLevel};
-ghost use Rattle.mdblock.specs.held.HeldLevel.{HoldsSummary, GivesUnit};
+ghost use Rattle.mdblock.specs.held.HeldLevel.{HoldsSummary, GivesUnit, is_parted_last};
 ghost use Rattle.blockspec.specs.LineSummary.{no_summary};
 ghost use Rattle.itemspec.specs.Joins.{is_joined};
 ghost use Rattle.mdblock.specs.held.ReaderState.{AreKept, held_begin, held_joined};
@@ -117,6 +117,8 @@ impl<'e> Reader<'e> {
         ensures hands { IfOk result (λ found. (limit : ℕ) (e : EntityTable) (ls : List (List ℕ)) → Reads limit e self.old ls
             → handed e (ls ++ text.now ∷ []) ≡ handed e ls ++ option_to_list (option_map found_unit found)) }
         ensures joins { IfOk result (λ found. (limit : ℕ) (e : EntityTable) (ls : List (List ℕ)) → Reads limit e self.old ls → IfSome found (AreJoinsOf e ls)) }
+        ensures stands { IfOk result (λ found. (limit : ℕ) (e : EntityTable) (ls : List (List ℕ)) → Reads limit e self.old ls
+            → IfSome found (λ f. StandsForUnit e f (drop f.begin ls))) }
         ensures deep { IsErrOf result NestedTooDeep → (limit : ℕ) (e : EntityTable) (ls : List (List ℕ)) → Reads limit e self.old ls
             → first_too_deep limit (ls ++ text.now ∷ []) ≡ Some (length ls) }
         ensures lines { C.lines count.new ≡ counted (C.lines count.old) }
@@ -149,6 +151,8 @@ impl<'e> Reader<'e> {
         ensures hands { IfOk result (λ found. (limit : ℕ) (e : EntityTable) (ls : List (List ℕ)) → Reads limit e self.entry ls
             → units e ls ≡ handed e ls ++ option_to_list (option_map found_unit found)) }
         ensures joins { IfOk result (λ found. (limit : ℕ) (e : EntityTable) (ls : List (List ℕ)) → Reads limit e self.entry ls → IfSome found (AreJoinsOf e ls)) }
+        ensures stands { IfOk result (λ found. (limit : ℕ) (e : EntityTable) (ls : List (List ℕ)) → Reads limit e self.entry ls
+            → IfSome found (λ f. StandsForUnit e f (drop f.begin ls))) }
     {
         let fed = self.fed;
         match self.held {
@@ -297,13 +301,14 @@ impl<'e> OpenUnit<'e> {
           line = fed - unwrap_or self.now.begin 0;
           texts = length self.now.gathering.texts.items;
           definitions = length self.now.gathering.definitions.items;
+          loose = is_parted_last self.now.level.last || self.now.level.blank;
         } }
     {
         Join {
             line: fed.saturating_sub(self.begin.unwrap_or(0)),
             texts: self.gathering.texts_len(),
             definitions: self.gathering.definitions_len(),
-            loose: self.level.is_parted() || self.level.blank,
+            loose: self.level.is_loose_behind(),
         }
     }
 

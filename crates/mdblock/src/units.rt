@@ -96,7 +96,7 @@ impl Model for Found {
 
     ghost coded = { list_code };
 
-    ghost view = { λ f. record { begin = f.begin; lines = f.lines; unit = f.unit; marks = map join_mark f.joins.items } };
+    ghost view = { λ f. record { begin = f.begin; lines = f.lines; unit = f.unit; marks = map join_mark f.joins.items; parted = f.parted } };
 }
 
 impl Found {
@@ -120,6 +120,7 @@ impl Found {
             texts = map string_bytes texts.items;
           };
           marks = map join_mark joins.items;
+          parted = parted;
         } }
     {
         Found {

@@ -1,6 +1,6 @@
 //! Lists and their items (CommonMark 5.2, 5.3).
 
-ghost use Rattle.std.specs.Prelude.{◌≡◌, ℕ, ◌+◌, ◌^◌, ◌<◌, ◌&&◌, ◌||◌, not, nat_le, is_some, true, false, Some, IfSome, OnOk};
+ghost use Rattle.std.specs.Prelude.{◌≡◌, ℕ, ◌+◌, ◌^◌, ◌<◌, ◌&&◌, ◌||◌, if◌then◌else◌, not, nat_le, is_some, true, false, Some, IfSome, OnOk};
 ghost use Rattle.mdtext.specs.Columns.{AreMarks};
 ghost use Rattle.blockspec.specs.BlockLine.{rest, indentation, is_blank_line, without_columns};
 ghost use Rattle.blockspec.specs.BlockStart.{Item as ItemWith, Holds, padding, item_of, begun};
@@ -58,11 +58,11 @@ impl OpenList {
         self.item_open
     }
 
-    /// Whether a gap parts two blocks of the item that ended last.
-    pub(crate) fn is_parted(&self) -> bool
-        ensures { result ≡ self.now.parted }
+    /// Whether a gap parts two blocks of its last item; of an open one `spaced` tells it.
+    pub(crate) fn parts(&self, spaced: bool) -> bool
+        ensures { result ≡ (if self.now.item_open then spaced else self.now.parted) }
     {
-        self.parted
+        if self.item_open { spaced } else { self.parted }
     }
 
     /// Whether a line that is neither blank nor lazy has the columns that the open item needs.
