@@ -7,3 +7,5 @@ pub mod JoinCuts
 pub mod LastJoins
 pub mod LastParted
 pub mod MarkLines
+pub mod ListsSpliced
+pub mod MarkedLines
