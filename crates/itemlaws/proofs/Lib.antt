@@ -5,4 +5,7 @@ pub mod UnitsMeet
 pub mod DocumentItems
 pub mod JoinCuts
 pub mod LastJoins
+pub mod LastParted
 pub mod MarkLines
+pub mod ListsSpliced
+pub mod MarkedLines

@@ -1,5 +1,5 @@
 -- The later items of lists with what stands before each, line by line: a line adds one exactly where it begins an item of the list that stands last.
-use Rattle.std.proofs.Common.{◌≡◌, ℕ, suc, ◌+◌, ◌-◌, ◌<◌, ◌≤◌, Bool, true, false, not, ◌&&◌, List, [], ◌∷◌, ◌++◌, length, map, Option, Some, None, refl, sym, ◌∙◌, ap, subst, arith, length-append}
+use Rattle.std.proofs.Common.{◌≡◌, ℕ, suc, ◌+◌, ◌-◌, ◌<◌, ◌≤◌, Bool, true, false, not, ◌&&◌, ◌||◌, List, [], ◌∷◌, ◌++◌, length, map, Option, Some, None, refl, sym, ◌∙◌, ap, subst, arith, length-append}
 use Rattle.std.proofs.lemmas.List.{map-append, append-nil}
 use Rattle.std.specs.List.{flat_map}
 use Rattle.std.specs.Prelude.{if◌then◌else◌}
@@ -23,7 +23,7 @@ use Rattle.blocklaws.proofs.HandedLaws.{held_next, held_one}
 use Rattle.blocklaws.proofs.UnitLaws.{keeps, step_keeps, mark_of_part}
 use Rattle.blocklaws.proofs.UnitReaderLaws.{IsOne}
 use Rattle.blocklaws.proofs.VisibleLaws.{visible_append}
-use Rattle.itemspec.specs.ItemMarks.{ItemMark, item_marks, block_marks, list_marks, mark_behind, marks_next, join_of}
+use Rattle.itemspec.specs.ItemMarks.{ItemMark, last_item, is_parted_block, is_parted, item_marks, block_marks, list_marks, mark_behind, marks_next, join_of}
 use Rattle.itemspec.specs.Joins.{item_joins, block_joins}
 use Rattle.itemspec.specs.ListItems.{ListItem, TopBlock, Other, ItemList, is_tight_list, nodes_of_items, top_group, with_item_where, with_item, with_part, tops_of, single_groups, top_blocks, moved_item, item_behind, items_behind, moved_top}
 use Rattle.itemlaws.proofs.ItemsMeet.{singles_at, singles_deep, blocks_are, ItemsMeet, items_meet_at}
@@ -33,20 +33,26 @@ use Rattle.itemlaws.proofs.UnitsMeet.{texts_together, definitions_together, list
 
 -- ---- blocks whose later items begin in the same lines, with the same before each
 
+abbrev AtSame : ListItem → ListItem → Type 0
+AtSame i j = (i.line ≡ j.line) × (i.gap ≡ j.gap)
+
+abbrev SameInside : ListItem → ListItem → Type 0
+SameInside i j = (i.nodes ≡ j.nodes) × (i.tight ≡ j.tight)
+
 abbrev AlikeLater : (item : ListItem) → (later : List ListItem) → (other : ListItem) → (more : List ListItem) → Type 0
 AlikeLater i [] j [] = Unit {0}
-AlikeLater i (n ∷ is) j (m ∷ js) = (i.nodes ≡ j.nodes) × (n.line ≡ m.line) × AlikeLater n is m js
+AlikeLater i (n ∷ is) j (m ∷ js) = SameInside i j × AtSame n m × AlikeLater n is m js
 AlikeLater i (n ∷ is) j [] = ⊥
 AlikeLater i [] j (m ∷ js) = ⊥
 
 abbrev Alike : List TopBlock → List TopBlock → Type 0
 Alike [] [] = Unit {0}
 Alike (Other g ∷ ts) (Other h ∷ us) = Alike ts us
-Alike (ItemList k i is ∷ ts) (ItemList m j js ∷ us) = (k ≡ m) × (i.line ≡ j.line) × AlikeLater i is j js × Alike ts us
+Alike (ItemList k i is ∷ ts) (ItemList m j js ∷ us) = (k ≡ m) × AtSame i j × AlikeLater i is j js × Alike ts us
 Alike ts us = ⊥
 
-abbrev item_mark : (line texts definitions : ℕ) → ItemMark
-item_mark l t d = record { line = l; texts = t; definitions = d }
+abbrev item_mark : (line texts definitions : ℕ) → (loose : Bool) → ItemMark
+item_mark l t d w = record { line = l; texts = t; definitions = d; loose = w }
 
 abbrev texts_of : ItemNodes → ℕ
 texts_of nodes = length (texts_in_items nodes)
@@ -60,9 +66,11 @@ alike_items b t d i [] j [] w = refl
 alike_items b t d i (n ∷ is) j [] w = absurd w
 alike_items b t d i [] j (m ∷ js) w = absurd w
 alike_items b t d i (n ∷ is) j (m ∷ js) w =
-    ap (λ z. item_mark (n.line - b) (t + texts_of z) (d + definitions_of z) ∷ item_marks b (t + texts_of z) (d + definitions_of z) n is) w.0
-    ∙ ap (λ z. item_mark (z - b) (t + texts_of j.nodes) (d + definitions_of j.nodes) ∷ item_marks b (t + texts_of j.nodes) (d + definitions_of j.nodes) n is) w.1
-    ∙ ap (λ z. item_mark (m.line - b) (t + texts_of j.nodes) (d + definitions_of j.nodes) ∷ z) (alike_items b (t + texts_of j.nodes) (d + definitions_of j.nodes) n is m js w.2)
+    ap (λ z. item_mark (n.line - b) (t + texts_of z) (d + definitions_of z) (not i.tight || n.gap) ∷ item_marks b (t + texts_of z) (d + definitions_of z) n is) w.0.0
+    ∙ ap (λ z. item_mark (n.line - b) (t + texts_of j.nodes) (d + definitions_of j.nodes) (not z || n.gap) ∷ item_marks b (t + texts_of j.nodes) (d + definitions_of j.nodes) n is) w.0.1
+    ∙ ap (λ z. item_mark (z - b) (t + texts_of j.nodes) (d + definitions_of j.nodes) (not j.tight || n.gap) ∷ item_marks b (t + texts_of j.nodes) (d + definitions_of j.nodes) n is) w.1.0
+    ∙ ap (λ z. item_mark (m.line - b) (t + texts_of j.nodes) (d + definitions_of j.nodes) (not j.tight || z) ∷ item_marks b (t + texts_of j.nodes) (d + definitions_of j.nodes) n is) w.1.1
+    ∙ ap (λ z. item_mark (m.line - b) (t + texts_of j.nodes) (d + definitions_of j.nodes) (not j.tight || m.gap) ∷ z) (alike_items b (t + texts_of j.nodes) (d + definitions_of j.nodes) n is m js w.2)
 
 alike_marks : (ts us : List TopBlock) → Alike ts us → flat_map block_marks ts ≡ flat_map block_marks us
 alike_marks [] [] w = refl
@@ -74,22 +82,22 @@ alike_marks (Other g ∷ ts) (ItemList m j js ∷ us) w = absurd w
 alike_marks (ItemList k i is ∷ ts) [] w = absurd w
 alike_marks (ItemList k i is ∷ ts) (Other h ∷ us) w = absurd w
 alike_marks (ItemList k i is ∷ ts) (ItemList m j js ∷ us) w =
-    ap (λ z. item_marks z 0 0 i is ++ flat_map block_marks ts) w.1
+    ap (λ z. item_marks z 0 0 i is ++ flat_map block_marks ts) w.1.0
     ∙ ap (λ z. z ++ flat_map block_marks ts) (alike_items j.line 0 0 i is j js w.2)
     ∙ ap (λ z. item_marks j.line 0 0 j js ++ z) (alike_marks ts us w.3)
 
 where_alike : (same : Bool) (kind : ListKind) (item : ListItem) (k : ListKind) (i : ListItem) (is : List ListItem) (j : ListItem) (js : List ListItem) (ts us : List TopBlock) →
-    i.line ≡ j.line → AlikeLater i is j js → Alike ts us → Alike (with_item_where same kind item k i is ts) (with_item_where same kind item k j js us)
-where_alike true kind item k i is j js ts us e w v = (refl, refl, (refl, e, w), v)
-where_alike false kind item k i is j js ts us e w v = (refl, refl, tt, (refl, e, w, v))
+    AtSame i j → AlikeLater i is j js → Alike ts us → Alike (with_item_where same kind item k i is ts) (with_item_where same kind item k j js us)
+where_alike true kind item k i is j js ts us e w v = (refl, (refl, refl), ((refl, refl), e, w), v)
+where_alike false kind item k i is j js ts us e w v = (refl, (refl, refl), tt, (refl, e, w, v))
 
 item_alike : (kind : ListKind) (item : ListItem) (ts us : List TopBlock) → Alike ts us → Alike (with_item kind item ts) (with_item kind item us)
 unfolding with_item
-item_alike kind item [] [] w = (refl, refl, tt, tt)
+item_alike kind item [] [] w = (refl, (refl, refl), tt, tt)
 item_alike kind item [] (Other h ∷ us) w = absurd w
 item_alike kind item [] (ItemList m j js ∷ us) w = absurd w
 item_alike kind item (Other g ∷ ts) [] w = absurd w
-item_alike kind item (Other g ∷ ts) (Other h ∷ us) w = (refl, refl, tt, w)
+item_alike kind item (Other g ∷ ts) (Other h ∷ us) w = (refl, (refl, refl), tt, w)
 item_alike kind item (Other g ∷ ts) (ItemList m j js ∷ us) w = absurd w
 item_alike kind item (ItemList k i is ∷ ts) [] w = absurd w
 item_alike kind item (ItemList k i is ∷ ts) (Other h ∷ us) w = absurd w
@@ -102,22 +110,22 @@ part_alike g (Leaves leaves) ts us w = w
 part_alike g (Quoted nodes) ts us w = w
 part_alike g (Listed kind t items) ts us w = item_alike kind (record { line = g.begin; gap = g.gap; tight = t; nodes = items }) ts us w
 
-last_alike : (g h : Group) (p q : Part) → g.begin ≡ h.begin → part_mark p ≡ part_mark q → Alike (with_part g p []) (with_part h q [])
+last_alike : (g h : Group) (p q : Part) → g.begin ≡ h.begin → g.gap ≡ h.gap → part_mark p ≡ part_mark q → Alike (with_part g p []) (with_part h q [])
 unfolding with_item
-last_alike g h (Leaves leaves) (Leaves others) b m = tt
-last_alike g h (Leaves leaves) (Quoted nodes) b m = tt
-last_alike g h (Quoted nodes) (Leaves others) b m = tt
-last_alike g h (Quoted nodes) (Quoted others) b m = tt
-last_alike g h (Leaves leaves) (Listed kind t items) b m = absurd (let x : ⊥ = cc in x)
-last_alike g h (Quoted nodes) (Listed kind t items) b m = absurd (let x : ⊥ = cc in x)
-last_alike g h (Listed kind t items) (Leaves leaves) b m = absurd (let x : ⊥ = cc in x)
-last_alike g h (Listed kind t items) (Quoted nodes) b m = absurd (let x : ⊥ = cc in x)
-last_alike g h (Listed kind t items) (Listed other s more) b m = let k : kind ≡ other = cc in (k, b, tt, tt)
+last_alike g h (Leaves leaves) (Leaves others) b v m = tt
+last_alike g h (Leaves leaves) (Quoted nodes) b v m = tt
+last_alike g h (Quoted nodes) (Leaves others) b v m = tt
+last_alike g h (Quoted nodes) (Quoted others) b v m = tt
+last_alike g h (Leaves leaves) (Listed kind t items) b v m = absurd (let x : ⊥ = cc in x)
+last_alike g h (Quoted nodes) (Listed kind t items) b v m = absurd (let x : ⊥ = cc in x)
+last_alike g h (Listed kind t items) (Leaves leaves) b v m = absurd (let x : ⊥ = cc in x)
+last_alike g h (Listed kind t items) (Quoted nodes) b v m = absurd (let x : ⊥ = cc in x)
+last_alike g h (Listed kind t items) (Listed other s more) b v m = let k : kind ≡ other = cc in (k, (b, v), tt, tt)
 
-behind_alike : (gs : List Group) (g h : Group) → g.begin ≡ h.begin → part_mark g.part ≡ part_mark h.part → Alike (tops_of (gs ++ g ∷ [])) (tops_of (gs ++ h ∷ []))
+behind_alike : (gs : List Group) (g h : Group) → g.begin ≡ h.begin → g.gap ≡ h.gap → part_mark g.part ≡ part_mark h.part → Alike (tops_of (gs ++ g ∷ [])) (tops_of (gs ++ h ∷ []))
 unfolding tops_of
-behind_alike [] g h b m = last_alike g h g.part h.part b m
-behind_alike (f ∷ gs) g h b m = part_alike f f.part (tops_of (gs ++ g ∷ [])) (tops_of (gs ++ h ∷ [])) (behind_alike gs g h b m)
+behind_alike [] g h b v m = last_alike g h g.part h.part b v m
+behind_alike (f ∷ gs) g h b v m = part_alike f f.part (tops_of (gs ++ g ∷ [])) (tops_of (gs ++ h ∷ [])) (behind_alike gs g h b v m)
 
 -- ---- a line that begins no item and no unit
 
@@ -131,7 +139,7 @@ grown_marks e R before s kind l m =
     let r = grown s kind l in
     ap (λ z. flat_map block_marks (tops_of z)) (map-append G before (r ∷ []))
     ∙ alike_marks (tops_of (map G before ++ G r ∷ [])) (tops_of (map G before ++ G s ∷ []))
-    (behind_alike (map G before) (G r) (G s) refl (mark_of_part e R kind s.first (s.later ++ l ∷ []) ∙ m ∙ sym (mark_of_part e R s.kind s.first s.later)))
+    (behind_alike (map G before) (G r) (G s) refl refl (mark_of_part e R kind s.first (s.later ++ l ∷ []) ∙ m ∙ sym (mark_of_part e R s.kind s.first s.later)))
     ∙ ap (λ z. flat_map block_marks (tops_of z)) (sym (map-append G before (s ∷ [])))
 
 abbrev cut_of : List Stretch → Tail → Bool → ℕ → Cut
@@ -220,7 +228,8 @@ marks_none e l =
 -- items behind others: what stands before the first of them is all that the others give
 pub marks_behind : (b t d : ℕ) (item : ListItem) (later : List ListItem) (next : ListItem) (more : List ListItem) →
     item_marks b t d item (later ++ next ∷ more)
-    ≡ item_marks b t d item later ++ item_mark (next.line - b) (t + texts_of (nodes_of_items item later)) (d + definitions_of (nodes_of_items item later))
+    ≡ item_marks b t d item later
+    ++ item_mark (next.line - b) (t + texts_of (nodes_of_items item later)) (d + definitions_of (nodes_of_items item later)) (not (last_item item later).tight || next.gap)
     ∷ item_marks b (t + texts_of (nodes_of_items item later)) (d + definitions_of (nodes_of_items item later)) next more
 unfolding item_marks nodes_of_items
 marks_behind b t d item [] next more = refl
@@ -228,29 +237,32 @@ marks_behind b t d item (i ∷ later) next more =
     let N = nodes_of_items i later in
     let t1 = t + texts_of item.nodes in
     let d1 = d + definitions_of item.nodes in
+    let w = not (last_item i later).tight || next.gap in
+    let head = item_mark (i.line - b) t1 d1 (not item.tight || i.gap) in
     let texts : t1 + texts_of N ≡ t + length (texts_in_items (nodes_of_items item (i ∷ later))) =
     (let p = length-append (texts_in_items item.nodes) (texts_in_items N) in omega (arith, p)) ∙ ap (λ z. t + length z) (sym (texts_together item.nodes N)) in
     let definitions : d1 + definitions_of N ≡ d + length (definitions_in_items (nodes_of_items item (i ∷ later))) =
     (let p = length-append (definitions_in_items item.nodes) (definitions_in_items N) in omega (arith, p)) ∙ ap (λ z. d + length z) (sym (definitions_together item.nodes N)) in
-    ap (λ z. item_mark (i.line - b) t1 d1 ∷ z) (marks_behind b t1 d1 i later next more)
-    ∙ ap (λ z. item_mark (i.line - b) t1 d1 ∷ item_marks b t1 d1 i later ++ item_mark (next.line - b) z (d1 + definitions_of N) ∷ item_marks b z (d1 + definitions_of N) next more) texts
-    ∙ ap (λ z. item_mark (i.line - b) t1 d1 ∷ item_marks b t1 d1 i later ++ item_mark (next.line - b) (t + texts_of (nodes_of_items item (i ∷ later))) z ∷ item_marks b (t + texts_of (nodes_of_items item (i ∷ later))) z next more) definitions
+    ap (λ z. head ∷ z) (marks_behind b t1 d1 i later next more)
+    ∙ ap (λ z. head ∷ item_marks b t1 d1 i later ++ item_mark (next.line - b) z (d1 + definitions_of N) w ∷ item_marks b z (d1 + definitions_of N) next more) texts
+    ∙ ap (λ z. head ∷ item_marks b t1 d1 i later ++ item_mark (next.line - b) (t + texts_of (nodes_of_items item (i ∷ later))) z w ∷ item_marks b (t + texts_of (nodes_of_items item (i ∷ later))) z next more) definitions
 
-moved_later : (k b t d : ℕ) (item : ListItem) (later : List ListItem) (first : ListItem) → first.nodes ≡ item.nodes → item_marks (b + k) t d first (map (moved_item k) later) ≡ item_marks b t d item later
+moved_later : (k b t d : ℕ) (item : ListItem) (later : List ListItem) (first : ListItem) → SameInside first item → item_marks (b + k) t d first (map (moved_item k) later) ≡ item_marks b t d item later
 unfolding item_marks
 moved_later k b t d item [] first e = refl
 moved_later k b t d item (i ∷ later) first e =
     let n : (i.line + k) - (b + k) ≡ i.line - b = omega arith in
-    ap (λ z. item_mark (i.line + k - (b + k)) (t + texts_of z) (d + definitions_of z) ∷ item_marks (b + k) (t + texts_of z) (d + definitions_of z) (moved_item k i) (map (moved_item k) later)) e
-    ∙ ap (λ z. item_mark z (t + texts_of item.nodes) (d + definitions_of item.nodes) ∷ item_marks (b + k) (t + texts_of item.nodes) (d + definitions_of item.nodes) (moved_item k i) (map (moved_item k) later)) n
-    ∙ ap (λ z. item_mark (i.line - b) (t + texts_of item.nodes) (d + definitions_of item.nodes) ∷ z) (moved_later k b (t + texts_of item.nodes) (d + definitions_of item.nodes) i later (moved_item k i) refl)
+    ap (λ z. item_mark (i.line + k - (b + k)) (t + texts_of z) (d + definitions_of z) (not first.tight || i.gap) ∷ item_marks (b + k) (t + texts_of z) (d + definitions_of z) (moved_item k i) (map (moved_item k) later)) e.0
+    ∙ ap (λ z. item_mark (i.line + k - (b + k)) (t + texts_of item.nodes) (d + definitions_of item.nodes) (not z || i.gap) ∷ item_marks (b + k) (t + texts_of item.nodes) (d + definitions_of item.nodes) (moved_item k i) (map (moved_item k) later)) e.1
+    ∙ ap (λ z. item_mark z (t + texts_of item.nodes) (d + definitions_of item.nodes) (not item.tight || i.gap) ∷ item_marks (b + k) (t + texts_of item.nodes) (d + definitions_of item.nodes) (moved_item k i) (map (moved_item k) later)) n
+    ∙ ap (λ z. item_mark (i.line - b) (t + texts_of item.nodes) (d + definitions_of item.nodes) (not item.tight || i.gap) ∷ z) (moved_later k b (t + texts_of item.nodes) (d + definitions_of item.nodes) i later (moved_item k i) (refl, refl))
 
 -- blocks further on
 pub moved_marks : (k : ℕ) (ts : List TopBlock) → flat_map block_marks (map (moved_top k) ts) ≡ flat_map block_marks ts
 moved_marks k [] = refl
 moved_marks k (Other g ∷ ts) = moved_marks k ts
 moved_marks k (ItemList kind first later ∷ ts) =
-    ap (λ z. z ++ flat_map block_marks (map (moved_top k) ts)) (moved_later k first.line 0 0 first later (moved_item k first) refl)
+    ap (λ z. z ++ flat_map block_marks (map (moved_top k) ts)) (moved_later k first.line 0 0 first later (moved_item k first) (refl, refl))
     ∙ ap (λ z. item_marks first.line 0 0 first later ++ z) (moved_marks k ts)
 
 -- a list alone
@@ -272,15 +284,17 @@ stands_alone e xs before kind first later one is =
 
 -- what a list alone gives is what all lines do
 pub behind_is : (e : EntityTable) (xs : List BlockLine) (kind : ListKind) (first : ListItem) (later : List ListItem) → top_blocks e xs ≡ ItemList kind first later ∷ [] →
-    mark_behind e xs ≡ item_mark (length xs) (texts_of (nodes_of_items first later)) (definitions_of (nodes_of_items first later))
+    mark_behind e xs ≡ item_mark (length xs) (texts_of (nodes_of_items first later)) (definitions_of (nodes_of_items first later)) (not (last_item first later).tight || gap_after xs)
 unfolding nodes_of
 behind_is e xs kind first later is =
     let t = is_tight_list first later in
     let N = nodes_of_items first later in
+    let w = not (last_item first later).tight || gap_after xs in
     let gs : groups e xs ≡ top_group (ItemList kind first later) ∷ [] = sym (blocks_are e xs) ∙ ap (map top_group) is in
-    ap (λ z. item_mark (length xs) (length (texts_in (nodes_of z))) (length (definitions_in (nodes_of z)))) gs
-    ∙ ap (λ z. item_mark (length xs) (length z) (length (definitions_in (part_before (Listed kind t N) no_nodes)))) (list_texts kind t N)
-    ∙ ap (λ z. item_mark (length xs) (texts_of N) (length z)) (list_definitions kind t N)
+    ap (λ z. item_mark (length xs) (length (texts_in (nodes_of (groups e xs)))) (length (definitions_in (nodes_of (groups e xs)))) (is_parted z || gap_after xs)) is
+    ∙ ap (λ z. item_mark (length xs) (length (texts_in (nodes_of z))) (length (definitions_in (nodes_of z))) w) gs
+    ∙ ap (λ z. item_mark (length xs) (length z) (length (definitions_in (part_before (Listed kind t N) no_nodes))) w) (list_texts kind t N)
+    ∙ ap (λ z. item_mark (length xs) (texts_of N) (length z) w) (list_definitions kind t N)
 
 none_behind : (other : ListKind) (item : ListItem) (items : List ListItem) (blocks : List TopBlock) → flat_map block_marks (ItemList other item items ∷ blocks) ≡ [] →
     (items ≡ []) × (flat_map block_marks blocks ≡ [])
@@ -296,6 +310,7 @@ more_met e xs l one w =
     let s = stands_alone e xs w.before w.kind w.first w.later one w.front in
     let none = none_behind w.other w.item w.items w.blocks (ap (flat_map block_marks) (sym w.alone) ∙ marks_none e l) in
     let next = item_behind (gap_after xs) n w.item in
+    let loose = not (last_item w.first w.later).tight || gap_after xs in
     let front : top_blocks e xs ≡ ItemList w.kind w.first w.later ∷ [] = w.front ∙ ap (λ z. z ++ ItemList w.kind w.first w.later ∷ []) s.none in
     let marks = item_marks w.first.line 0 0 w.first w.later in
     let was : list_marks e xs ≡ marks = ap (flat_map block_marks) front ∙ append-nil marks in
@@ -306,10 +321,10 @@ more_met e xs l one w =
     ∙ ap (λ z. item_marks w.first.line 0 0 w.first (w.later ++ next ∷ []) ++ z) (moved_marks n w.blocks ∙ none.1)
     ∙ append-nil (item_marks w.first.line 0 0 w.first (w.later ++ next ∷ []))
     ∙ marks_behind w.first.line 0 0 w.first w.later next []
-    ∙ ap (λ z. marks ++ item_mark z (0 + texts_of N) (0 + definitions_of N) ∷ []) line
-    ∙ ap (λ z. marks ++ item_mark n z (0 + definitions_of N) ∷ []) (let z : 0 + texts_of N ≡ texts_of N = omega arith in z)
-    ∙ ap (λ z. marks ++ item_mark n (texts_of N) z ∷ []) (let z : 0 + definitions_of N ≡ definitions_of N = omega arith in z)
-    ∙ ap (λ z. z ++ item_mark n (texts_of N) (definitions_of N) ∷ []) (sym was)
+    ∙ ap (λ z. marks ++ item_mark z (0 + texts_of N) (0 + definitions_of N) loose ∷ []) line
+    ∙ ap (λ z. marks ++ item_mark n z (0 + definitions_of N) loose ∷ []) (let z : 0 + texts_of N ≡ texts_of N = omega arith in z)
+    ∙ ap (λ z. marks ++ item_mark n (texts_of N) z loose ∷ []) (let z : 0 + definitions_of N ≡ definitions_of N = omega arith in z)
+    ∙ ap (λ z. z ++ item_mark n (texts_of N) (definitions_of N) loose ∷ []) (sym was)
     ∙ ap (λ z. list_marks e xs ++ z ∷ []) (sym (behind_is e xs w.kind w.first w.later front))
 
 -- Behind lines that give one unit it adds the item that begins in it.

@@ -1,6 +1,6 @@
 -- The item that is open in a list ends before the next one is read: that line finds what it would have found, and begins what it would have begun.
 use Rattle.std.proofs.Common.{Box, Global, ◌≡◌, ℕ, zero, suc, ◌+◌, Bool, true, false, not, ◌&&◌, List, [], ◌∷◌, ◌++◌, length, Option, Some, None, refl, sym, ◌∙◌, ap, subst}
-use Rattle.std.specs.Prelude.{is_some, nat_le}
+use Rattle.std.specs.Prelude.{is_some, nat_le, ◌||◌}
 use Rattle.mdtext.specs.EntityTable.{EntityTable}
 use Rattle.mdleaf.specs.LinkDefinition.{LinkDefinition}
 use Rattle.mdscan.specs.declared.list_markers.Marker.{Marker}
@@ -16,7 +16,8 @@ use Rattle.blockspec.specs.UnitBegin.{list_mark, same_mark}
 use Rattle.mdblock.specs.BlockView.{kind_view, blocks_view}
 use Rattle.mdblock.specs.held.Continuations.{ContinuesOpen, begins_item}
 use Rattle.mdblock.specs.held.EndedItems.{ended_summary, EndsLastItem, IsNextOf, IsNextIn, KeepsNext}
-use Rattle.mdblock.specs.held.HeldLevel.{StandsFor, StandsForLast, HasGathered, Fits, behind_over, is_list}
+use Rattle.itemspec.specs.SummaryJoins.{is_parted_first, is_parted_after, gap_in}
+use Rattle.mdblock.specs.held.HeldLevel.{StandsFor, StandsForLast, HasGathered, Fits, behind_over, is_list, is_parted_last}
 use Rattle.mdblock.specs.held.HeldNodes.{list_of, handed_groups, handed_last, handed_nodes, closed_nodes, tasked}
 use Rattle.mdblock.specs.held.LevelSteps.{EndsItem}
 use Rattle.mdblock.specs.held.LinesAdded.{ContinuesLevel}
@@ -36,6 +37,7 @@ use Rattle.mdblock.proofs.LevelContainers.{item_front}
 use Rattle.mdblock.proofs.LevelGroups.{group_with}
 use Rattle.mdblock.proofs.LevelItems.{item_over, list_stands, from_list}
 use Rattle.mdblock.proofs.LevelLines.{apart_added, apart_sinks}
+use Rattle.mdblock.proofs.PartedLaws.{level_parted}
 
 -- ---- the line behind the block that is over
 
@@ -63,6 +65,13 @@ apart_ended e nothing_yet l = refl
 apart_ended e (ended_block g) l = refl
 apart_ended e (open_leaf begin gap leaf) l = refl
 apart_ended e (open_container begin gap bare container inner) l = refl
+
+-- what makes a list loose where it goes on
+pub ended_loose : (e : EntityTable) (level : Level) (s : Summary) → StandsFor e 0 false level (ended_summary e s) → (is_parted_last level.last || level.blank) ≡ (is_parted_after e s || gap_in s)
+ended_loose e level (summary before last blank lines) st =
+    let gap = summary_gap last blank in
+    ap (λ z. z || level.blank) (level_parted e 0 false level (summary before (ended_last e last) gap lines) st ∙ ap is_parted_first (groups_ended e last))
+    ∙ ap (λ z. is_parted_first (last_groups e last) || z) (st.0.3 ∙ gap_ended e last gap)
 
 -- a block that begins behind some groups
 abbrev begun_behind : EntityTable → (room lines : ℕ) → (before : List Group) → BlockLine → (gs : List Group) → (gap : Bool) → Summary

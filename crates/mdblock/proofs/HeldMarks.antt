@@ -4,12 +4,12 @@ use Rattle.std.proofs.lemmas.List.{map-append, append-nil, drop-map}
 use Rattle.std.proofs.Math.Seq.{drop-append-add}
 use Rattle.std.specs.List.{flat_map}
 use Rattle.std.specs.Option.{option_map}
-use Rattle.std.specs.Prelude.{IfSome, drop, if◌then◌else◌, unwrap_or}
+use Rattle.std.specs.Prelude.{IfSome, drop, if◌then◌else◌, unwrap_or, ◌||◌}
 use Rattle.mdtext.specs.EntityTable.{EntityTable}
 use Rattle.blockspec.specs.BlockLine.{BlockLine, document_line}
 use Rattle.blockspec.specs.BlockUnits.{groups}
 use Rattle.blockspec.specs.LineSummary.{Summary, summary_of, closed, begins_after}
-use Rattle.blockspec.specs.ListGroups.{nodes_of}
+use Rattle.blockspec.specs.ListGroups.{Group, nodes_of}
 use Rattle.blockspec.specs.Meetings.{joins_list}
 use Rattle.blockspec.specs.NodeTree.{texts_in, definitions_in}
 use Rattle.blockspec.specs.UnitBegin.{begins_unit, units_of, shift_found}
@@ -21,11 +21,12 @@ use Rattle.blocklaws.proofs.HandedLaws.{IsBehind, front_units, front_lines, fron
 use Rattle.blocklaws.proofs.LimitLaws.{for_next_line}
 use Rattle.blocklaws.proofs.ReaderLaws.{summary_closed, summary_begins}
 use Rattle.blocklaws.proofs.UnitReaderLaws.{IsOne}
-use Rattle.itemspec.specs.ItemMarks.{ItemMark, list_marks, mark_behind, marks_next, join_of}
+use Rattle.itemspec.specs.ItemMarks.{ItemMark, is_parted, list_marks, mark_behind, marks_next, join_of}
 use Rattle.itemspec.specs.Joins.{block_joins}
 use Rattle.itemspec.specs.ListItems.{top_blocks}
-use Rattle.itemspec.specs.SummaryJoins.{joins_after}
+use Rattle.itemspec.specs.SummaryJoins.{joins_after, is_parted_after, gap_in}
 use Rattle.itemlaws.proofs.LastJoins.{summary_joins}
+use Rattle.itemlaws.proofs.LastParted.{summary_parted, summary_gapped}
 use Rattle.itemlaws.proofs.MarkLines.{held_marks, marks_join}
 use Rattle.itemlaws.proofs.UnitsMeet.{units_meet_inside}
 use Rattle.mdblock.specs.FoundLists.{AreJoinsOf}
@@ -69,12 +70,12 @@ pub with_line : (ls : List (List ℕ)) (l : List ℕ) → map document_line (ls 
 with_line ls l = map-append document_line ls (l ∷ [])
 
 -- the same of a document
-open_is : (e : EntityTable) (ls : List (List ℕ)) → (let xs = map document_line ls in open_begin e ls ≡ begin_held (front_lines [] xs) (begins_in (units_of e (lines_held [] xs))))
+pub open_is : (e : EntityTable) (ls : List (List ℕ)) → (let xs = map document_line ls in open_begin e ls ≡ begin_held (front_lines [] xs) (begins_in (units_of e (lines_held [] xs))))
 open_is e ls = ap (λ z. last_of (begins_in z)) (document_units e ls) ∙ begin_is e (map document_line ls)
 
 -- ---- the lines that are held are the last ones
 
-held_rest : (xs ls : List BlockLine) → lines_held xs ls ≡ drop (front_lines xs ls) (xs ++ ls)
+pub held_rest : (xs ls : List BlockLine) → lines_held xs ls ≡ drop (front_lines xs ls) (xs ++ ls)
 unfolding lines_held front_lines
 held_rest xs [] = sym (append-nil xs)
 held_rest xs (l ∷ ls) = go (begins_unit xs l) (held_rest (l ∷ []) ls) (held_rest (xs ++ l ∷ []) ls)
@@ -90,7 +91,7 @@ begun_at : (k : ℕ) (ns : List ℕ) (P : ℕ → Type 0) → P k → IfSome (be
 begun_at k [] P p = tt
 begun_at k (n ∷ ns) P p = p
 
-if_mapped : {A B : Type 0} (f : A → B) (P : B → Type 0) (o : Option A) → IfSome o (λ a. P (f a)) → IfSome (option_map f o) P
+pub if_mapped : {A B : Type 0} (f : A → B) (P : B → Type 0) (o : Option A) → IfSome o (λ a. P (f a)) → IfSome (option_map f o) P
 if_mapped f P None w = tt
 if_mapped f P (Some a) w = w
 
@@ -131,10 +132,15 @@ same_next true joins marks one other w = refl
 same_next false true marks one other w = ap (λ z. marks ++ z ∷ []) (w refl)
 same_next false false marks one other w = refl
 
+abbrev mark_of_groups : ℕ → List Group → Bool → ItemMark
+mark_of_groups n gs loose = record { line = n; texts = length (texts_in (nodes_of gs)); definitions = length (definitions_in (nodes_of gs)); loose = loose }
+
 mark_is : (e : EntityTable) (H : List BlockLine) (n : ℕ) → n ≡ length H → mark_after e (summary_of e H) n ≡ mark_behind e H
 mark_is e H n is =
     ap (λ z. mark_after e (summary_of e H) z) is
-    ∙ ap (λ z. record { line = length H; texts = length (texts_in (nodes_of z)); definitions = length (definitions_in (nodes_of z)) }) (sym (summary_closed e H))
+    ∙ ap (λ z. mark_of_groups (length H) z (is_parted_after e (summary_of e H) || gap_in (summary_of e H))) (sym (summary_closed e H))
+    ∙ ap (λ z. mark_of_groups (length H) (groups e H) (z || gap_in (summary_of e H))) (sym (summary_parted e H))
+    ∙ ap (λ z. mark_of_groups (length H) (groups e H) (is_parted (top_blocks e H) || z)) (sym (summary_gapped e H))
 
 pub marks_read : (e : EntityTable) (ls : List (List ℕ)) (text : List ℕ) (old new : List ItemMark) (fed : ℕ) (begin : Option ℕ) → fed ≡ length ls → begin ≡ open_begin e ls →
     old ≡ list_marks e (lines_held [] (map document_line ls)) →

@@ -292,6 +292,7 @@ item_over level inner list new_inner new_list before after is ends in_item group
                   ∙ ap (λ z. placed_before (placed_items at so_far.items) (item (placed z N) no_items)) (sym (behind_items in_item texts so_far))
                   ∙ pushed_items at so_far.items N,
             ),
+            done.1.4,
           );
           fresh = done.2;
         }
@@ -413,9 +414,9 @@ not_same false false h = refl
 not_same true false h = absurd (let x : ⊥ = cc in x)
 not_same false true h = absurd (let x : ⊥ = cc in x)
 
-pub item_ends : (inner got new : Level) (list new_list : OpenList) (before after : Gathering) (blocks : List b.Block) → got ≡ inner → ClosesAll got before blocks after → list_view new_list ≡ list_view_with list blocks got.spaced → new_list.item_open ≡ false → IsEmpty true new →
+pub item_ends : (inner got new : Level) (list new_list : OpenList) (before after : Gathering) (blocks : List b.Block) → got ≡ inner → ClosesAll got before blocks after → list_view new_list ≡ list_view_with list blocks got.spaced → new_list.item_open ≡ false → new_list.parted ≡ got.spaced → IsEmpty true new →
     EndsOpenItem inner list before new new_list after
-item_ends inner got new list new_list before after blocks is closes view shut empty (summary groups last was lines) texts definitions had st =
+item_ends inner got new list new_list before after blocks is closes view shut parted empty (summary groups last was lines) texts definitions had st =
     let e = before.entities.now in
     let s = summary groups last was lines in
     let done = subst (λ z. ClosesAll z before blocks after) is closes true s texts definitions had st in
@@ -428,6 +429,7 @@ item_ends inner got new list new_list before after blocks is closes view shut em
         kind,
         not_same new_list.loose (list.loose || got.spaced) tight ∙ ap (λ (z : Level). list.loose || z.spaced) is ∙ ap (λ z. list.loose || z) st.0.4,
         items ∙ ap (λ z. placed_before (items_view list.items.items) (item z no_items)) done.1,
+        parted ∙ ap (λ (z : Level). z.spaced) is ∙ st.0.4,
       ),
       empty,
     )

@@ -18,6 +18,7 @@ pub mod Markers
 pub mod NextItemLaws
 pub mod NextLineLaws
 pub mod ParagraphLaws
+pub mod PartedLaws
 pub mod PlacedNodes
 pub mod ReadsLaws
 pub mod RowStarts

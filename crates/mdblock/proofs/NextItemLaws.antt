@@ -1,7 +1,7 @@
 -- A line that begins the next item of a unit: the item before it is over, the item is marked, and the line is read.
 use Rattle.std.proofs.Common.{◌≡◌, ℕ, ◌-◌, Bool, true, false, List, [], ◌∷◌, ◌++◌, length, map, string_bytes, Option, Some, None, refl, sym, ◌∙◌, ap, subst}
 use Rattle.std.proofs.lemmas.List.{map-append}
-use Rattle.std.specs.Prelude.{is_some, unwrap_or}
+use Rattle.std.specs.Prelude.{is_some, unwrap_or, ◌||◌}
 use Rattle.mdleaf.specs.LinkDefinition.{definition_of}
 use Rattle.blockspec.specs.BlockLine.{BlockLine, is_blank_line}
 use Rattle.blockspec.specs.BlockStart.{begun}
@@ -16,7 +16,7 @@ use Rattle.itemspec.specs.SummaryJoins.{joins_after}
 use Rattle.mdblock.specs.FoundLists.{join_mark}
 use Rattle.mdblock.specs.held.Continuations.{begins_item}
 use Rattle.mdblock.specs.held.EndedItems.{EndsLastItem, ended_summary}
-use Rattle.mdblock.specs.held.HeldLevel.{HoldsSummary, StandsFor, HasGathered, Fits, IsLazyRight}
+use Rattle.mdblock.specs.held.HeldLevel.{HoldsSummary, StandsFor, HasGathered, Fits, IsLazyRight, is_parted_last}
 use Rattle.mdblock.specs.held.HeldNodes.{handed_nodes, closed_nodes}
 use Rattle.mdblock.specs.held.LinesAdded.{ContinuesLast, ContinuesLevel, IsAdded, AddsLine, SinksLine}
 use Rattle.mdblock.specs.held.Reads.{HandsOn, SinksBehind, held_marks, mark_after}
@@ -27,7 +27,7 @@ use Rattle.mdblock.specs.declared.open_blocks.Level.{Level}
 use Rattle.mdblock.specs.declared.readers.OpenUnit.{OpenUnit}
 use Rattle.mdblock.specs.declared.units.Join as declared
 use Rattle.mdblock.proofs.CloseLaws.{not_both}
-use Rattle.mdblock.proofs.EndedItemLaws.{ended_added, ended_sinks, still_fits}
+use Rattle.mdblock.proofs.EndedItemLaws.{ended_added, ended_loose, ended_sinks, still_fits}
 use Rattle.mdblock.proofs.NextLineLaws.{goes_on_with, next_joins, no_lazy, stays_marked}
 
 -- what is known of the line
@@ -62,18 +62,20 @@ reads_ended limit old level mid l whole ends s h fits next =
     (done.0, done.1, done.2, no_lazy (ended_summary e s) l whole, still_fits e limit s fits)
 
 -- what is marked
-counted : (e : _) (s : Summary) (mid : Gathering) (line : ℕ) → HasGathered mid [] [] (closed_nodes e false s) →
-    record { line = line; texts = length mid.texts.items; definitions = length mid.definitions.items } ≡ mark_after e s line
-counted e s mid line h =
+counted : (e : _) (s : Summary) (level : Level) (mid : Gathering) (line : ℕ) → HasGathered mid [] [] (closed_nodes e false s) → StandsFor e 0 false level (ended_summary e s) →
+    record { line = line; texts = length mid.texts.items; definitions = length mid.definitions.items; loose = is_parted_last level.last || level.blank } ≡ mark_after e s line
+counted e s level mid line h st =
     let nodes = closed_nodes e false s in
     let texts : length mid.texts.items ≡ length (texts_in nodes) = sym (map_length string_bytes mid.texts.items) ∙ ap length h.0 in
     let definitions : length mid.definitions.items ≡ length (definitions_in nodes) = sym (map_length definition_of mid.definitions.items) ∙ ap length h.1 in
-    ap (λ z. record { line = line; texts = z; definitions = length mid.definitions.items }) texts
-    ∙ ap (λ z. record { line = line; texts = length (texts_in nodes); definitions = z }) definitions
+    let was = is_parted_last level.last || level.blank in
+    ap (λ z. record { line = line; texts = z; definitions = length mid.definitions.items; loose = was }) texts
+    ∙ ap (λ z. record { line = line; texts = length (texts_in nodes); definitions = z; loose = was }) definitions
+    ∙ ap (λ z. record { line = line; texts = length (texts_in nodes); definitions = length (definitions_in nodes); loose = z }) (ended_loose e level s st)
 
 pub next_on : (limit fed : ℕ) (old new : OpenUnit) (level : Level) (mid : Gathering) (l : BlockLine) (c : Continuation) (join : declared.Join) → l.lazy ≡ false → begins_item c ≡ true → ContinuesLevel old.level l c →
     EndsLastItem old.level old.gathering level mid → mid.entities.now ≡ old.gathering.entities.now → new.gathering.entities.now ≡ mid.entities.now → AddsLine limit level mid l new.level new.gathering →
-    join_mark join ≡ record { line = fed - unwrap_or old.begin 0; texts = length mid.texts.items; definitions = length mid.definitions.items } →
+    join_mark join ≡ record { line = fed - unwrap_or old.begin 0; texts = length mid.texts.items; definitions = length mid.definitions.items; loose = is_parted_last level.last || level.blank } →
     new.joins.items ≡ old.joins.items ++ join ∷ [] → new.begin ≡ old.begin → new.joined ≡ true → HandsOn limit fed old l None new
 next_on limit fed old new level mid l c join whole item continues ends same still adds is pushed begin joined =
     let e = old.gathering.entities.now in
@@ -96,7 +98,7 @@ next_on limit fed old new level mid l c join whole item continues ends same stil
       joined ∙ sym joins,
       ap (map join_mark) pushed
           ∙ map-append join_mark old.joins.items (join ∷ [])
-          ∙ ap (λ z. held_marks old ++ z ∷ []) (is ∙ counted e s mid line r.0)
+          ∙ ap (λ z. held_marks old ++ z ∷ []) (is ∙ counted e s level mid line r.0 r.2)
           ∙ ap (λ z. marks_next false z (held_marks old) (mark_after e s line)) (sym joins),
     ))
 

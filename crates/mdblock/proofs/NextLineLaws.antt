@@ -1,8 +1,8 @@
 -- One line more for a reader: what it hands out, and what it stands for then.
 use Rattle.std.proofs.Common.{◌≡◌, ℕ, suc, ◌+◌, ◌-◌, Bool, true, false, not, ◌&&◌, List, [], ◌∷◌, ◌++◌, length, map, Option, Some, None, refl, sym, ◌∙◌, ap, subst, arith}
-use Rattle.std.proofs.lemmas.List.{map-append, append-nil, length-append}
+use Rattle.std.proofs.lemmas.List.{map-append, append-nil, drop-map, length-append}
 use Rattle.std.specs.Option.{option_map, option_to_list}
-use Rattle.std.specs.Prelude.{if◌then◌else◌, IfSome, unwrap_or}
+use Rattle.std.specs.Prelude.{if◌then◌else◌, IfSome, drop, unwrap_or}
 use Rattle.mdtext.specs.EntityTable.{EntityTable}
 use Rattle.blockspec.specs.BlockLine.{BlockLine, document_line, is_blank_line}
 use Rattle.blockspec.specs.BlockStart.{Free, Paragraph, start, start_where, begun}
@@ -22,14 +22,16 @@ use Rattle.blocklaws.proofs.HandedLaws.{IsFirst, IsBehind, begun_first, front_un
 use Rattle.blocklaws.proofs.OpenLeafLaws.{drops_last}
 use Rattle.blocklaws.proofs.ReaderLaws.{summary_closed, summary_begins}
 use Rattle.blocklaws.proofs.UnitReaderLaws.{IsOne}
-use Rattle.itemspec.specs.ItemMarks.{ItemMark, list_marks, marks_next}
+use Rattle.itemspec.specs.ItemMarks.{ItemMark, is_parted, list_marks, marks_next}
+use Rattle.itemspec.specs.ListItems.{top_blocks}
 use Rattle.itemspec.specs.SummaryJoins.{joins_after}
 use Rattle.itemlaws.proofs.LastJoins.{joined_behind_held}
-use Rattle.mdblock.specs.FoundLists.{FoundList, AreJoinsOf, found_unit, join_mark}
+use Rattle.itemlaws.proofs.LastParted.{summary_parted}
+use Rattle.mdblock.specs.FoundLists.{FoundList, AreJoinsOf, StandsForUnit, found_unit, join_mark}
 use Rattle.mdblock.specs.held.Continuations.{begins_block, begins_item}
 use Rattle.mdblock.specs.held.LevelSteps.{BeginsBehind}
 use Rattle.mdblock.specs.held.HeldLevel.{IsShut, HoldsSummary, StandsFor, StandsForLast, HasGathered, GivesUnit, Fits, IsLazyRight, behind_over, found_between, list_between, is_shut}
-use Rattle.mdblock.specs.held.HeldNodes.{handed_groups, handed_last, handed_nodes}
+use Rattle.mdblock.specs.held.HeldNodes.{handed_groups, handed_last, handed_nodes, closed_nodes}
 use Rattle.mdblock.specs.held.LinesAdded.{ContinuesLast, ContinuesLevel, IsAdded, AddsLine, FollowsLine, SinksLine}
 use Rattle.mdblock.specs.held.ReaderState.{ReaderState, unit_so_far}
 use Rattle.mdblock.specs.held.Reads.{Reads, BeginsUnit, HandsOn, SinksBehind, handed, held_marks, mark_after, open_begin}
@@ -44,7 +46,7 @@ use Rattle.mdblock.specs.declared.readers.OpenUnit.{OpenUnit}
 use Rattle.mdblock.proofs.CloseLaws.{not_both}
 use Rattle.mdblock.proofs.ContinuationLaws.{shut_outside}
 use Rattle.mdblock.proofs.FitLaws.{first_sinks, sinks_is, begins_apart, held_lines_fit}
-use Rattle.mdblock.proofs.HeldMarks.{begin_held, begin_is, last_behind, lines_mapped, with_line, marks_read, joins_between}
+use Rattle.mdblock.proofs.HeldMarks.{begin_held, begin_is, if_mapped, held_rest, open_is, last_behind, lines_mapped, with_line, marks_read, joins_between}
 use Rattle.mdblock.proofs.LevelLines.{apart_sinks}
 
 -- ---- the last unit
@@ -89,6 +91,53 @@ held_is e xs v is zero_begin =
     ∙ ap (λ (z : FoundUnit). record { begin = k; lines = z.lines; unit = z.unit }) made
     ∙ ap (λ z. record { begin = k; lines = z; unit = unit_of (nodes_of (groups e H)) }) lines_are
     ∙ ap (λ z. record { begin = k; lines = length xs - k; unit = unit_of (nodes_of z) }) (summary_closed e H)
+
+-- what is held is the unit of the last lines alone
+begun_one : (k : ℕ) (us : List FoundUnit) (P : ℕ → Type 0) → IsOne (begins_in us) → ((v : FoundUnit) → us ≡ v ∷ [] → v.begin ≡ 0 → P k) → IfSome (begin_held k (begins_in us)) P
+begun_one k [] P one p = tt
+begun_one k (v ∷ []) P one p = p v refl one
+begun_one k (v ∷ w ∷ us) P one p = absurd one
+
+pub stands_between : (e : EntityTable) (ls : List (List ℕ)) (marks : List ItemMark) → marks ≡ list_marks e (lines_held [] (map document_line ls)) →
+    IfSome (option_map (list_between e (summary_of e (lines_held [] (map document_line ls))) marks (length ls)) (open_begin e ls)) (λ f. StandsForUnit e f (drop f.begin ls))
+unfolding StandsForUnit
+stands_between e ls marks is =
+    if_mapped (list_between e s marks (length ls)) (λ f. StandsForUnit e f (drop f.begin ls)) (open_begin e ls)
+    (subst (λ z. IfSome z At) (sym (open_is e ls)) (begun_one k (units_of e H) At (held_one e xs) one))
+  where
+    xs : List BlockLine
+    xs = map document_line ls
+
+    k : ℕ
+    k = front_lines [] xs
+
+    H : List BlockLine
+    H = lines_held [] xs
+
+    s : Summary
+    s = summary_of e H
+
+    At : ℕ → Type 0
+    At n = StandsForUnit e (list_between e s marks (length ls) n) (drop n ls)
+
+    rest : H ≡ map document_line (drop k ls)
+    rest = held_rest [] xs ∙ drop-map document_line k ls
+
+    one : (v : FoundUnit) → units_of e H ≡ v ∷ [] → v.begin ≡ 0 → At k
+    one v all zero =
+        let made = only_unit (groups e H) (length H) v all in
+        let n = lines_before_held [] xs in
+        let m = lines_mapped ls in
+        let size : length H - v.begin ≡ length ls - k = omega (arith, zero, n, m) in
+        let unit : v ≡ record { begin = 0; lines = length ls - k; unit = unit_of (closed_nodes e false s) } =
+        made
+        ∙ ap (λ z. record { begin = z; lines = length H - v.begin; unit = unit_of (nodes_of (groups e H)) }) zero
+        ∙ ap (λ z. record { begin = 0; lines = z; unit = unit_of (nodes_of (groups e H)) }) size
+        ∙ ap (λ z. record { begin = 0; lines = length ls - k; unit = unit_of (nodes_of z) }) (summary_closed e H) in (
+          document_units e (drop k ls) ∙ ap (units_of e) (sym rest) ∙ all ∙ ap (λ z. z ∷ []) unit,
+          is ∙ ap (list_marks e) rest,
+          sym (summary_parted e H) ∙ ap (λ z. is_parted (top_blocks e z)) rest,
+        )
 
 begin_zero : (us : List FoundUnit) (v : FoundUnit) → us ≡ v ∷ [] → IsOne (begins_in us) → v.begin ≡ 0
 begin_zero us v is one = subst (λ z. IsOne (begins_in z)) is one
@@ -531,6 +580,19 @@ joins_next limit e mine own fed held new found text ls same f r =
     go true w = w
     go false w = tt
 
+pub stands_next : (limit : ℕ) (e mine : EntityTable) (own fed : ℕ) (held new : OpenUnit) (found : Option FoundList) (text : List ℕ) (ls : List (List ℕ)) →
+    held.gathering.entities.now ≡ mine → HandsOn own fed held (document_line text) found new → Reads limit e (state_of mine own fed held) ls → IfSome found (λ f. StandsForUnit e f (drop f.begin ls))
+unfolding Reads
+stands_next limit e mine own fed held new found text ls same f r =
+    let s = summary_of e (lines_held [] (map document_line ls)) in
+    subst (λ z. IfSome z (λ f. StandsForUnit e f (drop f.begin ls))) (sym (given_next limit e mine own fed held new found text ls same f r))
+    (go (begins_after s (document_line text)) (stands_between e ls (held_marks held) r.4.2))
+  where
+    go : (b : Bool) → IfSome (option_map (list_between e (summary_of e (lines_held [] (map document_line ls))) (held_marks held) (length ls)) (open_begin e ls)) (λ f. StandsForUnit e f (drop f.begin ls)) →
+        IfSome (if b then option_map (list_between e (summary_of e (lines_held [] (map document_line ls))) (held_marks held) (length ls)) (open_begin e ls) else None) (λ f. StandsForUnit e f (drop f.begin ls))
+    go true w = w
+    go false w = tt
+
 pub deep_next : (limit : ℕ) (e mine : EntityTable) (own fed : ℕ) (held : OpenUnit) (text : List ℕ) (ls : List (List ℕ)) →
     held.gathering.entities.now ≡ mine → SinksBehind own held (document_line text) →
     Reads limit e (state_of mine own fed held) ls → first_too_deep limit (ls ++ text ∷ []) ≡ Some (length ls)
@@ -567,3 +629,10 @@ unfolding Reads
 finish_joins limit e mine own fed held found ls same gives r =
     subst (λ z. IfSome z (AreJoinsOf e ls)) (sym (given_last limit e mine own fed held found ls same gives r))
     (joins_between e ls (summary_of e (lines_held [] (map document_line ls))) (held_marks held) (length ls) r.4.2)
+
+pub finish_stands : (limit : ℕ) (e mine : EntityTable) (own fed : ℕ) (held : OpenUnit) (found : Option FoundList) (ls : List (List ℕ)) →
+    held.gathering.entities.now ≡ mine → GivesUnit held fed found → Reads limit e (state_of mine own fed held) ls → IfSome found (λ f. StandsForUnit e f (drop f.begin ls))
+unfolding Reads
+finish_stands limit e mine own fed held found ls same gives r =
+    subst (λ z. IfSome z (λ f. StandsForUnit e f (drop f.begin ls))) (sym (given_last limit e mine own fed held found ls same gives r))
+    (stands_between e ls (held_marks held) r.4.2)

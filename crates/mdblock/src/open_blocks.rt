@@ -1,11 +1,11 @@
 //! The open blocks: each level holds the blocks that are over in it, and the one that is still open.
 
-ghost use Rattle.std.specs.Prelude.{◌≡◌, ◌+◌, ◌≤◌, ℕ, List, IfErr, IfOk, IfSome, IsErrOf, OnErr, OnOk, false, length, true};
+ghost use Rattle.std.specs.Prelude.{◌≡◌, ◌+◌, ◌≤◌, ◌||◌, ℕ, List, IfErr, IfOk, IfSome, IsErrOf, OnErr, OnOk, false, length, true};
 ghost use Rattle.mdblock.specs.declared.faults.BlockFault.TheVariants.{Failed, NestedTooDeep};
 ghost use Rattle.mdtext.specs.Columns.{AreMarks};
 ghost use Rattle.blockspec.specs.BlockLine.{rest};
 ghost use Rattle.mdblock.specs.BlockView.{block_view, blocks_view, items_view};
-ghost use Rattle.mdblock.specs.held.HeldLevel.{StandsFor, ClosesAll, EndsIn, is_front, is_shut};
+ghost use Rattle.mdblock.specs.held.HeldLevel.{StandsFor, ClosesAll, EndsIn, is_front, is_parted_last, is_shut};
 ghost use Rattle.blockspec.specs.LineSummary.{no_summary};
 ghost use Rattle.mdtext.specs.EntityTable.{EntityTable};
 ghost use Rattle.mdblock.specs.held.Continuations.{IsBeginningOf, IsContinuationOf, ContinuesOpen};
@@ -119,6 +119,33 @@ impl Level {
             OpenBlock::Leaf(leaf) => leaf.is_text(),
             OpenBlock::Quote(inner) => inner.ends_in_text(),
             OpenBlock::List(inner, list) => list.is_open() && inner.ends_in_text(),
+        }
+    }
+
+    /// Whether a gap parts two blocks of the last item of the list that stands last.
+    pub(crate) fn is_parted(&self) -> bool
+        ensures { result ≡ is_parted_last self.now.last }
+    {
+        match &self.last {
+            OpenBlock::Shut => false,
+            OpenBlock::Leaf(_) => false,
+            OpenBlock::Quote(_) => false,
+            OpenBlock::List(inner, list) => list.parts(inner.spaced),
+        }
+    }
+
+    /// Whether the list that stands last is loose by a gap inside its last item, or by one behind that.
+    pub(crate) fn is_loose_behind(&self) -> bool
+        ensures { result ≡ (is_parted_last self.now.last || self.now.blank) }
+    {
+        self.is_parted() || self.blank
+    }
+
+    /// The list that stands last.
+    pub(crate) fn into_list(self) -> OpenList {
+        match self.last {
+            OpenBlock::List(_, list) => list,
+            _ => unreachable!(),
         }
     }
 

@@ -1,6 +1,6 @@
 //! The reading of a text line by line, and the handing out of its units.
 
-ghost use Rattle.std.specs.Prelude.{List, [], ℕ, ◌≡◌, ◌+◌, ◌-◌, ◌*◌, ◌^◌, ◌<◌, ◌≤◌, false, true, None, Some, IfErr, IfOk, IfSome, OnOk, OnErr, IsErrOf, ◌∷◌, ◌++◌, is_some, length, unwrap_or};
+ghost use Rattle.std.specs.Prelude.{List, [], ℕ, ◌≡◌, ◌+◌, ◌-◌, ◌*◌, ◌^◌, ◌<◌, ◌≤◌, false, true, None, Some, IfErr, IfOk, IfSome, OnOk, OnErr, IsErrOf, ◌∷◌, ◌++◌, ◌||◌, drop, is_some, length, unwrap_or};
 ghost use Rattle.std.specs.Option.{option_map, option_to_list};
 ghost use Rattle.mdtext.specs.Counted.{counted};
 ghost use Rattle.mdblock.specs.declared.faults.BlockFault.TheVariants.{Failed, NestedTooDeep};
@@ -8,11 +8,11 @@ ghost use Rattle.blockspec.specs.BlockLine.{document_line};
 ghost use Rattle.blockspec.specs.BlockUnits.{units};
 ghost use Rattle.blockspec.specs.Nesting.{first_too_deep};
 ghost use Rattle.blockspec.specs.SummaryDepth.{sinks};
-ghost use Rattle.mdblock.specs.FoundLists.{AreJoinsOf, found_unit, join_mark};
+ghost use Rattle.mdblock.specs.FoundLists.{AreJoinsOf, StandsForUnit, found_unit, join_mark};
 ghost use Rattle.mdblock.specs.held.Continuations.{IsBeginningOf, IsContinuationOf, ContinuesOpen, begins_item};
 ghost use Rattle.mdblock.specs.held.EndedItems.{IsNextIn};
 ghost use Rattle.mdblock.specs.held.LinesAdded.{ContinuesLevel};
-ghost use Rattle.mdblock.specs.held.HeldLevel.{HoldsSummary, GivesUnit};
+ghost use Rattle.mdblock.specs.held.HeldLevel.{HoldsSummary, GivesUnit, is_parted_last};
 ghost use Rattle.blockspec.specs.LineSummary.{no_summary};
 ghost use Rattle.itemspec.specs.Joins.{is_joined};
 ghost use Rattle.mdblock.specs.held.ReaderState.{AreKept, held_begin, held_joined};
@@ -20,11 +20,13 @@ ghost use Rattle.mdblock.specs.held.Reads.{Reads, BeginsUnit, HandsOn, SinksBehi
 ghost use Rattle.mdtext.specs.EntityTable.{EntityTable};
 
 use crate::block_starts::{BlockStart, beginning};
+use crate::container::lists::OpenList;
 use crate::faults::BlockFault;
 use crate::gathering::Gathering;
 use crate::lines::Line;
 use crate::open_blocks::{Continuation, Level};
 use crate::units::{Found, Join};
+use mdleaf::Definition;
 use mdtext::{Count, Entities};
 use std::alloc::{AllocError, Global};
 use std::marker::Model;
@@ -40,6 +42,17 @@ struct OpenUnit<'e> {
     joins: Vec<Join>,
     /// Whether the last line began one of them.
     joined: bool,
+}
+
+/// What is held of a list whose last line has begun another item of it.
+#[derive(Drop)]
+pub(crate) struct Front {
+    pub(crate) begin: usize,
+    pub(crate) lines: usize,
+    pub(crate) list: OpenList,
+    pub(crate) definitions: Vec<Definition>,
+    pub(crate) texts: Vec<String>,
+    pub(crate) joins: Vec<Join>,
 }
 
 /// Reads a text line by line, and hands out each unit when the line has come that begins the next one.
@@ -61,7 +74,6 @@ impl<'e> Model for Reader<'e> {
     ghost use Rattle.mdblock.specs.contracts.open_blocks.Level as level;
     ghost use Rattle.std.specs.Coded.{codes};
     ghost use Rattle.mdleaf.specs.LinkDefinition.{definition_code};
-
     ghost use Rattle.mdblock.specs.FoundLists.{mark_code};
 
     ghost coded = { Prim.hlevel (codes, level.the_row.coded, definition_code, mark_code) };
@@ -105,6 +117,8 @@ impl<'e> Reader<'e> {
         ensures hands { IfOk result (λ found. (limit : ℕ) (e : EntityTable) (ls : List (List ℕ)) → Reads limit e self.old ls
             → handed e (ls ++ text.now ∷ []) ≡ handed e ls ++ option_to_list (option_map found_unit found)) }
         ensures joins { IfOk result (λ found. (limit : ℕ) (e : EntityTable) (ls : List (List ℕ)) → Reads limit e self.old ls → IfSome found (AreJoinsOf e ls)) }
+        ensures stands { IfOk result (λ found. (limit : ℕ) (e : EntityTable) (ls : List (List ℕ)) → Reads limit e self.old ls
+            → IfSome found (λ f. StandsForUnit e f (drop f.begin ls))) }
         ensures deep { IsErrOf result NestedTooDeep → (limit : ℕ) (e : EntityTable) (ls : List (List ℕ)) → Reads limit e self.old ls
             → first_too_deep limit (ls ++ text.now ∷ []) ≡ Some (length ls) }
         ensures lines { C.lines count.new ≡ counted (C.lines count.old) }
@@ -137,6 +151,8 @@ impl<'e> Reader<'e> {
         ensures hands { IfOk result (λ found. (limit : ℕ) (e : EntityTable) (ls : List (List ℕ)) → Reads limit e self.entry ls
             → units e ls ≡ handed e ls ++ option_to_list (option_map found_unit found)) }
         ensures joins { IfOk result (λ found. (limit : ℕ) (e : EntityTable) (ls : List (List ℕ)) → Reads limit e self.entry ls → IfSome found (AreJoinsOf e ls)) }
+        ensures stands { IfOk result (λ found. (limit : ℕ) (e : EntityTable) (ls : List (List ℕ)) → Reads limit e self.entry ls
+            → IfSome found (λ f. StandsForUnit e f (drop f.begin ls))) }
     {
         let fed = self.fed;
         match self.held {
@@ -174,6 +190,21 @@ impl<'e> Reader<'e> {
             Some(held) => held.joined,
             None => false,
         }
+    }
+}
+
+impl<'e> Reader<'e> {
+    pub(crate) fn alloc(&self) -> Global {
+        self.alloc
+    }
+
+    /// What is held of a list whose next item the last line has begun.
+    pub(crate) fn into_front(self) -> Front {
+        let fed = self.fed;
+        let Some(held) = self.held else {
+            unreachable!()
+        };
+        held.into_front(fed)
     }
 }
 
@@ -270,12 +301,14 @@ impl<'e> OpenUnit<'e> {
           line = fed - unwrap_or self.now.begin 0;
           texts = length self.now.gathering.texts.items;
           definitions = length self.now.gathering.definitions.items;
+          loose = is_parted_last self.now.level.last || self.now.level.blank;
         } }
     {
         Join {
             line: fed.saturating_sub(self.begin.unwrap_or(0)),
             texts: self.gathering.texts_len(),
             definitions: self.gathering.definitions_len(),
+            loose: self.level.is_loose_behind(),
         }
     }
 
@@ -315,12 +348,27 @@ impl<'e> OpenUnit<'e> {
         mem::replace(self, next).into_unit(fed)
     }
 
+    /// The list that is held, whose next item the line has begun that is the last of `fed`.
+    fn into_front(self, fed: usize) -> Front {
+        let begin = self.begin.unwrap_or(0);
+        let (definitions, texts) = self.gathering.parts();
+        Front {
+            begin,
+            lines: fed.saturating_sub(begin),
+            list: self.level.into_list(),
+            definitions,
+            texts,
+            joins: self.joins,
+        }
+    }
+
     /// The unit that is held, which ends after `fed` lines.
     fn into_unit(self, fed: usize) -> Result<Option<Found>, AllocError>
         requires { AreKept self }
         ensures { IfOk result (λ found. GivesUnit self.entry fed found) }
     {
         let mut gathering = self.gathering;
+        let parted = self.level.is_parted();
         let blocks = self.level.close(&mut gathering)?;
         let (definitions, texts) = gathering.parts();
         match self.begin {
@@ -332,6 +380,7 @@ impl<'e> OpenUnit<'e> {
                 definitions,
                 texts,
                 self.joins,
+                parted,
             ))),
         }
     }

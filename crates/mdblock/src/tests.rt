@@ -96,7 +96,7 @@ fn show_blocks(blocks: &[Block], texts: &[String], out: &mut String) -> Result<(
     Ok(())
 }
 
-fn show_unit(unit: &Unit, out: &mut String) -> Result<(), AllocError> {
+pub(crate) fn show_unit(unit: &Unit, out: &mut String) -> Result<(), AllocError> {
     for definition in unit.definitions() {
         out.push_str("[")?;
         out.push_str(definition.label.as_str())?;
@@ -127,7 +127,7 @@ fn name(fault: BlockFault) -> &'static str {
 }
 
 /// How many containers may be open inside one another, where a test says nothing else.
-const LIMIT: usize = 64;
+pub(crate) const LIMIT: usize = 64;
 
 /// The units of a text whose lines end at LF, or the name of its fault.
 fn units(alloc: Global, text: &str, limit: usize) -> Result<String, AllocError>
@@ -427,19 +427,10 @@ fn units_have_their_later_items(rt: HostRuntime) -> Result<(), Fail> {
     let a = rt.alloc();
     for (text, want) in [
         ("- a\n- b\n* c\n* d", "1/1 |1/1 |"),
-        (
-            "# h\n\nx\n\n3. a\n9. b\n\n2. c\n\ny\n1) z",
-            "||1/1 3/2 |||",
-        ),
-        (
-            "- a\n\n  b\n- | c | d |\n  | - | - |\n- e",
-            "3/2 5/4 |",
-        ),
+        ("# h\n\nx\n\n3. a\n9. b\n\n2. c\n\ny\n1) z", "||1/1 3/2 |||"),
+        ("- a\n\n  b\n- | c | d |\n  | - | - |\n- e", "3/2 5/4 |"),
         ("-\n- ```\n  x\n  ```\n- [a]: /u\n- b", "1/0 4/0 5/0 |"),
-        (
-            "- a\n  - b\n  - c\n- > d\n  > - e\n- f",
-            "3/3 5/5 |",
-        ),
+        ("- a\n  - b\n  - c\n- > d\n  > - e\n- f", "3/3 5/5 |"),
         ("> - a\n> - b\n\n- c\nlazy\n- d", "|2/1 |"),
     ] {
         assert_eq!(rt; joins(a, text)?.as_str(), want);

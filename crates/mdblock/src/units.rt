@@ -73,6 +73,8 @@ pub struct Join {
     pub texts: usize,
     /// How many definitions they give.
     pub(crate) definitions: usize,
+    /// Whether a gap stands before it, or parts two blocks of the item before it.
+    pub(crate) loose: bool,
 }
 
 /// A unit where it was found. Only this crate makes one.
@@ -82,6 +84,8 @@ pub struct Found {
     lines: usize,
     unit: Unit,
     joins: Vec<Join>,
+    /// Whether a gap parts two blocks of the last item of a list.
+    parted: bool,
 }
 
 impl Model for Found {
@@ -92,7 +96,7 @@ impl Model for Found {
 
     ghost coded = { list_code };
 
-    ghost view = { λ f. record { begin = f.begin; lines = f.lines; unit = f.unit; marks = map join_mark f.joins.items } };
+    ghost view = { λ f. record { begin = f.begin; lines = f.lines; unit = f.unit; marks = map join_mark f.joins.items; parted = f.parted } };
 }
 
 impl Found {
@@ -104,6 +108,7 @@ impl Found {
         definitions: Vec<Definition>,
         texts: Vec<String>,
         joins: Vec<Join>,
+        parted: bool,
     ) -> Found
         requires { BlocksIn (length texts.items) (blocks_view blocks.items) }
         ensures { result ≡ record {
@@ -115,6 +120,7 @@ impl Found {
             texts = map string_bytes texts.items;
           };
           marks = map join_mark joins.items;
+          parted = parted;
         } }
     {
         Found {
@@ -126,6 +132,7 @@ impl Found {
                 texts,
             },
             joins,
+            parted,
         }
     }
 
@@ -155,6 +162,13 @@ impl Found {
         ensures { map join_mark result.now ≡ self.now.marks }
     {
         &self.joins
+    }
+
+    /// Whether a gap parts two blocks of its last item, where it is a list.
+    pub(crate) fn is_parted(&self) -> bool
+        ensures { result ≡ self.now.parted }
+    {
+        self.parted
     }
 }
 
@@ -188,6 +202,7 @@ mod tests {
             line: 1,
             texts: 2,
             definitions: 0,
+            loose: false,
         })?;
         let found = Found {
             begin: 3,
@@ -198,6 +213,7 @@ mod tests {
                 texts,
             },
             joins,
+            parted: false,
         };
         assert_eq!(rt; found.begin(), 3);
         assert_eq!(rt; found.lines(), 2);

@@ -1,12 +1,13 @@
 -- How the blocks that a reader holds stand for the summary of the lines that it read: they name inline texts by position,
 -- and the summary has the texts in place.
-use Rattle.std.specs.Prelude.{◌≡◌, ℕ, zero, suc, ◌+◌, ◌<◌, Bool, true, false, not, ◌&&◌, List, [], ◌∷◌, ◌++◌, length, map, string_bytes, Option, option_map, ◌-◌}
+use Rattle.std.specs.Prelude.{◌≡◌, ℕ, zero, suc, ◌+◌, ◌<◌, Bool, true, false, not, ◌&&◌, List, [], ◌∷◌, ◌++◌, length, map, string_bytes, Option, option_map, ◌-◌, if◌then◌else◌}
 use Rattle.mdtext.specs.EntityTable.{EntityTable}
 use Rattle.mdleaf.specs.LinkDefinition.{LinkDefinition, definition_of}
 use Rattle.blockspec.specs.BlockLine.{BlockLine, is_blank_line}
 use Rattle.blockspec.specs.BlockStart.{Kind, FencedCode, Quote, Item}
 use Rattle.blockspec.specs.Laziness.{Text, is_text}
 use Rattle.itemspec.specs.ItemMarks.{ItemMark}
+use Rattle.itemspec.specs.SummaryJoins.{is_parted_after}
 use Rattle.mdblock.specs.BlockView.{kind_view, blocks_view, items_view}
 use Rattle.mdblock.specs.FoundLists.{FoundList, join_mark}
 use Rattle.mdblock.specs.held.HeldNodes.{ListSoFar, list_of, over_nodes, handed_nodes, closed_nodes, tasked}
@@ -64,7 +65,7 @@ with_item l (Quoted nodes) = l
 
 abbrev pub StandsForList : (at : ℕ) → OpenList → (before : List Group) → (gap : Bool) → Part → Type 0
 StandsForList at list before gap (Listed kind tight items) =
-    (list.item_open ≡ false) × StandsForItems at list (with_item (list_of before kind gap) (Listed kind tight items))
+    (list.item_open ≡ false) × StandsForItems at list (with_item (list_of before kind gap) (Listed kind tight items)) × (list.parted ≡ not tight)
 StandsForList at list before gap (Leaves leaves) = ⊥
 StandsForList at list before gap (Quoted nodes) = ⊥
 
@@ -141,6 +142,13 @@ StandsFor entities at in_item level (summary before last blank lines) =
     StandsForOver entities at in_item level.over.items level.in_item level.begun level.blank level.spaced (summary before last blank lines)
     × StandsForLast entities (behind_over entities at in_item before last) level.last before last
 
+-- whether a gap parts two blocks of the last item of a list
+abbrev pub is_parted_last : OpenBlock → Bool
+is_parted_last open_block.Shut = false
+is_parted_last (open_block.Leaf held) = false
+is_parted_last (open_block.Quote' p over last in_item begun blank spaced) = false
+is_parted_last (open_block.List' p over last in_item begun blank spaced list) = if list.item_open then spaced else list.parted
+
 -- ---- premises of a line, which keep what the blocks stand for
 
 -- A lazy line is not blank, and continues the paragraph that is open at the end.
@@ -188,7 +196,7 @@ found_between entities s fed begin = record { begin = begin; lines = fed - begin
 
 -- the same with its later items
 abbrev pub list_between : EntityTable → Summary → List ItemMark → (fed begin : ℕ) → FoundList
-list_between entities s marks fed begin = record { begin = begin; lines = fed - begin; unit = unit_of (closed_nodes entities false s); marks = marks }
+list_between entities s marks fed begin = record { begin = begin; lines = fed - begin; unit = unit_of (closed_nodes entities false s); marks = marks; parted = is_parted_after entities s }
 
 -- What a reader holds gives the unit of its lines, if one has begun.
 abbrev pub GivesUnit : OpenUnit → (fed : ℕ) → Option FoundList → Type 0

@@ -188,7 +188,7 @@ IsEmpty in_item level =
 abbrev pub HasItemMore : (at : ℕ) → (old : OpenList) → Nodes → (tight : Bool) → (new : OpenList) → Type 0
 HasItemMore at old nodes tight new =
     (new.item_open ≡ false) × (kind_view new.kind ≡ kind_view old.kind) × (new.loose ≡ (old.loose || not tight))
-    × (items_view new.items.items ≡ placed_before (items_view old.items.items) (item (placed at nodes) no_items))
+    × (items_view new.items.items ≡ placed_before (items_view old.items.items) (item (placed at nodes) no_items)) × (new.parted ≡ not tight)
 
 -- The item that is open in a list ends.
 abbrev pub EndsOpenItem : Level → OpenList → (before : Gathering) → Level → OpenList → (after : Gathering) → Type 0

@@ -1,5 +1,5 @@
 -- How what a reader holds stands for the lines that it has read.
-use Rattle.std.specs.Prelude.{◌≡◌, ℕ, suc, ◌-◌, true, false, List, [], ◌∷◌, length, map, Option, None, Some, unwrap_or, if◌then◌else◌}
+use Rattle.std.specs.Prelude.{◌≡◌, ℕ, suc, ◌-◌, true, false, List, [], ◌∷◌, length, map, Option, None, Some, unwrap_or, if◌then◌else◌, ◌||◌}
 use Rattle.std.specs.Option.{option_map}
 use Rattle.mdtext.specs.EntityTable.{EntityTable}
 use Rattle.blockspec.specs.BlockLine.{BlockLine, document_line}
@@ -17,7 +17,7 @@ use Rattle.blockspec.specs.UnitReader.{lines_held, read_behind}
 use Rattle.blockspec.specs.UnitTree.{FoundUnit}
 use Rattle.itemspec.specs.ItemMarks.{ItemMark, list_marks, marks_next}
 use Rattle.itemspec.specs.Joins.{is_joined}
-use Rattle.itemspec.specs.SummaryJoins.{joins_after}
+use Rattle.itemspec.specs.SummaryJoins.{joins_after, is_parted_after, gap_in}
 use Rattle.mdblock.specs.declared.readers.OpenUnit.{OpenUnit}
 
 abbrev pub last_of : List ℕ → Option ℕ
@@ -38,7 +38,9 @@ held_marks held = map join_mark held.joins.items
 
 -- the item of a unit that begins behind so many lines of it, which have this summary
 abbrev pub mark_after : EntityTable → Summary → (lines : ℕ) → ItemMark
-mark_after entities s lines = let nodes = closed_nodes entities false s in record { line = lines; texts = length (texts_in nodes); definitions = length (definitions_in nodes) }
+mark_after entities s lines =
+    let nodes = closed_nodes entities false s in
+    record { line = lines; texts = length (texts_in nodes); definitions = length (definitions_in nodes); loose = is_parted_after entities s || gap_in s }
 
 -- What one line more makes of what is held, behind so many lines: it goes on, or hands out the unit before the one that the line begins.
 abbrev pub HandsOn : (limit fed : ℕ) → (old : OpenUnit) → BlockLine → Option FoundList → (new : OpenUnit) → Type 0

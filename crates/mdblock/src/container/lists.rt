@@ -1,6 +1,6 @@
 //! Lists and their items (CommonMark 5.2, 5.3).
 
-ghost use Rattle.std.specs.Prelude.{◌≡◌, ℕ, ◌+◌, ◌^◌, ◌<◌, ◌&&◌, ◌||◌, not, nat_le, is_some, true, false, Some, IfSome, OnOk};
+ghost use Rattle.std.specs.Prelude.{◌≡◌, ℕ, ◌+◌, ◌^◌, ◌<◌, ◌&&◌, ◌||◌, if◌then◌else◌, not, nat_le, is_some, true, false, Some, IfSome, OnOk};
 ghost use Rattle.mdtext.specs.Columns.{AreMarks};
 ghost use Rattle.blockspec.specs.BlockLine.{rest, indentation, is_blank_line, without_columns};
 ghost use Rattle.blockspec.specs.BlockStart.{Item as ItemWith, Holds, padding, item_of, begun};
@@ -27,6 +27,8 @@ pub(crate) struct OpenList {
     items: Vec<Item>,
     item_open: bool,
     needed: usize,
+    /// Whether a gap parts two blocks of the item that ended last.
+    parted: bool,
 }
 
 impl OpenList {
@@ -45,6 +47,7 @@ impl OpenList {
             items: Vec::new(alloc),
             item_open: true,
             needed,
+            parted: false,
         }
     }
 
@@ -53,6 +56,13 @@ impl OpenList {
         ensures { result ≡ self.now.item_open }
     {
         self.item_open
+    }
+
+    /// Whether a gap parts two blocks of its last item; of an open one `spaced` tells it.
+    pub(crate) fn parts(&self, spaced: bool) -> bool
+        ensures { result ≡ (if self.now.item_open then spaced else self.now.parted) }
+    {
+        if self.item_open { spaced } else { self.parted }
     }
 
     /// Whether a line that is neither blank nor lazy has the columns that the open item needs.
@@ -100,6 +110,7 @@ impl OpenList {
     pub(crate) fn push(&mut self, blocks: Vec<Block>, gap: bool) -> Result<(), AllocError>
         ensures pushed { OnOk result (list_view self.new ≡ list_view_with self.old blocks.items gap) }
         ensures ended { OnOk result (self.new.item_open ≡ false) }
+        ensures parted { OnOk result (self.new.parted ≡ gap) }
         ensures kind { self.new.kind ≡ self.old.kind }
         ensures within { OnOk result ((n : ℕ) → ItemsIn n (items_view self.old.items.items) → BlocksIn n (blocks_view blocks.items)
             → ItemsIn n (items_view self.new.items.items)) }
@@ -107,7 +118,22 @@ impl OpenList {
         self.items.push(Item { blocks })?;
         self.loose = self.loose || gap;
         self.item_open = false;
+        self.parted = gap;
         Ok(())
+    }
+
+    /// The list without the item that has just begun, and with these behind the ones that are over, which are loose by themselves or not.
+    pub(crate) fn with_later(
+        mut self,
+        mut later: Vec<Item>,
+        loose: bool,
+    ) -> Result<Block, AllocError> {
+        self.items.append(&mut later)?;
+        Ok(Block::List {
+            kind: self.kind,
+            tight: !(self.loose || loose),
+            items: self.items,
+        })
     }
 
     /// What the list is at its end.
