@@ -1,5 +1,5 @@
--- Rows of the later items of lists, by computation: for each top-level block their lines in it, and how many inline texts stand before each; then with how many definitions do.
-use Rattle.std.proofs.Common.{◌≡◌, [], ◌∷◌, refl, codes}
+-- Rows of the later items of lists, by computation: for each top-level block their lines in it, and how many inline texts stand before each; then with how many definitions do, and with what makes the list loose.
+use Rattle.std.proofs.Common.{◌≡◌, true, false, [], ◌∷◌, refl, codes}
 use Rattle.join_rows.proofs.ReadJoins.{joins_read, join, marks_read, mark}
 
 -- a tight list
@@ -55,21 +55,27 @@ blank_item = refl
 -- ---- texts and definitions before each (CommonMark 4.7)
 
 -- a definition alone in an item, and one before a paragraph
-marks_defined : marks_read (codes "- [x]: /u" ∷ codes "- b" ∷ codes "- [y]: /v" ∷ codes "  c" ∷ codes "- d" ∷ []) ≡ mark 1 0 1 ∷ mark 2 1 1 ∷ mark 4 2 2 ∷ []
+marks_defined : marks_read (codes "- [x]: /u" ∷ codes "- b" ∷ codes "- [y]: /v" ∷ codes "  c" ∷ codes "- d" ∷ []) ≡ mark 1 0 1 false ∷ mark 2 1 1 false ∷ mark 4 2 2 false ∷ []
 unfolding marks_read
 marks_defined = refl
 
 -- definitions in a quote and in a list of an item, which are its own
-marks_nested : marks_read (codes "1. > [x]: /u" ∷ codes "   - [y]: /v" ∷ codes "   - a" ∷ codes "2. b" ∷ codes "3. c" ∷ []) ≡ mark 3 1 2 ∷ mark 4 2 2 ∷ []
+marks_nested : marks_read (codes "1. > [x]: /u" ∷ codes "   - [y]: /v" ∷ codes "   - a" ∷ codes "2. b" ∷ codes "3. c" ∷ []) ≡ mark 3 1 2 false ∷ mark 4 2 2 false ∷ []
 unfolding marks_read
 marks_nested = refl
 
 -- what stands before the list is not of its unit, and each list is counted by itself
-marks_parted : marks_read (codes "[x]: /u" ∷ codes "- a" ∷ codes "- [y]: /v" ∷ codes "- b" ∷ codes "* c" ∷ codes "* d" ∷ []) ≡ mark 1 1 0 ∷ mark 2 1 1 ∷ mark 1 1 0 ∷ []
+marks_parted : marks_read (codes "[x]: /u" ∷ codes "- a" ∷ codes "- [y]: /v" ∷ codes "- b" ∷ codes "* c" ∷ codes "* d" ∷ []) ≡ mark 1 1 0 false ∷ mark 2 1 1 false ∷ mark 1 1 0 false ∷ []
 unfolding marks_read
 marks_parted = refl
 
 -- a heading, a row of a table and a code block of an item, of which the last gives no text
-marks_leaves : marks_read (codes "- # h" ∷ codes "  | q |" ∷ codes "  | - |" ∷ [] ∷ codes "      k" ∷ codes "- a" ∷ []) ≡ mark 5 2 0 ∷ []
+marks_leaves : marks_read (codes "- # h" ∷ codes "  | q |" ∷ codes "  | - |" ∷ [] ∷ codes "      k" ∷ codes "- a" ∷ []) ≡ mark 5 2 0 true ∷ []
 unfolding marks_read
 marks_leaves = refl
+
+-- a gap before an item, one between the blocks of an item, and one in a list of an item, which is that list's (CommonMark 5.3)
+marks_loose : marks_read (codes "- a" ∷ [] ∷ codes "- b" ∷ codes "- c" ∷ [] ∷ codes "  d" ∷ codes "- e" ∷ codes "- - f" ∷ [] ∷ codes "  - g" ∷ codes "- h" ∷ [])
+    ≡ mark 2 1 0 true ∷ mark 3 2 0 false ∷ mark 6 4 0 true ∷ mark 7 5 0 false ∷ mark 10 7 0 false ∷ []
+unfolding marks_read
+marks_loose = refl

@@ -1,5 +1,5 @@
 -- Where a list may be parted, and where the reading of an edit stops, with every word of the definitions open, so that rows of them compute.
-use Rattle.std.specs.Prelude.{ℕ, List, map}
+use Rattle.std.specs.Prelude.{ℕ, Bool, List, map}
 use Rattle.mdtext.specs.EntityTable.{builtin_table}
 use Rattle.blockspec.specs.BlockLine.{document_line}
 use Rattle.block_rows.proofs.ReadText.{deep_line}
@@ -28,8 +28,8 @@ facts from meet near stop lines texts = record { from = from; meet = meet; near 
 abbrev pub join : (line texts : ℕ) → Join
 join line texts = record { line = line; texts = texts }
 
-abbrev pub mark : (line texts definitions : ℕ) → ItemMark
-mark line texts definitions = record { line = line; texts = texts; definitions = definitions }
+abbrev pub mark : (line texts definitions : ℕ) → (loose : Bool) → ItemMark
+mark line texts definitions loose = record { line = line; texts = texts; definitions = definitions; loose = loose }
 
 unfoldable pub stops_read : Setting → Source → Call → Facts
 unfolding deep_line inline_words tops_of with_item
