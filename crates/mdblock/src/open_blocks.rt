@@ -141,14 +141,6 @@ impl Level {
         self.is_parted() || self.blank
     }
 
-    /// The list that stands last.
-    pub(crate) fn into_list(self) -> OpenList {
-        match self.last {
-            OpenBlock::List(_, list) => list,
-            _ => unreachable!(),
-        }
-    }
-
     /// Whether the next block is the first one of a list item.
     fn is_at_front(&self) -> bool
         ensures { result ≡ is_front self.now.in_item self.now.over.items }

@@ -20,13 +20,11 @@ ghost use Rattle.mdblock.specs.held.Reads.{Reads, BeginsUnit, HandsOn, SinksBehi
 ghost use Rattle.mdtext.specs.EntityTable.{EntityTable};
 
 use crate::block_starts::{BlockStart, beginning};
-use crate::container::lists::OpenList;
 use crate::faults::BlockFault;
 use crate::gathering::Gathering;
 use crate::lines::Line;
 use crate::open_blocks::{Continuation, Level};
 use crate::units::{Found, Join};
-use mdleaf::Definition;
 use mdtext::{Count, Entities};
 use std::alloc::{AllocError, Global};
 use std::marker::Model;
@@ -42,17 +40,6 @@ struct OpenUnit<'e> {
     joins: Vec<Join>,
     /// Whether the last line began one of them.
     joined: bool,
-}
-
-/// What is held of a list whose last line has begun another item of it.
-#[derive(Drop)]
-pub(crate) struct Front {
-    pub(crate) begin: usize,
-    pub(crate) lines: usize,
-    pub(crate) list: OpenList,
-    pub(crate) definitions: Vec<Definition>,
-    pub(crate) texts: Vec<String>,
-    pub(crate) joins: Vec<Join>,
 }
 
 /// Reads a text line by line, and hands out each unit when the line has come that begins the next one.
@@ -190,21 +177,6 @@ impl<'e> Reader<'e> {
             Some(held) => held.joined,
             None => false,
         }
-    }
-}
-
-impl<'e> Reader<'e> {
-    pub(crate) fn alloc(&self) -> Global {
-        self.alloc
-    }
-
-    /// What is held of a list whose next item the last line has begun.
-    pub(crate) fn into_front(self) -> Front {
-        let fed = self.fed;
-        let Some(held) = self.held else {
-            unreachable!()
-        };
-        held.into_front(fed)
     }
 }
 
@@ -346,20 +318,6 @@ impl<'e> OpenUnit<'e> {
     {
         let next = OpenUnit::new(self.gathering.alloc(), self.gathering.entities(), Some(fed));
         mem::replace(self, next).into_unit(fed)
-    }
-
-    /// The list that is held, whose next item the line has begun that is the last of `fed`.
-    fn into_front(self, fed: usize) -> Front {
-        let begin = self.begin.unwrap_or(0);
-        let (definitions, texts) = self.gathering.parts();
-        Front {
-            begin,
-            lines: fed.saturating_sub(begin),
-            list: self.level.into_list(),
-            definitions,
-            texts,
-            joins: self.joins,
-        }
     }
 
     /// The unit that is held, which ends after `fed` lines.

@@ -122,20 +122,6 @@ impl OpenList {
         Ok(())
     }
 
-    /// The list without the item that has just begun, and with these behind the ones that are over, which are loose by themselves or not.
-    pub(crate) fn with_later(
-        mut self,
-        mut later: Vec<Item>,
-        loose: bool,
-    ) -> Result<Block, AllocError> {
-        self.items.append(&mut later)?;
-        Ok(Block::List {
-            kind: self.kind,
-            tight: !(self.loose || loose),
-            items: self.items,
-        })
-    }
-
     /// What the list is at its end.
     pub(crate) fn end(self) -> Block
         ensures value { block_view result ≡ list_view self }
