@@ -1,7 +1,7 @@
 //! `mdpreview`: answers a script of line edits with the pieces of HTML that changed.
 #![tactic(auto)]
 
-use mdtool::{ReadFeed, Stop, WriteOut, ended, entities_of, opened, prelude_of, serve, words_of};
+use mdtool::{ReadFeed, Stop, WriteOut, ended, entities_of, opened, prelude_of, serve_to_the_end, words_of};
 use std::process::ExitCode;
 
 fn main(rt: HostRuntime) -> ExitCode {
@@ -16,7 +16,7 @@ fn run(rt: &HostRuntime) -> Result<(), Stop> {
     let end = match &words.file {
         Some(name) => {
             let mut feed = opened(rt, name)?;
-            serve(
+            serve_to_the_end(
                 rt.alloc(),
                 &mut feed,
                 &mut out,
@@ -27,7 +27,7 @@ fn run(rt: &HostRuntime) -> Result<(), Stop> {
         }
         None => {
             let mut feed = ReadFeed::new(rt.stdin());
-            serve(
+            serve_to_the_end(
                 rt.alloc(),
                 &mut feed,
                 &mut out,

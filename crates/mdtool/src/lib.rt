@@ -35,5 +35,5 @@ pub use mdview::EditFault;
 pub use memory_devices::{MemoryFeed, MemoryOut};
 pub use preludes::prelude_from;
 pub use programs::{ended, entities_of, opened, prelude_of, words_of};
-pub use serving::serve;
+pub use serving::{serve, serve_to_the_end};
 pub use tool_words::{Words, read_words};

@@ -2,7 +2,8 @@
 //!
 //! Bytes are taken in chunks, and each is searched once for the end of its line.
 ghost use Rattle.std.specs.Prelude.{◌≡◌, ◌+◌, ◌*◌, ◌-◌, ◌^◌, ◌<◌, ◌≤◌, true, false, [], MatchOption};
-ghost use Rattle.std.specs.Prelude.{length, take, drop, get_or, OnOk, IfOk, IfSome, IfNone, OnSome, if◌then◌else◌};
+ghost use Rattle.std.specs.Prelude.{length, take, drop, get_or, OnOk, IfOk, IfSome, IfNone, OnSome, if◌then◌else◌, string_bytes};
+ghost use Rattle.std.specs.Str.Lossy.{utf8_lossy};
 ghost use Rattle.mdtool.specs.Commands.{has_break};
 ghost use Rattle.mdtool.specs.Pending.{Reads, Draws, HasLine, IsOver, used, fresh};
 ghost use Rattle.mdtool.specs.Steps.{Steps, failures_after, FewLines, ReadsTexts, NextCommand};
@@ -12,7 +13,7 @@ use crate::device::Feed;
 use crate::fault::ToolFault;
 use crate::header::header;
 use memchr::memchr;
-use std::alloc::Global;
+use std::alloc::{AllocError, Global};
 use std::marker::Model;
 
 const CHUNK: usize = 16384;
@@ -121,7 +122,7 @@ impl Script {
             let Some(len) = self.find_line(feed)? else {
                 return Ok(None);
             };
-            texts.push(String::from_utf8_lossy(alloc, self.front(len))?)?;
+            texts.push(line_text(alloc, self.front(len))?)?;
             self.use_line(len);
         }
         Ok(Some(texts))
@@ -213,6 +214,16 @@ impl Script {
         self.searched = self.start;
         self.lines = self.lines.saturating_add(1);
     }
+}
+
+/// The text of a line. Many lines are empty: in these nothing is searched or copied.
+fn line_text(alloc: Global, line: &[u8]) -> Result<String, AllocError>
+    ensures { IfOk result (λ text. string_bytes text ≡ utf8_lossy line.now) }
+{
+    if line.is_empty() {
+        return Ok(String::new(alloc));
+    }
+    String::from_utf8_lossy(alloc, line)
 }
 
 /// Where the first LF stands.

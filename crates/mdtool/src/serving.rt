@@ -19,6 +19,7 @@ use mdhtml::Options;
 use mdtext::{Entities, Tally};
 use mdview::Preview;
 use std::alloc::{AllocError, Global};
+use std::mem::forget;
 
 /// The lines, lent.
 pub fn lent<'a>(alloc: Global, lines: &'a [String]) -> Result<Vec<&'a str>, AllocError>
@@ -103,6 +104,28 @@ pub fn serve<R: Feed, W: Out>(
 {
     let mut preview = preview_with(alloc, entities, options, prelude)?;
     answer(alloc, feed, out, &mut preview)
+}
+
+/// Answers a script as `serve` does, for a program that ends then: the preview's memory goes back with the process, and not bit by bit.
+pub fn serve_to_the_end<R: Feed, W: Out>(
+    alloc: Global,
+    feed: &mut R,
+    out: &mut W,
+    entities: Entities,
+    options: Options,
+    prelude: &[String],
+) -> Result<(), ToolFault>
+    requires limits { HasLimits options }
+    requires feed { R.failures feed.old < 2 ^ 64 - 1 }
+    requires out { W.failures out.old < 2 ^ 64 - 1 }
+    ensures served { ServedBeside result (empty entities options) (map string_bytes prelude.now) (R.left feed.old) (R.left feed.new) (W.written out.old) (W.written out.new) }
+    ensures feed { R.failures feed.new ≡ failures_after result (R.failures feed.old) }
+    ensures out { W.failures out.new ≡ out_failures_after result (W.failures out.old) }
+{
+    let mut preview = preview_with(alloc, entities, options, prelude)?;
+    let end = answer(alloc, feed, out, &mut preview);
+    forget(preview);
+    end
 }
 
 /// Answers the commands of a script as they come, each reply flushed.

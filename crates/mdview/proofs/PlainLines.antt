@@ -1,6 +1,6 @@
 -- Lines in which no line ending and no U+0000 stands.
-use Rattle.std.proofs.Common.{◌≡◌, ℕ, ◌+◌, Bool, true, false, ◌||◌, ◌==◌, None, List, [], ◌∷◌, ◌++◌, length, map, nat_lt, refl, ap, ◌∙◌, arith}
-use Rattle.std.specs.List.{list_any, position_or_len}
+use Rattle.std.proofs.Common.{◌≡◌, ℕ, ◌+◌, Bool, true, false, ◌||◌, ◌==◌, None, List, [], ◌∷◌, ◌++◌, map, nat_le, refl, ap, ◌∙◌, arith}
+use Rattle.std.specs.List.{list_any}
 use Rattle.mdtext.specs.ByteClass.{in_class}
 use Rattle.mdtext.specs.Lines.{clean_byte, without_nul}
 use Rattle.mdview.specs.Edit.{first_with_ending, has_line_ending, has_special}
@@ -26,6 +26,15 @@ no_ending [] e = refl
 no_ending (b ∷ line) e =
     let parts = neither (in_class (0 ∷ 10 ∷ 13 ∷ []) b) (has_special line) e in
     rw (no_break b parts.0) (no_ending line parts.1)
+
+not_special : (b : ℕ) → nat_le b 13 ≡ false → in_class (0 ∷ 10 ∷ 13 ∷ []) b ≡ false
+not_special b e = grind (arith, e)
+
+pub none_low : (line : List ℕ) → list_any (λ byte. nat_le byte 13) line ≡ false → has_special line ≡ false
+none_low [] e = refl
+none_low (b ∷ line) e =
+    let parts = neither (nat_le b 13) (list_any (λ byte. nat_le byte 13) line) e in
+    rw (not_special b parts.0) (none_low line parts.1)
 
 pub plain_lines_stay : (lines : List (List ℕ)) → list_any has_special lines ≡ false → map without_nul lines ≡ lines
 plain_lines_stay [] e = refl

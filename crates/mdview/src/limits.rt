@@ -1,5 +1,5 @@
 //! What the limits of a text are tested on; none of it takes memory.
-ghost use Rattle.std.specs.Prelude.{◌≡◌, ◌-◌, ◌^◌, ◌≤◌, ◌+◌, false, length, map, min, sum_by, string_bytes, true};
+ghost use Rattle.std.specs.Prelude.{◌≡◌, ◌-◌, ◌^◌, ◌≤◌, ◌+◌, false, length, map, min, nat_le, sum_by, string_bytes, true};
 ghost use Rattle.std.specs.List.{list_any};
 ghost use Rattle.mdtext.specs.Lines.{without_nul};
 ghost use Rattle.mdview.specs.Document.{size_of};
@@ -27,7 +27,21 @@ fn has_special(line: &str) -> bool
     ensures { result ≡ has_special line.now }
 {
     let bytes = line.as_bytes();
+    if !has_low_byte(bytes) {
+        return false;
+    }
     first_special(bytes, &Class::of(b"\0\n\r")) < bytes.len()
+}
+
+/// Whether one of the bytes is no greater than that of a carriage return. In most lines none is, and this compares many bytes at once.
+fn has_low_byte(bytes: &[u8]) -> bool
+    ensures { result ≡ list_any (λ byte. nat_le byte 13) bytes.now }
+{
+    let mut is_low = false;
+    for byte in bytes {
+        is_low |= *byte <= b'\r';
+    }
+    is_low
 }
 
 /// Whether a line ending stands in the line.

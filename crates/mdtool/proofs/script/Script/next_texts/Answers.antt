@@ -21,7 +21,7 @@ loop-alloc-preserved g c =
     let left : length c.use_line.new.self.bytes ≡ length (drop (c.in-Some.len + 1) c.find_line.new.self.bytes) = ap (λ (p : Pending). length p.bytes) c.use_line.ensures in
     record {
       read = texts_more _ _ _ _ _ _ _ _ _ _ _ _ _ c.loop-alloc.invariant.read found.0 found.1 c.use_line.ensures
-          (c.in_ok-from_utf8_lossy.ensures.lossy ∙ ap utf8_lossy c.front.ensures) c.in_ok-push.ensures.items c.in_ok-push.ensures.len;
+          (c.in_ok-line_text.ensures ∙ ap utf8_lossy c.front.ensures) c.in_ok-push.ensures.items c.in_ok-push.ensures.len;
       within = omega (arith, c.in_ok-push.ensures.len, c.len.ensures, c.loop-alloc-test.true);
       failures = c.in_ok-len.ensures.failures ∙ c.loop-alloc.invariant.failures;
       weight = omega (arith, c.in_ok-len.ensures.weight, c.loop-alloc.invariant.weight, length-drop (c.in-Some.len + 1) c.find_line.new.self.bytes);
@@ -40,10 +40,10 @@ returns-in_default-clause-steps g c =
     let found = rw c.in_default.is at c.in_ok-len.ensures.steps in
     few_lines _ _ _ _ _ _ _ _ _ _ c.loop-alloc.invariant.read found.0 found.1 (omega (arith, c.len.ensures, c.loop-alloc-test.true))
 
-pub returns-in_err-from_utf8_lossy-clause-steps : goal.returns-in_err-from_utf8_lossy-clause-steps
-returns-in_err-from_utf8_lossy-clause-steps g c =
+pub returns-in_err-line_text-clause-steps : goal.returns-in_err-line_text-clause-steps
+returns-in_err-line_text-clause-steps g c =
     let found = rw c.in-Some.is at c.in_ok-len.ensures.steps in
-    let p = err_from_is_err_and c.from_residual-in_err-from_utf8_lossy.result c.from_residual-in_err-from_utf8_lossy.ensures.1 in
+    let p = err_from_is_err_and c.from_residual-in_err-line_text.result c.from_residual-in_err-line_text.ensures.1 in
     rw (p.1, p.2) (texts_draw _ _ _ _ _ _ _ _ c.loop-alloc.invariant.read found.0)
 
 pub returns-in_err-push-clause-steps : goal.returns-in_err-push-clause-steps
