@@ -1,7 +1,9 @@
 //! `mdpreview`: answers a script of line edits with the pieces of HTML that changed.
 #![tactic(auto)]
 
-use mdtool::{ReadFeed, Stop, WriteOut, ended, entities_of, opened, prelude_of, serve_to_the_end, words_of};
+use mdtool::{
+    ReadFeed, Stop, WriteOut, ended, entities_of, opened, prelude_of, serve_to_the_end, words_of,
+};
 use std::process::ExitCode;
 
 fn main(rt: HostRuntime) -> ExitCode {
