@@ -41,7 +41,11 @@ fn previews_a_text(rt: HostRuntime) -> Result<(), Fail> {
     let refused = preview.edit(0, 0, ["a", "b\nc"].as_slice(), &mut count);
     assert!(rt; matches!(refused, Err(EditFault::BreakInLine { index: 1 })));
     assert_eq!(rt; count, before);
-    assert_eq!(rt; preview.pieces().count(), 2);
+    let mut shown = String::new(alloc);
+    for piece in preview.pieces() {
+        shown.push_str(piece)?;
+    }
+    assert_eq!(rt; shown.as_str(), "<h1>a</h1>\n<p>b\nc</p>\n");
     Ok(())
 }
 
