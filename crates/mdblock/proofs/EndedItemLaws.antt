@@ -1,30 +1,26 @@
 -- The item that is open in a list ends before the next one is read: that line finds what it would have found, and begins what it would have begun.
-use Rattle.std.proofs.Common.{Box, Global, ◌≡◌, ℕ, zero, suc, ◌+◌, Bool, true, false, not, ◌&&◌, List, [], ◌∷◌, ◌++◌, length, Option, Some, None, refl, sym, ◌∙◌, ap, subst}
+use Rattle.std.proofs.Common.{Box, Global, ◌≡◌, ℕ, suc, ◌+◌, Bool, true, false, not, ◌&&◌, List, length, Some, refl, sym, ◌∙◌, ap, subst}
 use Rattle.std.specs.Prelude.{is_some, nat_le, ◌||◌}
 use Rattle.mdtext.specs.EntityTable.{EntityTable}
-use Rattle.mdleaf.specs.LinkDefinition.{LinkDefinition}
 use Rattle.mdscan.specs.declared.list_markers.Marker.{Marker}
 use Rattle.blockspec.specs.BlockLine.{BlockLine, is_blank_line, indentation}
 use Rattle.blockspec.specs.BlockStart.{begun, Quote, Item}
-use Rattle.blockspec.specs.Laziness.{is_verbatim}
 use Rattle.blockspec.specs.LineSummary.{Summary, summary, Last, nothing_yet, ended_block, open_leaf, open_container, last_in, last_tip, closed, last_groups, ended_last, summary_gap, begin_after, new_last, line_added, is_apart_after, mark_of, part_mark}
 use Rattle.blockspec.specs.ListGroups.{Part, Leaves, Quoted, Listed, Group, is_tight_inside, merged, nodes_of}
 use Rattle.blockspec.specs.NodeTree.{texts_in, placed}
 use Rattle.blockspec.specs.Stretches.{is_single, first_of}
 use Rattle.blockspec.specs.SummaryDepth.{sinks}
 use Rattle.blockspec.specs.UnitBegin.{list_mark, same_mark}
-use Rattle.mdblock.specs.BlockView.{kind_view, blocks_view}
-use Rattle.mdblock.specs.held.Continuations.{ContinuesOpen, begins_item}
+use Rattle.mdblock.specs.BlockView.{kind_view}
 use Rattle.mdblock.specs.held.EndedItems.{ended_summary, EndsLastItem, IsNextOf, IsNextIn, KeepsNext}
 use Rattle.itemspec.specs.SummaryJoins.{is_parted_first, is_parted_after, gap_in}
 use Rattle.mdblock.specs.held.HeldLevel.{StandsFor, StandsForLast, HasGathered, Fits, behind_over, is_list, is_parted_last}
-use Rattle.mdblock.specs.held.HeldNodes.{list_of, handed_groups, handed_last, handed_nodes, closed_nodes, tasked}
+use Rattle.mdblock.specs.held.HeldNodes.{list_of, handed_groups, handed_last, handed_nodes, tasked}
 use Rattle.mdblock.specs.held.LevelSteps.{EndsItem}
 use Rattle.mdblock.specs.held.LinesAdded.{ContinuesLevel}
 use Rattle.mdblock.specs.declared.container.lists.OpenList.{OpenList}
 use Rattle.mdblock.specs.declared.gathering.Gathering.{Gathering}
 use Rattle.mdblock.specs.declared.leaf.Leaf.{Leaf}
-use Rattle.mdblock.specs.declared.open_blocks.Continuation.{Continuation}
 use Rattle.mdblock.specs.declared.open_blocks.Continuation.TheVariants as continuation
 use Rattle.mdblock.specs.declared.open_blocks.Level.{Level}
 use Rattle.mdblock.specs.declared.open_blocks.OpenBlock.{OpenBlock}

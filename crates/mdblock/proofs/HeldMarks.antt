@@ -1,5 +1,5 @@
 -- What a reader holds of the last unit: where it begins, and its later items where it is a list.
-use Rattle.std.proofs.Common.{◌≡◌, ℕ, suc, ◌+◌, ◌-◌, Bool, true, false, List, [], ◌∷◌, ◌++◌, length, map, Option, Some, None, refl, sym, ◌∙◌, ap, subst, append_assoc, arith}
+use Rattle.std.proofs.Common.{◌≡◌, ℕ, suc, ◌+◌, ◌-◌, Bool, true, false, List, [], ◌∷◌, ◌++◌, length, map, Option, Some, None, refl, sym, ◌∙◌, ap, subst, arith}
 use Rattle.std.proofs.lemmas.List.{map-append, append-nil, drop-map}
 use Rattle.std.proofs.Math.Seq.{drop-append-add}
 use Rattle.std.specs.List.{flat_map}
@@ -8,7 +8,7 @@ use Rattle.std.specs.Prelude.{IfSome, drop, if◌then◌else◌, unwrap_or, ◌|
 use Rattle.mdtext.specs.EntityTable.{EntityTable}
 use Rattle.blockspec.specs.BlockLine.{BlockLine, document_line}
 use Rattle.blockspec.specs.BlockUnits.{groups}
-use Rattle.blockspec.specs.LineSummary.{Summary, summary_of, closed, begins_after}
+use Rattle.blockspec.specs.LineSummary.{Summary, summary_of, begins_after}
 use Rattle.blockspec.specs.ListGroups.{Group, nodes_of}
 use Rattle.blockspec.specs.Meetings.{joins_list}
 use Rattle.blockspec.specs.NodeTree.{texts_in, definitions_in}

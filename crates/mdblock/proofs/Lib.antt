@@ -3,6 +3,8 @@ pub mod CloseLaws
 pub mod CloseLeafLaws
 pub mod ClosingLaws
 pub mod ContinuationLaws
+pub mod CopyLaws
+pub mod CopySteps
 pub mod EndedItemLaws
 pub mod FitLaws
 pub mod HeldMarks
@@ -22,6 +24,7 @@ pub mod PartedLaws
 pub mod PlacedNodes
 pub mod ReadsLaws
 pub mod RowStarts
+pub mod SingleItems
 pub mod Skips
 pub mod StartLaws
 pub mod TableLaws

@@ -1,18 +1,17 @@
 -- A line that begins the next item of a unit: the item before it is over, the item is marked, and the line is read.
-use Rattle.std.proofs.Common.{◌≡◌, ℕ, ◌-◌, Bool, true, false, List, [], ◌∷◌, ◌++◌, length, map, string_bytes, Option, Some, None, refl, sym, ◌∙◌, ap, subst}
+use Rattle.std.proofs.Common.{◌≡◌, ℕ, ◌-◌, true, false, [], ◌∷◌, ◌++◌, length, map, string_bytes, Option, Some, None, refl, sym, ◌∙◌, ap, subst}
 use Rattle.std.proofs.lemmas.List.{map-append}
 use Rattle.std.specs.Prelude.{is_some, unwrap_or, ◌||◌}
 use Rattle.mdleaf.specs.LinkDefinition.{definition_of}
 use Rattle.blockspec.specs.BlockLine.{BlockLine, is_blank_line}
 use Rattle.blockspec.specs.BlockStart.{begun}
 use Rattle.blockspec.specs.BlockTree.{ListKind}
-use Rattle.blockspec.specs.LineSummary.{Summary, Last, last_in, is_apart_after, mark_of}
+use Rattle.blockspec.specs.LineSummary.{Summary, last_in, is_apart_after, mark_of}
 use Rattle.blockspec.specs.NodeTree.{texts_in, definitions_in}
 use Rattle.blockspec.specs.SummaryDepth.{sinks}
 use Rattle.blockspec.specs.UnitBegin.{list_mark, same_mark}
 use Rattle.blocklaws.proofs.DocumentLaws.{map_length}
-use Rattle.itemspec.specs.ItemMarks.{ItemMark, marks_next}
-use Rattle.itemspec.specs.SummaryJoins.{joins_after}
+use Rattle.itemspec.specs.ItemMarks.{marks_next}
 use Rattle.mdblock.specs.FoundLists.{join_mark}
 use Rattle.mdblock.specs.held.Continuations.{begins_item}
 use Rattle.mdblock.specs.held.EndedItems.{EndsLastItem, ended_summary}

@@ -1,5 +1,7 @@
 pub mod BlockView
+pub mod Copies
 pub mod FoundLists
 pub mod Positions
+pub mod Spliced
 pub mod held
 pub use Rattle.mdleaf.specs.LinkDefinition

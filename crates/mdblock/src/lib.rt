@@ -5,12 +5,14 @@ mod block_starts;
 mod blocks;
 mod closed_blocks;
 mod container;
+mod copies;
 mod faults;
 mod gathering;
 mod leaf;
 mod lines;
 mod open_blocks;
 mod readers;
+mod splicing;
 mod units;
 
 pub use blocks::{Block, Item, ListKind};
@@ -18,7 +20,10 @@ pub use faults::BlockFault;
 pub use mdleaf::Definition;
 pub use mdscan::Align;
 pub use readers::Reader;
+pub use splicing::splice;
 pub use units::{Found, Join, Unit};
 
+#[cfg(test)]
+mod splice_tests;
 #[cfg(test)]
 mod tests;

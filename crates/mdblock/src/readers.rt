@@ -12,11 +12,11 @@ ghost use Rattle.mdblock.specs.FoundLists.{AreJoinsOf, StandsForUnit, found_unit
 ghost use Rattle.mdblock.specs.held.Continuations.{IsBeginningOf, IsContinuationOf, ContinuesOpen, begins_item};
 ghost use Rattle.mdblock.specs.held.EndedItems.{IsNextIn};
 ghost use Rattle.mdblock.specs.held.LinesAdded.{ContinuesLevel};
-ghost use Rattle.mdblock.specs.held.HeldLevel.{HoldsSummary, GivesUnit, is_parted_last};
-ghost use Rattle.blockspec.specs.LineSummary.{no_summary};
+ghost use Rattle.mdblock.specs.held.HeldLevel.{HoldsSummary, GivesUnit, is_parted_last, list_between};
+ghost use Rattle.blockspec.specs.LineSummary.{Summary, no_summary};
 ghost use Rattle.itemspec.specs.Joins.{is_joined};
 ghost use Rattle.mdblock.specs.held.ReaderState.{AreKept, held_begin, held_joined};
-ghost use Rattle.mdblock.specs.held.Reads.{Reads, BeginsUnit, HandsOn, SinksBehind, handed, open_begin};
+ghost use Rattle.mdblock.specs.held.Reads.{Reads, BeginsUnit, HandsOn, SinksBehind, handed, held_marks, open_begin};
 ghost use Rattle.mdtext.specs.EntityTable.{EntityTable};
 
 use crate::block_starts::{BlockStart, beginning};
@@ -180,6 +180,29 @@ impl<'e> Reader<'e> {
     }
 }
 
+impl<'e> Reader<'e> {
+    pub(crate) fn alloc(&self) -> Global {
+        self.alloc
+    }
+
+    /// The last unit, as far as it was read.
+    pub(crate) fn into_found(self) -> Result<Found, AllocError>
+        requires { held_joined self.held ≡ true }
+        ensures lines { IfOk result (λ found. found.lines ≤ self.entry.fed) }
+        ensures stands { IfOk result (λ found. (limit : ℕ) (e : EntityTable) (ls : List (List ℕ)) → Reads limit e self.entry ls
+            → IfSome (open_begin e ls) (λ begin. (found.begin ≡ begin) × StandsForUnit e found (drop begin ls))) }
+    {
+        let fed = self.fed;
+        match self.held {
+            Some(held) => {
+                let begin = held.begin.unwrap_or(0);
+                held.into_found(begin, fed)
+            }
+            None => unreachable!(),
+        }
+    }
+}
+
 impl<'e> OpenUnit<'e> {
     fn new(alloc: Global, entities: &'e Entities, begin: Option<usize>) -> OpenUnit<'e>
         ensures empty { HoldsSummary result no_summary }
@@ -325,21 +348,31 @@ impl<'e> OpenUnit<'e> {
         requires { AreKept self }
         ensures { IfOk result (λ found. GivesUnit self.entry fed found) }
     {
+        match self.begin {
+            None => Ok(None),
+            Some(begin) => Ok(Some(self.into_found(begin, fed)?)),
+        }
+    }
+
+    /// All that is held as a unit with its first line there, which ends after `fed` lines.
+    fn into_found(self, begin: usize, fed: usize) -> Result<Found, AllocError>
+        requires { AreKept self }
+        ensures gives { IfOk result (λ found. (s : Summary) → HoldsSummary self.entry s
+            → found ≡ list_between self.entry.gathering.entities.now s (held_marks self.entry) fed begin) }
+        ensures lines { IfOk result (λ found. found.lines ≤ fed) }
+    {
         let mut gathering = self.gathering;
         let parted = self.level.is_parted();
         let blocks = self.level.close(&mut gathering)?;
         let (definitions, texts) = gathering.parts();
-        match self.begin {
-            None => Ok(None),
-            Some(begin) => Ok(Some(Found::new(
-                begin,
-                fed.saturating_sub(begin),
-                blocks,
-                definitions,
-                texts,
-                self.joins,
-                parted,
-            ))),
-        }
+        Ok(Found::new(
+            begin,
+            fed.saturating_sub(begin),
+            blocks,
+            definitions,
+            texts,
+            self.joins,
+            parted,
+        ))
     }
 }

@@ -1,0 +1,172 @@
+//! A list whose front was read anew, and whose later items were found before (CommonMark 5.3).
+
+ghost use Rattle.std.specs.Prelude.{◌≡◌, ◌+◌, ◌-◌, ◌<◌, ◌≤◌, ◌++◌, ◌||◌, ℕ, IfOk, IfSome, drop, length, map, not, slice_get, take, true};
+ghost use Rattle.std.specs.List.{list_any};
+ghost use Rattle.mdblock.specs.BlockView.{blocks_view, items_view};
+ghost use Rattle.mdblock.specs.FoundLists.{join_mark};
+ghost use Rattle.mdblock.specs.Positions.{BlocksIn, ItemsIn};
+ghost use Rattle.mdblock.specs.Spliced.{as_first_list, first_items, further_on, mark_further};
+ghost use Rattle.mdblock.specs.held.ReaderState.{held_joined};
+
+use crate::blocks::{Block, Item};
+use crate::copies::{copied_items, push_definitions};
+use crate::readers::Reader;
+use crate::units::{Found, Join};
+use mdtext::NoMemory;
+use std::alloc::Global;
+
+/// Joins the list that a reader holds, another item of which the last line has just begun, with an old one from that item on, which begins at the old list's
+/// join `k`. The item's first line is the same in both. No line is read again, and where the old list began does not matter.
+pub fn splice(front: Reader, old: &Found, k: usize) -> Result<Found, NoMemory>
+    requires joined { held_joined front.held ≡ true }
+    requires join { k < length old.now.marks }
+    requires fits { IfSome (slice_get old.now.marks k) (λ mark. front.fed + (old.now.lines - mark.line - 1) ≤ usize.MAX) }
+{
+    let alloc = front.alloc();
+    let front = front.into_found()?;
+    spliced(alloc, &front, old, k)
+}
+
+/// The items of a list but the last one, and those of an old list behind its join `k`.
+fn spliced(alloc: Global, front: &Found, old: &Found, k: usize) -> Result<Found, NoMemory>
+    requires join { k < length old.now.marks }
+{
+    let from = join_at(old.joins(), k);
+    let to = join_at(front.joins(), front.joins().len().saturating_sub(1));
+    let mut texts = Vec::new(alloc);
+    let kept = first_of(list_items(front.unit().blocks()), front.joins().len());
+    let mut items = copied_items(alloc, kept, front.unit().texts(), &mut texts)?;
+    let later = behind(list_items(old.unit().blocks()), k + 1);
+    let mut later = copied_items(alloc, later, old.unit().texts(), &mut texts)?;
+    items.append(&mut later)?;
+    let mut definitions = Vec::new(alloc);
+    let kept = first_of(front.unit().definitions(), to.definitions);
+    push_definitions(alloc, kept, &mut definitions)?;
+    let later = behind(old.unit().definitions(), from.definitions);
+    push_definitions(alloc, later, &mut definitions)?;
+    let later = behind(old.joins(), k + 1);
+    let joins = spliced_joins(alloc, front.joins(), later, from, to)?;
+    let blocks = as_list(
+        alloc,
+        front.unit().blocks(),
+        is_tight(&joins, old.is_parted()),
+        items,
+    )?;
+    let lines = old.lines().saturating_sub(from.line).saturating_sub(1);
+    Ok(Found::new(
+        front.begin(),
+        front.lines().saturating_add(lines),
+        blocks,
+        definitions,
+        texts,
+        joins,
+        old.is_parted(),
+    ))
+}
+
+/// The join of that number; where there is none, what stands before a list's first item.
+fn join_at(joins: &[Join], k: usize) -> Join
+    ensures { IfSome (slice_get (map join_mark joins.now) k) (λ mark. join_mark result ≡ mark) }
+{
+    match joins.get(k) {
+        Some(join) => *join,
+        None => Join {
+            line: 0,
+            texts: 0,
+            definitions: 0,
+            loose: false,
+        },
+    }
+}
+
+/// So many from the front on; none where there are not as many.
+fn first_of<T>(all: &[T], count: usize) -> &[T]
+    ensures { count ≤ length all.now → result.now ≡ take count all.now }
+{
+    all.get(..count).unwrap_or(&[])
+}
+
+/// What is behind so many.
+fn behind<T>(all: &[T], count: usize) -> &[T]
+    ensures { result.now ≡ drop count all.now }
+{
+    all.get(count..).unwrap_or(&[])
+}
+
+/// The items of a list that stands first; none where no list does.
+fn list_items(blocks: &[Block]) -> &[Item]
+    ensures { items_view result.now ≡ first_items (blocks_view blocks.now) }
+{
+    match blocks.first() {
+        Some(Block::List { items, .. }) => items,
+        _ => &[],
+    }
+}
+
+/// A list of these items, of the kind of the one that stands first; nothing where none does.
+fn as_list(
+    alloc: Global,
+    blocks: &[Block],
+    tight: bool,
+    items: Vec<Item>,
+) -> Result<Vec<Block>, NoMemory>
+    ensures within { IfOk result (λ made. (n : ℕ) → ItemsIn n (items_view items.items) → BlocksIn n (blocks_view made.items)) }
+    ensures list { IfOk result (λ made. blocks_view made.items ≡ as_first_list tight (items_view items.items) (blocks_view blocks.now)) }
+{
+    let mut made = Vec::new(alloc);
+    if let Some(Block::List { kind, .. }) = blocks.first() {
+        made.push(Block::List {
+            kind: *kind,
+            tight,
+            items,
+        })?;
+    }
+    Ok(made)
+}
+
+/// Whether a list is tight, by its joins, and by whether a gap parts two blocks of its last item.
+fn is_tight(joins: &[Join], parted: bool) -> bool
+    ensures { result ≡ not (parted || list_any (λ mark. mark.loose) (map join_mark joins.now)) }
+{
+    !parted && !joins.iter().any(|join| join.loose)
+}
+
+/// The joins in front, and others behind them, which stood behind `from` and stand behind `to` then.
+fn spliced_joins(
+    alloc: Global,
+    front: &[Join],
+    behind: &[Join],
+    from: Join,
+    to: Join,
+) -> Result<Vec<Join>, NoMemory>
+    ensures { IfOk result (λ joins. map join_mark joins.items
+        ≡ map join_mark front.now ++ map (mark_further (join_mark from) (join_mark to)) (map join_mark behind.now)) }
+{
+    let mut joins = Vec::new(alloc);
+    for join in front {
+        joins.push(*join)?;
+    }
+    for later in behind {
+        joins.push(moved(*later, from, to))?;
+    }
+    Ok(joins)
+}
+
+/// A join behind `from`, where it stands behind `to`.
+fn moved(join: Join, from: Join, to: Join) -> Join
+    ensures { join_mark result ≡ mark_further (join_mark from) (join_mark to) (join_mark join) }
+{
+    Join {
+        line: further(join.line, from.line, to.line),
+        texts: further(join.texts, from.texts, to.texts),
+        definitions: further(join.definitions, from.definitions, to.definitions),
+        loose: join.loose,
+    }
+}
+
+/// As far behind one number as another is behind `from`.
+fn further(at: usize, from: usize, to: usize) -> usize
+    ensures { result ≡ further_on at from to }
+{
+    to.saturating_add(at.saturating_sub(from))
+}
