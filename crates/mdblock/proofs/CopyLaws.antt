@@ -20,7 +20,7 @@ range_more n (suc a) b =
 range_texts : {A : Type 0} (n : ℕ) (xs ys : List A) → range_with_len n (length (xs ++ ys)) ≡ range_with_len n (length xs) ++ range_with_len (n + length xs) (length ys)
 range_texts n xs ys = ap (λ z. range_with_len n z) (length-append xs ys) ∙ range_more n (length xs) (length ys)
 
-range_length : (n k : ℕ) → length (range_with_len n k) ≡ k
+pub range_length : (n k : ℕ) → length (range_with_len n k) ≡ k
 range_length n zero = refl
 range_length n (suc k) = ap suc (range_length (n + 1) k)
 
@@ -122,15 +122,16 @@ first_there : (front : List (List ℕ)) (t : List ℕ) (behind : List (List ℕ)
 first_there [] t behind = refl
 first_there (f ∷ front) t behind = first_there front t behind
 
-pub texts_there : (front texts : List (List ℕ)) → texts_at (front ++ texts) (range_with_len (length front) (length texts)) ≡ texts
-texts_there front [] = refl
-texts_there front (t ∷ texts) =
-    let all : front ++ t ∷ texts ≡ (front ++ t ∷ []) ++ texts = sym (append_assoc front (t ∷ []) texts) in
+pub texts_there : (front texts behind : List (List ℕ)) → texts_at (front ++ (texts ++ behind)) (range_with_len (length front) (length texts)) ≡ texts
+texts_there front [] behind = refl
+texts_there front (t ∷ texts) behind =
+    let rest = texts ++ behind in
+    let all : front ++ t ∷ rest ≡ (front ++ t ∷ []) ++ rest = sym (append_assoc front (t ∷ []) rest) in
     let size : length front + 1 ≡ length (front ++ t ∷ []) = sym (length-append front (t ∷ [])) in
-    ap (λ z. z ∷ texts_at (front ++ t ∷ texts) (range_with_len (length front + 1) (length texts))) (first_there front t texts)
+    ap (λ z. z ∷ texts_at (front ++ t ∷ rest) (range_with_len (length front + 1) (length texts))) (first_there front t rest)
     ∙ ap (λ z. t ∷ texts_at z (range_with_len (length front + 1) (length texts))) all
-    ∙ ap (λ z. t ∷ texts_at ((front ++ t ∷ []) ++ texts) (range_with_len z (length texts))) size
-    ∙ ap (λ z. t ∷ z) (texts_there (front ++ t ∷ []) texts)
+    ∙ ap (λ z. t ∷ texts_at ((front ++ t ∷ []) ++ rest) (range_with_len z (length texts))) size
+    ∙ ap (λ z. t ∷ z) (texts_there (front ++ t ∷ []) texts behind)
 
 -- ---- copies name no other texts
 

@@ -12,6 +12,7 @@ pub mod HeldNodesLaws
 pub mod FirstBytes
 pub mod HtmlEnds
 pub mod Interrupts
+pub mod ItemParts
 pub mod LeafEndings
 pub mod LeafLaws
 pub mod LeafTexts
@@ -26,6 +27,10 @@ pub mod ReadsLaws
 pub mod RowStarts
 pub mod SingleItems
 pub mod Skips
+pub mod SplicedLines
+pub mod SplicedLists
+pub mod SplicedMarks
+pub mod SplicedUnits
 pub mod StartLaws
 pub mod TableLaws
 pub mod TipLaws

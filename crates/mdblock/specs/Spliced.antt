@@ -1,7 +1,15 @@
 -- A list that goes on with the later items of another.
-use Rattle.std.specs.Prelude.{ℕ, zero, suc, ◌+◌, ◌-◌, ◌^◌, Bool, min}
+use Rattle.std.specs.Prelude.{ℕ, ◌≡◌, zero, suc, ◌+◌, ◌-◌, ◌^◌, Bool, false, not, ◌||◌, min, List, [], ◌∷◌, ◌++◌, drop, length, map, slice_get, take, unwrap_or}
+use Rattle.std.specs.List.{list_any}
+use Rattle.mdtext.specs.EntityTable.{EntityTable}
 use Rattle.blockspec.specs.BlockTree.{paragraph, heading, thematic_break, code_block, html_block, block_quote, list, table, Blocks, no_blocks, block, Items, no_items, item}
+use Rattle.blockspec.specs.UnitTree.{UnitTree}
 use Rattle.itemspec.specs.ItemMarks.{ItemMark}
+use Rattle.mdblock.specs.Copies.{copied_items, items_positions, texts_at}
+use Rattle.mdblock.specs.FoundLists.{FoundList, StandsForUnit}
+use Rattle.mdblock.specs.held.ReaderState.{ReaderState}
+use Rattle.mdblock.specs.held.Reads.{Reads}
+use Rattle.mdblock.specs.held.TreesBehind.{placed_before}
 
 -- the items of a list that stands first
 abbrev pub first_items : Blocks → Items
@@ -50,3 +58,50 @@ abbrev pub drop_items : ℕ → Items → Items
 drop_items zero items = items
 drop_items (suc n) no_items = no_items
 drop_items (suc n) (item first items) = drop_items n items
+
+-- what stands before a list's first item
+abbrev pub no_mark : ItemMark
+no_mark = record { line = 0; texts = 0; definitions = 0; loose = false }
+
+-- the later item of that number, if there is one
+abbrev pub mark_at : List ItemMark → (k : ℕ) → ItemMark
+mark_at marks k = unwrap_or (slice_get marks k) no_mark
+
+-- So many items of a list and all but so many of an old one, so many definitions of the first and all but so many of the old one, and the texts that the
+-- items name.
+abbrev pub spliced_unit : (tight : Bool) → (kept left_out : ℕ) → (defined from : ℕ) → (front old : UnitTree) → UnitTree
+spliced_unit tight kept left_out defined from front old =
+    let items = take_items kept (first_items front.blocks) in
+    let later = drop_items left_out (first_items old.blocks) in
+    record {
+      blocks = as_first_list tight (placed_before (copied_items 0 items) (copied_items (length (items_positions items)) later)) front.blocks;
+      definitions = take defined front.definitions ++ drop from old.definitions;
+      texts = texts_at front.texts (items_positions items) ++ texts_at old.texts (items_positions later);
+    }
+
+-- the later items of a list, and behind them those of an old one behind its item k + 1, which begins as the last one in front does
+abbrev pub spliced_marks : (front old : List ItemMark) → (k : ℕ) → List ItemMark
+spliced_marks front old k = front ++ map (mark_further (mark_at old k) (mark_at front (length front - 1))) (drop (k + 1) old)
+
+-- whether a list is tight, by its later items, and by whether a gap parts two blocks of its last one
+abbrev pub tight_list : (parted : Bool) → List ItemMark → Bool
+tight_list parted marks = not (parted || list_any (λ (mark : ItemMark). mark.loose) marks)
+
+-- A list without its last item, and behind it the items of an old one from its item k + 1 on.
+abbrev pub spliced_list : (front old : FoundList) → (k : ℕ) → FoundList
+spliced_list front old k =
+    let from = mark_at old.marks k in
+    let to = mark_at front.marks (length front.marks - 1) in
+    let marks = spliced_marks front.marks old.marks k in
+    record {
+      begin = front.begin;
+      lines = min (front.lines + (old.lines - from.line - 1)) (2 ^ 64 - 1);
+      unit = spliced_unit (tight_list old.parted marks) (length front.marks) (k + 1) to.definitions from.definitions front.unit old.unit;
+      marks = marks;
+      parted = old.parted;
+    }
+
+-- A reader has read some lines and one more, and in that one the later item k of an old list begins, which stands for its lines.
+abbrev pub MeetsAt : (limit : ℕ) → EntityTable → (front : ReaderState) → (old : FoundList) → (k : ℕ) → (xs : List (List ℕ)) → (l : List ℕ) → (zs ys : List (List ℕ)) → Type 0
+MeetsAt limit entities front old k xs l zs ys =
+    Reads limit entities front (xs ++ l ∷ []) × StandsForUnit entities old (zs ++ l ∷ ys) × ((mark_at old.marks k).line ≡ length zs)

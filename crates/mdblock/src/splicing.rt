@@ -1,12 +1,14 @@
 //! A list whose front was read anew, and whose later items were found before (CommonMark 5.3).
 
-ghost use Rattle.std.specs.Prelude.{◌≡◌, ◌+◌, ◌-◌, ◌<◌, ◌≤◌, ◌++◌, ◌||◌, ℕ, IfOk, IfSome, drop, length, map, not, slice_get, take, true};
-ghost use Rattle.std.specs.List.{list_any};
+ghost use Rattle.std.specs.Prelude.{◌≡◌, ◌+◌, ◌-◌, ◌<◌, ◌≤◌, ◌++◌, ◌∷◌, [], ℕ, List, IfOk, Some, drop, length, map, take, true};
+ghost use Rattle.mdtext.specs.EntityTable.{EntityTable};
+ghost use Rattle.blockspec.specs.BlockUnits.{units};
 ghost use Rattle.mdblock.specs.BlockView.{blocks_view, items_view};
-ghost use Rattle.mdblock.specs.FoundLists.{join_mark};
+ghost use Rattle.mdblock.specs.FoundLists.{StandsForUnit, found_unit, join_mark};
 ghost use Rattle.mdblock.specs.Positions.{BlocksIn, ItemsIn};
-ghost use Rattle.mdblock.specs.Spliced.{as_first_list, first_items, further_on, mark_further};
+ghost use Rattle.mdblock.specs.Spliced.{MeetsAt, as_first_list, first_items, further_on, mark_at, mark_further, spliced_list, tight_list};
 ghost use Rattle.mdblock.specs.held.ReaderState.{held_joined};
+ghost use Rattle.mdblock.specs.held.Reads.{handed, open_begin};
 
 use crate::blocks::{Block, Item};
 use crate::copies::{copied_items, push_definitions};
@@ -15,21 +17,35 @@ use crate::units::{Found, Join};
 use mdtext::NoMemory;
 use std::alloc::Global;
 
-/// Joins the list that a reader holds, another item of which the last line has just begun, with an old one from that item on, which begins at the old list's
-/// join `k`. The item's first line is the same in both. No line is read again, and where the old list began does not matter.
+/// The list that a reader holds, in whose last line a later item begins, with the items of an old list from its join `k` on, which begins in the same line:
+/// one list, as if the reader had read the old list's lines behind that one.
+///
+/// Asks that the lines of both can be counted. Takes memory for the whole list; the reader is spent also where there is none. No line is read or counted again, and
+/// where the old list began does not matter.
 pub fn splice(front: Reader, old: &Found, k: usize) -> Result<Found, NoMemory>
     requires joined { held_joined front.held ≡ true }
     requires join { k < length old.now.marks }
-    requires fits { IfSome (slice_get old.now.marks k) (λ mark. front.fed + (old.now.lines - mark.line - 1) ≤ usize.MAX) }
+    requires fits { front.fed + (old.now.lines - (mark_at old.now.marks k).line - 1) ≤ usize.MAX }
+    ensures begin { IfOk result (λ found. (limit : ℕ) (e : EntityTable) (xs : List (List ℕ)) (l : List ℕ) (zs ys : List (List ℕ)) → MeetsAt limit e front.entry old.now k xs l zs ys
+        → open_begin e (xs ++ l ∷ []) ≡ Some found.begin) }
+    ensures units { IfOk result (λ found. (limit : ℕ) (e : EntityTable) (xs : List (List ℕ)) (l : List ℕ) (zs ys : List (List ℕ)) → MeetsAt limit e front.entry old.now k xs l zs ys
+        → units e (xs ++ l ∷ ys) ≡ handed e (xs ++ l ∷ []) ++ found_unit found ∷ []) }
+    ensures stands { IfOk result (λ found. (limit : ℕ) (e : EntityTable) (xs : List (List ℕ)) (l : List ℕ) (zs ys : List (List ℕ)) → MeetsAt limit e front.entry old.now k xs l zs ys
+        → StandsForUnit e found (drop found.begin (xs ++ l ∷ ys))) }
+    ensures texts { IfOk result (λ found. (limit : ℕ) (e : EntityTable) (xs : List (List ℕ)) (l : List ℕ) (zs ys : List (List ℕ)) → MeetsAt limit e front.entry old.now k xs l zs ys
+        → (kept : List (List ℕ)) × (found.unit.texts ≡ kept ++ drop (mark_at old.now.marks k).texts old.now.unit.texts)) }
 {
     let alloc = front.alloc();
     let front = front.into_found()?;
     spliced(alloc, &front, old, k)
 }
 
-/// The items of a list but the last one, and those of an old list behind its join `k`.
+/// The items of a list but the last one, and those of an old list from its join `k` on.
 fn spliced(alloc: Global, front: &Found, old: &Found, k: usize) -> Result<Found, NoMemory>
     requires join { k < length old.now.marks }
+    ensures list { IfOk result (λ found. found ≡ spliced_list front.now old.now k) }
+    ensures texts { IfOk result (λ found. length found.unit.texts ≤ usize.MAX) }
+    ensures definitions { IfOk result (λ found. length found.unit.definitions ≤ usize.MAX) }
 {
     let from = join_at(old.joins(), k);
     let to = join_at(front.joins(), front.joins().len().saturating_sub(1));
@@ -66,7 +82,7 @@ fn spliced(alloc: Global, front: &Found, old: &Found, k: usize) -> Result<Found,
 
 /// The join of that number; where there is none, what stands before a list's first item.
 fn join_at(joins: &[Join], k: usize) -> Join
-    ensures { IfSome (slice_get (map join_mark joins.now) k) (λ mark. join_mark result ≡ mark) }
+    ensures { join_mark result ≡ mark_at (map join_mark joins.now) k }
 {
     match joins.get(k) {
         Some(join) => *join,
@@ -79,11 +95,11 @@ fn join_at(joins: &[Join], k: usize) -> Join
     }
 }
 
-/// So many from the front on; none where there are not as many.
+/// So many from the front on; all where there are not as many.
 fn first_of<T>(all: &[T], count: usize) -> &[T]
-    ensures { count ≤ length all.now → result.now ≡ take count all.now }
+    ensures { result.now ≡ take count all.now }
 {
-    all.get(..count).unwrap_or(&[])
+    all.get(..count).unwrap_or(all)
 }
 
 /// What is behind so many.
@@ -126,7 +142,7 @@ fn as_list(
 
 /// Whether a list is tight, by its joins, and by whether a gap parts two blocks of its last item.
 fn is_tight(joins: &[Join], parted: bool) -> bool
-    ensures { result ≡ not (parted || list_any (λ mark. mark.loose) (map join_mark joins.now)) }
+    ensures { result ≡ tight_list parted (map join_mark joins.now) }
 {
     !parted && !joins.iter().any(|join| join.loose)
 }

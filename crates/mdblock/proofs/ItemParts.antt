@@ -1,0 +1,32 @@
+-- Parts of items, as they are seen; and the items that a list's later items are told by.
+use Rattle.std.proofs.Common.{◌≡◌, ℕ, zero, suc, ◌-◌, List, [], ◌∷◌, ◌++◌, drop, length, refl, sym, ◌∙◌, ap, arith, length-append}
+use Rattle.std.specs.Prelude.{take}
+use Rattle.blockspec.specs.BlockTree.{item}
+use Rattle.itemspec.specs.ItemMarks.{ItemMark}
+use Rattle.mdblock.specs.BlockView.{item_view, items_view}
+use Rattle.mdblock.specs.Spliced.{take_items, drop_items, mark_at}
+use Rattle.mdblock.specs.held.TreesBehind.{placed_before}
+use Rattle.mdblock.specs.declared.blocks.Item as i
+
+pub items_taken : (n : ℕ) (is : List i.Item) → items_view (take n is) ≡ take_items n (items_view is)
+items_taken zero is = refl
+items_taken (suc n) [] = refl
+items_taken (suc n) (x ∷ is) = ap (item (item_view x)) (items_taken n is)
+
+pub items_dropped : (n : ℕ) (is : List i.Item) → items_view (drop n is) ≡ drop_items n (items_view is)
+items_dropped zero is = refl
+items_dropped (suc n) [] = refl
+items_dropped (suc n) (x ∷ is) = items_dropped n is
+
+pub items_together : (xs ys : List i.Item) → items_view (xs ++ ys) ≡ placed_before (items_view xs) (items_view ys)
+items_together [] ys = refl
+items_together (x ∷ xs) ys = ap (item (item_view x)) (items_together xs ys)
+
+pub mark_there : (front : List ItemMark) (mark : ItemMark) (behind : List ItemMark) → mark_at (front ++ mark ∷ behind) (length front) ≡ mark
+mark_there [] mark behind = refl
+mark_there (m ∷ front) mark behind = mark_there front mark behind
+
+pub last_mark : (front : List ItemMark) (mark : ItemMark) → mark_at (front ++ mark ∷ []) (length (front ++ mark ∷ []) - 1) ≡ mark
+last_mark front mark =
+    let n : length (front ++ mark ∷ []) - 1 ≡ length front = (let p = length-append front (mark ∷ []) in omega (arith, p)) in
+    ap (λ z. mark_at (front ++ mark ∷ []) z) n ∙ mark_there front mark []

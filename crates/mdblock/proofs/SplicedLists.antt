@@ -1,0 +1,259 @@
+-- One list with the later items of another: the value that is made of both stands for the lines of both.
+use Rattle.std.proofs.Common.{◌≡◌, ℕ, suc, ◌+◌, ◌-◌, ◌≤◌, Bool, true, List, [], ◌∷◌, ◌++◌, length, map, refl, sym, ◌∙◌, ap, subst, arith, length-append}
+use Rattle.std.proofs.Math.Nat.{min-eq_left}
+use Rattle.std.proofs.lemmas.List.{append-nil}
+use Rattle.std.specs.Prelude.{◌&&◌, not, drop, min}
+use Rattle.mdtext.specs.EntityTable.{EntityTable}
+use Rattle.blockspec.specs.BlockLine.{BlockLine}
+use Rattle.blockspec.specs.BlockTree.{ListKind}
+use Rattle.blockspec.specs.ListGroups.{Part, Leaves, Quoted, Listed, Group, items_before}
+use Rattle.blockspec.specs.Meetings.{joins_list, gap_after}
+use Rattle.blockspec.specs.NodeTree.{ItemNodes, no_item_nodes, texts_in_items, definitions_in_items}
+use Rattle.blockspec.specs.UnitBegin.{units_of}
+use Rattle.blockspec.specs.UnitTree.{UnitTree, FoundUnit}
+use Rattle.blocklaws.proofs.BeginLaws.{begins_in}
+use Rattle.blocklaws.proofs.UnitReaderLaws.{IsOne}
+use Rattle.itemspec.specs.ItemMarks.{ItemMark, is_parted, list_marks, mark_behind}
+use Rattle.itemspec.specs.ListItems.{ListItem, ItemList, is_tight_list, nodes_of_items, top_group, top_blocks, items_behind}
+use Rattle.itemlaws.proofs.ListsSpliced.{ListsSpliced, lists_spliced, moved_mark, marks_spliced, parted_alike, unit_of_list, unit_spliced, unit_before}
+use Rattle.itemlaws.proofs.MarkLines.{behind_is, marks_more}
+use Rattle.itemlaws.proofs.MarkedLines.{MarkedAt, marked_at}
+use Rattle.itemlaws.proofs.UnitsMeet.{list_definitions, list_texts, list_together}
+use Rattle.mdblock.specs.FoundLists.{FoundList}
+use Rattle.mdblock.specs.Spliced.{mark_at, mark_further, spliced_unit, spliced_marks, tight_list, spliced_list}
+use Rattle.mdblock.proofs.ItemParts.{last_mark, mark_there}
+use Rattle.mdblock.proofs.SingleItems.{IsSingle, AreSingle, SingleTops, blocks_single}
+use Rattle.mdblock.proofs.SplicedMarks.{most, AreSmall, small_behind, marks_small, list_small, list_count, list_tight}
+use Rattle.mdblock.proofs.SplicedUnits.{list_unit, texts_of, definitions_of, unit_of_both, list_texts_behind, list_texts_both}
+
+-- A unit that was found is that of these lines of a document.
+abbrev pub StandsForLines : EntityTable → FoundList → List BlockLine → Type 0
+StandsForLines e f ls = (units_of e ls ≡ record { begin = 0; lines = f.lines; unit = f.unit } ∷ []) × (f.marks ≡ list_marks e ls) × (f.parted ≡ is_parted (top_blocks e ls))
+
+-- ---- what stands for lines that are one list
+
+abbrev found_at : (lines : ℕ) → UnitTree → FoundUnit
+found_at lines unit = record { begin = 0; lines = lines; unit = unit }
+
+same_found : (m n : ℕ) (u v : UnitTree) → found_at m u ∷ [] ≡ found_at n v ∷ [] → (m ≡ n) × (u ≡ v)
+same_found m n u v e = let s : found_at m u ≡ found_at n v = cc in (ap (λ (f : FoundUnit). f.lines) s, ap (λ (f : FoundUnit). f.unit) s)
+
+one_unit : (us : List FoundUnit) (lines : ℕ) (unit : UnitTree) → us ≡ found_at lines unit ∷ [] → IsOne (begins_in us)
+one_unit us lines unit is = subst (λ z. IsOne (begins_in z)) (sym is) refl
+
+same_list : (e : EntityTable) (xs : List BlockLine) (kind other : ListKind) (first one : ListItem) (later more : List ListItem) → top_blocks e xs ≡ ItemList kind first later ∷ [] → top_blocks e xs ≡ ItemList other one more ∷ [] →
+    (kind ≡ other) × (first ≡ one) × (later ≡ more)
+same_list e xs kind other first one later more is was =
+    let same : ItemList kind first later ∷ [] ≡ ItemList other one more ∷ [] = sym is ∙ was in
+    let k : kind ≡ other = cc in
+    let f : first ≡ one = cc in
+    let l : later ≡ more = cc in
+    (k, f, l)
+
+-- its first items, and others behind them
+record ListFirst (e : EntityTable) (f : FoundList) (n : ℕ) (kind : ListKind) (first : ListItem) (later : List ListItem) : Type 0 where
+  pub tight : Bool
+  pub behind : ItemNodes
+  pub lines : f.lines ≡ n
+  pub unit : f.unit ≡ list_unit kind tight (items_before (nodes_of_items first later) behind)
+
+list_first : (e : EntityTable) (f : FoundList) (ls : List BlockLine) (kind : ListKind) (t : Bool) (first : ListItem) (later : List ListItem) (behind : ItemNodes) → StandsForLines e f ls →
+    units_of e ls ≡ found_at (length ls) (list_unit kind t (items_before (nodes_of_items first later) behind)) ∷ [] → ListFirst e f (length ls) kind first later
+list_first e f ls kind t first later behind stands is =
+    let same = same_found f.lines (length ls) f.unit (list_unit kind t (items_before (nodes_of_items first later) behind)) (sym stands.0 ∙ is) in
+    record { tight = t; behind = behind; lines = same.0; unit = same.1 }
+
+-- that of the lines in front and of the line at which they meet
+front_first : (e : EntityTable) (f : FoundList) (xs : List BlockLine) (l : BlockLine) (kind : ListKind) (first : ListItem) (later : List ListItem) → top_blocks e xs ≡ ItemList kind first later ∷ [] →
+    StandsForLines e f (xs ++ l ∷ []) → ListsSpliced e xs xs l [] → ListFirst e f (length (xs ++ l ∷ [])) kind first later
+front_first e f xs l kind first later is stands w =
+    let same = same_list e xs w.kind kind w.first first w.later later w.front is in
+    let M = nodes_of_items w.item w.items in
+    let t = is_tight_list w.first w.later && not (gap_after xs) && is_tight_list w.item w.items in
+    let n = length (xs ++ l ∷ []) in
+    list_first e f (xs ++ l ∷ []) kind t first later M stands
+    (unit_spliced e xs xs l [] w
+    ∙ ap (λ z. found_at n (list_unit z t (items_before (nodes_of_items w.first w.later) M)) ∷ []) same.0
+    ∙ ap (λ z. found_at n (list_unit kind t (items_before (nodes_of_items z w.later) M)) ∷ []) same.1
+    ∙ ap (λ z. found_at n (list_unit kind t (items_before (nodes_of_items first z) M)) ∷ []) same.2)
+
+-- each item of the lists that lines give has one node
+single_list : (e : EntityTable) (xs : List BlockLine) (kind : ListKind) (first : ListItem) (later : List ListItem) → top_blocks e xs ≡ ItemList kind first later ∷ [] → IsSingle first.nodes × AreSingle later
+single_list e xs kind first later is = let w : SingleTops (ItemList kind first later ∷ []) = subst SingleTops is (blocks_single e xs) in w.0
+
+items_in : Part → ItemNodes
+items_in (Leaves leaves) = no_item_nodes
+items_in (Quoted nodes) = no_item_nodes
+items_in (Listed kind tight items) = items
+
+nodes_together : (kind : ListKind) (first : ListItem) (later : List ListItem) (gap : Bool) (k : ℕ) (item : ListItem) (items : List ListItem) →
+    nodes_of_items first (later ++ items_behind gap k item items) ≡ items_before (nodes_of_items first later) (nodes_of_items item items)
+unfolding items_in
+nodes_together kind first later gap k item items = ap (λ (g : Group). items_in g.part) (list_together kind first later gap k item items)
+
+-- ---- a list that stands for its lines, and the later items of an old one
+
+-- Both lists, and where they meet.
+record Known (e : EntityTable) (xs zs : List BlockLine) (l : BlockLine) (ys : List BlockLine) (front old : FoundList) (k : ℕ) (w : ListsSpliced e xs zs l ys) : Type 0 where
+  pub first : ListFirst e front (length (xs ++ l ∷ [])) w.kind w.first w.later
+  pub old_tight : Bool
+  pub old_lines : old.lines ≡ length (zs ++ l ∷ ys)
+  pub old_unit : old.unit ≡ list_unit w.old_kind old_tight (items_before (nodes_of_items w.old_first w.old_later) (nodes_of_items w.item w.items))
+  pub front_marks : front.marks ≡ list_marks e xs ++ mark_behind e xs ∷ []
+  pub old_marks : old.marks ≡ list_marks e (zs ++ l ∷ ys)
+  pub parted : old.parted ≡ is_parted (top_blocks e (zs ++ l ∷ ys))
+  pub from : mark_at old.marks k ≡ mark_behind e zs
+  pub count : k ≡ length (list_marks e zs)
+
+last_is : (e : EntityTable) (xs : List BlockLine) (marks : List ItemMark) → marks ≡ list_marks e xs ++ mark_behind e xs ∷ [] → mark_at marks (length marks - 1) ≡ mark_behind e xs
+last_is e xs marks is = ap (λ (z : List ItemMark). mark_at z (length z - 1)) is ∙ last_mark (list_marks e xs) (mark_behind e xs)
+
+definitions_before : (e : EntityTable) (xs : List BlockLine) (kind : ListKind) (first : ListItem) (later : List ListItem) → top_blocks e xs ≡ ItemList kind first later ∷ [] →
+    (mark_behind e xs).definitions ≡ definitions_of (nodes_of_items first later)
+definitions_before e xs kind first later is = ap (λ (m : ItemMark). m.definitions) (behind_is e xs kind first later is)
+
+texts_before : (e : EntityTable) (xs : List BlockLine) (kind : ListKind) (first : ListItem) (later : List ListItem) → top_blocks e xs ≡ ItemList kind first later ∷ [] →
+    (mark_behind e xs).texts ≡ texts_of (nodes_of_items first later)
+texts_before e xs kind first later is = ap (λ (m : ItemMark). m.texts) (behind_is e xs kind first later is)
+
+-- the unit of both, whether it is tight or not
+unit_is : (e : EntityTable) (xs zs : List BlockLine) (l : BlockLine) (ys : List BlockLine) (front old : FoundList) (k : ℕ) (w : ListsSpliced e xs zs l ys) (tight : Bool) → Known e xs zs l ys front old k w →
+    spliced_unit tight (length front.marks) (k + 1) (mark_at front.marks (length front.marks - 1)).definitions (mark_at old.marks k).definitions front.unit old.unit
+    ≡ list_unit w.kind tight (items_before (nodes_of_items w.first w.later) (nodes_of_items w.item w.items))
+unit_is e xs zs l ys front old k w tight s =
+    let N = nodes_of_items w.first w.later in
+    let O = nodes_of_items w.old_first w.old_later in
+    let to = mark_at front.marks (length front.marks - 1) in
+    let from = mark_at old.marks k in
+    let kept = suc (length w.later) in
+    let out = suc (length w.old_later) in
+    let one = single_list e xs w.kind w.first w.later w.front in
+    let other = single_list e zs w.old_kind w.old_first w.old_later w.old_front in
+    let many : length front.marks ≡ kept =
+    ap length s.front_marks
+    ∙ length-append (list_marks e xs) (mark_behind e xs ∷ [])
+    ∙ ap (λ z. z + 1) (list_count e xs w.kind w.first w.later w.front)
+    ∙ (let z : length w.later + 1 ≡ suc (length w.later) = omega arith in z) in
+    let left : k + 1 ≡ out = ap (λ z. z + 1) (s.count ∙ list_count e zs w.old_kind w.old_first w.old_later w.old_front) ∙ (let z : length w.old_later + 1 ≡ suc (length w.old_later) = omega arith in z) in
+    let defined : to.definitions ≡ definitions_of N = ap (λ (m : ItemMark). m.definitions) (last_is e xs front.marks s.front_marks) ∙ definitions_before e xs w.kind w.first w.later w.front in
+    let defined_from : from.definitions ≡ definitions_of O = ap (λ (m : ItemMark). m.definitions) s.from ∙ definitions_before e zs w.old_kind w.old_first w.old_later w.old_front in
+    ap (λ z. spliced_unit tight z (k + 1) to.definitions from.definitions front.unit old.unit) many
+    ∙ ap (λ z. spliced_unit tight kept z to.definitions from.definitions front.unit old.unit) left
+    ∙ ap (λ z. spliced_unit tight kept out z from.definitions front.unit old.unit) defined
+    ∙ ap (λ z. spliced_unit tight kept out (definitions_of N) z front.unit old.unit) defined_from
+    ∙ ap (λ z. spliced_unit tight kept out (definitions_of N) (definitions_of O) z old.unit) s.first.unit
+    ∙ ap (λ z. spliced_unit tight kept out (definitions_of N) (definitions_of O) (list_unit w.kind s.first.tight (items_before N s.first.behind)) z) s.old_unit
+    ∙ unit_of_both tight w.kind w.old_kind s.first.tight s.old_tight w.first w.later s.first.behind w.old_first w.old_later (nodes_of_items w.item w.items) one.0 one.1 other.0 other.1
+
+lines_are : (e : EntityTable) (xs zs : List BlockLine) (l : BlockLine) (ys : List BlockLine) (front old : FoundList) (k : ℕ) (w : ListsSpliced e xs zs l ys) → Known e xs zs l ys front old k w →
+    front.lines + (old.lines - (mark_at old.marks k).line - 1) ≡ length (xs ++ l ∷ ys)
+lines_are e xs zs l ys front old k w s =
+    let a = s.first.lines in
+    let b = s.old_lines in
+    let c : (mark_at old.marks k).line ≡ length zs = ap (λ (m : ItemMark). m.line) s.from in
+    let p : length (xs ++ l ∷ []) ≡ length xs + 1 = length-append xs (l ∷ []) in
+    let q : length (zs ++ l ∷ ys) ≡ length zs + (length ys + 1) = length-append zs (l ∷ ys) ∙ (let z : length zs + suc (length ys) ≡ length zs + (length ys + 1) = omega arith in z) in
+    let r : length (xs ++ l ∷ ys) ≡ length xs + (length ys + 1) = length-append xs (l ∷ ys) ∙ (let z : length xs + suc (length ys) ≡ length xs + (length ys + 1) = omega arith in z) in
+    omega (arith, a, b, c, p, q, r)
+
+-- the later items
+marks_are : (e : EntityTable) (xs zs : List BlockLine) (l : BlockLine) (ys : List BlockLine) (front old : FoundList) (k : ℕ) (w : ListsSpliced e xs zs l ys) → Known e xs zs l ys front old k w →
+    AreSmall (list_marks e (xs ++ l ∷ ys)) → spliced_marks front.marks old.marks k ≡ list_marks e (xs ++ l ∷ ys)
+marks_are e xs zs l ys front old k w s small =
+    let from = mark_at old.marks k in
+    let to = mark_at front.marks (length front.marks - 1) in
+    let U = mark_behind e zs in
+    let V = mark_behind e xs in
+    let F = list_marks e xs ++ V ∷ [] in
+    let n = suc (length (list_marks e zs)) in
+    let D = drop n (list_marks e (zs ++ l ∷ ys)) in
+    let is = marks_spliced e xs zs l ys w in
+    let left : k + 1 ≡ n = ap (λ z. z + 1) s.count ∙ (let z : length (list_marks e zs) + 1 ≡ n = omega arith in z) in
+    ap (λ z. z ++ map (mark_further from to) (drop (k + 1) old.marks)) s.front_marks
+    ∙ ap (λ z. F ++ map (mark_further z to) (drop (k + 1) old.marks)) s.from
+    ∙ ap (λ z. F ++ map (mark_further U z) (drop (k + 1) old.marks)) (last_is e xs front.marks s.front_marks)
+    ∙ ap (λ z. F ++ map (mark_further U V) (drop z old.marks)) left
+    ∙ ap (λ z. F ++ map (mark_further U V) (drop n z)) s.old_marks
+    ∙ ap (λ z. F ++ z) (marks_small U V D (small_behind F (map (moved_mark U V) D) (subst AreSmall is small)))
+    ∙ sym is
+
+-- What is told of a list that goes on with the later items of another.
+pub record ListJoined (e : EntityTable) (front old : FoundList) (k : ℕ) (ls : List BlockLine) : Type 0 where
+  pub stands : StandsForLines e (spliced_list front old k) ls
+  pub kept : List (List ℕ)
+  pub texts : (spliced_list front old k).unit.texts ≡ kept ++ drop (mark_at old.marks k).texts old.unit.texts
+
+joined : (e : EntityTable) (xs zs : List BlockLine) (l : BlockLine) (ys : List BlockLine) (front old : FoundList) (k : ℕ) (w : ListsSpliced e xs zs l ys) → Known e xs zs l ys front old k w →
+    front.lines + (old.lines - (mark_at old.marks k).line - 1) ≤ most → length (spliced_list front old k).unit.texts ≤ most → length (spliced_list front old k).unit.definitions ≤ most →
+    ListJoined e front old k (xs ++ l ∷ ys)
+joined e xs zs l ys front old k w s fits few_texts few_definitions =
+    let N = nodes_of_items w.first w.later in
+    let O = nodes_of_items w.old_first w.old_later in
+    let P = nodes_of_items w.item w.items in
+    let L = xs ++ l ∷ ys in
+    let all = w.later ++ items_behind (gap_after xs) (length xs) w.item w.items in
+    let nodes : nodes_of_items w.first all ≡ items_before N P = nodes_together w.kind w.first w.later (gap_after xs) (length xs) w.item w.items in
+    let marks = spliced_marks front.marks old.marks k in
+    let tight = tight_list old.parted marks in
+    let unit : (spliced_list front old k).unit ≡ list_unit w.kind tight (items_before N P) = unit_is e xs zs l ys front old k w tight s in
+    let lines : front.lines + (old.lines - (mark_at old.marks k).line - 1) ≡ length L = lines_are e xs zs l ys front old k w s in
+    let texts : length (spliced_list front old k).unit.texts ≡ texts_of (nodes_of_items w.first all) =
+    ap (λ (u : UnitTree). length u.texts) unit ∙ ap length (list_texts w.kind tight (items_before N P)) ∙ ap texts_of (sym nodes) in
+    let definitions : length (spliced_list front old k).unit.definitions ≡ definitions_of (nodes_of_items w.first all) =
+    ap (λ (u : UnitTree). length u.definitions) unit ∙ ap length (list_definitions w.kind tight (items_before N P)) ∙ ap definitions_of (sym nodes) in
+    let small = list_small e L w.kind w.first all w.all (subst (λ z. z ≤ most) lines fits) (subst (λ z. z ≤ most) texts few_texts) (subst (λ z. z ≤ most) definitions few_definitions) in
+    let marked : marks ≡ list_marks e L = marks_are e xs zs l ys front old k w s small in
+    let parted : old.parted ≡ is_parted (top_blocks e L) = s.parted ∙ sym (parted_alike e xs zs l ys w) in
+    let tightness : tight ≡ is_tight_list w.first all =
+    ap (λ z. tight_list old.parted z) marked ∙ ap (λ z. tight_list z (list_marks e L)) parted ∙ sym (list_tight e L w.kind w.first all w.all) in
+    let before : (mark_at old.marks k).texts ≡ texts_of O = ap (λ (m : ItemMark). m.texts) s.from ∙ texts_before e zs w.old_kind w.old_first w.old_later w.old_front in
+    record {
+      stands = (
+        unit_of_list e L w.kind w.first all w.line w.all
+        ∙ ap (λ z. found_at (length L) (list_unit w.kind (is_tight_list w.first all) z) ∷ []) nodes
+        ∙ ap (λ z. found_at (length L) (list_unit w.kind z (items_before N P)) ∷ []) (sym tightness)
+        ∙ ap (λ z. found_at (length L) z ∷ []) (sym unit)
+        ∙ ap (λ z. found_at z (spliced_list front old k).unit ∷ []) (sym (min-eq_left fits ∙ lines)),
+        marked,
+        parted,
+      );
+      kept = texts_in_items N;
+      texts =
+          ap (λ (u : UnitTree). u.texts) unit
+          ∙ list_texts_both w.kind tight N P
+          ∙ ap (λ z. texts_in_items N ++ z) (sym (list_texts_behind w.old_kind s.old_tight O P))
+          ∙ ap (λ (u : UnitTree). texts_in_items N ++ drop (texts_of O) u.texts) (sym s.old_unit)
+          ∙ ap (λ z. texts_in_items N ++ drop z old.unit.texts) (sym before);
+    }
+
+known : (e : EntityTable) (xs zs : List BlockLine) (l : BlockLine) (ys : List BlockLine) (front old : FoundList) (k : ℕ) (w : ListsSpliced e xs zs l ys) → StandsForLines e front (xs ++ l ∷ []) → StandsForLines e old (zs ++ l ∷ ys) →
+    ListsSpliced e xs xs l [] → list_marks e (xs ++ l ∷ []) ≡ list_marks e xs ++ mark_behind e xs ∷ [] → (before : List ItemMark) → length before ≡ k → MarkedAt e zs l ys before (mark_at old.marks k) →
+    Known e xs zs l ys front old k w
+known e xs zs l ys front old k w stands old_stands alone marks before size m =
+    let t = is_tight_list w.old_first w.old_later && not (gap_after zs) && is_tight_list w.item w.items in
+    let other = same_found old.lines (length (zs ++ l ∷ ys)) old.unit (list_unit w.old_kind t (items_before (nodes_of_items w.old_first w.old_later) (nodes_of_items w.item w.items))) (sym old_stands.0 ∙ unit_before e xs zs l ys w) in
+    record {
+      first = front_first e front xs l w.kind w.first w.later w.front stands alone;
+      old_tight = t;
+      old_lines = other.0;
+      old_unit = other.1;
+      front_marks = stands.1 ∙ marks;
+      old_marks = old_stands.1;
+      parted = old_stands.2;
+      from = sym m.is;
+      count = sym (m.count ∙ size);
+    }
+
+-- Where the last of some lines begins a later item of the list in front of it, and of an old list too, the list that is made of both stands for the lines of both.
+pub list_joined : (e : EntityTable) (xs zs : List BlockLine) (l : BlockLine) (ys : List BlockLine) (front old : FoundList) (k : ℕ) → joins_list xs l ≡ true → IsOne (begins_in (units_of e xs)) →
+    StandsForLines e front (xs ++ l ∷ []) → StandsForLines e old (zs ++ l ∷ ys) → (before : List ItemMark) → (behind : List ItemMark) → old.marks ≡ before ++ mark_at old.marks k ∷ behind → length before ≡ k →
+    (mark_at old.marks k).line ≡ length zs → front.lines + (old.lines - (mark_at old.marks k).line - 1) ≤ most →
+    length (spliced_list front old k).unit.texts ≤ most → length (spliced_list front old k).unit.definitions ≤ most → ListJoined e front old k (xs ++ l ∷ ys)
+list_joined e xs zs l ys front old k j one stands old_stands before behind cut size line fits few_texts few_definitions =
+    let old_one = one_unit (units_of e (zs ++ l ∷ ys)) old.lines old.unit old_stands.0 in
+    let all_one = one_unit (units_of e (xs ++ l ∷ [])) front.lines front.unit stands.0 in
+    let m = marked_at e zs l ys before (mark_at old.marks k) behind old_one (sym old_stands.1 ∙ cut) line in
+    let w = lists_spliced e xs zs l ys j m.joins one old_one in
+    joined e xs zs l ys front old k w
+    (known e xs zs l ys front old k w stands old_stands (lists_spliced e xs xs l [] j j one all_one) (marks_more e xs l one j) before size m)
+    fits few_texts few_definitions
