@@ -1,5 +1,5 @@
 -- Parts of items, as they are seen; and the items that a list's later items are told by.
-use Rattle.std.proofs.Common.{◌≡◌, ℕ, zero, suc, ◌-◌, List, [], ◌∷◌, ◌++◌, drop, length, refl, sym, ◌∙◌, ap, arith, length-append}
+use Rattle.std.proofs.Common.{◌≡◌, ℕ, zero, suc, ◌-◌, List, [], ◌∷◌, ◌++◌, drop, length, refl, ◌∙◌, ap, arith, length-append}
 use Rattle.std.specs.Prelude.{take}
 use Rattle.blockspec.specs.BlockTree.{item}
 use Rattle.itemspec.specs.ItemMarks.{ItemMark}

@@ -1,6 +1,6 @@
 -- What a reader holds, with the later items of an old list behind it, is the last unit of the lines of both.
-use Rattle.std.proofs.Common.{◌≡◌, ℕ, zero, suc, ◌+◌, ◌-◌, ◌≤◌, ◌<◌, Bool, true, false, List, [], ◌∷◌, ◌++◌, drop, length, map, Option, Some, None, refl, sym, ◌∙◌, ap, subst, append_assoc, arith, length-append}
-use Rattle.std.proofs.lemmas.List.{append-nil, drop-append-le, drop-map, map-append}
+use Rattle.std.proofs.Common.{◌≡◌, ℕ, zero, suc, ◌+◌, ◌-◌, ◌≤◌, ◌<◌, Bool, true, false, List, [], ◌∷◌, ◌++◌, drop, length, map, Option, Some, None, refl, sym, ◌∙◌, ap, subst, append_assoc, arith}
+use Rattle.std.proofs.lemmas.List.{drop-append-le, drop-map, map-append}
 use Rattle.std.specs.Prelude.{IfSome, if◌then◌else◌}
 use Rattle.mdtext.specs.EntityTable.{EntityTable}
 use Rattle.blockspec.specs.BlockLine.{BlockLine, document_line}
@@ -14,14 +14,14 @@ use Rattle.blocklaws.proofs.BeginLaws.{begins_in}
 use Rattle.blocklaws.proofs.DocumentLaws.{document_units, units_meet}
 use Rattle.blocklaws.proofs.HandedLaws.{front_units, front_lines, front_is, held_next, held_one, lines_before_held}
 use Rattle.blocklaws.proofs.LimitLaws.{for_next_line}
-use Rattle.blocklaws.proofs.UnitReaderLaws.{IsOne, shift_none, shift_twice}
+use Rattle.blocklaws.proofs.UnitReaderLaws.{shift_none, shift_twice}
 use Rattle.itemspec.specs.ItemMarks.{ItemMark}
 use Rattle.itemspec.specs.Joins.{is_joined}
 use Rattle.itemlaws.proofs.JoinCuts.{no_join}
 use Rattle.itemlaws.proofs.LastJoins.{held_joins, joined_next}
 use Rattle.itemlaws.proofs.UnitsMeet.{units_meet_inside}
 use Rattle.mdblock.specs.FoundLists.{FoundList, StandsForUnit, found_unit}
-use Rattle.mdblock.specs.Spliced.{MeetsAt, mark_at, no_mark, spliced_list}
+use Rattle.mdblock.specs.Spliced.{MeetsAt, mark_at, spliced_list}
 use Rattle.mdblock.specs.held.ReaderState.{ReaderState, UnitSoFar, held_joined}
 use Rattle.mdblock.specs.held.Reads.{HoldsUnit, Reads, handed, open_begin}
 use Rattle.mdblock.proofs.HeldMarks.{begin_held, held_rest, lines_mapped, open_is, with_line}

@@ -1,27 +1,26 @@
 -- One list with the later items of another: the value that is made of both stands for the lines of both.
 use Rattle.std.proofs.Common.{◌≡◌, ℕ, suc, ◌+◌, ◌-◌, ◌≤◌, Bool, true, List, [], ◌∷◌, ◌++◌, length, map, refl, sym, ◌∙◌, ap, subst, arith, length-append}
 use Rattle.std.proofs.Math.Nat.{min-eq_left}
-use Rattle.std.proofs.lemmas.List.{append-nil}
-use Rattle.std.specs.Prelude.{◌&&◌, not, drop, min}
+use Rattle.std.specs.Prelude.{◌&&◌, not, drop}
 use Rattle.mdtext.specs.EntityTable.{EntityTable}
 use Rattle.blockspec.specs.BlockLine.{BlockLine}
 use Rattle.blockspec.specs.BlockTree.{ListKind}
 use Rattle.blockspec.specs.ListGroups.{Part, Leaves, Quoted, Listed, Group, items_before}
 use Rattle.blockspec.specs.Meetings.{joins_list, gap_after}
-use Rattle.blockspec.specs.NodeTree.{ItemNodes, no_item_nodes, texts_in_items, definitions_in_items}
+use Rattle.blockspec.specs.NodeTree.{ItemNodes, no_item_nodes, texts_in_items}
 use Rattle.blockspec.specs.UnitBegin.{units_of}
 use Rattle.blockspec.specs.UnitTree.{UnitTree, FoundUnit}
 use Rattle.blocklaws.proofs.BeginLaws.{begins_in}
 use Rattle.blocklaws.proofs.UnitReaderLaws.{IsOne}
 use Rattle.itemspec.specs.ItemMarks.{ItemMark, is_parted, list_marks, mark_behind}
-use Rattle.itemspec.specs.ListItems.{ListItem, ItemList, is_tight_list, nodes_of_items, top_group, top_blocks, items_behind}
+use Rattle.itemspec.specs.ListItems.{ListItem, ItemList, is_tight_list, nodes_of_items, top_blocks, items_behind}
 use Rattle.itemlaws.proofs.ListsSpliced.{ListsSpliced, lists_spliced, moved_mark, marks_spliced, parted_alike, unit_of_list, unit_spliced, unit_before}
 use Rattle.itemlaws.proofs.MarkLines.{behind_is, marks_more}
 use Rattle.itemlaws.proofs.MarkedLines.{MarkedAt, marked_at}
 use Rattle.itemlaws.proofs.UnitsMeet.{list_definitions, list_texts, list_together}
 use Rattle.mdblock.specs.FoundLists.{FoundList}
 use Rattle.mdblock.specs.Spliced.{mark_at, mark_further, spliced_unit, spliced_marks, tight_list, spliced_list}
-use Rattle.mdblock.proofs.ItemParts.{last_mark, mark_there}
+use Rattle.mdblock.proofs.ItemParts.{last_mark}
 use Rattle.mdblock.proofs.SingleItems.{IsSingle, AreSingle, SingleTops, blocks_single}
 use Rattle.mdblock.proofs.SplicedMarks.{most, AreSmall, small_behind, marks_small, list_small, list_count, list_tight}
 use Rattle.mdblock.proofs.SplicedUnits.{list_unit, texts_of, definitions_of, unit_of_both, list_texts_behind, list_texts_both}
@@ -210,10 +209,10 @@ joined e xs zs l ys front old k w s fits few_texts few_definitions =
     record {
       stands = (
         unit_of_list e L w.kind w.first all w.line w.all
-        ∙ ap (λ z. found_at (length L) (list_unit w.kind (is_tight_list w.first all) z) ∷ []) nodes
-        ∙ ap (λ z. found_at (length L) (list_unit w.kind z (items_before N P)) ∷ []) (sym tightness)
-        ∙ ap (λ z. found_at (length L) z ∷ []) (sym unit)
-        ∙ ap (λ z. found_at z (spliced_list front old k).unit ∷ []) (sym (min-eq_left fits ∙ lines)),
+            ∙ ap (λ z. found_at (length L) (list_unit w.kind (is_tight_list w.first all) z) ∷ []) nodes
+            ∙ ap (λ z. found_at (length L) (list_unit w.kind z (items_before N P)) ∷ []) (sym tightness)
+            ∙ ap (λ z. found_at (length L) z ∷ []) (sym unit)
+            ∙ ap (λ z. found_at z (spliced_list front old k).unit ∷ []) (sym (min-eq_left fits ∙ lines)),
         marked,
         parted,
       );

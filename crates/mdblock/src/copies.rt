@@ -7,9 +7,9 @@ ghost use Rattle.mdleaf.specs.LinkDefinition.{definition_of};
 ghost use Rattle.mdblock.specs.BlockView.{block_view, blocks_view, item_view, items_view};
 ghost use Rattle.mdblock.specs.Copies.{block_positions, blocks_positions, items_positions, copied_block, copied_blocks, copied_items, copied_rows, text_at, texts_at};
 
+use crate::Align;
 use crate::blocks::{Block, Item};
 use mdleaf::Definition;
-use mdscan::Align;
 use mdtext::NoMemory;
 use std::alloc::Global;
 

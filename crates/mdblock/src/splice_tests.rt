@@ -128,17 +128,18 @@ fn join_all(
     let Ok(Some(found)) = read(alloc, entities, old)?.finish() else {
         return Ok(0);
     };
-    let skipped = found.begin();
     let mut count: usize = 0;
-    for (k, join) in found.joins().iter().enumerate() {
-        let at = skipped.saturating_add(join.line);
+    for k in 0..found.joins().len() {
+        let at = found.begin().saturating_add(found.joins()[k].line);
         for end in 1..=front.len() {
             let reader = read(alloc, entities, &front[..end])?;
-            if !reader.joined() || front[end - 1] != old[at] {
+            let uncounted = reader.fed() > usize::MAX - found.lines();
+            if uncounted || !reader.joined() || front.get(end - 1) != old.get(at) {
                 continue;
             }
             let joined = splice(reader, &found, k)?;
-            let want = whole(alloc, entities, &front[..end], &old[at + 1..])?;
+            let later = old.get(at..).unwrap_or(&[]);
+            let want = whole(alloc, entities, &front[..end - 1], later)?;
             assert_eq!(rt; told(alloc, Some(joined))?.as_str(), want.as_str());
             count = count.saturating_add(1);
         }

@@ -17,11 +17,12 @@ use crate::units::{Found, Join};
 use mdtext::NoMemory;
 use std::alloc::Global;
 
-/// The list that a reader holds, in whose last line a later item begins, with the items of an old list from its join `k` on, which begins in the same line:
-/// one list, as if the reader had read the old list's lines behind that one.
+/// One list of what a reader holds, in whose last line a later item begins, and of an old list's items from its join `k` on, which begins with the same
+/// line: what the reader would hold if it had read the old list's lines behind that one too.
 ///
-/// Asks that the lines of both can be counted. Takes memory for the whole list; the reader is spent also where there is none. No line is read or counted again, and
-/// where the old list began does not matter.
+/// Asks that the reader's `joined` is true, that `k`, from 0 on, is the number of one of the old list's `joins`, and that the reader's lines with the old
+/// ones behind that join are no more than `usize::MAX`. Where the two lines differ nothing is said of the answer. Takes memory for the whole list, and spends
+/// the reader in each case. No line is read or counted again, and where the old list began does not matter.
 pub fn splice(front: Reader, old: &Found, k: usize) -> Result<Found, NoMemory>
     requires joined { held_joined front.held ≡ true }
     requires join { k < length old.now.marks }

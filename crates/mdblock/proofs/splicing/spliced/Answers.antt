@@ -1,4 +1,4 @@
-use Rattle.std.proofs.Common.{◌≡◌, ℕ, ◌+◌, ◌-◌, Bool, List, [], ◌++◌, drop, length, map, string_bytes, refl, sym, ◌∙◌, ap, arith}
+use Rattle.std.proofs.Common.{◌≡◌, ℕ, ◌+◌, ◌-◌, Bool, List, [], ◌++◌, drop, length, map, string_bytes, sym, ◌∙◌, ap, arith}
 use Rattle.std.proofs.lemmas.List.{drop-map, take-map}
 use Rattle.std.specs.Prelude.{min, take, ◌^◌}
 use Rattle.blocklaws.proofs.DocumentLaws.{map_length}
@@ -8,10 +8,9 @@ use Rattle.mdleaf.specs.LinkDefinition.{LinkDefinition, definition_of}
 use Rattle.mdblock.specs.BlockView.{blocks_view, items_view}
 use Rattle.mdblock.specs.Copies.{copied_items, items_positions, texts_at}
 use Rattle.mdblock.specs.FoundLists.{FoundList, join_mark}
-use Rattle.mdblock.specs.Spliced.{as_first_list, drop_items, first_items, mark_at, mark_further, spliced_list, spliced_marks, take_items, tight_list}
+use Rattle.mdblock.specs.Spliced.{as_first_list, drop_items, first_items, mark_at, mark_further, spliced_marks, take_items, tight_list}
 use Rattle.mdblock.specs.held.TreesBehind.{placed_before}
 use Rattle.mdblock.specs.declared.blocks.Item as i
-use Rattle.mdblock.specs.declared.units.Join as j
 use Rattle.mdblock.proofs.CopyLaws.{size_more}
 use Rattle.mdblock.proofs.CopySteps.{copies_within}
 use Rattle.mdblock.proofs.ItemParts.{items_dropped, items_taken, items_together}
