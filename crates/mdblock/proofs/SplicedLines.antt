@@ -1,6 +1,7 @@
 -- What a reader holds, with the later items of an old list behind it, is the last unit of the lines of both.
 use Rattle.std.proofs.Common.{◌≡◌, ℕ, zero, suc, ◌+◌, ◌-◌, ◌≤◌, ◌<◌, Bool, true, false, List, [], ◌∷◌, ◌++◌, drop, length, map, Option, Some, None, refl, sym, ◌∙◌, ap, subst, append_assoc, arith}
 use Rattle.std.proofs.lemmas.List.{drop-append-le, drop-map, map-append}
+use Rattle.std.specs.List.{flat_map}
 use Rattle.std.specs.Prelude.{IfSome, if◌then◌else◌}
 use Rattle.mdtext.specs.EntityTable.{EntityTable}
 use Rattle.blockspec.specs.BlockLine.{BlockLine, document_line}
@@ -15,12 +16,14 @@ use Rattle.blocklaws.proofs.DocumentLaws.{document_units, units_meet}
 use Rattle.blocklaws.proofs.HandedLaws.{front_units, front_lines, front_is, held_next, held_one, lines_before_held}
 use Rattle.blocklaws.proofs.LimitLaws.{for_next_line}
 use Rattle.blocklaws.proofs.UnitReaderLaws.{shift_none, shift_twice}
-use Rattle.itemspec.specs.ItemMarks.{ItemMark}
-use Rattle.itemspec.specs.Joins.{is_joined}
+use Rattle.itemspec.specs.ItemMarks.{ItemMark, join_of}
+use Rattle.itemspec.specs.Joins.{block_joins, is_joined}
+use Rattle.itemspec.specs.ListItems.{top_blocks}
 use Rattle.itemlaws.proofs.JoinCuts.{no_join}
 use Rattle.itemlaws.proofs.LastJoins.{held_joins, joined_next}
+use Rattle.itemlaws.proofs.MarkLines.{marks_join}
 use Rattle.itemlaws.proofs.UnitsMeet.{units_meet_inside}
-use Rattle.mdblock.specs.FoundLists.{FoundList, StandsForUnit, found_unit}
+use Rattle.mdblock.specs.FoundLists.{AreJoinsOf, FoundList, StandsForUnit, found_unit}
 use Rattle.mdblock.specs.Spliced.{MeetsAt, mark_at, spliced_list}
 use Rattle.mdblock.specs.held.ReaderState.{ReaderState, UnitSoFar, held_joined}
 use Rattle.mdblock.specs.held.Reads.{HoldsUnit, Reads, handed, open_begin}
@@ -112,6 +115,7 @@ mark_cut (m ∷ marks) (suc k) h =
 pub record SplicedAt (e : EntityTable) (found old : FoundList) (k : ℕ) (xs : List (List ℕ)) (l : List ℕ) (ys : List (List ℕ)) : Type 0 where
   pub begin : open_begin e (xs ++ l ∷ []) ≡ Some found.begin
   pub units : units e (xs ++ l ∷ ys) ≡ handed e (xs ++ l ∷ []) ++ found_unit found ∷ []
+  pub joins : AreJoinsOf e (xs ++ l ∷ ys) found
   pub stands : StandsForUnit e found (drop found.begin (xs ++ l ∷ ys))
   pub kept : List (List ℕ)
   pub texts : found.unit.texts ≡ kept ++ drop (mark_at old.marks k).texts old.unit.texts
@@ -197,10 +201,13 @@ told : (e : EntityTable) (front old : FoundList) (k : ℕ) (xs : List (List ℕ)
     HeldJoin X L → front.begin ≡ front_lines [] (X ++ L ∷ []) → ListJoined e front old k (lines_held [] X ++ L ∷ map document_line ys) → SplicedAt e (spliced_list front old k) old k xs l ys)
 told e front old k xs l ys h begin w =
     let f = spliced_list front old k in
+    let ls = lines_held [] (map document_line xs) ++ document_line l ∷ map document_line ys in
+    let from : map document_line (drop f.begin (xs ++ l ∷ ys)) ≡ ls = ap (λ z. map document_line (drop z (xs ++ l ∷ ys))) begin ∙ held_from xs l ys h in
     record {
       begin = begin_at e xs l h ∙ ap (λ z. Some z) (sym begin);
       units = units_are e xs l ys f h begin w.stands.0;
-      stands = of_lines e f (drop f.begin (xs ++ l ∷ ys)) (lines_held [] (map document_line xs) ++ document_line l ∷ map document_line ys) (ap (λ z. map document_line (drop z (xs ++ l ∷ ys))) begin ∙ held_from xs l ys h) w.stands;
+      joins = ap (map join_of) w.stands.1 ∙ marks_join (top_blocks e ls) ∙ ap (λ z. flat_map block_joins (top_blocks e z)) (sym from);
+      stands = of_lines e f (drop f.begin (xs ++ l ∷ ys)) ls from w.stands;
       kept = w.kept;
       texts = w.texts;
     }

@@ -4,7 +4,7 @@ ghost use Rattle.std.specs.Prelude.{◌≡◌, ◌+◌, ◌-◌, ◌<◌, ◌≤
 ghost use Rattle.mdtext.specs.EntityTable.{EntityTable};
 ghost use Rattle.blockspec.specs.BlockUnits.{units};
 ghost use Rattle.mdblock.specs.BlockView.{blocks_view, items_view};
-ghost use Rattle.mdblock.specs.FoundLists.{StandsForUnit, found_unit, join_mark};
+ghost use Rattle.mdblock.specs.FoundLists.{AreJoinsOf, StandsForUnit, found_unit, join_mark};
 ghost use Rattle.mdblock.specs.Positions.{BlocksIn, ItemsIn};
 ghost use Rattle.mdblock.specs.Spliced.{MeetsAt, as_first_list, first_items, further_on, mark_at, mark_further, spliced_list, tight_list};
 ghost use Rattle.mdblock.specs.held.ReaderState.{held_joined};
@@ -31,6 +31,8 @@ pub fn splice(front: Reader, old: &Found, k: usize) -> Result<Found, NoMemory>
         → open_begin e (xs ++ l ∷ []) ≡ Some found.begin) }
     ensures units { IfOk result (λ found. (limit : ℕ) (e : EntityTable) (xs : List (List ℕ)) (l : List ℕ) (zs ys : List (List ℕ)) → MeetsAt limit e front.entry old.now k xs l zs ys
         → units e (xs ++ l ∷ ys) ≡ handed e (xs ++ l ∷ []) ++ found_unit found ∷ []) }
+    ensures joins { IfOk result (λ found. (limit : ℕ) (e : EntityTable) (xs : List (List ℕ)) (l : List ℕ) (zs ys : List (List ℕ)) → MeetsAt limit e front.entry old.now k xs l zs ys
+        → AreJoinsOf e (xs ++ l ∷ ys) found) }
     ensures stands { IfOk result (λ found. (limit : ℕ) (e : EntityTable) (xs : List (List ℕ)) (l : List ℕ) (zs ys : List (List ℕ)) → MeetsAt limit e front.entry old.now k xs l zs ys
         → StandsForUnit e found (drop found.begin (xs ++ l ∷ ys))) }
     ensures texts { IfOk result (λ found. (limit : ℕ) (e : EntityTable) (xs : List (List ℕ)) (l : List ℕ) (zs ys : List (List ℕ)) → MeetsAt limit e front.entry old.now k xs l zs ys

@@ -32,6 +32,11 @@ returns-clause-units c =
     answer_told c.spliced.result c.args.front c.in_ok-front.front c.args.old.now c.args.k _ c.requires.joined c.requires.join c.requires.fits c.in_ok-front.ensures.lines c.in_ok-front.ensures.stands
     c.spliced.ensures.list c.spliced.ensures.texts c.spliced.ensures.definitions (λ found w limit e xs l zs ys m. let s = w limit e xs l zs ys m in s.units)
 
+pub returns-clause-joins : goal.returns-clause-joins
+returns-clause-joins c =
+    answer_told c.spliced.result c.args.front c.in_ok-front.front c.args.old.now c.args.k _ c.requires.joined c.requires.join c.requires.fits c.in_ok-front.ensures.lines c.in_ok-front.ensures.stands
+    c.spliced.ensures.list c.spliced.ensures.texts c.spliced.ensures.definitions (λ found w limit e xs l zs ys m. let s = w limit e xs l zs ys m in s.joins)
+
 pub returns-clause-stands : goal.returns-clause-stands
 returns-clause-stands c =
     answer_told c.spliced.result c.args.front c.in_ok-front.front c.args.old.now c.args.k _ c.requires.joined c.requires.join c.requires.fits c.in_ok-front.ensures.lines c.in_ok-front.ensures.stands
