@@ -82,7 +82,7 @@ stop_low s = by (nat_le (meeting_line s.places) (near_line s)) refl
 
 -- ---- both texts from such a line on
 
-same_from : (e : EntityTable) (old new : List (List ℕ)) (p : Places) → IsEdit e old new p → (m : ℕ) → p.at + p.come ≤ m → drop m new ≡ drop (old_line p m) old
+pub same_from : (e : EntityTable) (old new : List (List ℕ)) (p : Places) → IsEdit e old new p → (m : ℕ) → p.at + p.come ≤ m → drop m new ≡ drop (old_line p m) old
 same_from e old new p w m h =
     let k = m - (p.at + p.come) in
     let is : (p.at + p.come) + k ≡ m = omega (arith, h) in
@@ -92,7 +92,7 @@ same_from e old new p w m h =
 -- ---- the first line of the units behind the list
 
 -- the first number that passes is no greater than any that does
-found_low : (p : ℕ → Bool) (xs : List ℕ) (z i : ℕ) → Ascends xs → Contains xs i → p i ≡ true → unwrap_or (find p xs) z ≤ i
+pub found_low : (p : ℕ → Bool) (xs : List ℕ) (z i : ℕ) → Ascends xs → Contains xs i → p i ≡ true → unwrap_or (find p xs) z ≤ i
 found_low p [] z i h w is = let small = w.1 in absurd (omega (arith, small))
 found_low p (x ∷ xs) z i h w is = by (p x) refl (Contains-append_cases (x ∷ []) xs i w) (λ v. found_low p xs z i h.1 v is)
   where
@@ -109,12 +109,12 @@ found_low p (x ∷ xs) z i h w is = by (p x) refl (Contains-append_cases (x ∷ 
     by false e (inr v) later = later v
 
 -- The meeting line is no greater than any line at which a unit begins in both texts.
-meeting_low : (e : EntityTable) (old new : List (List ℕ)) (p : Places) → IsEdit e old new p → (line : ℕ) → Contains (begins e new) line → is_meeting p line ≡ true → meeting_line p ≤ line
+pub meeting_low : (e : EntityTable) (old new : List (List ℕ)) (p : Places) → IsEdit e old new p → (line : ℕ) → Contains (begins e new) line → is_meeting p line ≡ true → meeting_line p ≤ line
 meeting_low e old new p w line here is =
     subst (λ bs. unwrap_or (find (is_meeting p) bs) p.new_lines ≤ line) (sym w.news) (found_low (is_meeting p) (begins e new) p.new_lines line (begins_ascend e new) here is)
 
 -- a list that has the number
-any_equal : (n : ℕ) (xs : List ℕ) → Contains xs n → list_any (nat_eq n) xs ≡ true
+pub any_equal : (n : ℕ) (xs : List ℕ) → Contains xs n → list_any (nat_eq n) xs ≡ true
 any_equal n [] w = absurd (let small = w.1 in omega (arith, small))
 any_equal n (x ∷ xs) w = by (Contains-append_cases (x ∷ []) xs n w) (λ v. any_equal n xs v)
   where

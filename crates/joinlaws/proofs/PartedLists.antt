@@ -38,15 +38,16 @@ ascends_more e xs [] h = subst (λ z. Ascends (joins_in e z)) (sym (append-nil x
 ascends_more e xs (y ∷ ys) h =
     subst (λ z. Ascends (joins_in e z)) (append_assoc xs (y ∷ []) ys) (ascends_more e (xs ++ y ∷ []) ys (ascends_next e xs y h))
 
-nothing_joins : (e : EntityTable) → Ascends (joins_in e [])
-nothing_joins e = go (joins_in e []) (all_joins_below e [])
+-- there is none in no lines
+pub no_joins : (e : EntityTable) → joins_in e [] ≡ []
+no_joins e = go (joins_in e []) (all_joins_below e [])
   where
-    go : (xs : List ℕ) → All (λ j. j < 0) xs → Ascends xs
-    go [] w = tt
+    go : (xs : List ℕ) → All (λ j. j < 0) xs → xs ≡ []
+    go [] w = refl
     go (x ∷ xs) w = absurd (let small = All-head (λ j. j < 0) x xs w in omega (arith, small))
 
 pub joins_ascend : (e : EntityTable) (lines : List (List ℕ)) → Ascends (joins e lines)
-joins_ascend e lines = ascends_more e [] (map document_line lines) (nothing_joins e)
+joins_ascend e lines = ascends_more e [] (map document_line lines) (subst Ascends (sym (no_joins e)) tt)
 
 pub joins_within : (e : EntityTable) (lines : List (List ℕ)) → All (λ j. j < length lines) (joins e lines)
 joins_within e lines = subst (λ z. All (λ j. j < z) (joins e lines)) (map_length document_line lines) (all_joins_below e (map document_line lines))

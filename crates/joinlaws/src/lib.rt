@@ -3,8 +3,13 @@
 #![tactic(auto)]
 
 mod stops;
+mod unit_items;
 
 pub use stops::{
     lists_meet_inside, readers_tell_joins, reading_stops_where_lists_go_on, stops_are_no_later,
     units_are_handed_and_one_more,
+};
+pub use unit_items::{
+    next_units_have_lines, own_lines_are_spliced, own_lines_give_the_unit, own_lines_stay,
+    own_lines_tell_joins,
 };

@@ -1,3 +1,5 @@
 pub mod Stops
 pub mod SoonTexts
 pub mod MetInside
+pub mod UnitItems
+pub mod StoppedInside
