@@ -5,3 +5,5 @@ pub mod UnitCuts
 pub mod AheadUnits
 pub mod OwnLines
 pub mod UnitJoins
+pub mod JoinDepths
+pub mod NearDepths

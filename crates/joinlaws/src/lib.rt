@@ -2,9 +2,11 @@
 //! empty body.
 #![tactic(auto)]
 
+mod depths;
 mod stops;
 mod unit_items;
 
+pub use depths::{parts_tell_the_first_too_deep, stops_tell_the_first_too_deep};
 pub use stops::{
     lists_meet_inside, readers_tell_joins, reading_stops_where_lists_go_on, stops_are_no_later,
     units_are_handed_and_one_more,
