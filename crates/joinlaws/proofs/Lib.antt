@@ -7,3 +7,5 @@ pub mod OwnLines
 pub mod UnitJoins
 pub mod JoinDepths
 pub mod NearDepths
+pub mod NearStretch
+pub mod StoppedLists

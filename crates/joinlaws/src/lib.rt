@@ -8,8 +8,9 @@ mod unit_items;
 
 pub use depths::{parts_tell_the_first_too_deep, stops_tell_the_first_too_deep};
 pub use stops::{
-    lists_meet_inside, readers_tell_joins, reading_stops_where_lists_go_on, stops_are_no_later,
-    units_are_handed_and_one_more,
+    lists_meet_inside, readers_meet_the_near_line, readers_tell_joins,
+    reading_stops_in_the_last_list, reading_stops_where_lists_go_on, stops_are_no_later,
+    stretches_are_handed_and_one_more, units_are_handed_and_one_more,
 };
 pub use unit_items::{
     next_units_have_lines, own_lines_are_spliced, own_lines_give_the_unit, own_lines_stay,
