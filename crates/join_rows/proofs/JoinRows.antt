@@ -1,6 +1,6 @@
 -- Rows of the later items of lists, by computation: for each top-level block their lines in it, and how many inline texts stand before each; then with how many definitions do, and with what makes the list loose.
 use Rattle.std.proofs.Common.{◌≡◌, true, false, [], ◌∷◌, refl, codes}
-use Rattle.join_rows.proofs.ReadJoins.{joins_read, join, marks_read, mark}
+use Rattle.join_rows.proofs.ReadJoins.{joins_read, join, marks_read, mark, own_read}
 
 -- a tight list
 tight : joins_read (codes "- a" ∷ codes "- b" ∷ codes "- c" ∷ []) ≡ (join 1 1 ∷ join 2 2 ∷ []) ∷ []
@@ -79,3 +79,15 @@ marks_loose : marks_read (codes "- a" ∷ [] ∷ codes "- b" ∷ codes "- c" ∷
     ≡ mark 2 1 0 true ∷ mark 3 2 0 false ∷ mark 6 4 0 true ∷ mark 7 5 0 false ∷ mark 10 7 0 false ∷ []
 unfolding marks_read
 marks_loose = refl
+
+-- ---- unit by unit (CommonMark 5.2)
+
+-- blocks before a list and behind it, and blank lines, which are of the unit before them
+own_behind_others : own_read ([] ∷ codes "# h" ∷ [] ∷ codes "- a" ∷ codes "  b" ∷ codes "- c" ∷ [] ∷ codes "y" ∷ []) ≡ [] ∷ (2 ∷ []) ∷ [] ∷ []
+unfolding own_read
+own_behind_others = refl
+
+-- two lists, of which each is counted from its own first line
+own_of_two : own_read (codes "- a" ∷ codes "- b" ∷ [] ∷ codes "* c" ∷ codes "* d" ∷ codes "* e" ∷ []) ≡ (1 ∷ []) ∷ (1 ∷ 2 ∷ []) ∷ []
+unfolding own_read
+own_of_two = refl

@@ -4,6 +4,7 @@ use Rattle.mdtext.specs.EntityTable.{builtin_table}
 use Rattle.blockspec.specs.BlockLine.{document_line}
 use Rattle.block_rows.proofs.ReadText.{deep_line}
 use Rattle.inline_rows.specs.Opened.{inline_words}
+use Rattle.blockspec.specs.BlockUnits.{units}
 use Rattle.itemspec.specs.ListItems.{with_item, tops_of, top_blocks}
 use Rattle.itemspec.specs.ItemMarks.{ItemMark, item_marks, list_marks}
 use Rattle.itemspec.specs.Joins.{Join, block_joins}
@@ -12,6 +13,7 @@ use Rattle.viewspec.specs.Calls.{Call}
 use Rattle.viewspec.specs.Stretch.{from_line, meeting_line}
 use Rattle.joinspec.specs.Stops.{near_line, stop_line, stops, lines_soon}
 use Rattle.joinspec.specs.SoonTexts.{texts_soon}
+use Rattle.joinspec.specs.UnitItems.{own_joins}
 
 -- what a row says of an edit: the first line read, the first behind the edit at which a unit begins in both texts, the first at which a later item does, where reading stops, and how many lines and inline texts are read
 pub record Facts : Type 0 where
@@ -46,3 +48,8 @@ joins_read lines = map block_joins (top_blocks builtin_table (map document_line 
 unfoldable pub marks_read : List (List ℕ) → List ItemMark
 unfolding deep_line tops_of with_item item_marks
 marks_read lines = list_marks builtin_table (map document_line lines)
+
+-- the lines at which each unit of some lines may be parted, counted from its first one
+unfoldable pub own_read : List (List ℕ) → List (List ℕ)
+unfolding deep_line tops_of with_item item_marks
+own_read lines = map (own_joins builtin_table lines) (units builtin_table lines)
