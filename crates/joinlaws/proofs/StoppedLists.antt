@@ -156,6 +156,7 @@ module _ (e : EntityTable) (old new : List (List ℕ)) (s : Stops) (w : IsStop e
         number = given_way before one back h.is (end ∙ sym old_meeting);
         above = above;
         ends = end ∙ sym old_meeting;
+        as_many = (let meets = met.meets in omega (arith, end, meets));
         marked = (unit_has e old before one back h.is was h.low h.high).0 there.1;
         same = same_lines one above end;
         stretch = stretch_is;

@@ -13,12 +13,13 @@ pub record HoldsLine (e : EntityTable) (lines : List (List ℕ)) (before : List 
   pub low : one.begin ≤ line
   pub high : line < one.begin + one.lines
 
--- The unit ends at the meeting line, and its lines from the line on are those of the new text up to there. Of the new text the lines from where reading begins to
--- the meeting line give the units that a reader hands out over the lines up to that one, and one more.
+-- The unit is the last one that gives way, and ends at the meeting line; a later item of it begins in the line, and its lines from there on are those of the new text
+-- up to the meeting line. What is read of the new text are the lines in front of that line and these.
 pub record IsStoppedIn (e : EntityTable) (old new : List (List ℕ)) (s : Stops) (before : List FoundUnit) (one : FoundUnit) : Type 0 where
   pub number : length before + 1 ≡ units_before s.places + units_removed s.places
   pub above : one.begin < old_line s.places (near_line s)
   pub ends : one.begin + one.lines ≡ old_line s.places (meeting_line s.places)
+  pub as_many : (one.begin + one.lines) - old_line s.places (near_line s) ≡ meeting_line s.places - near_line s
   pub marked : Contains (own_joins e old one) (old_line s.places (near_line s) - one.begin)
   pub same : drop (near_line s) (take (meeting_line s.places) new) ≡ drop (old_line s.places (near_line s) - one.begin) (own_lines old one)
   pub stretch : drop (from_line s.places) (take (meeting_line s.places) new)
