@@ -138,13 +138,37 @@ module _ (e : EntityTable) (old new : List (List ℕ)) (s : Stops) (w : IsStop e
   short : take near (take (meeting_line p) new) ≡ take near new
   short = take-take near (meeting_line p) new (omega (arith, small))
 
-  stretch_is : drop (from_line p) (take (meeting_line p) new) ≡ drop (from_line p) (take near new) ++ drop near (take (meeting_line p) new)
+  -- the line, and those behind it up to the meeting line
+  abbrev line : List ℕ
+  line = get_or new near []
+
+  abbrev later : List (List ℕ)
+  later = drop (near + 1) (take (meeting_line p) new)
+
+  line_first : drop near (take (meeting_line p) new) ≡ line ∷ later
+  line_first =
+      let text = take (meeting_line p) new in
+      let size = length-take-le (meeting_line p) new within in
+      let one : suc near ≡ near + 1 = omega arith in
+      drop-cons text near [] (omega (arith, size, small))
+      ∙ ap (λ z. z ∷ drop (suc near) text) (get_or-take (meeting_line p) new near [] small)
+      ∙ ap (λ n. line ∷ drop n text) one
+
+  own_front : (one : FoundUnit) → one.begin < was → one.begin + one.lines ≡ was + rest → length (take (was - one.begin) (own_lines old one)) ≡ was - one.begin
+  own_front one above end =
+      let a = ap (λ z. length z) (sym (same_lines one above end) ∙ line_first) in
+      let b = length-drop (was - one.begin) (own_lines old one) in
+      let some : length (line ∷ later) ≡ suc (length later) = refl in
+      length-take-le (was - one.begin) (own_lines old one) (omega (arith, a, b, some))
+
+  stretch_is : drop (from_line p) (take (meeting_line p) new) ≡ drop (from_line p) (take near new) ++ line ∷ later
   stretch_is =
       let text = take (meeting_line p) new in
       let above = near_above e old new s w in
       let size = length-take-le near new (omega (arith, inside)) in
       ap (drop (from_line p)) (sym (take-append-drop near text) ∙ ap (λ z. z ++ drop near text) short)
       ∙ drop-append-le (from_line p) (take near new) (drop near text) (omega (arith, above, size))
+      ∙ ap (λ z. drop (from_line p) (take near new) ++ z) line_first
 
   -- Any unit of the old text that has the line is that list.
   pub stopped_in : (before : List FoundUnit) (one : FoundUnit) (back : List FoundUnit) → HoldsLine e old before one back was → IsStoppedIn e old new s before one
@@ -158,7 +182,11 @@ module _ (e : EntityTable) (old new : List (List ℕ)) (s : Stops) (w : IsStop e
         ends = end ∙ sym old_meeting;
         as_many = (let meets = met.meets in omega (arith, end, meets));
         marked = (unit_has e old before one back h.is was h.low h.high).0 there.1;
-        same = same_lines one above end;
+        line = line;
+        later = later;
+        old_front = own_front one above end;
+        old_lines = sym (take-append-drop (was - one.begin) (own_lines old one)) ∙ ap (λ z. take (was - one.begin) (own_lines old one) ++ z) (sym (same_lines one above end) ∙ line_first);
+        read = line_more new (from_line p) near [] (near_above e old new s w) inside;
         stretch = stretch_is;
       }
 
@@ -173,18 +201,11 @@ module _ (e : EntityTable) (old new : List (List ℕ)) (s : Stops) (w : IsStop e
   -- The units up to the meeting line are those that were handed out, and one more.
   pub one_more : (list : FoundUnit) × (units e (drop (from_line p) (take (meeting_line p) new)) ≡ handed e (drop (from_line p) (take (near + 1) new)) ++ list ∷ [])
   one_more =
-      let text = take (meeting_line p) new in
       let ls = drop (from_line p) (take near new) in
-      let l = get_or new near [] in
       let above = near_above e old new s w in
-      let size = length-take-le (meeting_line p) new within in
-      let here : get_or text near [] ≡ l = get_or-take (meeting_line p) new near [] small in
-      let is : drop near text ≡ l ∷ drop (suc near) text = drop-cons text near [] (omega (arith, size, small)) ∙ ap (λ z. z ∷ drop (suc near) text) here in
       let joined = (joins_told e old new p w.edit_there near [] above inside).0 (near_there e old new s w inside).0 in
-      let found = handed_inside e ls l (drop (suc near) text) met.behind joined (ap (units e) (sym is) ∙ rest_alone) in (
-        found.0,
-        ap (units e) (stretch_is ∙ ap (λ z. ls ++ z) is) ∙ found.1 ∙ ap (λ z. handed e z ++ found.0 ∷ []) (sym (line_more new (from_line p) near [] above inside)),
-      )
+      let found = handed_inside e ls line later met.behind joined (ap (units e) (sym line_first) ∙ rest_alone) in
+      (found.0, ap (units e) stretch_is ∙ found.1 ∙ ap (λ z. handed e z ++ found.0 ∷ []) (sym (line_more new (from_line p) near [] above inside)))
 
   -- There is such a unit.
   pub held_there : (before : List FoundUnit) × (one : FoundUnit) × (back : List FoundUnit) × HoldsLine e old before one back was

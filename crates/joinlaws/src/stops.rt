@@ -76,8 +76,8 @@ pub fn readers_meet_the_near_line()
     ensures stop { (s : Stops) (line : ℕ) → line ≤ near_line s → line ≤ meeting_line s.places → line ≤ stop_line s }
 {}
 
-/// Where reading stops inside a list, the old unit that has the line is the last one that gives way: a later item of it begins in the line, its lines from there
-/// on are those of the new text up to the meeting line, and it ends there.
+/// Where reading stops inside a list, one old unit has the line, and it is the last one that gives way: a later item of it begins in the line, it ends at the meeting
+/// line, and its lines behind the line follow in the new text on those that were read, up to there.
 pub fn reading_stops_in_the_last_list()
     ensures holds { (setting : Setting) (old : Source) (at del : ℕ) (add : List (List ℕ)) → at + del ≤ length old.lines
         → let s = stops setting old (edit at del add) in
