@@ -140,8 +140,8 @@ module _ (e : EntityTable) (options : Options) (lines : List (List ℕ)) (prelud
       let p = places_of e text in
       let before = subst (λ ls. HoldsUnits e ls head (map read_of units)) (sym is.before) blocks in
       subst (λ ls. HoldsUnits e ls r.head (map read_of come)) is.behind
-      (holds_behind e (old_lines text) (lines_of text) p (spliced e (old_lines text) (lines_of text) p (is_edit e text)) head r.head r.first r.next units r.units.items r.again.items
-      before w.fit.order w.replacing.first w.replacing.next w.replacing.head w.replacing.units)
+      (holds_behind e (old_lines text) (lines_of text) p (is_edit e text) head r.head r.first r.next units r.units.items r.again.items
+      before w.fit.order w.replacing.first w.replacing.next w.replacing.head w.replacing.units w.replacing.stands)
 
   texts_come : (room led : HeldLabels) → ((label : List ℕ) → target_held room label ≡ target_held labels label) → ((label : List ℕ) → target_held led label ≡ led_after room r.changes label)
       → HoldsTexts setting new prelude led come

@@ -135,6 +135,13 @@ got_small [] i x far h all = cc
 got_small (y ∷ xs) zero x far h all = let same : y ≡ x = ap (λ o. unwrap_or o x) h in let low = All-head (λ b. b < far) y xs all in omega (arith, same, low)
 got_small (y ∷ xs) (suc i) x far h all = got_small xs i x far h (All-tail (λ b. b < far) y xs all)
 
+-- the first line of a unit, by how many lines those before it have
+pub begin_behind : (e : EntityTable) (lines : List (List ℕ)) (head : ℕ) (held : List ReadUnit) (i : ℕ) → HoldsUnits e lines head held → i < length held
+    → slice_get (begins e lines) i ≡ Some (head + sum_by (λ (u : ReadUnit). u.lines) (take i held))
+begin_behind e lines head held i w below =
+    let many = length-map held (λ (u : ReadUnit). u.lines) in
+    ap (λ z. slice_get z i) (begins_held e lines head held w) ∙ begin_at (map (λ (u : ReadUnit). u.lines) held) head i (omega (arith, below, many)) ∙ ap (λ n. Some (head + n)) (sums held i)
+
 pub begin_of_unit : (e : EntityTable) (lines : List (List ℕ)) (head : ℕ) (held : List ReadUnit) (i : ℕ) → length lines ≤ 1000000 → HoldsUnits e lines head held
     → (if nat_lt i (length held) then Some (first_line head held i) else None) ≡ slice_get (begins e lines) i
 begin_of_unit e lines head held i few w = by (nat_lt i (length held)) refl
@@ -146,8 +153,7 @@ begin_of_unit e lines head held i few w = by (nat_lt i (length held)) refl
     many = length-map held (λ (u : ReadUnit). u.lines)
 
     there : i < length held → slice_get (begins e lines) i ≡ Some (head + sum_by (λ (u : ReadUnit). u.lines) (take i held))
-    there h =
-        ap (λ z. slice_get z i) (begins_held e lines head held w) ∙ begin_at sizes head i (omega (arith, h, many)) ∙ ap (λ n. Some (head + n)) (sums held i)
+    there h = begin_behind e lines head held i w h
 
     by : (t : Bool) → nat_lt i (length held) ≡ t → (if t then Some (first_line head held i) else None) ≡ slice_get (begins e lines) i
     by true h =

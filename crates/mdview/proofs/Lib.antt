@@ -27,6 +27,9 @@ pub mod PlainLines
 pub mod BroughtLaws
 pub mod Definings
 pub mod HeldTiles
+pub mod ListsStand
+pub mod ListSplices
+pub mod HeldLines
 pub mod ReadStretches
 pub mod EditPlaces
 pub mod Reparses

@@ -1,6 +1,6 @@
 -- What an edit reads: the lines from where reading begins, one after the other, up to where a unit begins in both texts or to the end.
 use Rattle.std.proofs.Common.{◌≡◌, ℕ, ◌+◌, ◌-◌, ◌<◌, ◌≤◌, ◌⊎◌, inl, inr, Bool, true, false, ◌&&◌, List, [], ◌∷◌, ◌++◌, Option, Some, None, length, map, take, drop, get_or, refl, ap, ◌∙◌, sym, subst, arith, max, nat_lt}
-use Rattle.std.specs.Prelude.{Contains, nat_eq, nat_le}
+use Rattle.std.specs.Prelude.{Contains, IfSome, nat_eq, nat_le}
 use Rattle.std.specs.List.{All, filter, fold, list_any}
 use Rattle.std.specs.Option.{option_map, option_to_list}
 use Rattle.std.proofs.lemmas.Bool.Decides.{nat_tests}
@@ -11,7 +11,7 @@ use Rattle.mdtext.specs.EntityTable.{EntityTable}
 use Rattle.blockspec.specs.BlockUnits.{begins, units}
 use Rattle.blockspec.specs.Nesting.{first_too_deep}
 use Rattle.blockspec.specs.UnitTree.{FoundUnit}
-use Rattle.mdblock.specs.FoundLists.{FoundList, found_unit}
+use Rattle.mdblock.specs.FoundLists.{FoundList, StandsForUnit, found_unit}
 use Rattle.mdblock.specs.declared.faults.BlockFault.{BlockFault}
 use Rattle.mdblock.specs.declared.faults.BlockFault.TheVariants as block
 use Rattle.mdblock.specs.held.ReaderState.{ReaderState}
@@ -27,16 +27,25 @@ use Rattle.viewlaws.proofs.StretchEnds.{counts_join, deep_here, fits_before, han
 use Rattle.viewlaws.proofs.StretchReadings.{meets_at, meets_nowhere}
 use Rattle.viewlaws.proofs.UnitPlaces.{above_from, ahead_later, counts_here}
 use Rattle.mdview.specs.HeldBlocks.{HoldsUnits, IsDeepAt, fault_in, is_at, line_before, lines_in, old_lines, places_of}
+use Rattle.mdview.specs.HeldLists.{StandsAt}
 use Rattle.mdview.specs.HeldUnit.{HeldUnit, read_of}
 use Rattle.mdview.specs.NewText.{lines_of}
 use Rattle.mdview.specs.declared.new_text.NewText.{NewText}
 use Rattle.mdview.proofs.EditPlaces.{begins_are, begins_many}
+use Rattle.mdview.proofs.ListsStand.{all_longer, stands_pushed}
 use Rattle.mdview.proofs.ReadStretches.{is_edit, meets_later, none_more, stretch_next, stretch_none, stretch_rest, stretch_size, tells_begin}
 
 -- units that are pushed, without their later items
 pub units_pushed : (old new : List FoundList) (unit : Option FoundList) → new ≡ old ++ option_to_list unit → map found_unit new ≡ map found_unit old ++ option_to_list (option_map found_unit unit)
 units_pushed old new None is = ap (map found_unit) is ∙ map-append found_unit old []
 units_pushed old new (Some one) is = ap (map found_unit) is ∙ map-append found_unit old (one ∷ [])
+
+-- each stands for its lines of those that were read, with one line more
+pub stands_read : (e : EntityTable) (new : List (List ℕ)) (from line : ℕ) (d : List ℕ) (old found : List FoundList) (unit : Option FoundList) → from ≤ line → line < length new → found ≡ old ++ option_to_list unit
+    → IfSome unit (λ f. StandsForUnit e f (drop f.begin (drop from (take line new)))) → All (StandsAt e (drop from (take line new))) old → All (StandsAt e (drop from (take (line + 1) new))) found
+stands_read e new from line d old found unit order below is last all =
+    subst (λ ls. All (StandsAt e ls) found) (sym (stretch_next new from line d order below))
+    (all_longer e (drop from (take line new)) (get_or new line d ∷ []) found (stands_pushed e (drop from (take line new)) old found unit is last all))
 
 -- What was read above a line: no unit begins in both texts there.
 pub record ReadAbove (limit : ℕ) (e : EntityTable) (new : List (List ℕ)) (p : Places) (reader : ReaderState) (found : List FoundUnit) (line : ℕ) : Type 0 where

@@ -1,20 +1,23 @@
 -- What an edit brings, by what was read.
-use Rattle.std.proofs.Common.{◌≡◌, ℕ, Bool, true, false, List, Result, Ok, Err, arith, drop, length, map, refl, ap, ◌∙◌, sym, take, if◌then◌else◌}
+use Rattle.std.proofs.Common.{◌≡◌, ℕ, Bool, true, false, List, Result, Ok, Err, arith, drop, length, map, refl, ap, ◌∙◌, sym, subst, take, if◌then◌else◌}
 use Rattle.std.specs.Prelude.{IfOk, nat_eq}
 use Rattle.std.proofs.lemmas.Bool.Decides.{nat_tests}
 use Rattle.mdtext.specs.EntityTable.{EntityTable}
 use Rattle.blockspec.specs.BlockUnits.{units}
-use Rattle.viewspec.specs.Stretch.{Places, from_line}
+use Rattle.viewspec.specs.Stretch.{Places, from_line, meeting_line}
 use Rattle.viewlaws.specs.UnitTiles.{front_of, tile_of}
 use Rattle.viewlaws.proofs.TileSplices.{front_kept, front_read}
 use Rattle.mdblock.specs.FoundLists.{found_unit}
-use Rattle.mdview.specs.HeldBlocks.{HoldsUnits, IsReplacing, IsReread, old_lines, places_of, tile_in}
-use Rattle.mdview.specs.HeldUnit.{ReadUnit, read_of}
+use Rattle.mdview.specs.HeldBlocks.{HoldsUnits, IsReplacing, IsReread, old_lines, places_of, unit_lines}
+use Rattle.mdview.specs.HeldLists.{StandForUnits, list_in, unplaced}
+use Rattle.mdview.specs.HeldUnit.{ReadUnit}
 use Rattle.mdview.specs.NewText.{lines_of}
 use Rattle.mdview.specs.declared.fault.EditFault.{EditFault}
 use Rattle.mdview.specs.declared.new_text.NewText.{NewText}
 use Rattle.mdview.specs.declared.reparse.Reparsed.{Reparsed}
 use Rattle.mdview.specs.declared.update.Update.{Update}
+use Rattle.mdview.proofs.HeldTiles.{tiles_found}
+use Rattle.mdview.proofs.ListsStand.{stand_found, stand_unplaced}
 use Rattle.mdview.proofs.ReadStretches.{is_edit}
 
 module _ (e : EntityTable) (text : NewText) (was : ℕ) (held : List ReadUnit) (reparsed : Reparsed) (w : HoldsUnits e (old_lines text) was held) (r : IsReread e text reparsed) where
@@ -39,13 +42,23 @@ module _ (e : EntityTable) (text : NewText) (was : ℕ) (held : List ReadUnit) (
           clash zero other = grind (arith, nat_tests, zero, other)
 
   pub replacing : (result : Result Update EditFault) → IfOk result (λ u. (u.first ≡ reparsed.first) × (u.next ≡ reparsed.next))
-      → IfOk result (λ u. map tile_in (map read_of u.units.items) ≡ map tile_of (map found_unit reparsed.found.items))
+      → IfOk result (λ u. map list_in u.units.items ≡ map unplaced reparsed.found.items)
       → IfOk result (λ u. u.head ≡ (if nat_eq reparsed.from 0 then front_of reparsed.meet (map found_unit reparsed.found.items) else was)) → IfOk result (IsReplacing e text)
-  replacing (Ok update) place tiles head = record {
+  replacing (Ok update) place lists head = record {
     first = place.0 ∙ r.first;
     next = place.1 ∙ r.next;
     head = head_behind update.head head;
-    units = tiles ∙ ap (map tile_of) (r.found ∙ ap (λ n. units e (drop n (take reparsed.meet (lines_of text)))) r.from
-        ∙ ap (λ n. units e (drop (from_line (places_of e text)) (take n (lines_of text)))) r.meet);
+    units = tiles_found update.units.items reparsed.found.items lists ∙ ap (map tile_of) (r.found ∙ ap (units e) same);
+    stands = subst (λ fs. StandForUnits e fs (unit_lines e (drop (from_line (places_of e text)) (take (meeting_line (places_of e text)) (lines_of text))))) (sym lists)
+        (subst (λ ls. StandForUnits e (map unplaced reparsed.found.items) (unit_lines e ls)) same
+        (stand_unplaced e reparsed.found.items (unit_lines e ls) (stand_found e ls reparsed.found.items r.found r.stands)));
   }
-  replacing (Err fault) place tiles head = tt
+    where
+      ls : List (List ℕ)
+      ls = drop reparsed.from (take reparsed.meet (lines_of text))
+
+      same : ls ≡ drop (from_line (places_of e text)) (take (meeting_line (places_of e text)) (lines_of text))
+      same =
+          ap (λ n. drop n (take reparsed.meet (lines_of text))) r.from
+          ∙ ap (λ n. drop (from_line (places_of e text)) (take n (lines_of text))) r.meet
+  replacing (Err fault) place lists head = tt

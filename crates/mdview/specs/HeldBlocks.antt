@@ -1,5 +1,6 @@
 -- The blocks that a preview holds: they are the units of its lines.
 use Rattle.std.specs.Prelude.{◌≡◌, ◌+◌, ◌-◌, ℕ, Bool, false, List, Option, Some, None, drop, length, map, nat_eq, string_bytes, take}
+use Rattle.std.specs.List.{All}
 use Rattle.mdtext.specs.EntityTable.{EntityTable}
 use Rattle.blockspec.specs.BlockUnits.{begins, units}
 use Rattle.blockspec.specs.UnitTree.{UnitTree}
@@ -14,6 +15,7 @@ use Rattle.mdview.specs.declared.reparse.Reparsed.{Reparsed}
 use Rattle.mdview.specs.declared.fault.EditFault.{EditFault}
 use Rattle.mdview.specs.declared.fault.EditFault.TheVariants.{OutOfRange, BreakInLine, TooManyLines, TooLarge, NestedTooDeep, InlineTooDeep, NoMemory, NotDefinitions}
 use Rattle.mdview.specs.declared.update.Update.{Update}
+use Rattle.mdview.specs.HeldLists.{StandForUnits, StandsAt, list_in, list_read}
 use Rattle.mdview.specs.HeldUnit.{HeldUnit, ReadUnit, read_of}
 use Rattle.mdview.specs.NewText.{lines_of as new_lines}
 
@@ -27,10 +29,11 @@ held_tile u = tile_in (read_of u)
 abbrev pub lines_in : HeldUnit → ℕ
 lines_in u = u.read.lines
 
--- these are the units of these lines, so many of which stand before the first one
+-- these are the units of these lines, so many of which stand before the first one, and each stands for its own lines
 pub record HoldsUnits (e : EntityTable) (lines : List (List ℕ)) (head : ℕ) (held : List ReadUnit) : Type 0 where
   pub before : head ≡ front_of (length lines) (units e lines)
   pub tiles : map tile_in held ≡ map tile_of (units e lines)
+  pub stands : StandForUnits e (map list_read held) (drop head lines)
 
 -- the lines before an edit
 abbrev pub old_lines : NewText → List (List ℕ)
@@ -58,6 +61,11 @@ pub record IsReread (e : EntityTable) (text : NewText) (r : Reparsed) : Type 0 w
   pub first : r.first ≡ units_before (places_of e text)
   pub next : r.next ≡ units_before (places_of e text) + units_removed (places_of e text)
   pub found : map found_unit r.found.items ≡ units e (drop r.from (take r.meet (new_lines text)))
+  pub stands : All (StandsAt e (drop r.from (take r.meet (new_lines text)))) r.found.items
+
+-- the lines from the first unit on
+abbrev pub unit_lines : EntityTable → List (List ℕ) → List (List ℕ)
+unit_lines e lines = drop (front_of (length lines) (units e lines)) lines
 
 -- what it brings: units that take the place of old ones, and how many lines stand before the first unit then
 pub record IsReplacing (e : EntityTable) (text : NewText) (update : Update) : Type 0 where
@@ -65,6 +73,7 @@ pub record IsReplacing (e : EntityTable) (text : NewText) (update : Update) : Ty
   pub next : update.next ≡ units_before (places_of e text) + units_removed (places_of e text)
   pub head : update.head ≡ front_of (length (new_lines text)) (units e (new_lines text))
   pub units : map tile_in (map read_of update.units.items) ≡ map tile_of (units e (drop (from_line (places_of e text)) (take (meeting_line (places_of e text)) (new_lines text))))
+  pub stands : StandForUnits e (map list_in update.units.items) (unit_lines e (drop (from_line (places_of e text)) (take (meeting_line (places_of e text)) (new_lines text))))
 
 -- the line on which a container begins too deep in these lines is named
 abbrev pub IsDeepAt : Option ℕ → EditFault → Type 0

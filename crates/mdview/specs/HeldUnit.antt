@@ -1,17 +1,21 @@
 -- Units whose inline texts were read, and their HTML.
-use Rattle.std.specs.Prelude.{◌≡◌, ℕ, ◌+◌, ◌-◌, ◌^◌, min, List, [], false, length, sum_by, take, refl}
-use Rattle.std.specs.Coded.{Coded, code_by, coded×, coded_ℕ, coded_list}
+use Rattle.std.specs.Prelude.{◌≡◌, ℕ, Bool, ◌+◌, ◌-◌, ◌^◌, min, List, [], false, length, sum_by, take, refl}
+use Rattle.std.specs.Coded.{Coded, code_by, coded×, coded_ℕ, coded_bool, coded_list}
 use Rattle.blockspec.specs.UnitTree.{UnitTree, unit_code}
+use Rattle.itemspec.specs.ItemMarks.{ItemMark}
+use Rattle.mdblock.specs.FoundLists.{mark_code}
 use Rattle.mdinline.specs.ParsedText.{ParsedText, parsed_code}
 use Rattle.mdhtml.specs.declared.options.Options.{Options}
 use Rattle.mdhtml.specs.BlockHtml.{blocks_html, texts_html}
 use Rattle.mdwalk.specs.TreeEdges.{TreeEdge, blocks_edges}
 
--- how many lines a unit has, the unit, and what each of its texts reads as
+-- How many lines a unit has, the unit, and what each of its texts reads as; where it is a list its later items, and whether a gap parts two blocks of its last one.
 pub record ReadUnit : Type 0 where
   pub lines : ℕ
   pub unit : UnitTree
   pub readings : List ParsedText
+  pub items : List ItemMark
+  pub parted : Bool
 
 -- a unit that is held, with its piece
 pub record HeldUnit : Type 0 where
@@ -20,8 +24,9 @@ pub record HeldUnit : Type 0 where
 
 abbrev pub read_unit_code : Coded ReadUnit
 read_unit_code =
-    code_by (ℕ × (UnitTree × List ParsedText)) (coded× coded_ℕ (coded× unit_code (coded_list parsed_code)))
-    (λ u. (u.lines, (u.unit, u.readings))) (λ p. record { lines = p.0; unit = p.1.0; readings = p.1.1 }) (λ _. refl)
+    code_by (ℕ × (UnitTree × (List ParsedText × (List ItemMark × Bool)))) (coded× coded_ℕ (coded× unit_code (coded× (coded_list parsed_code) (coded× (coded_list mark_code) coded_bool))))
+    (λ u. (u.lines, (u.unit, (u.readings, (u.items, u.parted)))))
+    (λ p. record { lines = p.0; unit = p.1.0; readings = p.1.1.0; items = p.1.1.1.0; parted = p.1.1.1.1 }) (λ _. refl)
 
 abbrev pub held_unit_code : Coded HeldUnit
 held_unit_code =

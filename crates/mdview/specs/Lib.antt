@@ -1,4 +1,5 @@
 pub mod HeldUnit
+pub mod HeldLists
 pub mod HeldTexts
 pub mod ReadingFaults
 pub mod Lists

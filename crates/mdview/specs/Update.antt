@@ -16,7 +16,7 @@ map_at f (suc i) (x ∷ xs) = x ∷ map_at f i xs
 
 -- a unit with other readings and another piece
 abbrev pub renewed : Again → HeldUnit → HeldUnit
-renewed again u = record { read = record { lines = u.read.lines; unit = u.read.unit; readings = again.inlines.items }; piece = string_bytes again.piece }
+renewed again u = record { read = record u.read { readings = again.inlines.items }; piece = string_bytes again.piece }
 
 -- the units, of which these are read again
 unfoldable pub all_renewed : List HeldUnit → List Again → List HeldUnit

@@ -27,7 +27,10 @@ impl Model for HeldUnit {
 
     ghost coded = { held_unit_code };
 
-    ghost view = { λ u. record { read = record { lines = u.found.lines; unit = u.found.unit; readings = u.inlines.items }; piece = string_bytes u.piece } };
+    ghost view = { λ u. record {
+      read = record { lines = u.found.lines; unit = u.found.unit; readings = u.inlines.items; items = u.found.marks; parted = u.found.parted };
+      piece = string_bytes u.piece;
+    } };
 
     ghost invariant = { λ u. (length u.inlines.items ≡ length u.found.unit.texts) × (u.marks ≡ unit_marks u.found.unit u.inlines.items) };
 }
@@ -36,7 +39,10 @@ impl HeldUnit {
     /// A unit whose texts read so, with its piece.
     pub(crate) fn new(found: Found, inlines: Vec<Parsed>, piece: String) -> HeldUnit
         requires { length inlines.items ≡ length found.unit.texts }
-        ensures { result ≡ record { read = record { lines = found.lines; unit = found.unit; readings = inlines.items }; piece = string_bytes piece } }
+        ensures { result ≡ record {
+          read = record { lines = found.lines; unit = found.unit; readings = inlines.items; items = found.marks; parted = found.parted };
+          piece = string_bytes piece;
+        } }
     {
         let marks = marks_in(found.unit(), &inlines);
         HeldUnit {
@@ -84,7 +90,7 @@ impl HeldUnit {
     pub(crate) fn renew(&mut self, inlines: Vec<Parsed>, piece: String)
         requires { length inlines.items ≡ length self.old.read.unit.texts }
         ensures { self.new ≡ record {
-          read = record { lines = self.old.read.lines; unit = self.old.read.unit; readings = inlines.items };
+          read = record self.old.read { readings = inlines.items };
           piece = string_bytes piece;
         } }
     {

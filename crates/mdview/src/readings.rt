@@ -10,10 +10,10 @@ ghost use Rattle.viewspec.specs.Changes.{asks_changed};
 ghost use Rattle.viewspec.specs.Refusals.{is_deep};
 ghost use Rattle.viewspec.specs.View.{reading_of};
 ghost use Rattle.viewlaws.specs.UnitTexts.{asking_in, asking_texts, asking_units, deep_found, deep_from, is_deep_under, readings_under, trees_in};
-ghost use Rattle.viewlaws.specs.UnitTiles.{tile_of};
-ghost use Rattle.mdview.specs.HeldUnit.{HeldUnit, IsRendered, html_of, read_of, unit_in, texts_in};
+ghost use Rattle.mdview.specs.HeldUnit.{HeldUnit, IsRendered, html_of, unit_in, texts_in};
 ghost use Rattle.mdview.specs.Update.{Fits, IsWritten};
-ghost use Rattle.mdview.specs.HeldBlocks.{held_tile, lines_in, tile_in};
+ghost use Rattle.mdview.specs.HeldLists.{list_in, unplaced};
+ghost use Rattle.mdview.specs.HeldBlocks.{held_tile, lines_in};
 ghost use Rattle.mdview.specs.HeldTexts.{IsReadUnder, IsReread, IsShallow, IsTextFault, between, entities_in, labels_before, labels_behind, line_on, number_again, text_fault_in};
 ghost use Rattle.mdview.specs.LabelTargets.{IsElsewhere};
 
@@ -70,7 +70,7 @@ impl<'a> TextReader<'a> {
     ) -> Result<Vec<HeldUnit>, EditFault>
         requires limits { HasLimits self.now.options.now }
         ensures all { IfOk result (λ units. length units.items ≡ length found.items) }
-        ensures tiles { IfOk result (λ units. map tile_in (map read_of units.items) ≡ map tile_of (map found_unit found.items)) }
+        ensures lists { IfOk result (λ units. map list_in units.items ≡ map unplaced found.items) }
         ensures pieces { IfOk result (λ units. All (IsRendered self.now.options.now) units.items) }
         ensures read { IfOk result (λ units. All (IsReadUnder (entities_in room.old) (labels_behind self.now)) units.items) }
         ensures shallow { OnOk result (deep_found self.now.options.now.max_spans (entities_in room.old) (labels_behind self.now) (map found_unit found.items) ≡ None) }
@@ -98,7 +98,7 @@ impl<'a> TextReader<'a> {
     ) -> Result<HeldUnit, InlineFault>
         requires limits { HasLimits self.now.options.now }
         ensures unit { IfOk result (λ unit. unit.read.unit ≡ found.unit) }
-        ensures tile { IfOk result (λ unit. tile_in unit.read ≡ tile_of (found_unit found)) }
+        ensures list { IfOk result (λ unit. list_in unit ≡ unplaced found) }
         ensures piece { IfOk result (IsRendered self.now.options.now) }
         ensures read { IfOk result (IsReadUnder (entities_in room.old) (labels_behind self.now)) }
         ensures shallow { OnOk result (is_deep_under self.now.options.now.max_spans (entities_in room.old) (labels_behind self.now) found.unit ≡ false) }

@@ -11,8 +11,9 @@ ghost use Rattle.viewspec.specs.Stretch.{lines_read, units_added, units_before};
 ghost use Rattle.viewspec.specs.View.{view};
 ghost use Rattle.viewlaws.specs.UnitTexts.{asking_texts, asking_units, deep_from};
 ghost use Rattle.mdview.specs.Preludes.{IsDefinedBy};
-ghost use Rattle.viewlaws.specs.UnitTiles.{front_of, tile_of};
-ghost use Rattle.mdview.specs.HeldBlocks.{HoldsUnits, IsReplacing, old_lines, places_of, tile_in};
+ghost use Rattle.viewlaws.specs.UnitTiles.{front_of};
+ghost use Rattle.mdview.specs.HeldBlocks.{HoldsUnits, IsReplacing, old_lines, places_of};
+ghost use Rattle.mdview.specs.HeldLists.{list_in, unplaced};
 ghost use Rattle.mdhtml.specs.Limits.{HasLimits};
 ghost use Rattle.mdview.specs.Document.{size_of};
 ghost use Rattle.mdview.specs.NewText.{lines_of};
@@ -159,7 +160,7 @@ impl Update {
         ensures fit { IfOk result (IsFitFor held.now.options.now (map unit_in held.now.units.now.items)) }
         ensures place { IfOk result (λ r. (r.first ≡ reparsed.first) × (r.next ≡ reparsed.next)) }
         ensures units { IfOk result (λ r. length r.units.items ≡ length reparsed.found.items) }
-        ensures tiles { IfOk result (λ r. map tile_in (map read_of r.units.items) ≡ map tile_of (map found_unit reparsed.found.items)) }
+        ensures lists { IfOk result (λ r. map list_in r.units.items ≡ map unplaced reparsed.found.items) }
         ensures head { IfOk result (λ r. r.head ≡ head_read held.now.head reparsed) }
         ensures changes { IfOk result (λ r. r.changes ≡ changes) }
         ensures read { IfOk result (λ r. All (IsReadUnder held.now.entities.now (led_after held.now.labels.now changes)) r.units.items) }

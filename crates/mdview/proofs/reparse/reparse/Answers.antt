@@ -1,6 +1,8 @@
 use Rattle.std.proofs.Common.{rules, ◌≡◌, ◌≤◌, ◌<◌, ◌+◌, ◌-◌, ◌++◌, ◌∷◌, ℕ, List, Some, [], Err, false, inl, inr, ap, arith, drop, get_or, length, map, refl, subst, sym, take, ◌∙◌}
 use Rattle.std.specs.Prelude.{Contains}
+use Rattle.std.specs.List.{All}
 use Rattle.std.specs.Option.{option_map, option_to_list}
+use Rattle.std.proofs.lemmas.List.Elements.{All-nil}
 use Rattle.blockspec.specs.BlockUnits.{begins, units}
 use Rattle.blockspec.specs.Nesting.{first_too_deep}
 use Rattle.mdblock.specs.FoundLists.{found_unit}
@@ -14,11 +16,13 @@ use Rattle.viewlaws.proofs.UnitPlaces.{ahead_later}
 use Rattle.mdview.specs.HeldBlocks.{IsDeepAt, is_at, line_before, lines_in, old_lines, places_of}
 use Rattle.mdview.specs.NewText.{lines_of}
 use Rattle.mdchunks.specs.Sequences.{Sequence}
+use Rattle.mdview.specs.HeldLists.{StandsAt}
 use Rattle.mdview.specs.HeldUnit.{HeldUnit}
 use Rattle.mdview.specs.declared.resuming.UnitStart.{UnitStart}
 use Rattle.mdview.proofs.EditPlaces.{begins_many}
+use Rattle.mdview.proofs.ListsStand.{stands_pushed}
 use Rattle.mdview.proofs.ReadStretches.{is_edit}
-use Rattle.mdview.proofs.Reparses.{ReadAbove, begin_told, begins_reading, deep_at, deep_told, ended, few_read, found_all, met_all, met_told, new_fits, next_ends, next_is, in_new, read_first, read_next, units_pushed, unmet_told}
+use Rattle.mdview.proofs.Reparses.{ReadAbove, begin_told, begins_reading, deep_at, deep_told, ended, few_read, found_all, met_all, met_told, new_fits, next_ends, next_is, in_new, read_first, read_next, stands_read, units_pushed, unmet_told}
 use Rattle.mdview.proofs.reparse.reparse.Goals as goal
 
 pub loop-line-init : goal.loop-line-init
@@ -40,6 +44,7 @@ loop-line-init g c =
       above = subst (λ n. ReadAbove limit e new p c.new-reader.result (map found_unit c.new-found.result.items) n) (sym s.0)
           (read_first limit e (old_lines text) new p (is_edit e text) c.new-reader.result (map found_unit c.new-found.result.items) c.new-reader.ensures.reads (ap (map found_unit) c.new-found.ensures.items));
       ahead = subst (λ (next : UnitStart). IsAhead (map lines_in c.args.held.now.units.now.items) p.old_begins next.unit next.line (line_before p r.from)) (sym c.at-cursor.ensures.1) s.2;
+      stands = subst (All (StandsAt e (drop (from_line p) (take r.from new)))) (sym c.new-found.ensures.items) (All-nil (StandsAt e (drop (from_line p) (take r.from new))));
     }
 
 pub returns-in_err-push_some-in-Ok-clause-stretch : goal.returns-in_err-push_some-in-Ok-clause-stretch
@@ -177,6 +182,8 @@ returns-in-Some-clause-read g c =
       next = c.in-Some.ensures.unit.0
           ∙ next_is limit e old new p (is_edit e text) sizes cursor.next.unit cursor.next.line line both.1 m.0 (c.in-Some.ensures.here refl) (c.in-Some.ensures.ahead e ahead);
       found = m.1 ∙ ap (λ n. units e (drop n (take line new))) (sym s.0);
+      stands = subst (λ n. All (StandsAt e (drop n (take line new))) c.push_some.new.found.items) (sym s.0)
+          (stands_pushed e ls c.loop-line.found.items c.push_some.new.found.items c.in-Ok.unit c.in_ok-push_some-in-Ok.ensures (c.in-Ok.ensures.stands limit e ls inv.above.reads) inv.stands);
     }
 
 pub loop-line-preserved : goal.loop-line-preserved
@@ -218,6 +225,7 @@ loop-line-preserved g c =
           order below reads hands (units_pushed c.loop-line.found.items c.push_some.new.found.items c.in-Ok.unit c.in_ok-push_some-in-Ok.ensures) not_here inv.above;
       ahead = ahead_later sizes p.old_begins moved.next.unit moved.next.line (line_before p line) (line_before p (line + 1)) later
           (subst (λ (us : Sequence HeldUnit). IsAhead (map lines_in us.items) p.old_begins moved.next.unit moved.next.line (line_before p line)) inv.same (c.met_at.ensures.ahead e ahead));
+      stands = stands_read e new (from_line p) line [] c.loop-line.found.items c.push_some.new.found.items c.in-Ok.unit order below c.in_ok-push_some-in-Ok.ensures (c.in-Ok.ensures.stands limit e ls inv.above.reads) inv.stands;
     }
 
 pub returns-in_err-push_some-in-Ok-finish-clause-stretch : goal.returns-in_err-push_some-in-Ok-finish-clause-stretch
@@ -321,4 +329,8 @@ returns-clause-read g c =
       first = s.1;
       next = c.len.ensures ∙ next_ends limit e old new p (is_edit e text) (length c.args.held.now.units.now.items) (sym (begins_many e old c.args.held.now.head c.args.held.now.units.now.items c.requires.held)) meet;
       found = units_are ∙ ap (λ n. units e (drop n (take (length new) new))) (sym s.0) ∙ ap (λ n. units e (drop r.from (take n new))) (sym c.len-2.ensures);
+      stands = subst (λ n. All (StandsAt e (drop r.from (take n new))) c.push_some-in-Ok-finish.new.found.items) (sym c.len-2.ensures)
+          (subst (λ n. All (StandsAt e (drop n (take (length new) new))) c.push_some-in-Ok-finish.new.found.items) (sym s.0)
+          (stands_pushed e (drop (from_line p) (take (length new) new)) c.loop-line.found.items c.push_some-in-Ok-finish.new.found.items c.in-Ok-finish.unit c.in_ok-push_some-in-Ok-finish.ensures
+          (c.in-Ok-finish.ensures.stands limit e (drop (from_line p) (take (length new) new)) above.reads) (subst (λ n. All (StandsAt e (drop (from_line p) (take n new))) c.loop-line.found.items) last inv.stands)));
     }

@@ -1,7 +1,10 @@
-use Rattle.std.proofs.Common.{◌≡◌, ◌+◌, ◌≤◌, ◌-◌, drop, map}
+use Rattle.std.proofs.Common.{◌≡◌, ◌+◌, ◌≤◌, ◌-◌, drop, map, take}
+use Rattle.std.specs.List.{All}
 use Rattle.mdblock.specs.FoundLists.{found_unit}
+use Rattle.viewspec.specs.Stretch.{from_line}
 use Rattle.viewlaws.specs.UnitTiles.{IsAhead}
 use Rattle.mdview.specs.HeldBlocks.{line_before, lines_in, places_of}
+use Rattle.mdview.specs.HeldLists.{StandsAt}
 use Rattle.mdview.specs.NewText.{lines_of}
 use Rattle.mdview.proofs.Reparses.{ReadAbove}
 use Rattle.mdview.proofs.reparse.reparse.Given as goal
@@ -18,4 +21,5 @@ invariant-loop-line g l = record {
   above : ReadAbove l.held.options.now.max_containers l.held.entities.now (lines_of l.text) (places_of l.held.entities.now l.text) l.reader (map found_unit l.found.items) l.line;
   ahead : IsAhead (map lines_in l.held.units.now.items) (places_of l.held.entities.now l.text).old_begins l.cursor.next.unit l.cursor.next.line
       (line_before (places_of l.held.entities.now l.text) l.line);
+  stands : All (StandsAt l.held.entities.now (drop (from_line (places_of l.held.entities.now l.text)) (take l.line (lines_of l.text)))) l.found.items;
 }

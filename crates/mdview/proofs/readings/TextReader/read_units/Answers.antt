@@ -4,12 +4,11 @@ use Rattle.std.proofs.lemmas.List.{nil_from_length}
 use Rattle.std.proofs.lemmas.List.Sums.{sum_by-cons}
 use Rattle.mdblock.specs.FoundLists.{found_unit}
 use Rattle.viewlaws.specs.UnitTexts.{deep_found, is_deep_under, trees_in}
-use Rattle.viewlaws.specs.UnitTiles.{tile_of}
-use Rattle.mdview.specs.HeldBlocks.{tile_in}
+use Rattle.mdview.specs.HeldLists.{list_in, unplaced}
 use Rattle.mdview.specs.HeldTexts.{IsReadUnder, entities_in, labels_behind}
-use Rattle.mdview.specs.HeldUnit.{IsRendered, read_of, texts_in}
+use Rattle.mdview.specs.HeldUnit.{IsRendered, texts_in}
 use Rattle.mdview.proofs.FoundTexts.{deep_later}
-use Rattle.mdview.proofs.HeldTiles.{tiles_ended, tiles_next}
+use Rattle.mdview.proofs.HeldTiles.{lists_ended, lists_next}
 use Rattle.mdview.proofs.MemberChanges.{all_more}
 use Rattle.mdview.proofs.readings.TextReader.read_units.Goals as goal
 
@@ -24,8 +23,8 @@ loop-one-preserved g c =
     let L = labels_behind c.args.self.now in
     let texts = ap (λ l. sum_by texts_in (trees_in (map found_unit l))) step ∙ sum_by-cons texts_in one.unit (trees_in (map found_unit rest)) in
     rw items (record {
-      tiles = tiles_next c.loop-one.units.items c.in-Ok.unit (found_unit one) (map found_unit rest) (map found_unit c.args.found.items) c.in-Ok.ensures.tile
-          (subst (λ xs. map tile_in (map read_of c.loop-one.units.items) ++ map tile_of (map found_unit xs) ≡ map tile_of (map found_unit c.args.found.items)) step c.loop-one.invariant.tiles);
+      lists = lists_next c.loop-one.units.items c.in-Ok.unit one rest c.args.found.items c.in-Ok.ensures.list
+          (subst (λ xs. map list_in c.loop-one.units.items ++ map unplaced xs ≡ map unplaced c.args.found.items) step c.loop-one.invariant.lists);
       all = search rules;
       pieces = all_more (IsRendered c.args.self.now.options.now) c.loop-one.units.items c.in-Ok.unit c.loop-one.invariant.pieces c.in-Ok.ensures.piece;
       read = all_more (IsReadUnder e L) c.loop-one.units.items c.in-Ok.unit c.loop-one.invariant.read (subst (λ z. IsReadUnder z L c.in-Ok.unit) c.loop-one.invariant.room c.in-Ok.ensures.read);
@@ -36,7 +35,7 @@ loop-one-preserved g c =
       inlines = omega (arith, c.read_unit.ensures.inlines, c.loop-one.invariant.inlines, texts);
     })
 
-pub returns-clause-tiles : goal.returns-clause-tiles
-returns-clause-tiles g c =
-    tiles_ended c.loop-one.units.items (map found_unit c.loop-one.one-iterator.rest.items) (map found_unit c.args.found.items)
-    (ap (map found_unit) (nil_from_length _ (omega (arith, c.in-None.ensures.steps.0, c.loop-one.one-iterator.rest.ok.0)))) c.loop-one.invariant.tiles
+pub returns-clause-lists : goal.returns-clause-lists
+returns-clause-lists g c =
+    lists_ended c.loop-one.units.items c.loop-one.one-iterator.rest.items c.args.found.items
+    (nil_from_length _ (omega (arith, c.in-None.ensures.steps.0, c.loop-one.one-iterator.rest.ok.0))) c.loop-one.invariant.lists

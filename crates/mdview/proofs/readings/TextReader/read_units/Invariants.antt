@@ -2,16 +2,15 @@ use Rattle.std.proofs.Common.{◌≡◌, ◌+◌, ◌≤◌, ◌++◌, length, m
 use Rattle.std.specs.List.{All, sum_by}
 use Rattle.mdblock.specs.FoundLists.{found_unit}
 use Rattle.viewlaws.specs.UnitTexts.{deep_found, trees_in}
-use Rattle.viewlaws.specs.UnitTiles.{tile_of}
-use Rattle.mdview.specs.HeldBlocks.{tile_in}
+use Rattle.mdview.specs.HeldLists.{list_in, unplaced}
 use Rattle.mdview.specs.HeldTexts.{IsReadUnder, entities_in, labels_behind}
-use Rattle.mdview.specs.HeldUnit.{IsRendered, read_of, texts_in}
+use Rattle.mdview.specs.HeldUnit.{IsRendered, texts_in}
 use Rattle.mdview.proofs.readings.TextReader.read_units.Given as goal
 
 -- the units so far were read and counted, and in none of them do spans lie too deep
 abbrev pub invariant-loop-one : goal.invariant-loop-one
 invariant-loop-one g l = record {
-  tiles : map tile_in (map read_of l.units.items) ++ map tile_of (map found_unit l.one-iterator.rest.items) ≡ map tile_of (map found_unit l.fn.found.items);
+  lists : map list_in l.units.items ++ map unplaced l.one-iterator.rest.items ≡ map unplaced l.fn.found.items;
   all : length l.units.items + length l.one-iterator.rest.items ≡ length l.fn.found.items;
   pieces : All (IsRendered l.fn.self.options.now) l.units.items;
   read : All (IsReadUnder (entities_in l.fn.room) (labels_behind l.fn.self)) l.units.items;

@@ -107,7 +107,7 @@ returns-clause-accepted g c =
 pub returns-clause-replacing : goal.returns-clause-replacing
 returns-clause-replacing g c =
     replacing c.args.held.now.entities.now c.args.text c.args.held.now.head (map read_of c.args.held.now.units.now.items) c.in_ok-reparsed.reparsed c.requires.held c.in_ok-reparsed.ensures.read
-    c.behind.result c.behind.ensures.place c.behind.ensures.tiles c.behind.ensures.head
+    c.behind.result c.behind.ensures.place c.behind.ensures.lists c.behind.ensures.head
 
 pub returns-clause-led : goal.returns-clause-led
 returns-clause-led g c =
