@@ -9,3 +9,5 @@ pub mod JoinDepths
 pub mod NearDepths
 pub mod NearStretch
 pub mod StoppedLists
+pub mod TakenTexts
+pub mod StopTexts

@@ -140,7 +140,7 @@ parted_begins e lines n before front behind whole later w =
     ∙ sym (append_assoc (begins_in before) (front.begin ∷ []) (map (λ k. k + n) (begins_in later)))
 
 -- those up to the list lie in front of the line
-front_low : (e : EntityTable) (lines : List (List ℕ)) (n : ℕ) (before : List FoundUnit) (front behind whole : FoundUnit) (later : List FoundUnit) → IsPartedAt e lines n before front behind whole later →
+pub front_low : (e : EntityTable) (lines : List (List ℕ)) (n : ℕ) (before : List FoundUnit) (front behind whole : FoundUnit) (later : List FoundUnit) → IsPartedAt e lines n before front behind whole later →
     All (λ b. b < n) (begins_in before ++ front.begin ∷ [])
 front_low e lines n before front behind whole later w =
     let is : begins e (take n lines) ≡ begins_in before ++ front.begin ∷ [] = ap begins_in w.fronts ∙ map-append (λ (u : FoundUnit). u.begin) before (front ∷ []) in
@@ -149,11 +149,11 @@ front_low e lines n before front behind whole later w =
     (subst (All (λ b. b < length (take n lines))) is (begins_within e (take n lines)))
 
 -- those behind it begin from the first of them on
-abbrev first_moved : ℕ → List FoundUnit → ℕ
+abbrev pub first_moved : ℕ → List FoundUnit → ℕ
 first_moved n [] = n
 first_moved n (v ∷ vs) = v.begin + n
 
-later_high : (n : ℕ) (vs : List FoundUnit) → Ascends (begins_in vs) → All (λ b. first_moved n vs ≤ b) (map (λ k. k + n) (begins_in vs))
+pub later_high : (n : ℕ) (vs : List FoundUnit) → Ascends (begins_in vs) → All (λ b. first_moved n vs ≤ b) (map (λ k. k + n) (begins_in vs))
 later_high n [] h = All-nil (λ b. n ≤ b)
 later_high n (v ∷ vs) h = All-cons (λ b. v.begin + n ≤ b) (v.begin + n) (map (λ k. k + n) (begins_in vs)) (omega arith) (go vs h.0)
   where
@@ -194,7 +194,7 @@ behind_line e lines n before front behind whole later w b there high =
     by (inl v) = absurd (let low = All-contains (λ y. y < n) (begins_in before ++ front.begin ∷ []) b (front_low e lines n before front behind whole later w) v in omega (arith, low, high))
     by (inr v) = v
 
-later_ascend : (e : EntityTable) (lines : List (List ℕ)) (n : ℕ) (before : List FoundUnit) (front behind whole : FoundUnit) (later : List FoundUnit) → IsPartedAt e lines n before front behind whole later →
+pub later_ascend : (e : EntityTable) (lines : List (List ℕ)) (n : ℕ) (before : List FoundUnit) (front behind whole : FoundUnit) (later : List FoundUnit) → IsPartedAt e lines n before front behind whole later →
     Ascends (begins_in later)
 later_ascend e lines n before front behind whole later w = (subst Ascends (ap begins_in w.behinds) (begins_ascend e (drop n lines))).1
 

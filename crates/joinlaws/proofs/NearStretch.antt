@@ -148,7 +148,7 @@ near_told e old new s w line order below up_to =
     by false j b n = unless (λ same. clash (sym (t.0 (here same).0) ∙ j))
 
 -- A line that begins a unit begins no later item, so it is never the one at which reading stops where a unit begins in both texts.
-never_both : (e : EntityTable) (lines : List (List ℕ)) (n : ℕ) → Contains (begins e lines) n → Contains (joins e lines) n → ⊥
+pub never_both : (e : EntityTable) (lines : List (List ℕ)) (n : ℕ) → Contains (begins e lines) n → Contains (joins e lines) n → ⊥
 never_both e lines n b j = go (has_member lines n small)
   where
     small : n < length lines

@@ -150,7 +150,7 @@ marks_are_joins n (t ∷ u ∷ ts) one = absurd one
 one_unit : (e : EntityTable) (ls : List BlockLine) → IsOne (begins_in (units_of e ls)) → map line_of (list_marks e ls) ≡ joins_in e ls
 one_unit e ls one = marks_are_joins (length ls) (top_blocks e ls) (subst (λ z. IsOne (begins_in (found_units z (length ls)))) (sym (blocks_are e ls)) one)
 
-unit_marks : (e : EntityTable) (lines : List (List ℕ)) (before : List FoundUnit) (one : FoundUnit) (back : List FoundUnit) → units e lines ≡ before ++ one ∷ back →
+pub unit_marks : (e : EntityTable) (lines : List (List ℕ)) (before : List FoundUnit) (one : FoundUnit) (back : List FoundUnit) → units e lines ≡ before ++ one ∷ back →
     own_joins e lines one ≡ joins e (own_lines lines one)
 unit_marks e lines before one back is =
     let ls = map document_line (own_lines lines one) in
