@@ -83,7 +83,7 @@ module _ (e : EntityTable) (labels : Table) where
 
 -- ---- members of lists
 
-read_member : (P : HeldUnit → Type 0) (units : List HeldUnit) (i : ℕ) (u : HeldUnit) → slice_get units i ≡ Some u → All P units → P u
+pub read_member : (P : HeldUnit → Type 0) (units : List HeldUnit) (i : ℕ) (u : HeldUnit) → slice_get units i ≡ Some u → All P units → P u
 read_member P [] i u is all = cc
 read_member P (v ∷ units) zero u is all = subst P (ap (λ o. unwrap_or o v) is) (all_first P v units all)
 read_member P (v ∷ units) (suc i) u is all = read_member P units i u is (all_rest P v units all)

@@ -13,14 +13,17 @@ use Rattle.inlinespec.specs.LinkTails.{Table}
 use Rattle.mdhtml.specs.declared.options.Options.{Options}
 use Rattle.viewspec.specs.Calls.{edit, put}
 use Rattle.viewspec.specs.ChangedPieces.{ChangedPieces}
-use Rattle.viewspec.specs.Changes.{asking_from, lines_due, patch_of, places, texts_due, texts_read}
+use Rattle.viewspec.specs.Changes.{asking_from, patch_of, places}
 use Rattle.viewspec.specs.LabelTable.{table}
 use Rattle.viewspec.specs.Patch.{Brings}
 use Rattle.viewspec.specs.Refusals.{nesting_refusal}
 use Rattle.viewspec.specs.Setting.{Setting}
 use Rattle.viewspec.specs.Spliced.{IsSpliced}
-use Rattle.viewspec.specs.Stretch.{Places, lines_read, units_added, units_before, units_removed}
+use Rattle.viewspec.specs.Stretch.{Places, units_added, units_before, units_removed}
 use Rattle.viewspec.specs.View.{view}
+use Rattle.itemspec.specs.Joins.{joins}
+use Rattle.joinspec.specs.SoonTexts.{texts_of_read, texts_soon, units_read}
+use Rattle.joinspec.specs.Stops.{lines_soon, lines_to_stop}
 use Rattle.viewlaws.specs.UnitTexts.{asking_units, trees_in}
 use Rattle.viewlaws.proofs.AskingUnits.{asking_renumbered, asking_spliced}
 use Rattle.viewlaws.proofs.Counts.{spliced}
@@ -36,9 +39,10 @@ use Rattle.mdview.specs.LabelTargets.{led_after, target_held}
 use Rattle.mdview.specs.Lists.{replaced}
 use Rattle.mdview.specs.NewText.{lines_of}
 use Rattle.mdview.specs.Preludes.{HeldPrelude}
+use Rattle.mdview.specs.StopLines.{stops_of}
 use Rattle.mdview.specs.Update.{IsFitFor, IsPatchOf, all_renewed, number_after}
 use Rattle.mdview.proofs.Committed.{committed_brings, committed_rendered}
-use Rattle.mdview.proofs.EditPlaces.{patch_numbers, same_places, texts_call}
+use Rattle.mdview.proofs.EditPlaces.{patch_numbers, same_places}
 use Rattle.mdview.proofs.EditTexts.{trees_are}
 use Rattle.mdview.proofs.HeldReadings.{holds_texts_behind}
 use Rattle.mdview.proofs.HeldTiles.{holds_behind}
@@ -78,15 +82,27 @@ text_of_edit held at del add text lines seen come shown is seen_is shown_is clea
 
 -- how many lines and texts are read, in the words of the call
 pub lines_of_call : (held : Document) (at del : ℕ) (add : List (List ℕ)) (text : NewText) → IsTextOf held at del add text
-    → lines_read (places_of held.entities text) ≡ lines_due (setting_of held) (source_of held) (edit at del add)
-lines_of_call held at del add text w = ap lines_read w.same
+    → lines_to_stop (stops_of held.entities text) ≡ lines_soon (setting_of held) (source_of held) (edit at del add)
+lines_of_call held at del add text w =
+    ap (λ p. stop p (old_lines text) (lines_of text)) w.same
+    ∙ ap (λ ls. stop (places (setting_of held) (source_of held) (edit at del add)) ls (lines_of text)) w.before
+    ∙ ap (stop (places (setting_of held) (source_of held) (edit at del add)) held.lines) w.behind
+  where
+    stop : Places → (old new : List (List ℕ)) → ℕ
+    stop p old new = lines_to_stop (record { places = p; old_joins = joins held.entities old; new_joins = joins held.entities new })
 
 pub texts_of_call : (held : Document) (at del : ℕ) (add : List (List ℕ)) (text : NewText) → IsTextOf held at del add text
-    → texts_due (table held.entities (record { lines = old_lines text; prelude = held.prelude })) (table held.entities (record { lines = lines_of text; prelude = held.prelude }))
-    (units_before (places_of held.entities text)) (units_added (places_of held.entities text)) 0 (view (setting_of held) (record { lines = lines_of text; prelude = held.prelude }))
-    ≡ texts_read (setting_of held) (source_of held) (edit at del add)
+    → texts_of_read (setting_of held) (record { lines = old_lines text; prelude = held.prelude }) (record { lines = lines_of text; prelude = held.prelude })
+    (units_read held.entities (lines_of text) (stops_of held.entities text)) ≡ texts_soon (setting_of held) (source_of held) (edit at del add)
 texts_of_call held at del add text w =
-    texts_call held.entities held.options text held.prelude (setting_of held) (source_of held) at del add refl refl refl w.before w.behind w.same
+    ap (λ p. read p (old_lines text) (lines_of text)) w.same
+    ∙ ap (λ ls. read (places (setting_of held) (source_of held) (edit at del add)) ls (lines_of text)) w.before
+    ∙ ap (read (places (setting_of held) (source_of held) (edit at del add)) held.lines) w.behind
+  where
+    read : Places → (old new : List (List ℕ)) → ℕ
+    read p old new =
+        texts_of_read (setting_of held) (record { lines = old; prelude = held.prelude }) (record { lines = new; prelude = held.prelude })
+        (units_read held.entities new (record { places = p; old_joins = joins held.entities old; new_joins = joins held.entities new }))
 
 -- ---- what was read
 

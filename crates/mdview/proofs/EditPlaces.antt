@@ -166,25 +166,3 @@ begin_of_unit e lines head held i few w = by (nat_lt i (length held)) refl
         let past : length held ≤ i = grind (arith, nat_tests, h) in
         let count = begins_count sizes head in
         sym (ap (λ z. slice_get z i) (begins_held e lines head held w) ∙ slice_get_past (begins_from head sizes) i (omega (arith, past, count, many)))
-
--- ---- how many texts are read
-
-due_for : EntityTable → Options → (old new prelude : List (List ℕ)) → Places → ℕ
-due_for e options old new prelude p =
-    texts_due (table e (record { lines = old; prelude = prelude })) (table e (record { lines = new; prelude = prelude })) (units_before p) (units_added p) 0
-    (view (record { entities = e; options = options }) (record { lines = new; prelude = prelude }))
-
--- in the words of the call
-pub texts_call : (e : EntityTable) (options : Options) (text : NewText) (prelude : List (List ℕ)) (setting : Setting) (source : Source) (at del : ℕ) (add : List (List ℕ)) → e ≡ setting.entities → options ≡ setting.options
-    → prelude ≡ source.prelude → old_lines text ≡ source.lines → new_lines text ≡ (put source (edit at del add)).lines → places_of setting.entities text ≡ places setting source (edit at del add)
-    → texts_due (table e (record { lines = old_lines text; prelude = prelude })) (table e (record { lines = new_lines text; prelude = prelude })) (units_before (places_of e text)) (units_added (places_of e text)) 0
-    (view (record { entities = e; options = options }) (record { lines = new_lines text; prelude = prelude }))
-    ≡ texts_read setting source (edit at del add)
-unfolding due_for
-texts_call e options text prelude setting source at del add entities same_options same_prelude old new same =
-    ap (λ z. due_for z options (old_lines text) (new_lines text) prelude (places_of z text)) entities
-    ∙ ap (λ z. due_for setting.entities z (old_lines text) (new_lines text) prelude (places_of setting.entities text)) same_options
-    ∙ ap (λ z. due_for setting.entities setting.options (old_lines text) (new_lines text) z (places_of setting.entities text)) same_prelude
-    ∙ ap (λ z. due_for setting.entities setting.options z (new_lines text) source.prelude (places_of setting.entities text)) old
-    ∙ ap (λ z. due_for setting.entities setting.options source.lines z source.prelude (places_of setting.entities text)) new
-    ∙ ap (due_for setting.entities setting.options source.lines (put source (edit at del add)).lines source.prelude) same

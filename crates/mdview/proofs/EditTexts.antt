@@ -34,6 +34,8 @@ use Rattle.viewlaws.proofs.LabelsLead.{units_lead}
 use Rattle.viewlaws.proofs.ReadingsUnder.{all_under, asking_texts_under, asking_units_under, deep_found_under, deep_from_under}
 use Rattle.viewlaws.proofs.Splices.{MeetsBehind, from_above, meets_behind}
 use Rattle.viewlaws.proofs.UnitTiles.{units_end}
+use Rattle.joinlaws.specs.LaterTexts.{asking_of}
+use Rattle.joinlaws.proofs.StopTexts.{asking_few}
 use Rattle.mdblock.specs.FoundLists.{found_unit}
 use Rattle.mdview.specs.declared.fault.EditFault.{EditFault}
 use Rattle.mdview.specs.declared.fault.EditFault.TheVariants.{OutOfRange, BreakInLine, TooManyLines, TooLarge, NestedTooDeep, InlineTooDeep, NoMemory, NotDefinitions}
@@ -43,10 +45,12 @@ use Rattle.mdview.specs.declared.reparse.Reparsed.{Reparsed}
 use Rattle.mdview.specs.HeldBlocks.{HoldsUnits, IsDeepAt, IsReread as IsReadStretch, held_tile, lines_in, old_lines, places_of, tile_in}
 use Rattle.mdview.specs.HeldTexts.{IsReadUnder, IsRefusedBy, IsReread, IsShallow, IsTextFault, asking_in_parts, between, deep_in_parts, head_read, line_on, texts_in_parts}
 use Rattle.mdview.specs.HeldUnit.{HeldUnit, read_of, texts_in, unit_in}
+use Rattle.mdview.specs.KeptTexts.{kept_texts, number_kept, texts_with_kept}
 use Rattle.mdview.specs.LabelTargets.{led_by}
 use Rattle.mdview.specs.NewText.{lines_of as new_lines}
 use Rattle.mdview.specs.Preludes.{HeldPrelude, IsDefinedBy, target_beside}
 use Rattle.mdview.specs.ReadingFaults.{OfBlocks}
+use Rattle.mdview.proofs.KeptTexts.{kept_within, none_read}
 use Rattle.mdview.proofs.ReadStretches.{is_edit}
 use Rattle.mdview.proofs.Replacing.{head_behind}
 
@@ -177,7 +181,7 @@ module _ (setting : Setting) (text : NewText) (prelude : HeldPrelude) (was : ℕ
   s : IsSpliced e (old_lines text) (new_lines text) p
   s = spliced e (old_lines text) (new_lines text) p (is_edit e text)
 
-  found_is : map found_unit reparsed.found.items ≡ stretch
+  pub found_is : map found_unit reparsed.found.items ≡ stretch
   found_is = r.found ∙ ap (λ n. units e (drop n (take reparsed.meet (new_lines text)))) r.from ∙ ap (λ n. units e (drop (from_line p) (take n (new_lines text)))) r.meet
 
   from_front : {A : Type 0} (xs : List A) → between 0 reparsed.first xs ≡ take (units_before p) xs
@@ -215,16 +219,18 @@ module _ (setting : Setting) (text : NewText) (prelude : HeldPrelude) (was : ℕ
       ap (λ l. l ++ asking_units e one two reparsed.next (map unit_in (between reparsed.next (length held) held))) (asking_units_under e one two before after f g 0 (map unit_in (between 0 reparsed.first held)))
       ∙ ap (λ l. asking_units e before after 0 (map unit_in (between 0 reparsed.first held)) ++ l) (asking_units_under e one two before after f g reparsed.next (map unit_in (between reparsed.next (length held) held)))
 
-  -- how many texts are read
-  pub texts_are : (one two : Table) → ((label : List ℕ) → one label ≡ before label) → ((label : List ℕ) → two label ≡ after label)
-      → texts_in_parts e one two held reparsed ≡ texts_due before after (units_before p) (units_added p) 0 (map (viewed setting after) (units e (new_lines text)))
+  -- how many texts are read: those that are kept only where they asked
+  pub texts_by_kept : (one two : Table) → ((label : List ℕ) → one label ≡ before label) → ((label : List ℕ) → two label ≡ after label)
+      → let kept = kept_texts (option_map number_kept reparsed.kept) (trees_in (map found_unit reparsed.found.items)) in
+      texts_in_parts e one two held reparsed + length kept ≡ texts_due before after (units_before p) (units_added p) 0 (map (viewed setting after) (units e (new_lines text))) + asking_of e one two kept
   unfolding s
-  texts_are one two f g =
+  texts_by_kept one two f g =
       let a = asking_texts_under e one two before after f g (map unit_in (between 0 reparsed.first held)) ∙ ap (asking_texts e before after) front_trees in
       let b = ap (λ us. sum_by texts_in (trees_in us)) found_is in
       let c = asking_texts_under e one two before after f g (map unit_in (between reparsed.next (length held) held)) ∙ ap (asking_texts e before after) back_trees in
       let all = texts_spliced setting before after (old_lines text) (new_lines text) p s in
-      omega (arith, a, b, c, all)
+      let within = kept_within (option_map number_kept reparsed.kept) (trees_in (map found_unit reparsed.found.items)) in
+      omega (arith, a, b, c, all, within)
 
   -- ---- where spans lie too deep first
 
@@ -342,8 +348,8 @@ module _ (e : EntityTable) (before after : Table) (limit : ℕ) (held : List Hel
   pub texts_by_all : texts_in_parts e before after held r ≡ asking_texts e before after (map unit_in held)
   texts_by_all =
       let a = ap (λ us. asking_texts e before after (map unit_in us)) (none_front held) in
-      let b = ap (λ us. sum_by texts_in (trees_in us)) (ap (map found_unit) found) in
+      let b = ap (λ us. texts_with_kept e before after (option_map number_kept r.kept) (trees_in us)) (ap (map found_unit) found) in
       let c = ap (λ us. asking_texts e before after (map unit_in us)) (all_back held) in
       let x : asking_texts e before after [] ≡ 0 = refl in
-      let y : sum_by texts_in [] ≡ 0 = refl in
+      let y = none_read e before after (option_map number_kept r.kept) in
       omega (arith, a, b, c, x, y)

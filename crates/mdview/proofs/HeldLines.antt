@@ -28,35 +28,8 @@ stands_at e lines head held i u w at =
     subst (λ ls. StandsForUnit e (list_in u) (take u.read.lines ls)) (drop-drop (all_lines (take i (map list_in held))) head lines ∙ ap (λ n. drop (head + n) lines) (lists_before held i))
     (stands_in e (map list_in held) (drop head lines) i (list_in u) (slice_get-map list_in held i ∙ ap (option_map list_in) at) (subst (λ fs. StandForUnits e fs (drop head lines)) (lists_read held) w.stands))
 
-begin_of_held : (e : EntityTable) (lines : List (List ℕ)) (head : ℕ) (held : List HeldUnit) (i : ℕ) → HoldsUnits e lines head (map read_of held) → i < length held
+pub begin_of_held : (e : EntityTable) (lines : List (List ℕ)) (head : ℕ) (held : List HeldUnit) (i : ℕ) → HoldsUnits e lines head (map read_of held) → i < length held
     → slice_get (begins e lines) i ≡ Some (head + sum_by lines_in (take i held))
 begin_of_held e lines head held i w below =
     let many = length-map held read_of in
     begin_behind e lines head (map read_of held) i w (omega (arith, below, many)) ∙ ap (λ n. Some (head + n)) (sym (lines_before held i))
-
--- they begin where the unit does
-pub stands_begun : (e : EntityTable) (lines : List (List ℕ)) (head : ℕ) (held : List HeldUnit) (i begin : ℕ) (u : HeldUnit) → HoldsUnits e lines head (map read_of held) → slice_get held i ≡ Some u
-    → slice_get (begins e lines) i ≡ Some begin → StandsForUnit e (list_in u) (take u.read.lines (drop begin lines))
-stands_begun e lines head held i begin u w at here =
-    let same : head + sum_by lines_in (take i held) ≡ begin =
-    ap (λ o. unwrap_or o begin) (sym (begin_of_held e lines head held i w (slice_get_within held i u at)) ∙ here) in
-    subst (λ n. StandsForUnit e (list_in u) (take u.read.lines (drop n lines))) same (stands_at e lines head held i u w at)
-
-got_first : (xs : List ℕ) (i : ℕ) → slice_get (drop i xs) 0 ≡ slice_get xs i
-got_first xs zero = refl
-got_first [] (suc i) = refl
-got_first (x ∷ xs) (suc i) = got_first xs i
-
-first_begin : (begin : ℕ) (sizes : List ℕ) → 0 < length sizes → slice_get (begins_from begin sizes) 0 ≡ Some begin
-first_begin begin [] some = absurd (omega (arith, some))
-first_begin begin (n ∷ sizes) some = refl
-
--- the same of the unit that is next
-pub stands_ahead : (e : EntityTable) (lines : List (List ℕ)) (head : ℕ) (held : List HeldUnit) (i begin low : ℕ) (u : HeldUnit) → HoldsUnits e lines head (map read_of held) → slice_get held i ≡ Some u
-    → IsAhead (map lines_in held) (begins e lines) i begin low → StandsForUnit e (list_in u) (take u.read.lines (drop begin lines))
-stands_ahead e lines head held i begin low u w at ahead =
-    let below = slice_get_within held i u at in
-    let many = length-map held lines_in in
-    let rest = length-drop i (map lines_in held) in
-    stands_begun e lines head held i begin u w at
-    (sym (got_first (begins e lines) i) ∙ ap (λ xs. slice_get xs 0) ahead.rest ∙ first_begin begin (drop i (map lines_in held)) (omega (arith, below, many, rest)))

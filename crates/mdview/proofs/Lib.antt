@@ -30,9 +30,17 @@ pub mod HeldTiles
 pub mod ListsStand
 pub mod ListSplices
 pub mod HeldLines
+pub mod Numbers
+pub mod HeldItems
+pub mod PassedItems
 pub mod ReadStretches
 pub mod EditPlaces
 pub mod Reparses
+pub mod JoinedTexts
+pub mod NearReadings
+pub mod NearStops
+pub mod NearRead
+pub mod HeldJoins
 pub mod UnitSizes
 pub mod Replacing
 pub mod ToldLaws
@@ -44,3 +52,5 @@ pub mod FewUnits
 pub mod WhereReading
 pub mod LabelMarkLaws
 pub mod PassedUnits
+pub mod KeptTexts
+pub mod SoonTexts

@@ -1,6 +1,7 @@
 -- Which lines units that were found, or are held, stand for.
 use Rattle.std.specs.Prelude.{ℕ, List, [], ◌∷◌, drop, take}
 use Rattle.mdtext.specs.EntityTable.{EntityTable}
+use Rattle.itemspec.specs.ItemMarks.{ItemMark}
 use Rattle.mdblock.specs.FoundLists.{FoundList, StandsForUnit}
 use Rattle.mdview.specs.HeldUnit.{HeldUnit, ReadUnit}
 
@@ -27,3 +28,7 @@ StandsAt e lines f = StandsForUnit e f (take f.lines (drop f.begin lines))
 abbrev pub StandForUnits : EntityTable → List FoundList → (lines : List (List ℕ)) → Type 0
 StandForUnits e [] lines = Unit {0}
 StandForUnits e (f ∷ fs) lines = StandsForUnit e f (take f.lines lines) × StandForUnits e fs (drop f.lines lines)
+
+-- the line of a later item of a list, counted from the list's first one
+abbrev pub item_line : ItemMark → ℕ
+item_line mark = mark.line

@@ -1,5 +1,5 @@
 -- What the inline texts of held units read as, which units are read again, and how the reading of texts ends.
-use Rattle.std.specs.Prelude.{◌≡◌, ℕ, ◌+◌, ◌-◌, ◌^◌, false, if◌then◌else◌, nat_eq, min, List, ◌++◌, Option, Some, None, IfSome, drop, length, map, option_map, slice_get, sum_by, take}
+use Rattle.std.specs.Prelude.{◌≡◌, ℕ, ◌+◌, ◌-◌, ◌^◌, false, if◌then◌else◌, nat_eq, min, List, ◌++◌, Option, Some, None, IfSome, drop, length, map, option_map, slice_get, take}
 use Rattle.std.specs.Option.{option_or}
 use Rattle.mdtext.specs.EntityTable.{EntityTable}
 use Rattle.blockspec.specs.UnitTree.{UnitTree}
@@ -21,7 +21,8 @@ use Rattle.mdview.specs.declared.fault.EditFault.TheVariants.{OutOfRange, BreakI
 use Rattle.mdview.specs.declared.readings.Again.{Again}
 use Rattle.mdview.specs.declared.readings.TextReader.{TextReader}
 use Rattle.mdview.specs.declared.text_room.TextRoom.{TextRoom}
-use Rattle.mdview.specs.HeldUnit.{HeldUnit, texts_in, unit_in}
+use Rattle.mdview.specs.HeldUnit.{HeldUnit, unit_in}
+use Rattle.mdview.specs.KeptTexts.{number_kept, texts_with_kept}
 use Rattle.mdview.specs.LabelTargets.{Leads, target_after, target_held}
 use Rattle.std.specs.List.{All}
 use Rattle.mdview.specs.Preludes.{HeldPrelude, IsDefinedBy}
@@ -88,10 +89,11 @@ abbrev pub asking_in_parts : EntityTable → (old new : Table) → List HeldUnit
 asking_in_parts e old new units first next =
     asking_units e old new 0 (map unit_in (between 0 first units)) ++ asking_units e old new next (map unit_in (between next (length units) units))
 
--- how many texts are read: those in front and behind that ask, and all of the units found
+-- how many texts are read: those in front and behind that ask, and of the units found all but those that are kept and do not ask
 abbrev pub texts_in_parts : EntityTable → (old new : Table) → List HeldUnit → Reparsed → ℕ
 texts_in_parts e old new units r =
-    (asking_texts e old new (map unit_in (between 0 r.first units)) + sum_by texts_in (trees_in (map found_unit r.found.items))) + asking_texts e old new (map unit_in (between r.next (length units) units))
+    (asking_texts e old new (map unit_in (between 0 r.first units)) + texts_with_kept e old new (option_map number_kept r.kept) (trees_in (map found_unit r.found.items)))
+    + asking_texts e old new (map unit_in (between r.next (length units) units))
 
 -- how many lines stand before the first unit then
 abbrev pub head_read : ℕ → Reparsed → ℕ

@@ -1,6 +1,8 @@
 pub mod HeldUnit
 pub mod HeldLists
+pub mod KeptTexts
 pub mod HeldTexts
+pub mod StopLines
 pub mod ReadingFaults
 pub mod Lists
 pub mod Document
@@ -9,6 +11,7 @@ pub mod Outcome
 pub mod Preludes
 pub mod Defining
 pub mod HeldBlocks
+pub mod HeldItems
 pub mod Run
 pub mod FaultNames
 pub mod FaultReasons

@@ -1,6 +1,9 @@
 //! A unit that is held: with what its texts read as, and its HTML.
 
-ghost use Rattle.std.specs.Prelude.{◌≡◌, length, string_bytes};
+ghost use Rattle.std.specs.Prelude.{◌≡◌, ◌≤◌, ◌+◌, ◌-◌, IfSome, Some, is_some, length, map, nat_eq, slice_get, string_bytes};
+ghost use Rattle.std.specs.List.{list_any};
+ghost use Rattle.std.specs.List.Sorted.{IsNonDecreasing};
+ghost use Rattle.mdview.specs.HeldLists.{item_line, list_in, unplaced};
 ghost use Rattle.mdview.specs.LabelMarks.{held_marks};
 
 use crate::label_marks::marks_in;
@@ -58,6 +61,39 @@ impl HeldUnit {
         ensures { result ≡ self.now.read.lines }
     {
         self.found.lines()
+    }
+
+    /// The unit as it was found; where it was is not known any more.
+    pub(crate) fn found(&self) -> &Found
+        ensures { unplaced result.now ≡ list_in self.now }
+    {
+        &self.found
+    }
+
+    /// Which of its later items begins in this line of the unit, if it is a list.
+    pub(crate) fn item_at(&self, line: usize) -> Option<usize>
+        ensures there { IfSome result (λ i. slice_get (map item_line self.now.read.items) i ≡ Some line) }
+        // The items of a list begin in rising lines.
+        ensures told { IsNonDecreasing (map item_line self.now.read.items) → is_some result ≡ list_any (nat_eq line) (map item_line self.now.read.items) }
+    {
+        let joins = self.found.joins();
+        let place = joins.partition_point(|join| join.line < line);
+        if joins.get(place)?.line == line {
+            Some(place)
+        } else {
+            None
+        }
+    }
+
+    /// The same where the unit ends at a line of the text, for a line of the text.
+    pub(crate) fn item_before(&self, end: usize, line: usize) -> Option<usize>
+        ensures there { IfSome result (λ i. (end ≤ line + self.now.read.lines) × (self.now.read.lines ≤ end)
+            × (slice_get (map item_line self.now.read.items) i ≡ Some ((line + self.now.read.lines) - end))) }
+        ensures told { IsNonDecreasing (map item_line self.now.read.items) → self.now.read.lines ≤ end → end ≤ line + self.now.read.lines
+            → is_some result ≡ list_any (nat_eq ((line + self.now.read.lines) - end)) (map item_line self.now.read.items) }
+    {
+        let begin = end.checked_sub(self.lines())?;
+        self.item_at(line.checked_sub(begin)?)
     }
 
     pub(crate) fn unit(&self) -> &Unit

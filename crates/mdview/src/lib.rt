@@ -7,6 +7,7 @@ mod defining;
 mod fault;
 mod held_labels;
 mod held_units;
+mod kept_texts;
 mod label_changes;
 mod label_marks;
 mod laws;

@@ -6,7 +6,8 @@ ghost use Rattle.blockspec.specs.UnitTree.{UnitTree};
 ghost use Rattle.mdinline.specs.ParsedText.{ParsedText};
 ghost use Rattle.mdwalk.specs.EdgeView.{edges_left};
 ghost use Rattle.viewspec.specs.Calls.{due_at_once, put, set_prelude};
-ghost use Rattle.viewspec.specs.Changes.{lines_due, texts_read};
+ghost use Rattle.joinspec.specs.SoonTexts.{texts_soon};
+ghost use Rattle.joinspec.specs.Stops.{lines_soon};
 ghost use Rattle.viewspec.specs.Patch.{Brings};
 ghost use Rattle.mdview.specs.Document.{empty, pieces_of, readings_of, setting_of, size_of, source_of};
 ghost use Rattle.mdview.specs.Edit.{call_of, due, has_special};
@@ -285,11 +286,11 @@ impl Preview {
         // The patch takes the old pieces to the new ones, and the units that it does not bring read as they did.
         ensures patch { IfOk result (λ patch. Brings patch (pieces_of self.old) (pieces_of self.new)) }
         ensures units { IfOk result (λ patch. Brings patch (readings_of self.old) (readings_of self.new)) }
-        // What was read is counted: the lines from the last unit that begins above the edit to where a unit begins in both texts, at most. Nothing is read where a
-        // refusal is due.
-        ensures stretch { C.lines count.new ≤ C.lines count.old + lines_due (setting_of self.old) (source_of self.old) (call_of at del (map (λ line. line.now) add.now)) }
+        // What was read is counted: the lines from the last unit that begins above the edit to where a unit, or a later item of a list, begins in both texts, at
+        // most, and the inline texts of these lines and those that asked for a label which leads elsewhere now. Nothing is read where a refusal is due.
+        ensures stretch { C.lines count.new ≤ C.lines count.old + lines_soon (setting_of self.old) (source_of self.old) (call_of at del (map (λ line. line.now) add.now)) }
         ensures lines { C.lines count.new ≤ C.lines count.old + length (put (source_of self.old) (call_of at del (map (λ line. line.now) add.now))).lines }
-        ensures inlines { C.inlines count.new ≤ C.inlines count.old + texts_read (setting_of self.old) (source_of self.old) (call_of at del (map (λ line. line.now) add.now)) }
+        ensures inlines { C.inlines count.new ≤ C.inlines count.old + texts_soon (setting_of self.old) (source_of self.old) (call_of at del (map (λ line. line.now) add.now)) }
         ensures uncounted { IsSome (due_at_once (source_of self.old) (call_of at del (map (λ line. line.now) add.now))) → count.new ≡ count.old }
     {
         let are_plain = are_plain(add);
@@ -338,7 +339,7 @@ impl Preview {
         ensures units { IfOk result (λ patch. Brings patch (readings_of self.old) (readings_of self.new)) }
         // What was read is counted, and nothing is read where a refusal is due.
         ensures lines { C.lines count.new ≤ C.lines count.old + length lines.now }
-        ensures inlines { C.inlines count.new ≤ C.inlines count.old + texts_read (setting_of self.old) (source_of self.old) (set_prelude (map (λ line. line.now) lines.now)) }
+        ensures inlines { C.inlines count.new ≤ C.inlines count.old + texts_soon (setting_of self.old) (source_of self.old) (set_prelude (map (λ line. line.now) lines.now)) }
         ensures unread { IfErr result (λ fault. IsUndefining fault → C.inlines count.new ≡ C.inlines count.old) }
         ensures uncounted { IsSome (due_at_once (source_of self.old) (set_prelude (map (λ line. line.now) lines.now))) → count.new ≡ count.old }
     {

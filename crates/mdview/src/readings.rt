@@ -10,6 +10,7 @@ ghost use Rattle.viewspec.specs.Changes.{asks_changed};
 ghost use Rattle.viewspec.specs.Refusals.{is_deep};
 ghost use Rattle.viewspec.specs.View.{reading_of};
 ghost use Rattle.viewlaws.specs.UnitTexts.{asking_in, asking_texts, asking_units, deep_found, deep_from, is_deep_under, readings_under, trees_in};
+ghost use Rattle.joinlaws.specs.LaterTexts.{asking_of};
 ghost use Rattle.mdview.specs.HeldUnit.{HeldUnit, IsRendered, html_of, unit_in, texts_in};
 ghost use Rattle.mdview.specs.Update.{Fits, IsWritten};
 ghost use Rattle.mdview.specs.HeldLists.{list_in, unplaced};
@@ -129,10 +130,33 @@ impl<'a> TextReader<'a> {
     {
         let texts = unit.texts();
         let mut inlines = Vec::with_capacity(self.alloc, texts.len())?;
+        self.read_all(texts, &mut inlines, room, count)?;
+        Ok(inlines)
+    }
+
+    /// Reads texts, and puts their readings behind those that are there.
+    pub(crate) fn read_all<C: Count>(
+        &self,
+        texts: &[String],
+        inlines: &mut Vec<Parsed>,
+        room: &mut TextRoom<'a>,
+        count: &mut C,
+    ) -> Result<(), InlineFault>
+        requires limits { HasLimits self.now.options.now }
+        ensures readings { OnOk result (inlines.new.items
+            ≡ inlines.old.items ++ map (reading_of (entities_in room.old) (labels_behind self.now)) (map string_bytes texts.now)) }
+        ensures shallow { OnOk result (list_any (is_deep self.now.options.now.max_spans)
+            (map (reading_of (entities_in room.old) (labels_behind self.now)) (map string_bytes texts.now)) ≡ false) }
+        ensures deep { IsErrOf result TooDeep → list_any (is_deep self.now.options.now.max_spans)
+            (map (reading_of (entities_in room.old) (labels_behind self.now)) (map string_bytes texts.now)) ≡ true }
+        ensures room { entities_in room.new ≡ entities_in room.old }
+        ensures lines { C.lines count.new ≡ C.lines count.old }
+        ensures inlines { C.inlines count.new ≤ C.inlines count.old + length texts.now }
+    {
         for text in texts {
             inlines.push(self.read_text(text, room, count)?)?;
         }
-        Ok(inlines)
+        Ok(())
     }
 
     fn read_text<C: Count>(
@@ -301,12 +325,39 @@ impl<'a> TextReader<'a> {
         ensures inlines { C.inlines count.new ≤ C.inlines count.old + asking_in (entities_in room.old) (labels_before self.now) (labels_behind self.now) unit.now.read.unit }
     {
         let texts = unit.unit().texts();
-        let held = unit.inlines();
         let mut inlines = Vec::with_capacity(self.alloc, texts.len())?;
+        self.read_concerned(texts, unit.inlines(), &mut inlines, room, count)?;
+        Ok(inlines)
+    }
+
+    /// Puts the readings of texts that are held behind those that are there; texts that are concerned are read.
+    pub(crate) fn read_concerned<C: Count>(
+        &self,
+        texts: &[String],
+        held: &[Parsed],
+        inlines: &mut Vec<Parsed>,
+        room: &mut TextRoom<'a>,
+        count: &mut C,
+    ) -> Result<(), InlineFault>
+        requires limits { HasLimits self.now.options.now }
+        requires elsewhere { IsElsewhere self.now.labels.now.held.now self.now.labels.now.changes.now }
+        requires held { held.now ≡ map (reading_of (entities_in room.old) (labels_before self.now)) (map string_bytes texts.now) }
+        requires shallow { list_any (is_deep self.now.options.now.max_spans) held.now ≡ false }
+        ensures readings { OnOk result (inlines.new.items
+            ≡ inlines.old.items ++ map (reading_of (entities_in room.old) (labels_behind self.now)) (map string_bytes texts.now)) }
+        ensures shallow { OnOk result (list_any (is_deep self.now.options.now.max_spans)
+            (map (reading_of (entities_in room.old) (labels_behind self.now)) (map string_bytes texts.now)) ≡ false) }
+        ensures deep { IsErrOf result TooDeep → list_any (is_deep self.now.options.now.max_spans)
+            (map (reading_of (entities_in room.old) (labels_behind self.now)) (map string_bytes texts.now)) ≡ true }
+        ensures room { entities_in room.new ≡ entities_in room.old }
+        ensures lines { C.lines count.new ≡ C.lines count.old }
+        ensures inlines { C.inlines count.new ≤ C.inlines count.old
+            + asking_of (entities_in room.old) (labels_before self.now) (labels_behind self.now) (map string_bytes texts.now) }
+    {
         for i in 0..texts.len() {
             inlines.push(self.read_one(&texts[i], &held[i], room, count)?)?;
         }
-        Ok(inlines)
+        Ok(())
     }
 
     fn read_one<C: Count>(
@@ -335,7 +386,7 @@ impl<'a> TextReader<'a> {
     }
 }
 
-fn fault_in_unit(fault: InlineFault, begin: usize) -> EditFault
+pub(crate) fn fault_in_unit(fault: InlineFault, begin: usize) -> EditFault
     ensures { result ≡ text_fault_in fault begin }
 {
     match fault {

@@ -1,30 +1,48 @@
 //! Reads the lines again that an edit may have changed the blocks of.
 
-ghost use Rattle.std.specs.Prelude.{◌≡◌, ◌≤◌, ◌+◌, ◌<◌, ◌-◌, ◌++◌, ◌&&◌, ℕ, List, None, Some, IfErr, IfOk, IfSome, OnOk, [], is_some, length, map, true};
+ghost use Rattle.std.specs.Prelude.{◌≡◌, ◌≤◌, ◌+◌, ◌<◌, ◌-◌, ◌^◌, ◌++◌, ◌&&◌, ◌∷◌, ℕ, List, None, Some, IfErr, IfOk, IfSome, OnOk, [], is_some, length, map, min, sum_by, true};
 ghost use Rattle.std.specs.Option.{option_to_list};
 ghost use Rattle.mdtext.specs.EntityTable.{EntityTable};
-ghost use Rattle.blockspec.specs.BlockUnits.{begins};
+ghost use Rattle.blockspec.specs.BlockUnits.{begins, units};
 ghost use Rattle.blockspec.specs.Nesting.{first_too_deep};
+ghost use Rattle.itemspec.specs.Joins.{is_joined};
+ghost use Rattle.joinspec.specs.Stops.{is_near, lines_to_stop};
+ghost use Rattle.mdblock.specs.FoundLists.{FoundList, found_unit};
+ghost use Rattle.mdblock.specs.held.ReaderState.{held_joined};
 ghost use Rattle.mdblock.specs.held.Reads.{Reads, open_begin};
 ghost use Rattle.mdhtml.specs.Limits.{HasLimits};
-ghost use Rattle.viewspec.specs.Stretch.{is_meeting, lines_read};
+ghost use Rattle.viewspec.specs.Stretch.{is_meeting};
+ghost use Rattle.viewlaws.specs.UnitTexts.{trees_in};
 ghost use Rattle.viewlaws.specs.UnitTiles.{IsAhead};
 ghost use Rattle.mdview.specs.HeldBlocks.{HoldsUnits, IsDeepAt, IsReread, fault_in, is_at, line_before, lines_in, old_lines, places_of};
+ghost use Rattle.mdview.specs.HeldItems.{IsCounted, IsItemAt, IsItemOf, IsSpliced, kept_of, mark_in};
+ghost use Rattle.mdview.specs.HeldLists.{list_in};
 ghost use Rattle.mdview.specs.HeldUnit.{read_of};
+ghost use Rattle.mdview.specs.KeptTexts.{IsKept};
+ghost use Rattle.mdview.specs.StopLines.{IsReadToStop, stops_of};
 ghost use Rattle.mdview.specs.Document.{size_of};
 ghost use Rattle.mdview.specs.NewText.{lines_of};
 ghost use Rattle.mdview.specs.ReadingFaults.{OfBlocks};
+ghost use Rattle.mdview.specs.declared.fault.EditFault.TheVariants.{NoMemory};
 
 use crate::fault::EditFault;
 use crate::new_text::NewText;
-use crate::resuming::{Resume, UnitCursor, resume_at};
+use crate::resuming::{HeldItem, Resume, UnitCursor, resume_at};
 use crate::update::HeldText;
-use mdblock::{BlockFault, Found, Reader};
+use mdblock::{BlockFault, Found, Reader, splice};
 use mdtext::Count;
 use std::alloc::AllocError;
 
+/// Inline texts of a list that stay: those of the last unit found from number `at` on are those of the held unit with number `unit` from number `from` on.
+#[derive(Clone, Copy)]
+pub(crate) struct Kept {
+    pub(crate) unit: usize,
+    pub(crate) from: usize,
+    pub(crate) at: usize,
+}
+
 /// What an edit reads: from line `from` up to line `meet` there are the units `found`, in the place of those from number `first`
-/// up to `next`.
+/// up to `next`. Where reading stopped inside a list, some texts of the last one are kept.
 #[derive(Drop)]
 pub(crate) struct Reparsed {
     pub(crate) first: usize,
@@ -32,10 +50,11 @@ pub(crate) struct Reparsed {
     pub(crate) from: usize,
     pub(crate) meet: usize,
     pub(crate) found: Vec<Found>,
+    pub(crate) kept: Option<Kept>,
 }
 
-/// Reads blocks from the last unit that begins above the edit up to where a unit begins behind it that is held, or to the end.
-/// Each line that is read is counted.
+/// Reads blocks from the last unit that begins above the edit up to where a unit begins behind it that is held, or a later item of a list is held that begins
+/// there in both texts, or to the end. Each line that is read is counted.
 pub(crate) fn reparse<C: Count>(
     held: &HeldText<'_>,
     text: NewText<'_>,
@@ -51,7 +70,9 @@ pub(crate) fn reparse<C: Count>(
     ensures deep { IfErr result (IsDeepAt (first_too_deep held.now.options.now.max_containers (lines_of text.entry))) }
     ensures fits { OnOk result (first_too_deep held.now.options.now.max_containers (lines_of text.entry) ≡ None) }
     ensures read { IfOk result (IsReread held.now.entities.now text.entry) }
-    ensures stretch { C.lines count.new ≤ C.lines count.old + lines_read (places_of held.now.entities.now text.entry) }
+    ensures kept { IfOk result (λ reparsed. IfSome reparsed.kept (IsKept held.now.units.now.items (trees_in (map found_unit reparsed.found.items)))) }
+    ensures soon { IfOk result (IsReadToStop held.now.entities.now text.entry) }
+    ensures stretch { C.lines count.new ≤ C.lines count.old + lines_to_stop (stops_of held.now.entities.now text.entry) }
     ensures order { IfOk result (λ reparsed. (reparsed.first ≤ reparsed.next) × (reparsed.next ≤ length held.now.units.now.items)) }
     ensures lines { C.lines count.new ≤ C.lines count.old + length (lines_of text.entry) }
     ensures inlines { C.inlines count.new ≡ C.inlines count.old }
@@ -74,7 +95,19 @@ pub(crate) fn reparse<C: Count>(
                 from,
                 meet: line,
                 found,
+                kept: None,
             });
+        }
+        if let Some(item) = joined_at(&reader, &mut cursor, text, line) {
+            let read = Reparsed {
+                first,
+                next: item.number,
+                from,
+                meet: line,
+                found,
+                kept: None,
+            };
+            return join_held(reader, item, read);
         }
     }
     // Behind the last line no container begins any more.
@@ -88,6 +121,41 @@ pub(crate) fn reparse<C: Count>(
         from,
         meet: text.len(),
         found,
+        kept: None,
+    })
+}
+
+/// A list that goes on in one that is held: what was read, of which the last line begins that item, and the held list's items from there on.
+fn join_held(reader: Reader<'_>, item: HeldItem<'_>, read: Reparsed) -> Result<Reparsed, EditFault>
+    requires joined { held_joined reader.held ≡ true }
+    requires item { item.item < length item.unit.now.read.items }
+    requires fits { reader.fed + (item.unit.now.read.lines - (mark_in item).line - 1) ≤ usize.MAX }
+    ensures fault { IfErr result (λ fault. fault ≡ NoMemory) }
+    ensures place { IfOk result (λ r. (r.first ≡ read.first) × (r.from ≡ read.from) × (r.next ≡ min (item.entry.number + 1) (2 ^ 64 - 1))
+        × (r.meet ≡ min (read.meet + (item.entry.unit.now.read.lines - (mark_in item.entry).line)) (2 ^ 64 - 1))) }
+    ensures list { IfOk result (λ r. (list : FoundList) × (r.found.items ≡ read.found.items ++ list ∷ [])
+        × IsSpliced reader.entry (list_in item.entry.unit.now) item.entry.item list × (r.kept ≡ Some (kept_of item.entry list))) }
+{
+    let old = item.unit.found();
+    let join = old.joins()[item.item];
+    let list = splice(reader, old, item.item)?;
+    let later = old.unit().texts().len().saturating_sub(join.texts);
+    let kept = Kept {
+        unit: item.number,
+        from: join.texts,
+        at: list.unit().texts().len().saturating_sub(later),
+    };
+    let mut found = read.found;
+    found.push(list)?;
+    Ok(Reparsed {
+        first: read.first,
+        next: item.number.saturating_add(1),
+        from: read.from,
+        meet: read
+            .meet
+            .saturating_add(old.lines().saturating_sub(join.line)),
+        found,
+        kept: Some(kept),
     })
 }
 
@@ -142,9 +210,41 @@ fn met_at(
         IsAhead (map lines_in cursor.old.units.now.items) p.old_begins cursor.old.next.unit cursor.old.next.line (line_before p line)
         → is_some result ≡ (is_at (line - from) (open_begin e ls) && is_meeting p line) }
     ensures here { is_some result ≡ true → cursor.new.next.line ≡ line_before (places_of [] text.entry) line }
+    ensures counted { (head : ℕ) → IsCounted head cursor.old.units.now.items cursor.old.next → IsCounted head cursor.old.units.now.items cursor.new.next }
 {
     if begins_at(reader, line - from) {
         held_at(cursor, text, line)
+    } else {
+        None
+    }
+}
+
+/// The later item of a held list that begins in this line, the last that was read, if the line begins a later item of a list of the new text too and stands
+/// behind the edit.
+fn joined_at<'a>(
+    reader: &Reader<'_>,
+    cursor: &mut UnitCursor<'a>,
+    text: NewText<'_>,
+    line: usize,
+) -> Option<HeldItem<'a>>
+    requires old { length (old_lines text) ≤ 1000000 }
+    requires new { line ≤ 1000000 }
+    ensures same { cursor.new.units.now ≡ cursor.old.units.now }
+    ensures forward { cursor.old.next.unit ≤ cursor.new.next.unit }
+    ensures ahead { (e : EntityTable) → let p = places_of e text.entry in
+        IsAhead (map lines_in cursor.old.units.now.items) p.old_begins cursor.old.next.unit cursor.old.next.line (line_before p line)
+        → IsAhead (map lines_in cursor.old.units.now.items) p.old_begins cursor.new.next.unit cursor.new.next.line (line_before p line) }
+    ensures counted { (head : ℕ) → IsCounted head cursor.old.units.now.items cursor.old.next → IsCounted head cursor.old.units.now.items cursor.new.next }
+    ensures item { IfSome result (IsItemOf cursor.new.units.now.items) }
+    ensures joined { is_some result ≡ true → held_joined reader.now.held ≡ true }
+    ensures told { (limit : ℕ) (e : EntityTable) (ls : List (List ℕ)) (head : ℕ) → Reads limit e reader.now ls → let p = places_of e text.entry in
+        HoldsUnits e (old_lines text.entry) head (map read_of cursor.old.units.now.items) → line < length (lines_of text.entry)
+        → IsAhead (map lines_in cursor.old.units.now.items) p.old_begins cursor.old.next.unit cursor.old.next.line (line_before p line)
+        → IsCounted head cursor.old.units.now.items cursor.old.next
+        → (is_some result ≡ (is_joined e ls && is_near (stops_of e text.entry) line)) × IfSome result (IsItemAt p.old_begins (line_before p line)) }
+{
+    if reader.joined() {
+        cursor.item_at(text.old_line(line)?)
     } else {
         None
     }
@@ -162,6 +262,7 @@ fn held_at(cursor: &mut UnitCursor<'_>, text: NewText<'_>, line: usize) -> Optio
         → IsAhead (map lines_in cursor.old.units.now.items) p.old_begins cursor.new.next.unit cursor.new.next.line (line_before p line)
         × (is_some result ≡ is_meeting p line) }
     ensures here { is_some result ≡ true → cursor.new.next.line ≡ line_before (places_of [] text.entry) line }
+    ensures counted { (head : ℕ) → IsCounted head cursor.old.units.now.items cursor.old.next → IsCounted head cursor.old.units.now.items cursor.new.next }
 {
     cursor.unit_at(text.old_line(line)?)
 }

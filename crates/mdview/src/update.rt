@@ -1,18 +1,17 @@
 //! What an edit or a new prelude changes, made before anything of the preview is.
 
-ghost use Rattle.std.specs.Prelude.{◌≡◌, ℕ, List, ◌≤◌, ◌<◌, ◌+◌, ◌^◌, ◌++◌, [], IfErr, IfOk, None, OnOk, drop, if◌then◌else◌, length, map, nat_eq, sum_by, take};
+ghost use Rattle.std.specs.Prelude.{◌≡◌, ℕ, List, ◌≤◌, ◌<◌, ◌+◌, ◌^◌, ◌++◌, [], IfErr, IfOk, IfSome, None, OnOk, drop, if◌then◌else◌, length, map, nat_eq, sum_by, take};
 ghost use Rattle.std.specs.List.{All};
 ghost use Rattle.blockspec.specs.Nesting.{first_too_deep};
 ghost use Rattle.mdblock.specs.FoundLists.{found_unit};
-ghost use Rattle.viewspec.specs.Changes.{texts_due};
 ghost use Rattle.viewspec.specs.LabelTable.{table};
 ghost use Rattle.viewspec.specs.Refusals.{inline_refusal, nesting_refusal};
-ghost use Rattle.viewspec.specs.Stretch.{lines_read, units_added, units_before};
-ghost use Rattle.viewspec.specs.View.{view};
-ghost use Rattle.viewlaws.specs.UnitTexts.{asking_texts, asking_units, deep_from};
+ghost use Rattle.joinspec.specs.SoonTexts.{texts_of_read, units_read};
+ghost use Rattle.joinspec.specs.Stops.{lines_to_stop};
+ghost use Rattle.viewlaws.specs.UnitTexts.{asking_texts, asking_units, deep_from, trees_in};
 ghost use Rattle.mdview.specs.Preludes.{IsDefinedBy};
 ghost use Rattle.viewlaws.specs.UnitTiles.{front_of};
-ghost use Rattle.mdview.specs.HeldBlocks.{HoldsUnits, IsReplacing, old_lines, places_of};
+ghost use Rattle.mdview.specs.HeldBlocks.{HoldsUnits, IsReplacing, old_lines};
 ghost use Rattle.mdview.specs.HeldLists.{list_in, unplaced};
 ghost use Rattle.mdhtml.specs.Limits.{HasLimits};
 ghost use Rattle.mdview.specs.Document.{size_of};
@@ -21,11 +20,14 @@ ghost use Rattle.mdview.specs.HeldTexts.{IsReadUnder, IsRefusedBy, IsReread, IsS
 ghost use Rattle.mdview.specs.LabelTargets.{IsElsewhere, Leads, LeadsAfter, led_after, led_by, target_held};
 ghost use Rattle.mdview.specs.HeldBlocks.{held_tile, lines_in};
 ghost use Rattle.mdview.specs.HeldUnit.{unit_in, read_of, texts_before, texts_of};
+ghost use Rattle.mdview.specs.KeptTexts.{IsKept};
+ghost use Rattle.mdview.specs.StopLines.{stops_of};
 ghost use Rattle.mdview.specs.Update.{IsFitFor, IsPatchOf, number_after};
 
 use crate::fault::EditFault;
 use crate::held_labels::{HeldLabels, LabelsAfter};
 use crate::held_units::HeldUnit;
+use crate::kept_texts::kept_readings;
 use crate::label_changes::LabelChanges;
 use crate::new_text::NewText;
 use crate::patch::Patch;
@@ -91,11 +93,10 @@ impl Update {
         ensures reread { IfOk result (λ r. All (IsReread held.now.entities.now (table held.now.entities.now (source_behind held.now text.entry)) (map unit_in held.now.units.now.items)) r.again.items) }
         ensures numbers { IfOk result (λ r. map number_again r.again.items ≡ asking_in_parts held.now.entities.now
             (table held.now.entities.now (source_before held.now text.entry)) (table held.now.entities.now (source_behind held.now text.entry)) held.now.units.now.items r.first r.next) }
-        ensures stretch { C.lines count.new ≤ C.lines count.old + lines_read (places_of held.now.entities.now text.entry) }
+        ensures stretch { C.lines count.new ≤ C.lines count.old + lines_to_stop (stops_of held.now.entities.now text.entry) }
         ensures texts { C.inlines count.new ≤ C.inlines count.old
-            + texts_due (table held.now.entities.now (source_before held.now text.entry)) (table held.now.entities.now (source_behind held.now text.entry))
-            (units_before (places_of held.now.entities.now text.entry)) (units_added (places_of held.now.entities.now text.entry)) 0
-            (view (setting_in held.now) (source_behind held.now text.entry)) }
+            + texts_of_read (setting_in held.now) (source_before held.now text.entry) (source_behind held.now text.entry)
+            (units_read held.now.entities.now (lines_of text.entry) (stops_of held.now.entities.now text.entry)) }
         ensures fit { IfOk result (IsFitFor held.now.options.now (map unit_in held.now.units.now.items)) }
         ensures lines { C.lines count.new ≤ C.lines count.old + length (lines_of text.entry) }
     {
@@ -137,6 +138,7 @@ impl Update {
             from: 0,
             meet: held.head,
             found: Vec::new(held.alloc),
+            kept: None,
         };
         Update::behind(held, unread, changes, count)
     }
@@ -157,6 +159,7 @@ impl Update {
         requires shallow { All (IsShallow held.now.options.now.max_spans held.now.entities.now (target_held held.now.labels.now)) held.now.units.now.items }
         requires near { head_read held.now.head reparsed + sum_by lines_in held.now.units.now.items < 2 ^ 64 }
         requires far { reparsed.meet + sum_by lines_in held.now.units.now.items < 2 ^ 64 }
+        requires kept { IfSome reparsed.kept (IsKept held.now.units.now.items (trees_in (map found_unit reparsed.found.items))) }
         ensures fit { IfOk result (IsFitFor held.now.options.now (map unit_in held.now.units.now.items)) }
         ensures place { IfOk result (λ r. (r.first ≡ reparsed.first) × (r.next ≡ reparsed.next)) }
         ensures units { IfOk result (λ r. length r.units.items ≡ length reparsed.found.items) }
@@ -192,10 +195,12 @@ impl Update {
             from,
             meet,
             found,
+            kept,
         } = reparsed;
         let mut again = Vec::new(held.alloc);
         reader.read_again(held.units, 0, first, head, &mut room, &mut again, count)?;
-        let units = reader.read_units(found, from, &mut room, count)?;
+        let kept = kept_readings(held.units, kept);
+        let units = reader.read_found(found, kept, from, &mut room, count)?;
         reader.read_again(
             held.units,
             next,

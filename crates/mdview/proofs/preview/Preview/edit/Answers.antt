@@ -1,7 +1,8 @@
 use Rattle.std.proofs.Common.{◌≡◌, ◌+◌, ℕ, false, ◌-◌, ◌^◌, ◌<◌, ◌≤◌, List, map, length, string_bytes, arith, ap, sym, ◌∙◌, refl, subst}
 use Rattle.std.proofs.lemmas.List.{length-map}
 use Rattle.viewspec.specs.Calls.{Call, put}
-use Rattle.viewspec.specs.Changes.{lines_due, texts_read}
+use Rattle.joinspec.specs.SoonTexts.{texts_soon}
+use Rattle.joinspec.specs.Stops.{lines_soon}
 use Rattle.viewspec.specs.Outcome.{accepted}
 use Rattle.viewspec.specs.Patch.{Brings}
 use Rattle.viewspec.specs.Refusals.{nesting_refusal}
@@ -59,8 +60,19 @@ returns-in_err-update-clause-inlines g c =
     let is : IsTextOf held c.args.at c.args.del add c.new-text.result =
     text_of_edit held c.args.at c.args.del add c.new-text.result p.lines.items p.lines.items c.in_ok-new_lines.new_lines.items c.deref.result.now refl refl c.deref.ensures.value
     c.in_ok-new_lines.ensures c.new-text.ensures.new c.new-text.ensures.old c.new-text.ensures.at c.new-text.ensures.gone c.new-text.ensures.come in
-    let due = texts_of_call held c.args.at c.args.del add c.new-text.result is ∙ ap (λ (d : Document). texts_read (setting_of d) (source_of d) (call_of c.args.at c.args.del add)) c.self.view_is in
+    let due = texts_of_call held c.args.at c.args.del add c.new-text.result is ∙ ap (λ (d : Document). texts_soon (setting_of d) (source_of d) (call_of c.args.at c.args.del add)) c.self.view_is in
     omega (arith, c.of.ensures.texts, due)
+
+pub returns-in_err-update-clause-stretch : goal.returns-in_err-update-clause-stretch
+returns-in_err-update-clause-stretch g c =
+    let p = c.self.inside in
+    let add : List (List ℕ) = map (λ line. line.now) c.args.add.now in
+    let held : Document = record { entities = p.entities; options = p.options; lines = map string_bytes p.lines.items; prelude = p.prelude.lines } in
+    let is : IsTextOf held c.args.at c.args.del add c.new-text.result =
+    text_of_edit held c.args.at c.args.del add c.new-text.result p.lines.items p.lines.items c.in_ok-new_lines.new_lines.items c.deref.result.now refl refl c.deref.ensures.value
+    c.in_ok-new_lines.ensures c.new-text.ensures.new c.new-text.ensures.old c.new-text.ensures.at c.new-text.ensures.gone c.new-text.ensures.come in
+    let due = lines_of_call held c.args.at c.args.del add c.new-text.result is ∙ ap (λ (d : Document). lines_soon (setting_of d) (source_of d) (call_of c.args.at c.args.del add)) c.self.view_is in
+    omega (arith, c.of.ensures.stretch, due)
 
 pub returns-in_err-patch-clause-stretch : goal.returns-in_err-patch-clause-stretch
 returns-in_err-patch-clause-stretch g c =
@@ -70,7 +82,7 @@ returns-in_err-patch-clause-stretch g c =
     let is : IsTextOf held c.args.at c.args.del add c.new-text.result =
     text_of_edit held c.args.at c.args.del add c.new-text.result p.lines.items p.lines.items c.in_ok-new_lines.new_lines.items c.deref.result.now refl refl c.deref.ensures.value
     c.in_ok-new_lines.ensures c.new-text.ensures.new c.new-text.ensures.old c.new-text.ensures.at c.new-text.ensures.gone c.new-text.ensures.come in
-    let due = lines_of_call held c.args.at c.args.del add c.new-text.result is ∙ ap (λ (d : Document). lines_due (setting_of d) (source_of d) (call_of c.args.at c.args.del add)) c.self.view_is in
+    let due = lines_of_call held c.args.at c.args.del add c.new-text.result is ∙ ap (λ (d : Document). lines_soon (setting_of d) (source_of d) (call_of c.args.at c.args.del add)) c.self.view_is in
     omega (arith, c.of.ensures.stretch, due)
 
 pub returns-in_err-patch-clause-inlines : goal.returns-in_err-patch-clause-inlines
@@ -81,7 +93,7 @@ returns-in_err-patch-clause-inlines g c =
     let is : IsTextOf held c.args.at c.args.del add c.new-text.result =
     text_of_edit held c.args.at c.args.del add c.new-text.result p.lines.items p.lines.items c.in_ok-new_lines.new_lines.items c.deref.result.now refl refl c.deref.ensures.value
     c.in_ok-new_lines.ensures c.new-text.ensures.new c.new-text.ensures.old c.new-text.ensures.at c.new-text.ensures.gone c.new-text.ensures.come in
-    let due = texts_of_call held c.args.at c.args.del add c.new-text.result is ∙ ap (λ (d : Document). texts_read (setting_of d) (source_of d) (call_of c.args.at c.args.del add)) c.self.view_is in
+    let due = texts_of_call held c.args.at c.args.del add c.new-text.result is ∙ ap (λ (d : Document). texts_soon (setting_of d) (source_of d) (call_of c.args.at c.args.del add)) c.self.view_is in
     omega (arith, c.of.ensures.texts, due)
 
 pub returns-in_err-reserve_splice-clause-stretch : goal.returns-in_err-reserve_splice-clause-stretch
@@ -92,7 +104,7 @@ returns-in_err-reserve_splice-clause-stretch g c =
     let is : IsTextOf held c.args.at c.args.del add c.new-text.result =
     text_of_edit held c.args.at c.args.del add c.new-text.result p.lines.items p.lines.items c.in_ok-new_lines.new_lines.items c.deref.result.now refl refl c.deref.ensures.value
     c.in_ok-new_lines.ensures c.new-text.ensures.new c.new-text.ensures.old c.new-text.ensures.at c.new-text.ensures.gone c.new-text.ensures.come in
-    let due = lines_of_call held c.args.at c.args.del add c.new-text.result is ∙ ap (λ (d : Document). lines_due (setting_of d) (source_of d) (call_of c.args.at c.args.del add)) c.self.view_is in
+    let due = lines_of_call held c.args.at c.args.del add c.new-text.result is ∙ ap (λ (d : Document). lines_soon (setting_of d) (source_of d) (call_of c.args.at c.args.del add)) c.self.view_is in
     omega (arith, c.of.ensures.stretch, due)
 
 pub returns-in_err-reserve_splice-clause-inlines : goal.returns-in_err-reserve_splice-clause-inlines
@@ -103,7 +115,7 @@ returns-in_err-reserve_splice-clause-inlines g c =
     let is : IsTextOf held c.args.at c.args.del add c.new-text.result =
     text_of_edit held c.args.at c.args.del add c.new-text.result p.lines.items p.lines.items c.in_ok-new_lines.new_lines.items c.deref.result.now refl refl c.deref.ensures.value
     c.in_ok-new_lines.ensures c.new-text.ensures.new c.new-text.ensures.old c.new-text.ensures.at c.new-text.ensures.gone c.new-text.ensures.come in
-    let due = texts_of_call held c.args.at c.args.del add c.new-text.result is ∙ ap (λ (d : Document). texts_read (setting_of d) (source_of d) (call_of c.args.at c.args.del add)) c.self.view_is in
+    let due = texts_of_call held c.args.at c.args.del add c.new-text.result is ∙ ap (λ (d : Document). texts_soon (setting_of d) (source_of d) (call_of c.args.at c.args.del add)) c.self.view_is in
     omega (arith, c.of.ensures.texts, due)
 
 pub returns-in_err-reserve_splice-2-clause-stretch : goal.returns-in_err-reserve_splice-2-clause-stretch
@@ -114,7 +126,7 @@ returns-in_err-reserve_splice-2-clause-stretch g c =
     let is : IsTextOf held c.args.at c.args.del add c.new-text.result =
     text_of_edit held c.args.at c.args.del add c.new-text.result p.lines.items p.lines.items c.in_ok-new_lines.new_lines.items c.deref.result.now refl refl c.deref.ensures.value
     c.in_ok-new_lines.ensures c.new-text.ensures.new c.new-text.ensures.old c.new-text.ensures.at c.new-text.ensures.gone c.new-text.ensures.come in
-    let due = lines_of_call held c.args.at c.args.del add c.new-text.result is ∙ ap (λ (d : Document). lines_due (setting_of d) (source_of d) (call_of c.args.at c.args.del add)) c.self.view_is in
+    let due = lines_of_call held c.args.at c.args.del add c.new-text.result is ∙ ap (λ (d : Document). lines_soon (setting_of d) (source_of d) (call_of c.args.at c.args.del add)) c.self.view_is in
     omega (arith, c.of.ensures.stretch, due)
 
 pub returns-in_err-reserve_splice-2-clause-inlines : goal.returns-in_err-reserve_splice-2-clause-inlines
@@ -125,7 +137,7 @@ returns-in_err-reserve_splice-2-clause-inlines g c =
     let is : IsTextOf held c.args.at c.args.del add c.new-text.result =
     text_of_edit held c.args.at c.args.del add c.new-text.result p.lines.items p.lines.items c.in_ok-new_lines.new_lines.items c.deref.result.now refl refl c.deref.ensures.value
     c.in_ok-new_lines.ensures c.new-text.ensures.new c.new-text.ensures.old c.new-text.ensures.at c.new-text.ensures.gone c.new-text.ensures.come in
-    let due = texts_of_call held c.args.at c.args.del add c.new-text.result is ∙ ap (λ (d : Document). texts_read (setting_of d) (source_of d) (call_of c.args.at c.args.del add)) c.self.view_is in
+    let due = texts_of_call held c.args.at c.args.del add c.new-text.result is ∙ ap (λ (d : Document). texts_soon (setting_of d) (source_of d) (call_of c.args.at c.args.del add)) c.self.view_is in
     omega (arith, c.of.ensures.texts, due)
 
 pub returns-in_err-make_room-clause-stretch : goal.returns-in_err-make_room-clause-stretch
@@ -136,7 +148,7 @@ returns-in_err-make_room-clause-stretch g c =
     let is : IsTextOf held c.args.at c.args.del add c.new-text.result =
     text_of_edit held c.args.at c.args.del add c.new-text.result p.lines.items p.lines.items c.in_ok-new_lines.new_lines.items c.deref.result.now refl refl c.deref.ensures.value
     c.in_ok-new_lines.ensures c.new-text.ensures.new c.new-text.ensures.old c.new-text.ensures.at c.new-text.ensures.gone c.new-text.ensures.come in
-    let due = lines_of_call held c.args.at c.args.del add c.new-text.result is ∙ ap (λ (d : Document). lines_due (setting_of d) (source_of d) (call_of c.args.at c.args.del add)) c.self.view_is in
+    let due = lines_of_call held c.args.at c.args.del add c.new-text.result is ∙ ap (λ (d : Document). lines_soon (setting_of d) (source_of d) (call_of c.args.at c.args.del add)) c.self.view_is in
     omega (arith, c.of.ensures.stretch, due)
 
 pub returns-in_err-make_room-clause-inlines : goal.returns-in_err-make_room-clause-inlines
@@ -147,7 +159,7 @@ returns-in_err-make_room-clause-inlines g c =
     let is : IsTextOf held c.args.at c.args.del add c.new-text.result =
     text_of_edit held c.args.at c.args.del add c.new-text.result p.lines.items p.lines.items c.in_ok-new_lines.new_lines.items c.deref.result.now refl refl c.deref.ensures.value
     c.in_ok-new_lines.ensures c.new-text.ensures.new c.new-text.ensures.old c.new-text.ensures.at c.new-text.ensures.gone c.new-text.ensures.come in
-    let due = texts_of_call held c.args.at c.args.del add c.new-text.result is ∙ ap (λ (d : Document). texts_read (setting_of d) (source_of d) (call_of c.args.at c.args.del add)) c.self.view_is in
+    let due = texts_of_call held c.args.at c.args.del add c.new-text.result is ∙ ap (λ (d : Document). texts_soon (setting_of d) (source_of d) (call_of c.args.at c.args.del add)) c.self.view_is in
     omega (arith, c.of.ensures.texts, due)
 
 pub returns-clause-stretch : goal.returns-clause-stretch
@@ -158,7 +170,7 @@ returns-clause-stretch g c =
     let is : IsTextOf held c.args.at c.args.del add c.new-text.result =
     text_of_edit held c.args.at c.args.del add c.new-text.result p.lines.items p.lines.items c.in_ok-new_lines.new_lines.items c.deref.result.now refl refl c.deref.ensures.value
     c.in_ok-new_lines.ensures c.new-text.ensures.new c.new-text.ensures.old c.new-text.ensures.at c.new-text.ensures.gone c.new-text.ensures.come in
-    let due = lines_of_call held c.args.at c.args.del add c.new-text.result is ∙ ap (λ (d : Document). lines_due (setting_of d) (source_of d) (call_of c.args.at c.args.del add)) c.self.view_is in
+    let due = lines_of_call held c.args.at c.args.del add c.new-text.result is ∙ ap (λ (d : Document). lines_soon (setting_of d) (source_of d) (call_of c.args.at c.args.del add)) c.self.view_is in
     omega (arith, c.of.ensures.stretch, due)
 
 pub returns-clause-inlines : goal.returns-clause-inlines
@@ -169,7 +181,7 @@ returns-clause-inlines g c =
     let is : IsTextOf held c.args.at c.args.del add c.new-text.result =
     text_of_edit held c.args.at c.args.del add c.new-text.result p.lines.items p.lines.items c.in_ok-new_lines.new_lines.items c.deref.result.now refl refl c.deref.ensures.value
     c.in_ok-new_lines.ensures c.new-text.ensures.new c.new-text.ensures.old c.new-text.ensures.at c.new-text.ensures.gone c.new-text.ensures.come in
-    let due = texts_of_call held c.args.at c.args.del add c.new-text.result is ∙ ap (λ (d : Document). texts_read (setting_of d) (source_of d) (call_of c.args.at c.args.del add)) c.self.view_is in
+    let due = texts_of_call held c.args.at c.args.del add c.new-text.result is ∙ ap (λ (d : Document). texts_soon (setting_of d) (source_of d) (call_of c.args.at c.args.del add)) c.self.view_is in
     omega (arith, c.of.ensures.texts, due)
 
 pub invariant_of-self-2 : goal.invariant_of-self-2

@@ -1,7 +1,9 @@
-use Rattle.std.proofs.Common.{◌≡◌, ℕ, false, None, Option, ◌≤◌, List, length, map, string_bytes, arith, ap, ◌∙◌, subst}
+use Rattle.std.proofs.Common.{sym, ◌≡◌, ℕ, false, None, Option, ◌≤◌, List, length, map, string_bytes, arith, ap, ◌∙◌, subst}
 use Rattle.std.proofs.lemmas.List.{length-map}
 use Rattle.inlinespec.specs.LabelMap.{LinkTarget}
 use Rattle.viewspec.specs.Calls.{Call, set_prelude}
+use Rattle.joinspec.specs.SoonTexts.{texts_soon}
+use Rattle.joinlaws.proofs.StopTexts.{soon_of_prelude}
 use Rattle.viewspec.specs.Changes.{texts_read}
 use Rattle.viewspec.specs.Outcome.{accepted}
 use Rattle.viewspec.specs.Patch.{Brings}
@@ -73,7 +75,7 @@ returns-in_err-renewal-clause-inlines g c =
     let read = c.of_prelude.ensures.texts in
     let due : asking_texts p.entities (target_held p.labels) (led_by (map unit_in units) prelude) (map unit_in units) ≡ texts_read setting (record { lines = lines; prelude = p.prelude.lines }) (set_prelude added) =
     texts_of_prelude p.entities p.options lines p.prelude prelude p.head p.labels units c.self.invariant.5 c.self.invariant.7 c.in_ok-prelude.ensures.defined added c.in_ok-prelude.ensures.read in
-    let same = ap (λ (d : Document). texts_read (setting_of d) (source_of d) (set_prelude added)) c.self.view_is in
+    let same = sym (soon_of_prelude setting (record { lines = lines; prelude = p.prelude.lines }) added) ∙ ap (λ (d : Document). texts_soon (setting_of d) (source_of d) (set_prelude added)) c.self.view_is in
     omega (arith, due, same, read, c.in_ok-prelude.ensures.inlines)
 
 pub returns-in_err-patch-clause-inlines : goal.returns-in_err-patch-clause-inlines
@@ -87,7 +89,7 @@ returns-in_err-patch-clause-inlines g c =
     let read = c.of_prelude.ensures.texts in
     let due : asking_texts p.entities (target_held p.labels) (led_by (map unit_in units) prelude) (map unit_in units) ≡ texts_read setting (record { lines = lines; prelude = p.prelude.lines }) (set_prelude added) =
     texts_of_prelude p.entities p.options lines p.prelude prelude p.head p.labels units c.self.invariant.5 c.self.invariant.7 c.in_ok-prelude.ensures.defined added c.in_ok-prelude.ensures.read in
-    let same = ap (λ (d : Document). texts_read (setting_of d) (source_of d) (set_prelude added)) c.self.view_is in
+    let same = sym (soon_of_prelude setting (record { lines = lines; prelude = p.prelude.lines }) added) ∙ ap (λ (d : Document). texts_soon (setting_of d) (source_of d) (set_prelude added)) c.self.view_is in
     omega (arith, due, same, read, c.in_ok-prelude.ensures.inlines)
 
 pub returns-in_err-make_room-clause-inlines : goal.returns-in_err-make_room-clause-inlines
@@ -101,7 +103,7 @@ returns-in_err-make_room-clause-inlines g c =
     let read = c.of_prelude.ensures.texts in
     let due : asking_texts p.entities (target_held p.labels) (led_by (map unit_in units) prelude) (map unit_in units) ≡ texts_read setting (record { lines = lines; prelude = p.prelude.lines }) (set_prelude added) =
     texts_of_prelude p.entities p.options lines p.prelude prelude p.head p.labels units c.self.invariant.5 c.self.invariant.7 c.in_ok-prelude.ensures.defined added c.in_ok-prelude.ensures.read in
-    let same = ap (λ (d : Document). texts_read (setting_of d) (source_of d) (set_prelude added)) c.self.view_is in
+    let same = sym (soon_of_prelude setting (record { lines = lines; prelude = p.prelude.lines }) added) ∙ ap (λ (d : Document). texts_soon (setting_of d) (source_of d) (set_prelude added)) c.self.view_is in
     omega (arith, due, same, read, c.in_ok-prelude.ensures.inlines)
 
 pub returns-clause-inlines : goal.returns-clause-inlines
@@ -115,7 +117,7 @@ returns-clause-inlines g c =
     let read = c.of_prelude.ensures.texts in
     let due : asking_texts p.entities (target_held p.labels) (led_by (map unit_in units) prelude) (map unit_in units) ≡ texts_read setting (record { lines = lines; prelude = p.prelude.lines }) (set_prelude added) =
     texts_of_prelude p.entities p.options lines p.prelude prelude p.head p.labels units c.self.invariant.5 c.self.invariant.7 c.in_ok-prelude.ensures.defined added c.in_ok-prelude.ensures.read in
-    let same = ap (λ (d : Document). texts_read (setting_of d) (source_of d) (set_prelude added)) c.self.view_is in
+    let same = sym (soon_of_prelude setting (record { lines = lines; prelude = p.prelude.lines }) added) ∙ ap (λ (d : Document). texts_soon (setting_of d) (source_of d) (set_prelude added)) c.self.view_is in
     omega (arith, due, same, read, c.in_ok-prelude.ensures.inlines)
 
 pub invariant_of-self-2 : goal.invariant_of-self-2

@@ -1,12 +1,15 @@
 use Rattle.std.proofs.Common.{◌≡◌, ℕ, ◌++◌, List, arith, length, map, option_map, subst, ap, ◌∙◌, sym}
+use Rattle.std.specs.Prelude.{IfSome}
 use Rattle.std.specs.List.{All}
 use Rattle.std.specs.Option.{option_or}
-use Rattle.viewlaws.specs.UnitTexts.{asking_texts, asking_units, deep_found, deep_from}
+use Rattle.viewlaws.specs.UnitTexts.{asking_texts, asking_units, deep_found, deep_from, trees_in}
 use Rattle.mdblock.specs.FoundLists.{found_unit}
 use Rattle.mdview.specs.HeldBlocks.{held_tile}
 use Rattle.mdview.specs.HeldTexts.{IsReadUnder, IsReread, IsTextFault, between, deep_in_parts, entities_in, head_read, line_on, number_again}
 use Rattle.mdview.specs.HeldUnit.{HeldUnit, unit_in}
+use Rattle.mdview.specs.KeptTexts.{AreReadingsOf, last_texts, number_kept, texts_with_kept}
 use Rattle.mdview.specs.LabelTargets.{led_after, target_held}
+use Rattle.mdview.proofs.KeptTexts.{kept_read}
 use Rattle.mdview.proofs.ReadParts.{fault_behind, fault_in_front, lines_between, returned}
 use Rattle.mdview.proofs.update.Update.behind.Goals as goal
 
@@ -19,6 +22,16 @@ pub read_again-requires-2-clause-near : goal.read_again-requires-2-clause-near
 read_again-requires-2-clause-near g c =
     let within = lines_between c.args.reparsed.next c.len.result c.args.held.now.units.now.items in
     omega (arith, within, c.requires.far)
+
+pub read_found-requires-clause-kept : goal.read_found-requires-clause-kept
+read_found-requires-clause-kept g c =
+    let held = c.args.held.now in
+    let limit = held.options.now.max_spans in
+    let old = target_held held.labels.now in
+    let trees = trees_in (map found_unit c.args.reparsed.found.items) in
+    subst (λ z. IfSome c.kept_readings-kept.result (AreReadingsOf limit z old (last_texts trees))) (sym (c.read_again.ensures.room ∙ c.new-room.ensures))
+    (kept_read limit held.entities.now old held.units.now.items trees c.requires.read c.requires.shallow c.args.reparsed.kept c.kept_readings-kept.result c.requires.kept
+    c.kept_readings-kept.ensures.at c.kept_readings-kept.ensures.readings)
 
 pub returns-in_err-read_again-clause-deep : goal.returns-in_err-read_again-clause-deep
 returns-in_err-read_again-clause-deep g c =
@@ -60,7 +73,7 @@ returns-in_err-read_again-2-clause-deep g c =
     let new = led_after c.args.held.now.labels.now c.args.changes in
     let r = c.args.reparsed in
     let r2 : entities_in c.read_again.new.room ≡ E = c.read_again.ensures.room ∙ c.new-room.ensures in
-    let r3 : entities_in c.read_units.new.room ≡ E = c.read_units.ensures.room ∙ r2 in
+    let r3 : entities_in c.read_found.new.room ≡ E = c.read_found.ensures.room ∙ r2 in
     let front = option_or (option_map (line_on r.from) (deep_found limit E new (map found_unit r.found.items))) (deep_from limit E new r.meet (map held_tile (between r.next (length units) units))) in
     let none = ap (λ n. deep_from limit E new n (map held_tile (between 0 r.first units))) (sym c.head_behind-head.ensures)
     ∙ ap (λ z. deep_from limit z new c.head_behind-head.result (map held_tile (between 0 r.first units))) (sym c.new-room.ensures) ∙ c.in_ok-read_again.ensures.shallow in
@@ -80,7 +93,7 @@ returns-clause-shallow g c =
     let new = led_after c.args.held.now.labels.now c.args.changes in
     let r = c.args.reparsed in
     let r2 : entities_in c.read_again.new.room ≡ E = c.read_again.ensures.room ∙ c.new-room.ensures in
-    let r3 : entities_in c.read_units.new.room ≡ E = c.read_units.ensures.room ∙ r2 in
+    let r3 : entities_in c.read_found.new.room ≡ E = c.read_found.ensures.room ∙ r2 in
     let front = option_or (option_map (line_on r.from) (deep_found limit E new (map found_unit r.found.items))) (deep_from limit E new r.meet (map held_tile (between r.next (length units) units))) in
     let none = ap (λ n. deep_from limit E new n (map held_tile (between 0 r.first units))) (sym c.head_behind-head.ensures)
     ∙ ap (λ z. deep_from limit z new c.head_behind-head.result (map held_tile (between 0 r.first units))) (sym c.new-room.ensures) ∙ c.in_ok-read_again.ensures.shallow in
@@ -109,7 +122,7 @@ returns-clause-reread g c =
     let new = led_after c.args.held.now.labels.now c.args.changes in
     let r = c.args.reparsed in
     let r2 : entities_in c.read_again.new.room ≡ E = c.read_again.ensures.room ∙ c.new-room.ensures in
-    let r3 : entities_in c.read_units.new.room ≡ E = c.read_units.ensures.room ∙ r2 in
+    let r3 : entities_in c.read_found.new.room ≡ E = c.read_found.ensures.room ∙ r2 in
     subst (λ z. All (IsReread z new (map unit_in units)) c.read_again-2.new.again.items) r3 c.in_ok-read_again-2.ensures.reread
 
 pub returns-clause-numbers : goal.returns-clause-numbers
@@ -121,12 +134,12 @@ returns-clause-numbers g c =
     let new = led_after c.args.held.now.labels.now c.args.changes in
     let r = c.args.reparsed in
     let r2 : entities_in c.read_again.new.room ≡ E = c.read_again.ensures.room ∙ c.new-room.ensures in
-    let r3 : entities_in c.read_units.new.room ≡ E = c.read_units.ensures.room ∙ r2 in
+    let r3 : entities_in c.read_found.new.room ≡ E = c.read_found.ensures.room ∙ r2 in
     let front : List ℕ = asking_units E old new 0 (map unit_in (between 0 r.first units)) in
     let one = c.in_ok-read_again.ensures.numbers ∙ ap (λ z. map number_again c.new-again.result.items ++ asking_units z old new 0 (map unit_in (between 0 r.first units))) c.new-room.ensures
     ∙ ap (λ l. map number_again l ++ front) c.new-again.ensures.items in
     c.in_ok-read_again-2.ensures.numbers
-    ∙ ap (λ n. map number_again c.read_again.new.again.items ++ asking_units (entities_in c.read_units.new.room) old new r.next (map unit_in (between r.next n units))) c.len.ensures
+    ∙ ap (λ n. map number_again c.read_again.new.again.items ++ asking_units (entities_in c.read_found.new.room) old new r.next (map unit_in (between r.next n units))) c.len.ensures
     ∙ ap (λ z. map number_again c.read_again.new.again.items ++ asking_units z old new r.next (map unit_in (between r.next (length units) units))) r3
     ∙ ap (λ l. l ++ asking_units E old new r.next (map unit_in (between r.next (length units) units))) one
 
@@ -150,7 +163,9 @@ returns-in_err-units-clause-inlines g c =
     let new = led_after c.args.held.now.labels.now c.args.changes in
     let r = c.args.reparsed in
     let front = ap (λ z. asking_texts z old new (map unit_in (between 0 r.first units))) c.new-room.ensures in
-    omega (arith, c.read_again.ensures.inlines, c.read_units.ensures.inlines, front)
+    let mid = ap (λ at. texts_with_kept (entities_in c.read_again.new.room) old new at (trees_in (map found_unit r.found.items))) c.kept_readings-kept.ensures.at
+    ∙ ap (λ z. texts_with_kept z old new (option_map number_kept r.kept) (trees_in (map found_unit r.found.items))) (c.read_again.ensures.room ∙ c.new-room.ensures) in
+    omega (arith, c.read_again.ensures.inlines, c.read_found.ensures.inlines, front, mid)
 
 pub returns-in_err-read_again-2-clause-inlines : goal.returns-in_err-read_again-2-clause-inlines
 returns-in_err-read_again-2-clause-inlines g c =
@@ -161,10 +176,12 @@ returns-in_err-read_again-2-clause-inlines g c =
     let new = led_after c.args.held.now.labels.now c.args.changes in
     let r = c.args.reparsed in
     let r2 : entities_in c.read_again.new.room ≡ E = c.read_again.ensures.room ∙ c.new-room.ensures in
-    let r3 : entities_in c.read_units.new.room ≡ E = c.read_units.ensures.room ∙ r2 in
+    let r3 : entities_in c.read_found.new.room ≡ E = c.read_found.ensures.room ∙ r2 in
     let front = ap (λ z. asking_texts z old new (map unit_in (between 0 r.first units))) c.new-room.ensures in
-    let last = ap (λ n. asking_texts (entities_in c.read_units.new.room) old new (map unit_in (between r.next n units))) c.len.ensures ∙ ap (λ z. asking_texts z old new (map unit_in (between r.next (length units) units))) r3 in
-    omega (arith, c.read_again.ensures.inlines, c.read_units.ensures.inlines, c.read_again-2.ensures.inlines, front, last)
+    let last = ap (λ n. asking_texts (entities_in c.read_found.new.room) old new (map unit_in (between r.next n units))) c.len.ensures ∙ ap (λ z. asking_texts z old new (map unit_in (between r.next (length units) units))) r3 in
+    let mid = ap (λ at. texts_with_kept (entities_in c.read_again.new.room) old new at (trees_in (map found_unit r.found.items))) c.kept_readings-kept.ensures.at
+    ∙ ap (λ z. texts_with_kept z old new (option_map number_kept r.kept) (trees_in (map found_unit r.found.items))) r2 in
+    omega (arith, c.read_again.ensures.inlines, c.read_found.ensures.inlines, c.read_again-2.ensures.inlines, front, mid, last)
 
 pub returns-clause-inlines : goal.returns-clause-inlines
 returns-clause-inlines g c =
@@ -175,7 +192,9 @@ returns-clause-inlines g c =
     let new = led_after c.args.held.now.labels.now c.args.changes in
     let r = c.args.reparsed in
     let r2 : entities_in c.read_again.new.room ≡ E = c.read_again.ensures.room ∙ c.new-room.ensures in
-    let r3 : entities_in c.read_units.new.room ≡ E = c.read_units.ensures.room ∙ r2 in
+    let r3 : entities_in c.read_found.new.room ≡ E = c.read_found.ensures.room ∙ r2 in
     let front = ap (λ z. asking_texts z old new (map unit_in (between 0 r.first units))) c.new-room.ensures in
-    let last = ap (λ n. asking_texts (entities_in c.read_units.new.room) old new (map unit_in (between r.next n units))) c.len.ensures ∙ ap (λ z. asking_texts z old new (map unit_in (between r.next (length units) units))) r3 in
-    omega (arith, c.read_again.ensures.inlines, c.read_units.ensures.inlines, c.read_again-2.ensures.inlines, front, last)
+    let last = ap (λ n. asking_texts (entities_in c.read_found.new.room) old new (map unit_in (between r.next n units))) c.len.ensures ∙ ap (λ z. asking_texts z old new (map unit_in (between r.next (length units) units))) r3 in
+    let mid = ap (λ at. texts_with_kept (entities_in c.read_again.new.room) old new at (trees_in (map found_unit r.found.items))) c.kept_readings-kept.ensures.at
+    ∙ ap (λ z. texts_with_kept z old new (option_map number_kept r.kept) (trees_in (map found_unit r.found.items))) r2 in
+    omega (arith, c.read_again.ensures.inlines, c.read_found.ensures.inlines, c.read_again-2.ensures.inlines, front, mid, last)

@@ -14,8 +14,9 @@ use Rattle.mdview.specs.HeldUnit.{HeldUnit, read_of, unit_in}
 use Rattle.mdview.specs.LabelTargets.{led_after, led_by, target_held}
 use Rattle.mdview.specs.NewText.{lines_of}
 use Rattle.mdview.specs.declared.update.Update.{Update}
-use Rattle.mdview.proofs.EditTexts.{all_read_under, all_reread_under, all_shallow, both_ok, deep_is, head_small, held_small, led_by_text, meet_small, nested_in_none, new_trees, none_deep_before, numbers_are, texts_are, texts_refused, trees_are, when_ok}
+use Rattle.mdview.proofs.EditTexts.{all_read_under, all_reread_under, all_shallow, both_ok, deep_is, head_small, held_small, led_by_text, meet_small, nested_in_none, new_trees, none_deep_before, numbers_are, texts_refused, trees_are, when_ok}
 use Rattle.mdview.proofs.Replacing.{replacing}
+use Rattle.mdview.proofs.SoonTexts.{texts_soon_are}
 use Rattle.mdview.proofs.update.Update.of.Goals as goal
 
 pub behind-requires-clause-shallow : goal.behind-requires-clause-shallow
@@ -210,5 +211,5 @@ returns-clause-texts g c =
     λ label. c.in_ok-changes.ensures.led label
     ∙ ap (λ us. led_by us held.prelude.now label) (new_trees setting text held.prelude.now held.head units rp c.requires.held c.in_ok-reparsed.ensures.read before after)
     ∙ led_by_text E (lines_of text) held.prelude.now c.requires.defined label in
-    let same = texts_are setting text held.prelude.now held.head units rp c.requires.held c.in_ok-reparsed.ensures.read before after old new old_same new_same in
+    let same = texts_soon_are setting text held.prelude.now held.head units rp c.requires.held c.in_ok-reparsed.ensures.read held.prelude.now.lines c.in_ok-reparsed.ensures.soon old new old_same new_same in
     omega (arith, same, c.behind.ensures.inlines, c.reparse.ensures.inlines)

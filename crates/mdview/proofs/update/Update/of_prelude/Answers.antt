@@ -1,4 +1,4 @@
-use Rattle.std.proofs.Common.{◌≡◌, ℕ, List, Option, arith, map, subst, ◌∙◌, sym, refl}
+use Rattle.std.proofs.Common.{◌≡◌, ℕ, List, None, Option, arith, map, subst, ◌∙◌, sym, refl}
 use Rattle.std.specs.Prelude.{IfErr}
 use Rattle.std.specs.List.{All}
 use Rattle.std.proofs.lemmas.Result.{IfOk-weaker, on_ok_weaker}
@@ -29,7 +29,7 @@ returns-clause-numbers g c =
     let old = target_held held.labels.now in
     let new = led_after held.labels.now c.in_ok-changes.changes in
     let after = led_by (map unit_in units) c.args.prelude.now in
-    let r : Reparsed = record { first = 0; next = 0; from = 0; meet = held.head; found = c.new.result } in
+    let r : Reparsed = record { first = 0; next = 0; from = 0; meet = held.head; found = c.new.result; kept = None } in
     let same = numbers_by_all held.entities.now old new held.options.now.max_spans units r refl refl c.new.ensures.items
     ∙ asking_units_under held.entities.now old new old after (λ label. refl) c.in_ok-changes.ensures.led 0 (map unit_in units) in
     IfOk-weaker c.behind.result (λ (u : Update). map number_again u.again.items ≡ asking_in_parts held.entities.now old new units 0 0)
@@ -42,7 +42,7 @@ returns-clause-shallow g c =
     let old = target_held held.labels.now in
     let new = led_after held.labels.now c.in_ok-changes.changes in
     let after = led_by (map unit_in units) c.args.prelude.now in
-    let r : Reparsed = record { first = 0; next = 0; from = 0; meet = held.head; found = c.new.result } in
+    let r : Reparsed = record { first = 0; next = 0; from = 0; meet = held.head; found = c.new.result; kept = None } in
     let same = deep_by_all held.entities.now old new held.options.now.max_spans units r refl refl c.new.ensures.items (head_read held.head r)
     ∙ deep_from_under held.options.now.max_spans held.entities.now new after c.in_ok-changes.ensures.led held.head (map held_tile units) in
     on_ok_weaker c.behind.result (λ none. sym same ∙ none) c.behind.ensures.shallow
@@ -54,7 +54,7 @@ returns-clause-deep g c =
     let old = target_held held.labels.now in
     let new = led_after held.labels.now c.in_ok-changes.changes in
     let after = led_by (map unit_in units) c.args.prelude.now in
-    let r : Reparsed = record { first = 0; next = 0; from = 0; meet = held.head; found = c.new.result } in
+    let r : Reparsed = record { first = 0; next = 0; from = 0; meet = held.head; found = c.new.result; kept = None } in
     let same = deep_by_all held.entities.now old new held.options.now.max_spans units r refl refl c.new.ensures.items (head_read held.head r)
     ∙ deep_from_under held.options.now.max_spans held.entities.now new after c.in_ok-changes.ensures.led held.head (map held_tile units) in
     subst (λ (o : Option ℕ). IfErr c.behind.result (IsTextFault o)) same c.behind.ensures.deep
@@ -66,7 +66,7 @@ returns-clause-texts g c =
     let old = target_held held.labels.now in
     let new = led_after held.labels.now c.in_ok-changes.changes in
     let after = led_by (map unit_in units) c.args.prelude.now in
-    let r : Reparsed = record { first = 0; next = 0; from = 0; meet = held.head; found = c.new.result } in
+    let r : Reparsed = record { first = 0; next = 0; from = 0; meet = held.head; found = c.new.result; kept = None } in
     let same = texts_by_all held.entities.now old new held.options.now.max_spans units r refl refl c.new.ensures.items
     ∙ asking_texts_under held.entities.now old new old after (λ label. refl) c.in_ok-changes.ensures.led (map unit_in units) in
     omega (arith, same, c.behind.ensures.inlines)
