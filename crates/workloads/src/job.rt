@@ -1,0 +1,41 @@
+//! The jobs by name.
+
+/// What users wait for.
+#[derive(Clone, Copy)]
+pub enum Job {
+    /// A site's pages, each turned into HTML.
+    Pages,
+    /// Long texts, each turned into HTML.
+    Books,
+    /// What a process does that turns one file into HTML, with a file of entities and a prelude.
+    Folder,
+    /// Texts opened in a preview, and a writer's keys.
+    Typing,
+    /// Keys in one long block, and labels that many blocks name.
+    LongBlocks,
+    /// Texts that are made to be slow.
+    Hostile,
+}
+
+pub static ALL: &[Job] = &[
+    Job::Pages,
+    Job::Books,
+    Job::Folder,
+    Job::Typing,
+    Job::LongBlocks,
+    Job::Hostile,
+];
+
+impl Job {
+    /// Its name on the command line.
+    pub fn name(self) -> &'static str {
+        match self {
+            Job::Pages => "pages",
+            Job::Books => "books",
+            Job::Folder => "folder",
+            Job::Typing => "typing",
+            Job::LongBlocks => "long_blocks",
+            Job::Hostile => "hostile",
+        }
+    }
+}
