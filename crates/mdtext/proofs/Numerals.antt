@@ -44,7 +44,7 @@ one_digit base d n ds true e h =
     subst (AllDigits base) (sym longer) (grind (arith, nat_tests, e), h)
 one_digit base d n ds false e h = tt
 
-all_digits : (base : ℕ) (text : List ℕ) → AllDigits base (take (prefix_len (λ b. is_digit b base) text) text)
+pub all_digits : (base : ℕ) (text : List ℕ) → AllDigits base (take (prefix_len (λ b. is_digit b base) text) text)
 all_digits base [] = tt
 all_digits base (d ∷ ds) = one_digit base d _ ds _ refl (all_digits base ds)
 

@@ -1,18 +1,13 @@
--- A table of entities is what its map of texts shows.
-use Rattle.std.proofs.Common.{◌≡◌, ℕ, ◌+◌, ◌<◌, List, [], ◌∷◌, map, refl, ap, ◌∙◌, sym, Bool, true, false, cond, string_bytes, String, Global, Option, Some, option_map, Ordering, Less, Equal, Greater, Bor, drop, length, get_or}
+-- Pairs that are put into a table of entities in turn, and entries of any kind that are seen as pairs.
+use Rattle.std.proofs.Common.{◌≡◌, ℕ, ◌+◌, ◌<◌, List, [], ◌∷◌, map, refl, ap, ◌∙◌, sym, Bool, true, false, cond, Option, Some, option_map, Ordering, Less, Equal, Greater, Bor, drop, length, get_or}
 use Rattle.std.proofs.lemmas.List.{drop_more}
+use Rattle.std.proofs.lemmas.Map.Text.{is_eq-slice_cmp}
+use Rattle.std.specs.BTreeMap.{is_at, insert_entry}
+use Rattle.std.specs.Cmp.Lexicographic.{slice_cmp}
 use Rattle.std.specs.Map.{lookup}
 use Rattle.std.specs.Ordering.{nat_cmp, match_ordering}
-use Rattle.std.specs.String.{string_cmp}
-use Rattle.std.specs.BTreeMap.{is_at, insert_entry}
 use Rattle.std.specs.Str.{bytes_eq}
-use Rattle.std.specs.Cmp.Lexicographic.{slice_cmp}
-use Rattle.std.proofs.lemmas.Map.Text.{is_eq-slice_cmp}
-use Rattle.mdtext.specs.EntityTable.{EntityTable, entity_text, put_all, shown}
-
--- the pairs of references, by what they point to
-abbrev pub told : List (Bor (List ℕ) × Bor (List ℕ)) → List (List ℕ × List ℕ)
-told pairs = map (λ p. (p.0.now, p.1.now)) pairs
+use Rattle.mdtext.specs.EntityTable.{EntityTable, put_all}
 
 -- ---- entries of any kind, seen as pairs of bytes and values
 
@@ -40,20 +35,11 @@ module _ {K V W : Type 0} (key : K → List ℕ) (view : V → W) where
 
 -- ---- entities
 
--- the map finds what its table holds
-pub lookup_shown : (name : List ℕ) (entries : List (String Global × String Global)) → option_map string_bytes (lookup (is_at (λ k. slice_cmp nat_cmp name (string_bytes k))) entries) ≡ entity_text (shown entries) name
-lookup_shown name entries = looked_up string_bytes string_bytes name entries
-
--- an insertion into the map is one into its table
-pub shown_insert : (entries : List (String Global × String Global)) (name text : String Global) → shown (insert_entry string_cmp entries name text) ≡ insert_entry (slice_cmp nat_cmp) (shown entries) (string_bytes name) (string_bytes text)
-shown_insert entries name text = inserted string_bytes string_bytes entries name text
+-- the pairs of references, by what they point to
+abbrev pub told : List (Bor (List ℕ) × Bor (List ℕ)) → List (List ℕ × List ℕ)
+told pairs = map (λ p. (p.0.now, p.1.now)) pairs
 
 -- one more of the pairs
-pub one_put : (pairs : List (Bor (List ℕ) × Bor (List ℕ))) (i : ℕ) (d : Bor (List ℕ) × Bor (List ℕ)) (old new : List (String Global × String Global)) (name text : String Global) (all : EntityTable)
-    → i < length pairs → string_bytes name ≡ (get_or pairs i d).0.now → string_bytes text ≡ (get_or pairs i d).1.now → new ≡ insert_entry string_cmp old name text
-    → put_all (told (drop i pairs)) (shown old) ≡ all → put_all (told (drop (i + 1) pairs)) (shown new) ≡ all
-one_put pairs i d old new name text all h n t e w =
-    ap (λ m. put_all (told (drop (i + 1) pairs)) (shown m)) e ∙ ap (put_all (told (drop (i + 1) pairs))) (shown_insert old name text)
-    ∙ ap (λ x. put_all (told (drop (i + 1) pairs)) (insert_entry (slice_cmp nat_cmp) (shown old) x (string_bytes text))) n
-    ∙ ap (λ x. put_all (told (drop (i + 1) pairs)) (insert_entry (slice_cmp nat_cmp) (shown old) (get_or pairs i d).0.now x)) t
-    ∙ ap (λ ps. put_all (told ps) (shown old)) (sym (drop_more pairs i d h)) ∙ w
+pub one_put : (pairs : List (Bor (List ℕ) × Bor (List ℕ))) (i : ℕ) (d : Bor (List ℕ) × Bor (List ℕ)) (old new all : EntityTable) → i < length pairs
+    → new ≡ insert_entry (slice_cmp nat_cmp) old (get_or pairs i d).0.now (get_or pairs i d).1.now → put_all (told (drop i pairs)) old ≡ all → put_all (told (drop (i + 1) pairs)) new ≡ all
+one_put pairs i d old new all h e w = ap (put_all (told (drop (i + 1) pairs))) e ∙ ap (λ ps. put_all (told ps) old) (sym (drop_more pairs i d h)) ∙ w

@@ -1,6 +1,5 @@
 -- Entity references (CommonMark 2.5): the names and the texts that they stand for.
-use Rattle.std.specs.Prelude.{ℕ, List, [], ◌∷◌, Option, String, codes, encode_utf8, map, string_bytes}
-use Rattle.std.specs.Global.{Global}
+use Rattle.std.specs.Prelude.{ℕ, List, [], ◌∷◌, Option, codes, encode_utf8}
 use Rattle.std.specs.BTreeMap.{insert_entry}
 use Rattle.std.specs.Cmp.Lexicographic.{slice_cmp}
 use Rattle.std.specs.Map.{lookup}
@@ -29,7 +28,3 @@ builtin_table =
     ∷ (codes "lt", encode_utf8 0x3C) ∷ (codes "mdash", encode_utf8 0x2014) ∷ (codes "nbsp", encode_utf8 0xA0) ∷ (codes "ndash", encode_utf8 0x2013)
     ∷ (codes "ouml", encode_utf8 0xF6) ∷ (codes "quot", encode_utf8 0x22) ∷ (codes "rdquo", encode_utf8 0x201D) ∷ (codes "reg", encode_utf8 0xAE)
     ∷ (codes "rsquo", encode_utf8 0x2019) ∷ (codes "times", encode_utf8 0xD7) ∷ (codes "trade", encode_utf8 0x2122) ∷ []
-
--- the table that a map of texts shows
-abbrev pub shown : List (String Global × String Global) → EntityTable
-shown entries = map (λ e. (string_bytes e.0, string_bytes e.1)) entries

@@ -3,10 +3,12 @@ pub mod Characters
 pub mod Columns
 pub mod Counted
 pub mod EntityFile
+pub mod EntityReading
 pub mod EntityTable
 pub mod Escaped
 pub mod EscapedUrl
 pub mod Labels
 pub mod Lines
+pub mod NamedTexts
 pub mod References
 pub mod Referents

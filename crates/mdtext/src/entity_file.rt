@@ -4,14 +4,14 @@ ghost use Rattle.std.specs.Str.{is_utf8};
 ghost use Rattle.serde_json.specs.Errors.{IsMemory};
 ghost use Rattle.serde_json.specs.Read.{read};
 ghost use Rattle.serde_json.specs.View.{view};
-ghost use Rattle.mdtext.specs.EntityFile.{characters_of, counts, is_name, name_of, with_member};
-ghost use Rattle.mdtext.specs.EntityTable.{shown};
+ghost use Rattle.mdtext.specs.EntityFile.{characters_of, counts, is_name, name_of, with_characters, with_member};
 
 use crate::NoMemory;
+use crate::named_texts::NamedTexts;
 use crate::references::{byte_at, name_len};
+use json::Invalid;
 use serde_json::Value;
 use std::alloc::{AllocFailed, Global};
-use std::collections::BTreeMap;
 use std::error::Error;
 use std::fmt;
 
@@ -54,6 +54,17 @@ impl From<NoMemory> for TableFault {
     }
 }
 
+impl From<Invalid> for TableFault {
+    ghost use Rattle.mdtext.specs.declared.entity_file.TableFault.TheVariants.{NotJson};
+    ghost use Rattle.std.specs.Prelude.{◌≡◌};
+
+    ghost from_gives = { λ _ fault. fault ≡ NotJson };
+
+    fn from(_invalid: Invalid) -> TableFault {
+        TableFault::NotJson
+    }
+}
+
 impl<T: Drop> From<AllocFailed<T>> for TableFault {
     ghost use Rattle.mdtext.specs.declared.entity_file.TableFault.TheVariants.{NoMemory};
     ghost use Rattle.std.specs.Prelude.{◌≡◌};
@@ -86,15 +97,23 @@ fn json_fault(fault: &serde_json::Error) -> TableFault
 }
 
 /// Adds a member of the file to the texts.
-pub fn add_member(
-    alloc: Global,
-    key: &str,
-    value: &Value,
-    texts: &mut BTreeMap<String, String, Global>,
-) -> Result<(), TableFault>
-    ensures ok { OnOk result (with_member key.now (view value.now) (shown texts.old.entries) ≡ Some (shown texts.new.entries)) }
+pub fn add_member(key: &str, value: &Value, texts: &mut NamedTexts) -> Result<(), TableFault>
+    ensures ok { OnOk result (with_member key.now (view value.now) texts.old ≡ Some texts.new) }
     ensures err { IfErr result (λ fault. fault ≢ TableFault.NoMemory
-        → (fault ≡ TableFault.BadEntry) × (with_member key.now (view value.now) (shown texts.old.entries) ≡ None)) }
+        → (fault ≡ TableFault.BadEntry) × (with_member key.now (view value.now) texts.old ≡ None)) }
+{
+    put_member(key, characters(value), texts)
+}
+
+/// Adds a member of the file, by the text of its `characters`, to the texts.
+pub fn put_member(
+    key: &str,
+    characters: Option<&str>,
+    texts: &mut NamedTexts,
+) -> Result<(), TableFault>
+    ensures ok { OnOk result (with_characters key.now (option_map (λ s. s.now) characters.entry) texts.old ≡ Some texts.new) }
+    ensures err { IfErr result (λ fault. fault ≢ TableFault.NoMemory
+        → (fault ≡ TableFault.BadEntry) × (with_characters key.now (option_map (λ s. s.now) characters.entry) texts.old ≡ None)) }
 {
     if !counts(key) {
         return Ok(());
@@ -102,13 +121,10 @@ pub fn add_member(
     let Some(name) = name_of(key) else {
         return Err(TableFault::BadEntry);
     };
-    let Some(text) = characters(value) else {
+    let Some(text) = characters else {
         return Err(TableFault::BadEntry);
     };
-    texts.insert(
-        String::from_str(alloc, name)?,
-        String::from_str(alloc, text)?,
-    )?;
+    texts.put(name, text)?;
     Ok(())
 }
 

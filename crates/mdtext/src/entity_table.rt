@@ -6,9 +6,10 @@ ghost use Rattle.mdtext.specs.EntityTable.{entity_text, put_all, builtin_table};
 
 use crate::NoMemory;
 use crate::entity_file::{TableFault, add_member, read_json};
+use crate::entity_reading::read_tokens;
+use crate::named_texts::NamedTexts;
 use serde_json::{Map, Value};
 use std::alloc::Global;
-use std::collections::BTreeMap;
 use std::marker::Model;
 
 /// The entities that are used where no other table is handed in.
@@ -41,15 +42,15 @@ const BUILTIN: [(&str, &str); 23] = [
 /// A table of entity references (CommonMark 2.5): each name once, without `&` and `;`, with its text.
 #[derive(Debug, Drop)]
 pub struct Entities {
-    texts: BTreeMap<String, String, Global>,
+    texts: NamedTexts,
 }
 
 impl Model for Entities {
-    ghost use Rattle.std.specs.Prelude.{List, ℕ, map, string_bytes};
+    ghost use Rattle.std.specs.Prelude.{List, ℕ};
 
     ghost Value = { List (List ℕ × List ℕ) };
 
-    ghost view = { λ entities. map (λ e. (string_bytes e.0, string_bytes e.1)) entities.texts.entries };
+    ghost view = { λ entities. entities.texts };
 }
 
 impl Entities {
@@ -69,6 +70,11 @@ impl Entities {
         ensures ok { IfOk result (λ entities. file_table bytes.now ≡ Ok entities) }
         ensures err { IfErr result (λ fault. fault ≢ TableFault.NoMemory → file_table bytes.now ≡ Err fault) }
     {
+        match read_tokens(alloc, bytes) {
+            Ok(texts) => return Ok(Entities { texts }),
+            Err(TableFault::NoMemory) => return Err(TableFault::NoMemory),
+            Err(_) => {}
+        }
         let value = read_json(alloc, bytes)?;
         match value.as_object() {
             Some(members) => Entities::of_members(alloc, members),
@@ -81,9 +87,9 @@ impl Entities {
         ensures err { IfErr result (λ fault. fault ≢ TableFault.NoMemory
             → (fault ≡ TableFault.BadEntry) × (with_members (members_view members.now.entries) [] ≡ None)) }
     {
-        let mut texts = BTreeMap::new(alloc);
+        let mut texts = NamedTexts::new(alloc);
         for (key, value) in members {
-            add_member(alloc, key.as_str(), value, &mut texts)?;
+            add_member(key.as_str(), value, &mut texts)?;
         }
         Ok(Entities { texts })
     }
@@ -91,12 +97,9 @@ impl Entities {
     fn of(alloc: Global, pairs: &[(&str, &str)]) -> Result<Entities, NoMemory>
         ensures { IfOk result (λ entities. entities ≡ put_all (map (λ p. (p.0.now, p.1.now)) pairs.now) []) }
     {
-        let mut texts = BTreeMap::new(alloc);
+        let mut texts = NamedTexts::new(alloc);
         for (name, text) in pairs {
-            texts.insert(
-                String::from_str(alloc, name)?,
-                String::from_str(alloc, text)?,
-            )?;
+            texts.put(name, text)?;
         }
         Ok(Entities { texts })
     }
@@ -105,9 +108,6 @@ impl Entities {
     pub fn get(&self, name: &str) -> Option<&str>
         ensures { option_map (λ text. text.now) result ≡ entity_text self.now name.now }
     {
-        match self.texts.get(name) {
-            Some(text) => Some(text.as_str()),
-            None => None,
-        }
+        self.texts.get(name)
     }
 }

@@ -111,7 +111,8 @@ fn character_at(code: u32) -> char
     char::from_u32(code).unwrap_or('\u{FFFD}')
 }
 
-fn digit_count(text: &str, base: u32) -> usize
+// How many digits of a base stand at the front.
+pub fn digit_count(text: &str, base: u32) -> usize
     requires least { 2 ≤ base }
     requires greatest { base ≤ 16 }
     ensures { result ≡ prefix_len (λ b. is_digit b base) text.now }

@@ -39,6 +39,35 @@ fn files_without_entities(rt: HostRuntime) -> Result<(), Fail> {
 }
 
 #[test]
+fn files_of_other_shapes(rt: HostRuntime) -> Result<(), Fail> {
+    for bytes in [
+        // Names in no order, and one that begins another.
+        "{\"&b;\":{\"characters\":\"2\"},\"&a1;\":{\"characters\":\"3\"},\"&a;\":{\"characters\":\"1\"}}",
+        // A name twice, the second time with an escape.
+        "{\"&a;\":{\"characters\":\"0\"},\"&a1;\":{\"characters\":\"3\"},\"&b;\":{\"characters\":\"2\"},\"&\\u0061;\":{\"characters\":\"1\"}}",
+        // A bad member that a later one takes the place of.
+        "{\"&a;\":7,\"&a1;\":{\"characters\":\"3\"},\"&b;\":{\"characters\":\"2\"},\"&a;\":{\"characters\":\"1\"}}",
+        // `characters` twice.
+        "{\"&a;\":{\"characters\":7,\"characters\":\"1\"},\"&a1;\":{\"characters\":\"3\"},\"&b;\":{\"characters\":\"0\",\"characters\":\"2\"}}",
+        // Values of each kind.
+        "{\"&a;\":{\"x\":[-1.5e3,{\"characters\":\"0\"},[[]],null,true],\"characters\":\"1\"},\"&a1;\":{\"characters\":\"3\",\"y\":12345678901234567890},\"&b;\":{\"characters\":\"2\"},\"z\":[{}]}",
+    ] {
+        let entities = Entities::from_json(rt.alloc(), bytes.as_bytes())?;
+        for (name, want) in [
+            ("a", Some("1")),
+            ("b", Some("2")),
+            ("a1", Some("3")),
+            ("a2", None),
+            ("", None),
+            ("c", None),
+        ] {
+            assert_eq!(rt; entities.get(name), want, "{name:?} in {bytes:?}");
+        }
+    }
+    Ok(())
+}
+
+#[test]
 fn files_that_are_refused(rt: HostRuntime) {
     for bytes in [
         "",
@@ -51,6 +80,9 @@ fn files_that_are_refused(rt: HostRuntime) {
         "{} {}",
         "{\"&a;\":{\"characters\":\"\\ud800\"}}",
         "\u{FEFF}{}",
+        "{\"&a;\":{\"characters\":\"x\",\"y\":1e999}}",
+        "{\"&a;\":5,\"&b;\":{\"characters\":\"x\"}",
+        "{\"&a;\":{\"characters\":\"x\",\"y\":01}}",
     ] {
         assert_eq!(rt;
             refusal(&rt, bytes.as_bytes()),

@@ -1,0 +1,131 @@
+//! Texts by their names.
+ghost use Rattle.std.specs.Prelude.{◌≡◌, ◌+◌, ◌++◌, ℕ, List, [], IfOk, OnOk, length, option_map};
+ghost use Rattle.std.specs.BTreeMap.{insert_entry};
+ghost use Rattle.std.specs.Cmp.Lexicographic.{slice_cmp};
+ghost use Rattle.std.specs.Map.{lookup};
+ghost use Rattle.std.specs.Ordering.{nat_cmp};
+ghost use Rattle.std.specs.Str.{bytes_eq};
+ghost use Rattle.mdtext.specs.NamedTexts.{AreNamedTexts, IsPlaceOf, LiesWithin, named_text, named_texts};
+
+use crate::NoMemory;
+use std::alloc::Global;
+use std::cmp::Ordering;
+use std::marker::Model;
+
+// Where a name and its text lie, one behind the other.
+#[derive(Clone, Copy, Debug)]
+pub struct Span {
+    name: usize,
+    text: usize,
+    end: usize,
+}
+
+/// Names, each once, with their texts: all bytes in one block, as they came, and where they lie in the names' order.
+#[derive(Debug, Drop)]
+pub struct NamedTexts {
+    bytes: Vec<u8>,
+    spans: Vec<Span>,
+}
+
+impl Model for NamedTexts {
+    ghost use Rattle.std.specs.Prelude.{List, ℕ};
+    ghost use Rattle.mdtext.specs.NamedTexts.{AreNamedTexts, named_texts};
+
+    ghost Value = { List (List ℕ × List ℕ) };
+
+    ghost view = { λ held. named_texts held.bytes.items held.spans.items };
+
+    ghost invariant = { λ held. AreNamedTexts held.bytes.items held.spans.items };
+}
+
+impl NamedTexts {
+    pub fn new(alloc: Global) -> NamedTexts
+        ensures { result ≡ [] }
+    {
+        NamedTexts {
+            bytes: Vec::new(alloc),
+            spans: Vec::new(alloc),
+        }
+    }
+
+    /// Puts a text in at a name, in place of one that is there.
+    pub fn put(&mut self, name: &str, text: &str) -> Result<(), NoMemory>
+        ensures { OnOk result (self.new ≡ insert_entry (slice_cmp nat_cmp) self.old name.now text.now) }
+    {
+        let place = place_to_put(&self.bytes, &self.spans, name.as_bytes());
+        let span = keep(&mut self.bytes, name, text)?;
+        match place {
+            Ok(place) => self.spans[place] = span,
+            Err(place) => self.spans.insert(place, span)?,
+        }
+        Ok(())
+    }
+
+    /// The text at a name. It takes no memory.
+    pub fn get(&self, name: &str) -> Option<&str>
+        ensures { option_map (λ text. text.now) result ≡ lookup (bytes_eq name.now) self.now }
+    {
+        match place_of(&self.bytes, &self.spans, name.as_bytes()) {
+            Ok(place) => {
+                let span = self.spans[place];
+                Some(unsafe { std::str::from_utf8_unchecked(&self.bytes[span.text..span.end]) })
+            }
+            Err(_) => None,
+        }
+    }
+}
+
+// Appends a name and its text to the bytes.
+fn keep(bytes: &mut Vec<u8>, name: &str, text: &str) -> Result<Span, NoMemory>
+    ensures longer { (more : List ℕ) × (bytes.new.items ≡ bytes.old.items ++ more) }
+    ensures ok { IfOk result (λ span. (bytes.new.items ≡ bytes.old.items ++ name.now ++ text.now)
+        × (span.name ≡ length bytes.old.items) × (span.text ≡ length bytes.old.items + length name.now) × (span.end ≡ length bytes.new.items)) }
+{
+    let start = bytes.len();
+    bytes.extend_from_slice(name.as_bytes())?;
+    let middle = bytes.len();
+    bytes.extend_from_slice(text.as_bytes())?;
+    Ok(Span {
+        name: start,
+        text: middle,
+        end: bytes.len(),
+    })
+}
+
+fn compare(bytes: &[u8], span: Span, name: &[u8]) -> Ordering
+    requires { LiesWithin (length bytes.now) span }
+    ensures { result ≡ slice_cmp nat_cmp name.now (named_text bytes.now span).0 }
+{
+    name.cmp(&bytes[span.name..span.text])
+}
+
+// Most names come behind all that are there.
+fn place_to_put(bytes: &[u8], spans: &[Span], name: &[u8]) -> Result<usize, usize>
+    requires { AreNamedTexts bytes.now spans.now }
+    ensures { IsPlaceOf (named_texts bytes.now spans.now) name.now result }
+{
+    let len = spans.len();
+    if 0 < len {
+        if let Ordering::Greater = compare(bytes, spans[len - 1], name) {
+            return Err(len);
+        }
+    }
+    place_of(bytes, spans, name)
+}
+
+fn place_of(bytes: &[u8], spans: &[Span], name: &[u8]) -> Result<usize, usize>
+    requires { AreNamedTexts bytes.now spans.now }
+    ensures { IsPlaceOf (named_texts bytes.now spans.now) name.now result }
+{
+    let mut low = 0;
+    let mut high = spans.len();
+    while low < high {
+        let middle = low + (high - low) / 2;
+        match compare(bytes, spans[middle], name) {
+            Ordering::Less => high = middle,
+            Ordering::Equal => return Ok(middle),
+            Ordering::Greater => low = middle + 1,
+        }
+    }
+    Err(low)
+}
