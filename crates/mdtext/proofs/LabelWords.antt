@@ -5,15 +5,15 @@ use Rattle.mdtext.specs.Labels.{is_label_space, at_front_of_word, ends_word, wor
 use Rattle.mdtext.proofs.PlainRuns.{either_false}
 
 -- a character of a word
-one_plain : (b : ℕ) (bs : List ℕ) → is_label_space b ≡ false → words (b ∷ bs) ≡ at_front_of_word b (ends_word bs) (words bs)
+pub one_plain : (b : ℕ) (bs : List ℕ) → is_label_space b ≡ false → words (b ∷ bs) ≡ at_front_of_word b (ends_word bs) (words bs)
 unfolding words
 one_plain b bs h = rw h refl
 
-one_space : (b : ℕ) (bs : List ℕ) → is_label_space b ≡ true → words (b ∷ bs) ≡ words bs
+pub one_space : (b : ℕ) (bs : List ℕ) → is_label_space b ≡ true → words (b ∷ bs) ≡ words bs
 unfolding words
 one_space b bs h = rw h refl
 
-no_words : words [] ≡ []
+pub no_words : words [] ≡ []
 unfolding words
 no_words = refl
 

@@ -13,6 +13,7 @@ pub mod PlainRuns
 pub mod Specials
 pub mod Strips
 pub mod Tables
+pub mod TidyLabels
 pub mod TokenReading
 pub mod Unindented
 pub mod UrlBytes

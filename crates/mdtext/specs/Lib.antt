@@ -12,3 +12,4 @@ pub mod Lines
 pub mod NamedTexts
 pub mod References
 pub mod Referents
+pub mod TidyLabels

@@ -1,11 +1,12 @@
 //! Link labels, and what they lead to.
-ghost use Rattle.std.specs.Prelude.{◌≡◌, ◌++◌, ◌∷◌, [], false, None, Some, IfOk, OnOk, chars, fold, length, nat_eq, nat_le, not};
+ghost use Rattle.std.specs.Prelude.{◌≡◌, ◌++◌, ◌∷◌, [], false, true, None, Some, IfOk, OnOk, chars, fold, length, nat_eq, nat_le, not};
 ghost use Rattle.std.specs.Prelude.{refl, string_bytes, if◌then◌else◌};
 ghost use Rattle.std.specs.Cmp.{partial_equiv_from_equiv};
 ghost use Rattle.std.specs.Cmp.Lexicographic.{pointwise, nat_list_eq_equiv, nat_list_cmp_total, slice_cmp, texts_po, texts_ties};
 ghost use Rattle.std.specs.List.{list_any};
 ghost use Rattle.std.specs.Ordering.{nat_cmp};
-ghost use Rattle.mdtext.specs.Labels.{add_word, folded, space_between, has_bare_bracket, is_label, is_label_space, label_of, words};
+ghost use Rattle.mdtext.specs.TidyLabels.{fits, is_tidy, is_word_byte};
+ghost use Rattle.mdtext.specs.Labels.{add_word, collapsed, folded, space_between, has_bare_bracket, is_label, is_label_space, label_of, words};
 
 use crate::NoMemory;
 use crate::byte_class::Class;
@@ -45,11 +46,10 @@ impl Label {
     pub fn fold(&mut self, alloc: Global, inside: &str) -> Result<bool, NoMemory>
         ensures { IfOk result (λ is_label. label_of inside.now ≡ (if is_label then Some self.new else None)) }
     {
-        if !is_label(inside) {
+        self.folded.clear();
+        if !collapse(inside, &mut self.folded)? {
             return Ok(false);
         }
-        self.folded.clear();
-        append_collapsed(inside, &mut self.folded)?;
         fold_case(alloc, &mut self.folded)?;
         Ok(true)
     }
@@ -145,6 +145,53 @@ pub fn fold_label(alloc: Global, inside: &str) -> Result<Option<Label>, NoMemory
     } else {
         Ok(None)
     }
+}
+
+// Appends the words of a label, with a space between them, and answers whether it is one. Most labels are their own words.
+fn collapse(inside: &str, text: &mut String) -> Result<bool, NoMemory>
+    requires { string_bytes text.old ≡ [] }
+    ensures label { IfOk result (λ found. found ≡ is_label inside.now) }
+    ensures words { IfOk result (λ found. found ≡ true → string_bytes text.new ≡ collapsed inside.now) }
+{
+    if is_tidy(inside) {
+        text.push_str(inside)?;
+        return Ok(true);
+    }
+    if !is_label(inside) {
+        return Ok(false);
+    }
+    append_collapsed(inside, text)?;
+    Ok(true)
+}
+
+fn is_tidy(inside: &str) -> bool
+    ensures { result ≡ is_tidy inside.now }
+{
+    if 999 < inside.len() {
+        return false;
+    }
+    let mut before = b' ';
+    for byte in inside.as_bytes() {
+        if !fits(before, *byte) {
+            return false;
+        }
+        before = *byte;
+    }
+    before != b' '
+}
+
+#[inline(always)]
+fn fits(before: u8, byte: u8) -> bool
+    ensures { result ≡ fits before byte }
+{
+    is_word_byte(byte) || (byte == b' ' && before != b' ')
+}
+
+#[inline(always)]
+fn is_word_byte(byte: u8) -> bool
+    ensures { result ≡ is_word_byte byte }
+{
+    32 < byte && !(91 <= byte && byte <= 93)
 }
 
 // A bracket is looked for first, since the search ends there: texts in many brackets are read from each to the next one alone.
