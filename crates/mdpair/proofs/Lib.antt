@@ -1,5 +1,7 @@
+pub mod AsciiNeighbours
 pub mod BottomKept
 pub mod Characters
+pub mod Flanks
 pub mod IdleRuns
 pub mod OrderedMatches
 pub mod RunEnds

@@ -1,4 +1,5 @@
 pub mod DelimiterRun
+pub mod Flanks
 pub mod Neighbours
 pub mod Matches
 pub mod OpenersBottom

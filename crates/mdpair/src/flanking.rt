@@ -1,9 +1,9 @@
 //! The delimiter run at a place of a text, and what it can do there (CommonMark 6.2).
 
-ghost use Rattle.std.specs.Prelude.{◌≡◌, ◌+◌, ◌-◌, ◌<◌, ◌≤◌, IfSome, length, drop, slice_get};
+ghost use Rattle.std.specs.Prelude.{◌≡◌, ◌+◌, ◌-◌, ◌<◌, ◌≤◌, IfSome, Some, length, drop, slice_get};
 ghost use Rattle.std.specs.Str.{chars, IsCharBoundary};
 ghost use Rattle.std.specs.Option.{option_and_then};
-ghost use Rattle.mdpair.specs.Neighbours.{white_at, punct_at, left_flanking, right_flanking, opens_between, closes_between};
+ghost use Rattle.mdpair.specs.Flanks.{bounds, flanks, is_ascii_white, neighbour_at};
 ghost use Rattle.mdpair.specs.Neighbours.{run_between, char_before, char_after, delimiter_of, byte_of, run_length, run_at};
 
 use crate::runs::{DelimiterChar, DelimiterRun};
@@ -25,12 +25,28 @@ pub fn delimiter_run(text: &str, at: usize) -> Option<DelimiterRun>
     let length = length_of(delimiter, &bytes[at..]);
     let before = last_char(&text[..at]);
     let after = first_char(&text[at + length..]);
-    Some(DelimiterRun {
+    Some(run_between(delimiter, length, before, after))
+}
+
+/// A run of `length` such characters between its neighbours.
+#[tactic(auto, using(crate::proofs::Flanks::opens_as, crate::proofs::Flanks::closes_as))]
+fn run_between(
+    delimiter: DelimiterChar,
+    length: usize,
+    before: Option<char>,
+    after: Option<char>,
+) -> DelimiterRun
+    ensures value { result ≡ run_between delimiter length before after }
+    ensures length { result.length ≡ length }
+{
+    let before = neighbour_of(before);
+    let after = neighbour_of(after);
+    DelimiterRun {
         delimiter,
         length,
         can_open: can_bound(delimiter, length, before, after),
         can_close: can_bound(delimiter, length, after, before),
-    })
+    }
 }
 
 /// The delimiter character that stands at a byte.
@@ -76,52 +92,65 @@ fn last_char(front: &str) -> Option<char>
     front.chars().next_back()
 }
 
+/// What the neighbour of a run is, as far as it matters there.
+#[derive(Clone, Copy, Drop)]
+pub(crate) struct Neighbour {
+    /// Whether it is Unicode whitespace; one beyond the text's ends is.
+    pub is_white: bool,
+    /// Whether it is Unicode punctuation.
+    pub is_punct: bool,
+}
+
+/// A neighbour is asked once for what it is; most are ASCII, of which no table is read.
+fn neighbour_of(character: Option<char>) -> Neighbour
+    ensures { result ≡ neighbour_at character }
+{
+    match character {
+        Some(c) if c.is_ascii() => ascii_neighbour(c),
+        Some(c) => Neighbour {
+            is_white: is_white(c),
+            is_punct: is_punct(c),
+        },
+        None => Neighbour {
+            is_white: true,
+            is_punct: false,
+        },
+    }
+}
+
+#[tactic(auto, using(crate::proofs::AsciiNeighbours::ascii_white, crate::proofs::AsciiNeighbours::ascii_punct))]
+fn ascii_neighbour(c: char) -> Neighbour
+    requires { c < 128 }
+    ensures { result ≡ neighbour_at (Some c) }
+{
+    Neighbour {
+        is_white: is_ascii_white(c),
+        is_punct: c.is_ascii_punctuation(),
+    }
+}
+
+fn is_ascii_white(c: char) -> bool
+    ensures { result ≡ is_ascii_white c }
+{
+    c == ' ' || c == '\t' || c == '\n' || c == '\u{C}' || c == '\r'
+}
+
 /// Whether a run of `length` such characters can bound emphasis, with these neighbours outside of it and inside. An opener's inside follows it (rules 1, 2,
 /// 5 and 6); a closer's stands before it (rules 3, 4, 7 and 8, which are the same read from the right).
-#[tactic(auto, unfolding(crate::specs::Neighbours::opens_between, crate::specs::Neighbours::closes_between))]
-fn can_bound(
-    delimiter: DelimiterChar,
-    length: usize,
-    outside: Option<char>,
-    inside: Option<char>,
-) -> bool
-    ensures opens { result ≡ opens_between delimiter length outside inside }
-    ensures closes { result ≡ closes_between delimiter length inside outside }
+fn can_bound(delimiter: DelimiterChar, length: usize, outside: Neighbour, inside: Neighbour) -> bool
+    ensures { result ≡ bounds delimiter length outside inside }
 {
     let flanks = is_flanking(outside, inside);
     match delimiter {
         DelimiterChar::Asterisk => flanks,
-        DelimiterChar::Underscore => flanks
-            && (!is_flanking(inside, outside) || is_punct_at(outside)),
+        DelimiterChar::Underscore => flanks && (!is_flanking(inside, outside) || outside.is_punct),
         DelimiterChar::Tilde => flanks && length < 3,
     }
 }
 
 /// Whether a run is flanking on its inside: an opener left-flanking, a closer right-flanking.
-#[tactic(auto, unfolding(crate::specs::Neighbours::left_flanking, crate::specs::Neighbours::right_flanking))]
-fn is_flanking(outside: Option<char>, inside: Option<char>) -> bool
-    ensures left { result ≡ left_flanking outside inside }
-    ensures right { result ≡ right_flanking inside outside }
+fn is_flanking(outside: Neighbour, inside: Neighbour) -> bool
+    ensures { result ≡ flanks outside inside }
 {
-    !is_white_at(inside) && (!is_punct_at(inside) || is_white_at(outside) || is_punct_at(outside))
-}
-
-/// Whether a neighbour is Unicode whitespace; one beyond the text's ends is.
-fn is_white_at(neighbour: Option<char>) -> bool
-    ensures { result ≡ white_at neighbour }
-{
-    match neighbour {
-        Some(c) => is_white(c),
-        None => true,
-    }
-}
-
-/// Whether a neighbour is Unicode punctuation.
-fn is_punct_at(neighbour: Option<char>) -> bool
-    ensures { result ≡ punct_at neighbour }
-{
-    match neighbour {
-        Some(c) => is_punct(c),
-        None => false,
-    }
+    !inside.is_white && (!inside.is_punct || outside.is_white || outside.is_punct)
 }

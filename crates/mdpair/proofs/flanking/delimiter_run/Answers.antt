@@ -18,6 +18,7 @@ returns-clause-some c =
     let found = sym c.delimiter_at.ensures ∙ c.in_ok-delimiter.was in
     omega (
       arith,
+      c.run_between.ensures.length,
       some_run c.as_bytes-bytes.result.now c.args.at c.in_ok-delimiter.delimiter found,
       c.length_of-length.ensures.value ∙ ap (run_length c.in_ok-delimiter.delimiter) (rest_of c.as_bytes-bytes.result.now c.args.at),
     )
@@ -28,4 +29,4 @@ returns-clause-boundary c =
     let found = sym c.delimiter_at.ensures ∙ c.in_ok-delimiter.was in
     let here = subst (λ bs. option_and_then delimiter_of (slice_get bs c.args.at) ≡ Some c.in_ok-delimiter.delimiter) same found in
     let size = c.length_of-length.ensures.value ∙ ap (run_length c.in_ok-delimiter.delimiter) (rest_of c.as_bytes-bytes.result.now c.args.at) ∙ ap (λ bs. run_length c.in_ok-delimiter.delimiter (drop c.args.at bs)) same in
-    run_end c.args.text.now c.args.at c.length_of-length.result c.in_ok-delimiter.delimiter c.utf8.text here size
+    rw c.run_between.ensures.length (run_end c.args.text.now c.args.at c.length_of-length.result c.in_ok-delimiter.delimiter c.utf8.text here size)
