@@ -22,19 +22,19 @@ ghost use Rattle.mdinline.specs.held.UnusedOpeners.{AreOpenersOf, IsTaken, opene
 use crate::bracket_stack::{BracketStack, Opening};
 use crate::emphasis::{append_unpaired, take_all};
 use crate::tokens::{Begun, Goal, PairedRun, Token};
-use mdpair::{DelimiterRun, pair};
+use mdpair::{DelimiterRun, Pairing};
 use std::alloc::{AllocError, Global};
 
 /// What was read of a text and not handed out yet.
 #[derive(Drop)]
 pub(crate) struct Pending<'a> {
-    alloc: Global,
     /// There is none while no run and no bracket is pending.
     tokens: Vec<Token<'a>>,
     /// The delimiter runs that are not paired yet, and their places among the tokens.
     runs: Vec<DelimiterRun>,
     places: Vec<usize>,
     openings: BracketStack,
+    pairing: Pairing,
     /// What matches leave of the runs that are being paired.
     paired: Vec<PairedRun>,
     /// The spans that begin at runs that are paired.
@@ -44,11 +44,11 @@ pub(crate) struct Pending<'a> {
 impl<'a> Pending<'a> {
     pub(crate) fn new(alloc: Global) -> Pending<'a> {
         Pending {
-            alloc,
             tokens: Vec::new(alloc),
             runs: Vec::new(alloc),
             places: Vec::new(alloc),
             openings: BracketStack::new(alloc),
+            pairing: Pairing::new(alloc),
             paired: Vec::new(alloc),
             begun: Vec::new(alloc),
         }
@@ -245,8 +245,8 @@ impl<'a> Pending<'a> {
     {
         self.paired.clear();
         append_unpaired(&self.runs[from..], &mut self.paired)?;
-        let matches = pair(self.alloc, &self.runs[from..])?;
-        take_all(&mut self.paired, &mut self.begun, &matches)?;
+        self.pairing.pair(&self.runs[from..])?;
+        take_all(&mut self.paired, &mut self.begun, self.pairing.matches())?;
         Ok(())
     }
 

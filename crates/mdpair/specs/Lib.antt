@@ -3,3 +3,4 @@ pub mod Flanks
 pub mod Neighbours
 pub mod Matches
 pub mod OpenersBottom
+pub mod Pairings

@@ -1,6 +1,6 @@
 //! The pairing of the delimiter runs of a text (CommonMark, appendix, process emphasis).
 
-ghost use Rattle.std.specs.Prelude.{◌≡◌, ℕ, ◌+◌, ◌-◌, ◌<◌, ◌≤◌, All, true, Some, None, List, ◌∷◌, ◌++◌, IfOk, MatchOption, length, take, slice_index_or};
+ghost use Rattle.std.specs.Prelude.{◌≡◌, ℕ, ◌+◌, ◌-◌, ◌<◌, ◌≤◌, All, true, Some, None, List, [], ◌∷◌, ◌++◌, IfOk, OnOk, MatchOption, length, take, slice_index_or};
 ghost use Rattle.std.specs.List.{AllByRecursion};
 ghost use Rattle.mdpair.specs.declared.emphasis.Remaining.{Remaining as Left};
 ghost use Rattle.mdpair.specs.DelimiterRun.{is_admissible};
@@ -42,10 +42,67 @@ pub fn pair(alloc: Global, runs: &[DelimiterRun]) -> Result<Vec<Match>, AllocErr
     let mut matches = Vec::new(alloc);
     let mut passed = Vec::new(alloc);
     let mut bottoms = Vec::new(alloc);
-    for (place, run) in runs.iter().enumerate() {
-        pass(&mut passed, &mut matches, &mut bottoms, place, *run)?;
-    }
+    pair_into(&mut passed, &mut matches, &mut bottoms, runs)?;
     Ok(matches)
+}
+
+/// Pairs the runs of one text after the other, and keeps from one to the next the room that this takes.
+#[derive(Drop)]
+pub struct Pairing {
+    matches: Vec<Match>,
+    passed: Vec<Remaining>,
+    bottoms: Vec<Bottom>,
+}
+
+impl Pairing {
+    ghost use Rattle.mdpair.specs.Pairings.{matches_of};
+
+    /// Takes no memory.
+    pub fn new(alloc: Global) -> Pairing {
+        Pairing {
+            matches: Vec::new(alloc),
+            passed: Vec::new(alloc),
+            bottoms: Vec::new(alloc),
+        }
+    }
+
+    /// Pairs these runs, as [`pair`] does. Their matches are those of the value until the next call.
+    pub fn pair(&mut self, runs: &[DelimiterRun]) -> Result<(), AllocError>
+        ensures value { OnOk result (matches_of self.new ≡ matches runs.now) }
+        ensures ordered { OnOk result (All (IsOrdered (length runs.now)) (matches_of self.new)) }
+    {
+        self.matches.clear();
+        self.passed.clear();
+        self.bottoms.clear();
+        pair_into(&mut self.passed, &mut self.matches, &mut self.bottoms, runs)
+    }
+
+    /// The matches of the runs that were paired last. Takes no memory.
+    pub fn matches(&self) -> &[Match]
+        ensures { result.now ≡ matches_of self.now }
+    {
+        &self.matches
+    }
+}
+
+/// Pairs these runs, with nothing in the lists before.
+fn pair_into(
+    passed: &mut Vec<Remaining>,
+    found: &mut Vec<Match>,
+    bottoms: &mut Vec<Bottom>,
+    runs: &[DelimiterRun],
+) -> Result<(), AllocError>
+    requires passed { passed.old.items ≡ [] }
+    requires found { found.old.items ≡ [] }
+    requires bottoms { bottoms.old.items ≡ [] }
+    ensures value { OnOk result (found.new.items ≡ matches runs.now) }
+    ensures processed { OnOk result (IsProcessed runs.now found.new.items) }
+    ensures ordered { OnOk result (All (IsOrdered (length runs.now)) found.new.items) }
+{
+    for (place, run) in runs.iter().enumerate() {
+        pass(passed, found, bottoms, place, *run)?;
+    }
+    Ok(())
 }
 
 /// Takes what a run can close, and puts what is left of it on the stack.

@@ -10,7 +10,7 @@ mod flanking;
 mod runs;
 mod searches;
 
-pub use emphasis::{Match, pair};
+pub use emphasis::{Match, Pairing, pair};
 pub use flanking::delimiter_run;
 pub use runs::{DelimiterChar, DelimiterRun};
 

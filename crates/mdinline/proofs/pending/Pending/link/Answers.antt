@@ -21,6 +21,6 @@ returns-clause-pieces c = λ entities text handed ps kept taken.
     let replaced = c.replace.ensures in
     let now = c.replace.new.self in
     holds_link entities text handed ps c.args.opening c.args.goal c.args.self.now c.settle.new.self
-    (record { alloc = now.alloc; tokens = c.push.new.self; runs = now.runs; places = now.places; openings = c.made.new.self; paired = now.paired; begun = now.begun })
+    (record { tokens = c.push.new.self; runs = now.runs; places = now.places; openings = c.made.new.self; pairing = now.pairing; paired = now.paired; begun = now.begun })
     (c.in_ok-settle.ensures.pieces entities text kept) now.tokens.items replaced.value c.in_ok-push.ensures.items replaced.runs replaced.places replaced.begun
     (c.made.ensures.unused ∙ ap (λ (s : BracketStack). s.unused.items) (replaced.openings ∙ c.in_ok-settle.ensures.openings)) kept taken

@@ -1,6 +1,7 @@
 use Rattle.std.proofs.Common.{◌≡◌, ◌-◌, [], All, ap, sym, subst, ◌∙◌, drop, length, take}
 use Rattle.std.proofs.lemmas.List.{take_rest}
 use Rattle.mdpair.specs.Matches.{IsOrdered, matches}
+use Rattle.mdpair.specs.Pairings.{matches_of}
 use Rattle.mdinline.specs.held.PairedRuns.{ArePaired}
 use Rattle.mdinline.proofs.pending.Pending.pair_from.Goals as goal
 
@@ -13,8 +14,8 @@ returns-clause-paired c =
     let two = c.deref-2.result.now in
     let same_one : take (length one - from) (drop from one) ≡ rs = take_rest one from ∙ ap (drop from) c.deref.ensures.value in
     let same_two : take (length two - from) (drop from two) ≡ rs = take_rest two from ∙ ap (drop from) c.deref-2.ensures.value in
-    let found = c.in_ok-matches.matches.items in
-    let ordered = subst (λ xs. All (IsOrdered (length xs)) found) same_two c.in_ok-matches.ensures.ordered in
+    let found = matches_of c.pair.new.self in
+    let ordered = subst (λ xs. All (IsOrdered (length xs)) found) same_two c.in_ok-pair.ensures.ordered in
     let fresh = subst (λ xs. ArePaired begun [] xs c.append_unpaired.new.paired.items) same_one (c.in_ok-append_unpaired.ensures begun c.clear.ensures.items) in
-    subst (λ ts. ArePaired c.take_all.new.begun.items ts rs c.take_all.new.runs.items) (c.deref-3.ensures.value ∙ c.in_ok-matches.ensures.value ∙ ap matches same_two)
-    (c.in_ok-take_all.ensures.paired rs (subst (All (IsOrdered (length rs))) (sym c.deref-3.ensures.value) ordered) fresh)
+    subst (λ ts. ArePaired c.take_all.new.begun.items ts rs c.take_all.new.runs.items) (c.matches.ensures ∙ c.in_ok-pair.ensures.value ∙ ap matches same_two)
+    (c.in_ok-take_all.ensures.paired rs (subst (All (IsOrdered (length rs))) (sym c.matches.ensures) ordered) fresh)

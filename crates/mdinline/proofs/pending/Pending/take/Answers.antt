@@ -9,4 +9,4 @@ returns-clause-pieces c = λ entities text handed ps h.
 pub returns-clause-opened : goal.returns-clause-opened
 returns-clause-opened c = λ entities text handed ps h.
     let now = c.args.self.now in
-    still_there entities text handed now (record { alloc = now.alloc; tokens = now.tokens; runs = now.runs; places = now.places; openings = c.take.new.self; paired = now.paired; begun = now.begun }) ps h c.take.result c.take.ensures.unused refl refl
+    still_there entities text handed now (record { tokens = now.tokens; runs = now.runs; places = now.places; openings = c.take.new.self; pairing = now.pairing; paired = now.paired; begun = now.begun }) ps h c.take.result c.take.ensures.unused refl refl
