@@ -30,5 +30,6 @@ pub mod ReadTree
 pub mod RunTokens
 pub mod SeenInlines
 pub mod SignItems
+pub mod StopLanes
 pub mod TakenOpeners
 pub mod WrittenRuns

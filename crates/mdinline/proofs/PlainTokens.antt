@@ -5,7 +5,6 @@ use Rattle.std.specs.Prelude.{slice_index}
 use Rattle.std.specs.Str.{IsUtf8, IsCharBoundary}
 use Rattle.std.proofs.lemmas.Bool.Decides.{nat_tests}
 use Rattle.std.proofs.lemmas.List.{get_or-drop, take-append-drop, length-take-le, get_or-take}
-use Rattle.std.proofs.lemmas.List.Folds.{prefix_len-append}
 use Rattle.std.proofs.lemmas.List.Sums.{prefix_len_stops}
 use Rattle.mdtext.specs.Escaped.{escaped, escaped_byte}
 use Rattle.mdscan.specs.Spans.{IsSpanOf, part}
@@ -13,21 +12,6 @@ use Rattle.mdinline.specs.held.LeafEvents.{IsTokenOf}
 use Rattle.mdinline.specs.held.PlainText.{is_escaped, is_stop}
 use Rattle.mdinline.specs.declared.tokens.Token.TheVariants as t
 use Rattle.mdinline.proofs.Marks.{behind}
-
--- where the first stop is, by those of two parts
-module _ (text front : List ℕ) (n stop : ℕ) (is : front ≡ take n text) (within : n ≤ length text) (found : stop ≡ position_or_len is_stop front) where
-  cut : position_or_len is_stop text ≡ cond (eqb stop n) (n + position_or_len is_stop (drop n text)) stop
-  cut =
-      let here : position_or_len is_stop (take n text) ≡ stop = ap (position_or_len is_stop) (sym is) ∙ sym found in
-      ap (position_or_len is_stop) (sym (take-append-drop n text)) ∙ prefix_len-append (λ x. not (is_stop x)) (take n text) (drop n text)
-      ∙ rw (here, length-take-le n text within) refl
-
-  pub stop_in_front : stop < n → stop ≡ position_or_len is_stop text
-  stop_in_front small = sym (cut ∙ grind (arith, small))
-
-  pub stop_behind : (rest : List ℕ) (later : ℕ) → n ≤ stop → stop ≤ n → rest ≡ drop n text → later ≡ position_or_len is_stop rest → n + later ≡ position_or_len is_stop text
-  stop_behind rest later large small same more =
-      ap (λ k. n + k) (more ∙ ap (position_or_len is_stop) same) ∙ sym (cut ∙ grind (arith, large, small))
 
 plain_byte : (b : ℕ) → is_escaped b ≡ false → escaped_byte b ≡ b ∷ []
 unfolding escaped_byte

@@ -15,6 +15,7 @@ pub mod ReadState
 pub mod ReadSteps
 pub mod ReadTo
 pub mod Recognised
+pub mod StopTables
 pub mod StoredTree
 pub mod Ticks
 pub mod TreeBuilding

@@ -23,6 +23,7 @@ mod readers;
 mod reading;
 mod scanner;
 mod sinks;
+mod stops;
 mod texts;
 mod tokens;
 mod trees;

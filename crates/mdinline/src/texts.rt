@@ -15,9 +15,9 @@ ghost use Rattle.mdinline.specs.held.Recognised.{lexeme_of};
 
 use crate::line_breaks::are_spaces_alone;
 use crate::scanner::{Found, leaf_of};
+use crate::stops::{first_stop, is_stop};
 use crate::tokens::Token;
 use mdscan::Span;
-use mdtext::{Class, first_special};
 
 /// One ASCII byte as text.
 pub(crate) fn byte_token(text: &str, at: usize) -> Token<'static>
@@ -104,66 +104,6 @@ fn stop_from(text: &[u8], start: usize) -> usize
     ensures value { result ≡ start + position_or_len is_stop (drop start text.now) }
 {
     start + first_stop(&text[start..])
-}
-
-/// Whole blocks are searched by lanes, the rest byte by byte.
-fn first_stop(text: &[u8]) -> usize
-    ensures within { result ≤ length text.now }
-    ensures mark { result < length text.now → slice_index text.now result < 128 }
-    ensures value { result ≡ position_or_len is_stop text.now }
-{
-    let whole = text.len() - text.len() % 32;
-    let stop = stop_in_blocks(&text[..whole]);
-    if stop < whole {
-        return stop;
-    }
-    whole + stop_by_bytes(&text[whole..])
-}
-
-fn stop_in_blocks(text: &[u8]) -> usize
-    ensures { result ≡ position_or_len is_stop text.now }
-{
-    if text.is_empty() {
-        return 0;
-    }
-    first_special(text, &Class::of(b"\n!\"&*<>[\\]_`~"))
-}
-
-fn stop_by_bytes(text: &[u8]) -> usize
-    ensures within { result ≤ length text.now }
-    ensures mark { result < length text.now → slice_index text.now result < 128 }
-    ensures value { result ≡ position_or_len is_stop text.now }
-{
-    for (i, byte) in text.iter().enumerate() {
-        if is_stop(*byte) {
-            return i;
-        }
-    }
-    text.len()
-}
-
-/// Whether something may begin at a byte that is not plain text; most bytes are small letters, which one test leaves.
-fn is_stop(byte: u8) -> bool
-    ensures ascii { result ≡ true → byte < 128 }
-    ensures value { result ≡ is_stop byte }
-{
-    !byte.is_ascii_lowercase()
-        && matches!(
-            byte,
-            b'\n'
-                | b'!'
-                | b'"'
-                | b'&'
-                | b'*'
-                | b'<'
-                | b'>'
-                | b'['
-                | b'\\'
-                | b']'
-                | b'_'
-                | b'`'
-                | b'~'
-        )
 }
 
 /// Whether text begins at a place with a byte that HTML does not escape, as that byte tells, or with spaces that no line feed follows.
