@@ -63,7 +63,7 @@ pub(crate) fn hand_out<S: InlineSink>(
     Ok(())
 }
 
-/// Hands one token out.
+/// Hands one token out. Most are plain text.
 fn hand<S: InlineSink>(
     source: &Source<'_>,
     token: Token<'_>,
@@ -74,6 +74,7 @@ fn hand<S: InlineSink>(
     ensures { OnOk result (S.takes sink.old (token_events source.now.entities.now source.now.text.now source.now.begun.now token.entry) sink.new) }
 {
     match token {
+        Token::Plain(span) => sink.plain(part(source.text, span)),
         Token::Paired(run) => hand_run(source, run, sink),
         Token::Enter { is_image, goal } => hand_goal(source, is_image, goal, scratch, sink),
         Token::Leave => sink.leave(),
