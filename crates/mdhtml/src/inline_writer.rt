@@ -1,6 +1,6 @@
 //! HTML of inlines as they come, with no tree.
 
-ghost use Rattle.std.specs.Prelude.{◌≡◌, ◌++◌, OnOk, [], true, false, codes, string_bytes, reverse};
+ghost use Rattle.std.specs.Prelude.{◌≡◌, ◌++◌, IfSome, OnOk, [], true, false, codes, string_bytes, reverse};
 ghost use Rattle.mdtext.specs.Escaped.{escaped};
 ghost use Rattle.inlinespec.specs.CodeSpans.{as_one_line};
 
@@ -81,7 +81,7 @@ impl InlineSink for InlineWriter {
     }
 
     fn text(&mut self, text: &str) -> Result<(), NoMemory> {
-        escape_text(text, &mut self.html)
+        write_text(text, &mut self.html)
     }
 
     fn code_span(&mut self, content: &str) -> Result<(), NoMemory> {
@@ -189,5 +189,29 @@ impl InlineWriter {
         self.html.push_str(tag)?;
         self.spans.push(span)?;
         Ok(())
+    }
+}
+
+/// Appends text. A quotation mark or another byte that HTML escapes mostly comes alone, and is not searched for.
+fn write_text(text: &str, out: &mut String) -> Result<(), NoMemory>
+    ensures { OnOk result (string_bytes out.new ≡ string_bytes out.old ++ escaped text.now) }
+{
+    match reference_of(text.as_bytes()) {
+        Some(reference) => out.push_str(reference),
+        None => escape_text(text, out),
+    }
+}
+
+/// The reference that HTML writes for a text of one byte, if it writes one.
+#[tactic(auto, unfolding(mdtext::specs::Escaped::escaped_byte))]
+fn reference_of(text: &[u8]) -> Option<&'static str>
+    ensures { IfSome result (λ reference. reference.now ≡ escaped text.now) }
+{
+    match text {
+        [b'"'] => Some("&quot;"),
+        [b'&'] => Some("&amp;"),
+        [b'<'] => Some("&lt;"),
+        [b'>'] => Some("&gt;"),
+        _ => None,
     }
 }
