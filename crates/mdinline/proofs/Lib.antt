@@ -9,6 +9,7 @@ pub mod HandedTokens
 pub mod JoinedRows
 pub mod LastStrings
 pub mod LimitedLeaves
+pub mod LoneMarks
 pub mod LongTagEnds
 pub mod Marks
 pub mod NearestOpeners

@@ -1,10 +1,10 @@
 -- Text of which HTML escapes nothing, and bytes as tokens.
-use Rattle.std.proofs.Common.{◌≡◌, ℕ, zero, suc, ◌+◌, ◌-◌, ◌<◌, ◌≤◌, true, false, not, cond, eqb, List, [], ◌∷◌, ◌++◌, length, take, drop, get_or, length-drop, refl, ap, ap₂, sym, ◌∙◌, subst, arith}
+use Rattle.std.proofs.Common.{◌≡◌, ℕ, zero, suc, ◌+◌, ◌-◌, ◌<◌, ◌≤◌, true, false, not, eqb, List, [], ◌∷◌, ◌++◌, length, take, drop, get_or, length-drop, refl, ap, ap₂, sym, ◌∙◌, subst, arith}
 use Rattle.std.specs.List.{position_or_len}
 use Rattle.std.specs.Prelude.{slice_index}
 use Rattle.std.specs.Str.{IsUtf8, IsCharBoundary}
 use Rattle.std.proofs.lemmas.Bool.Decides.{nat_tests}
-use Rattle.std.proofs.lemmas.List.{get_or-drop, take-append-drop, length-take-le, get_or-take}
+use Rattle.std.proofs.lemmas.List.{get_or-drop, length-take-le, get_or-take}
 use Rattle.std.proofs.lemmas.List.Sums.{prefix_len_stops}
 use Rattle.mdtext.specs.Escaped.{escaped, escaped_byte}
 use Rattle.mdscan.specs.Spans.{IsSpanOf, part}

@@ -42,6 +42,14 @@ module _ (entities : EntityTable) (text : List ℕ) (at : ℕ) where
   unfolding lex
   at_feed e = rw e refl
 
+  pub at_quotation : get_or text at 0 ≡ 34 → lex entities text at ≡ as_written 1 (drop at text)
+  unfolding lex
+  at_quotation e = rw e refl
+
+  pub at_greater : get_or text at 0 ≡ 62 → lex entities text at ≡ as_written 1 (drop at text)
+  unfolding lex
+  at_greater e = rw e refl
+
   pub at_bracket : get_or text at 0 ≡ 91 → lex entities text at ≡ bracket_lexeme 1 false
   unfolding lex
   at_bracket e = rw e refl

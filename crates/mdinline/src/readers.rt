@@ -33,7 +33,7 @@ use crate::links::{FoundLink, link_of};
 use crate::pending::Pending;
 use crate::scanner::Scanner;
 use crate::sinks::InlineSink;
-use crate::texts::{begins_text, plain_end};
+use crate::texts::{begins_mark, begins_text, plain_end};
 use crate::tokens::Token;
 use mdpair::{DelimiterRun, delimiter_run};
 use mdscan::Span;
@@ -168,6 +168,11 @@ impl<'a> TextReader<'a> {
             self.put_text(text, Span { start: at, end }, sink)?;
             return Ok(end);
         }
+        if begins_mark(text, at) {
+            let end = at + 1;
+            self.put_mark(text, Span { start: at, end }, sink)?;
+            return Ok(end);
+        }
         let bytes = text.as_bytes();
         if bytes[at] == b'\n' {
             let end = soft_break_end(text, at);
@@ -209,6 +214,31 @@ impl<'a> TextReader<'a> {
             return Ok(());
         }
         sink.plain(part(text, span))?;
+        Ok(())
+    }
+
+    /// Hands text that HTML may escape to the sink, where nothing is pending before it.
+    fn put_mark<S: InlineSink>(
+        &mut self,
+        text: &str,
+        span: Span,
+        sink: &mut S,
+    ) -> Result<(), AllocError>
+        requires token { IsTokenOf text.now (kept.Text span) }
+        requires tokens { All (IsTokenOf text.now) self.old.pending.tokens.items }
+        ensures tokens { OnOk result (All (IsTokenOf text.now) self.new.pending.tokens.items) }
+        ensures takes { OnOk result ((es : List Event) × S.takes sink.old es sink.new × ((handed : List Event) (ps qs : List settled.Piece)
+            → AreLeaves qs → ones (written (part text.now span)) ≡ marks_back qs → HoldsPieces self.old.entities.now text.now handed self.old.pending ps
+            → HoldsPieces self.old.entities.now text.now (handed ++ es) self.new.pending (qs ++ ps))) }
+        ensures openings { self.new.pending.openings ≡ self.old.pending.openings }
+        ensures scanner { self.new.scanner ≡ self.old.scanner }
+        ensures entities { self.new.entities ≡ self.old.entities }
+    {
+        if !self.pending.is_empty() {
+            self.pending.leaf(Token::Text(span))?;
+            return Ok(());
+        }
+        sink.text(part(text, span))?;
         Ok(())
     }
 

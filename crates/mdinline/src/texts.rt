@@ -1,6 +1,6 @@
 //! Text: what begins nothing else (CommonMark 6.9).
 
-ghost use Rattle.std.specs.Prelude.{◌≡◌, ◌+◌, ◌-◌, ◌<◌, ◌≤◌, ◌==◌, ℕ, true, false, length, drop, slice_index, take};
+ghost use Rattle.std.specs.Prelude.{◌≡◌, ◌+◌, ◌-◌, ◌<◌, ◌≤◌, ◌==◌, ◌||◌, ℕ, true, false, length, drop, slice_index, take};
 ghost use Rattle.std.specs.List.{position_or_len, prefix_len};
 ghost use Rattle.std.specs.Str.{IsCharBoundary};
 ghost use Rattle.mdtext.specs.EntityTable.{EntityTable};
@@ -117,6 +117,22 @@ pub(crate) fn begins_text(text: &str, at: usize) -> bool
         return are_spaces_alone(text, at);
     }
     !is_stop(byte)
+}
+
+/// Whether a byte stands at a place that is text whatever stands around it, and that HTML escapes: a quotation mark or a `>`.
+pub(crate) fn begins_mark(text: &str, at: usize) -> bool
+    requires { at < length text.now }
+    ensures end { result ≡ true → IsEndAfter text.now at (at + 1) }
+    ensures token { result ≡ true → IsCharBoundary text.now at → IsTokenOf text.now (kept.Text (record { start = at; end = at + 1 })) }
+    ensures value { result ≡ true → (entities : EntityTable) → lex entities text.now at ≡ as_written 1 (drop at text.now) }
+{
+    is_lone(text.as_bytes()[at])
+}
+
+fn is_lone(byte: u8) -> bool
+    ensures { result ≡ (byte == 34 || byte == 62) }
+{
+    byte == b'"' || byte == b'>'
 }
 
 /// Where the spaces begin that stand before `end`, and not before `start`.

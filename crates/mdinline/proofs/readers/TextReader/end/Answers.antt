@@ -1,4 +1,4 @@
-use Rattle.std.proofs.Common.{[], ◌++◌}
+use Rattle.std.proofs.Common.{[]}
 use Rattle.mdinline.specs.held.LeafEvents.{tokens_events}
 use Rattle.mdinline.proofs.ReadHolding.{holds_all, holds_no_more, no_items}
 use Rattle.mdinline.proofs.readers.TextReader.end.Goals as goal

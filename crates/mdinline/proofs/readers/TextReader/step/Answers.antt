@@ -60,6 +60,36 @@ returns-then-begins_text-clause-reads g c =
           ),
     )
 
+pub returns-then-begins_mark-clause-reads : goal.returns-then-begins_mark-clause-reads
+returns-then-begins_mark-clause-reads g c =
+    let entities = c.args.self.now.entities.now in
+    let table = g.L.Labels.target c.args.labels.now in
+    let text = c.args.text.now in
+    let at = c.args.at in
+    let end = at + 1 in
+    let after = c.begins_mark.ensures.end c.if-begins_mark.true in
+    let later = after.later in
+    let now = c.in_ok-put_mark.ensures in
+    let took = now.takes in
+    let found : Found = record { token = kept.Text (record { start = at; end = end }); end = end } in
+    let plain : IsPlainAt entities text at found = record { first = c.begins_mark.ensures.value c.if-begins_mark.true entities; rest = λ e i low high. absurd (omega (arith, low, high)); whole = refl } in (
+      took.0,
+      took.1,
+      λ handed ps h.
+          let led = leaf_leads entities table text at ps found c.requires.inside after (inr plain) in (
+            [],
+            led.made ++ ps,
+            led.leads,
+            g.met.A.AsksLabels.asks_none c.args.asked.now,
+            record {
+              entities_same = rw now.entities refl;
+              knows = subst (KnowsText text end) (sym now.scanner) (knows_later text at end c.args.self.now.scanner (omega (arith, later)) h.knows);
+              unused = subst (AreOpenersOf (led.made ++ ps)) (sym now.openings) (leaves_unused led.made ps c.args.self.now.pending.openings led.plain h.unused);
+              pieces = took.2 handed ps led.made led.plain led.same h.pieces;
+            },
+          ),
+    )
+
 pub returns-then-bytes-at-eq10-clause-tokens : goal.returns-then-bytes-at-eq10-clause-tokens
 returns-then-bytes-at-eq10-clause-tokens g c = c.in_ok-put_break.ensures.tokens c.args.text.now c.requires.tokens
 
