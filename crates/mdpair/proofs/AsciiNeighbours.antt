@@ -1,7 +1,7 @@
 -- Which ASCII characters are whitespace and punctuation.
-use Rattle.std.proofs.Common.{eqb-true, ◌≡◌, ℕ, zero, suc, ◌<◌, Bool, true, false, cond, ◌&&◌, refl, sym, ap, ◌∙◌, subst, arith}
+use Rattle.std.proofs.Common.{eqb-true, ◌≡◌, ℕ, zero, suc, ◌<◌, Bool, true, false, cond, ◌&&◌, refl, sym, subst, arith}
 use Rattle.std.proofs.lemmas.Bool.Decides.{nat_tests}
-use Rattle.std.specs.Prelude.{◌==◌, ◌||◌, not}
+use Rattle.std.specs.Prelude.{◌==◌, not}
 use Rattle.std.specs.Char.{is_ascii_punctuation}
 use Rattle.ucd_category.proofs.Computing.{ucd_category}
 use Rattle.mdpair.specs.Flanks.{is_ascii_white}

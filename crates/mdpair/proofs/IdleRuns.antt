@@ -1,12 +1,12 @@
 -- Runs that open nothing, before which nothing can be opened, are taken by no match.
-use Rattle.std.proofs.Common.{◌≡◌, ℕ, zero, suc, ◌+◌, ◌-◌, ◌≤◌, ◌&&◌, Bool, true, false, cond, eqb, List, [], ◌∷◌, ◌++◌, Option, Some, None, refl, sym, ap, ◌∙◌, arith, length, map}
+use Rattle.std.proofs.Common.{◌≡◌, ℕ, zero, suc, ◌+◌, ◌-◌, ◌≤◌, ◌&&◌, Bool, true, false, cond, eqb, List, [], ◌∷◌, ◌++◌, Option, Some, None, refl, ap, ◌∙◌, arith, length, map}
 use Rattle.std.specs.List.{AllByRecursion}
-use Rattle.std.specs.Option.{option_map, option_or}
+use Rattle.std.specs.Option.{option_or}
 use Rattle.mdpair.specs.declared.runs.DelimiterRun.{DelimiterRun}
 use Rattle.mdpair.specs.declared.emphasis.Match.{Match}
 use Rattle.mdpair.specs.declared.emphasis.Remaining.{Remaining}
 use Rattle.mdpair.specs.DelimiterRun.{is_admissible, same_delimiter, lengths_match}
-use Rattle.mdpair.specs.Matches.{nearest, taken_of, left_of, without, onto, matched, after_match, match_with, match_at, first_match, and_on, matches_in, whole, left_in, matches, IsLeft}
+use Rattle.mdpair.specs.Matches.{nearest, taken_of, left_of, without, onto, matched, match_with, match_at, first_match, and_on, matches_in, whole, left_in, matches, IsLeft}
 use Rattle.mdpair.proofs.Sweep.{match_less, whole_left}
 
 -- with so many runs more before all of them
