@@ -1,2 +1,3 @@
+pub mod CellTags
 pub mod InlineWriter
 pub mod UnitTexts

@@ -1,8 +1,9 @@
 //! HTML of tables.
 
-ghost use Rattle.std.specs.Prelude.{◌≡◌, ◌++◌, ◌<◌, OnOk, length, map, string_bytes, slice_index_or};
+ghost use Rattle.std.specs.Prelude.{◌≡◌, ◌++◌, ◌<◌, OnOk, codes, length, map, string_bytes, slice_index_or};
 ghost use Rattle.std.specs.List.{AllByRecursion};
 ghost use Rattle.mdblock.specs.Positions.{CellsIn};
+ghost use Rattle.mdhtml.specs.held.CellTags.{tag_of};
 ghost use Rattle.mdhtml.specs.held.UnitTexts.{shown_texts};
 ghost use Rattle.mdhtml.specs.BlockHtml.{fresh, text_html};
 ghost use Rattle.mdhtml.specs.TableHtml.{align_attribute, align_of, cell_html, cells_html, row_html, rows_html, head_html, body_html, table_html};
@@ -11,6 +12,13 @@ use crate::pieces::write_fresh;
 use crate::unit_texts::UnitTexts;
 use mdblock::Align;
 use mdtext::NoMemory;
+
+/// A cell of the header row, or of another.
+#[derive(Clone, Copy, Drop)]
+pub(crate) enum CellKind {
+    Head,
+    Data,
+}
 
 pub(crate) fn write_table(
     aligns: &[Align],
@@ -44,7 +52,7 @@ fn write_head(
         ++ head_html (shown_texts texts.now) aligns.now head.now) }
 {
     out.push_str("<thead>\n")?;
-    write_row("th", aligns, head, texts, out)?;
+    write_row(CellKind::Head, aligns, head, texts, out)?;
     out.push_str("</thead>\n")?;
     Ok(())
 }
@@ -80,13 +88,13 @@ fn write_rows(
         ++ rows_html (shown_texts texts.now) aligns.now (map (λ row. row.items) rows.now)) }
 {
     for row in rows {
-        write_row("td", aligns, row, texts, out)?;
+        write_row(CellKind::Data, aligns, row, texts, out)?;
     }
     Ok(())
 }
 
 fn write_row(
-    tag: &str,
+    kind: CellKind,
     aligns: &[Align],
     cells: &[usize],
     texts: &UnitTexts<'_>,
@@ -94,16 +102,16 @@ fn write_row(
 ) -> Result<(), NoMemory>
     requires { CellsIn (length (shown_texts texts.now)) cells.now }
     ensures { OnOk result (string_bytes out.new ≡ string_bytes out.old
-        ++ row_html (shown_texts texts.now) tag.now aligns.now cells.now) }
+        ++ row_html (shown_texts texts.now) (tag_of kind) aligns.now cells.now) }
 {
     out.push_str("<tr>\n")?;
-    write_cells(tag, aligns, cells, texts, out)?;
+    write_cells(kind, aligns, cells, texts, out)?;
     out.push_str("</tr>\n")?;
     Ok(())
 }
 
 fn write_cells(
-    tag: &str,
+    kind: CellKind,
     aligns: &[Align],
     cells: &[usize],
     texts: &UnitTexts<'_>,
@@ -111,16 +119,16 @@ fn write_cells(
 ) -> Result<(), NoMemory>
     requires { CellsIn (length (shown_texts texts.now)) cells.now }
     ensures { OnOk result (string_bytes out.new ≡ string_bytes out.old
-        ++ cells_html (shown_texts texts.now) tag.now aligns.now 0 cells.now) }
+        ++ cells_html (shown_texts texts.now) (tag_of kind) aligns.now 0 cells.now) }
 {
     for (column, cell) in cells.iter().enumerate() {
-        write_cell(tag, align_of(aligns, column), *cell, texts, out)?;
+        write_cell(kind, align_of(aligns, column), *cell, texts, out)?;
     }
     Ok(())
 }
 
 fn write_cell(
-    tag: &str,
+    kind: CellKind,
     align: Align,
     text: usize,
     texts: &UnitTexts<'_>,
@@ -128,16 +136,11 @@ fn write_cell(
 ) -> Result<(), NoMemory>
     requires { text < length (shown_texts texts.now) }
     ensures { OnOk result (string_bytes out.new ≡ string_bytes out.old
-        ++ cell_html tag.now align (text_html (shown_texts texts.now) text)) }
+        ++ cell_html (tag_of kind) align (text_html (shown_texts texts.now) text)) }
 {
-    out.push_str("<")?;
-    out.push_str(tag)?;
-    out.push_str(align_attribute(align))?;
-    out.push_str(">")?;
+    out.push_str(opening_tag(kind, align))?;
     texts.append_text(text, out)?;
-    out.push_str("</")?;
-    out.push_str(tag)?;
-    out.push_str(">\n")?;
+    out.push_str(closing_tag(kind))?;
     Ok(())
 }
 
@@ -151,13 +154,28 @@ fn align_of(aligns: &[Align], column: usize) -> Align
     }
 }
 
-fn align_attribute(align: Align) -> &'static str
-    ensures { result.now ≡ align_attribute align }
+/// The tag with which a cell begins. Each is whole, so that it is appended at once.
+fn opening_tag(kind: CellKind, align: Align) -> &'static str
+    ensures { result.now ≡ codes "<" ++ tag_of kind ++ align_attribute align ++ codes ">" }
 {
-    match align {
-        Align::Plain => "",
-        Align::Left => " align=\"left\"",
-        Align::Center => " align=\"center\"",
-        Align::Right => " align=\"right\"",
+    match (kind, align) {
+        (CellKind::Head, Align::Plain) => "<th>",
+        (CellKind::Head, Align::Left) => "<th align=\"left\">",
+        (CellKind::Head, Align::Center) => "<th align=\"center\">",
+        (CellKind::Head, Align::Right) => "<th align=\"right\">",
+        (CellKind::Data, Align::Plain) => "<td>",
+        (CellKind::Data, Align::Left) => "<td align=\"left\">",
+        (CellKind::Data, Align::Center) => "<td align=\"center\">",
+        (CellKind::Data, Align::Right) => "<td align=\"right\">",
+    }
+}
+
+/// The tag that ends a cell, and its line.
+fn closing_tag(kind: CellKind) -> &'static str
+    ensures { result.now ≡ codes "</" ++ tag_of kind ++ codes ">\n" }
+{
+    match kind {
+        CellKind::Head => "</th>\n",
+        CellKind::Data => "</td>\n",
     }
 }

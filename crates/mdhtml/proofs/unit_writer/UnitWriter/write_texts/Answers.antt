@@ -1,8 +1,8 @@
-use Rattle.std.proofs.Common.{◌≡◌, ap, false, refl, sym, ◌∙◌, ◌∷◌, ◌++◌, [], Vec, String, Global, string_bytes}
+use Rattle.std.proofs.Common.{ap, refl, sym, ◌∙◌, ◌∷◌, ◌++◌, [], Vec, String, Global, string_bytes}
 use Rattle.mdtext.specs.EntityTable.{EntityTable}
 use Rattle.mdhtml.specs.WrittenUnits.{entities_of, is_deep_text, options_of, read_html}
 use Rattle.mdhtml.specs.declared.options.Options.{Options}
-use Rattle.mdhtml.proofs.TextsWritten.{all_fit, all_texts, fits_more, none_yet, one_too_deep, text_more}
+use Rattle.mdhtml.proofs.TextsWritten.{all_fit, all_texts, fits_more, none_yet, text_more}
 use Rattle.mdhtml.proofs.unit_writer.UnitWriter.write_texts.Goals as goal
 
 pub loop-text-init : goal.loop-text-init
