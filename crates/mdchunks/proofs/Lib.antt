@@ -1,3 +1,4 @@
+pub mod Alike
 pub mod Joined
 pub mod Removed
 pub mod Inserted

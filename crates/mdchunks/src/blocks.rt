@@ -151,7 +151,12 @@ impl<T: Weighed + Drop> Block<T> {
         ensures value { (d : T) → self.new ≡ slice_set self.old i (C.changed change (slice_index_or self.old i d)) }
         ensures len { length self.new ≡ length self.old }
     {
+        let weight = self.items[i].weight();
+        let marks = self.items[i].marks();
         change.change(&mut self.items[i]);
+        if self.items[i].weight() == weight && self.items[i].marks() == marks {
+            return;
+        }
         self.weight = sum_weights(&self.items);
         self.marks = all_marks(&self.items);
     }

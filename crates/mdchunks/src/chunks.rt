@@ -8,7 +8,7 @@ ghost use Rattle.mdchunks.specs.Sequences.{HasRoom, IsLastAt, Sequence};
 use crate::blocks::{Block, FULL};
 use crate::iters::{Iter, weight_ahead};
 use crate::places;
-use crate::places::{exchange, find, member, weight_before};
+use crate::places::{FRONT, Near, exchange, find, member, weight_before};
 use crate::splices::splice;
 use crate::weights::{Change, Weighed, WeightPlace};
 use std::alloc::{AllocError, Global};
@@ -22,10 +22,12 @@ pub struct Chunks<T: Weighed> {
     /// Chunks for members that come.
     spare: Vec<Block<T>>,
     len: usize,
+    /// Where the next member that changes is looked for first.
+    near: Near,
 }
 
 impl<T: Weighed> Model for Chunks<T> {
-    ghost use Rattle.std.specs.Prelude.{◌≡◌, ◌-◌, length, min};
+    ghost use Rattle.std.specs.Prelude.{◌≡◌, ◌-◌, length, min, take};
     ghost use Rattle.std.specs.List.{All};
     ghost use Rattle.std.specs.Vec.{vec_len, vec_capacity};
     ghost use Rattle.mdchunks.specs.Lists.{IsFilled, joined};
@@ -35,7 +37,8 @@ impl<T: Weighed> Model for Chunks<T> {
 
     ghost view = { λ c. record { items = joined c.blocks.items; room = min (vec_len c.spare) (vec_capacity c.blocks - vec_len c.blocks) } };
 
-    ghost invariant = { λ c. All IsFilled c.blocks.items × (c.len ≡ length (joined c.blocks.items)) };
+    ghost invariant = { λ c. All IsFilled c.blocks.items × (c.len ≡ length (joined c.blocks.items))
+        × (length (joined (take c.near.block c.blocks.items)) ≡ c.near.front) };
 }
 
 impl<T: Weighed + Drop> Chunks<T> {
@@ -48,6 +51,7 @@ impl<T: Weighed + Drop> Chunks<T> {
             blocks: Vec::new(alloc),
             spare: Vec::new(alloc),
             len: 0,
+            near: FRONT,
         }
     }
 
@@ -77,10 +81,11 @@ impl<T: Weighed + Drop> Chunks<T> {
     {
         // a number that is read is known to fit its type
         let _len = self.len;
+        self.near = FRONT;
         exchange(&mut self.blocks, i, other);
     }
 
-    /// Changes the member of this number where it lies.
+    /// Changes the member of this number where it lies. Where numbers rise from call to call, what is in front of the last one is not looked at again.
     pub fn change<C: Change<T>>(&mut self, i: usize, change: C)
         requires within { i < length self.old.items }
         requires can { (d : T) → C.can_change change (slice_index_or self.old.items i d) }
@@ -89,7 +94,7 @@ impl<T: Weighed + Drop> Chunks<T> {
     {
         // a number that is read is known to fit its type
         let _len = self.len;
-        places::change(&mut self.blocks, i, change);
+        self.near = places::change(&mut self.blocks, self.near, i, change);
     }
 
     /// The members from a number on, lent in order.
@@ -136,6 +141,7 @@ impl<T: Weighed + Drop> Chunks<T> {
         if added.len() > usize::MAX - self.len {
             return Err(AllocError);
         }
+        self.near = FRONT;
         let needed = added.len() / FULL + 2;
         added.reserve(FULL)?;
         self.blocks.reserve(needed)?;
@@ -153,6 +159,7 @@ impl<T: Weighed + Drop> Chunks<T> {
         ensures { self.new.items ≡ replaced self.old.items at removed added.items }
     {
         let count = added.len();
+        self.near = FRONT;
         splice(&mut self.blocks, &mut self.spare, at, removed, added);
         self.len = self.len - removed + count;
     }

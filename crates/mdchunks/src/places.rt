@@ -43,6 +43,43 @@ pub(crate) fn locate<T: Weighed + Drop>(blocks: &[Block<T>], at: usize) -> Place
     }
 }
 
+/// A chunk, and how many members stand before it.
+#[derive(Clone, Copy)]
+pub(crate) struct Near {
+    pub(crate) block: usize,
+    pub(crate) front: usize,
+}
+
+/// The first chunk.
+pub(crate) const FRONT: Near = Near { block: 0, front: 0 };
+
+/// The chunk in which a place behind some members lies, looked for from a chunk on if it is not in front of that one: of two that meet there the first one.
+fn locate_near<T: Weighed + Drop>(blocks: &[Block<T>], near: Near, at: usize) -> Place
+    requires within { at ≤ length (joined blocks.now) }
+    requires some { 0 < at }
+    requires near { length (joined (take near.block blocks.now)) ≡ near.front }
+    ensures place { length (joined (take result.block blocks.now)) + result.inside ≡ at }
+    ensures inside { result.block < length blocks.now → result.inside ≤ length (get_or blocks.now result.block []) }
+    ensures behind { 0 < result.inside }
+    ensures found { result.block < length blocks.now }
+{
+    if at <= near.front {
+        return locate(blocks, at);
+    }
+    let mut left = at - near.front;
+    for i in near.block..blocks.len() {
+        let len = blocks[i].len();
+        if left <= len {
+            return Place {
+                block: i,
+                inside: left,
+            };
+        }
+        left -= len;
+    }
+    unreachable!()
+}
+
 /// The chunk in which an edit begins: that of the first member that goes, where one does.
 pub(crate) fn locate_edit<T: Weighed + Drop>(
     blocks: &[Block<T>],
@@ -89,18 +126,30 @@ pub(crate) fn exchange<T: Weighed + Drop>(blocks: &mut [Block<T>], i: usize, oth
     blocks[place.block].exchange(place.inside - 1, other);
 }
 
-/// Changes the member of this number.
-pub(crate) fn change<T: Weighed + Drop, C: Change<T>>(blocks: &mut [Block<T>], i: usize, change: C)
+/// Changes the member of this number, which is looked for from a chunk on. The answer is the chunk in which it lies.
+pub(crate) fn change<T: Weighed + Drop, C: Change<T>>(
+    blocks: &mut [Block<T>],
+    near: Near,
+    i: usize,
+    change: C,
+) -> Near
     requires within { i < length (joined blocks.old) }
     requires few { length (joined blocks.old) < 2 ^ 64 }
     requires filled { All IsFilled blocks.old }
+    requires near { length (joined (take near.block blocks.old)) ≡ near.front }
     requires can { (d : T) → C.can_change change (slice_index_or (joined blocks.old) i d) }
     ensures members { (d : T) → joined blocks.new ≡ slice_set (joined blocks.old) i (C.changed change (slice_index_or (joined blocks.old) i d)) }
     ensures len { length (joined blocks.new) ≡ length (joined blocks.old) }
     ensures filled { All IsFilled blocks.new }
+    ensures near { length (joined (take result.block blocks.new)) ≡ result.front }
 {
-    let place = locate(blocks, i + 1);
+    let place = locate_near(blocks, near, i + 1);
     blocks[place.block].change(place.inside - 1, change);
+    let front = i + 1 - place.inside;
+    Near {
+        block: place.block,
+        front,
+    }
 }
 
 /// What the members in front of a place weigh together.

@@ -1,6 +1,6 @@
 use Rattle.std.proofs.Common.{◌+◌, ◌-◌, ◌<◌, ◌≡◌, ◌∙◌, [], ap, arith, get_or, length, take}
 use Rattle.std.proofs.Math.ListN.{set}
-use Rattle.std.proofs.lemmas.List.{get_or_default}
+use Rattle.std.proofs.lemmas.List.{get_or_default, take-set}
 use Rattle.std.proofs.lemmas.List.Elements.{All-get_or, All-set}
 use Rattle.mdchunks.specs.Lists.{IsFilled, joined}
 use Rattle.mdchunks.proofs.Joined.{item_at, length_same, set_at}
@@ -9,27 +9,27 @@ use Rattle.mdchunks.proofs.places.change.Goals as goal
 pub change-requires-clause-can : goal.change-requires-clause-can
 change-requires-clause-can g c =
     let xss = c.args.blocks.now in
-    let block = c.locate-place.result.block in
-    let k = c.locate-place.result.inside - 1 in
+    let block = c.locate_near-place.result.block in
+    let k = c.locate_near-place.result.inside - 1 in
     let old = get_or xss block c.index-blocks-place.result in
-    let here : block < length xss = c.locate-place.ensures.found (omega arith) in
-    let some = c.locate-place.ensures.behind (omega arith) in
-    let long = c.locate-place.ensures.inside here in
+    let here : block < length xss = c.locate_near-place.ensures.found in
+    let some = c.locate_near-place.ensures.behind in
+    let long = c.locate_near-place.ensures.inside here in
     let within : k < length (get_or xss block []) = omega (arith, some, long) in
-    let place : length (joined (take block xss)) + k ≡ c.args.i = omega (arith, some, c.locate-place.ensures.place) in
+    let place : length (joined (take block xss)) + k ≡ c.args.i = omega (arith, some, c.locate_near-place.ensures.place) in
     λ d. rw (item_at xss block k c.args.i old d here (get_or_default xss block c.index-blocks-place.result old here) within place) (c.requires.can d)
 
 pub returns-clause-members : goal.returns-clause-members
 returns-clause-members g c =
     let xss = c.args.blocks.now in
-    let block = c.locate-place.result.block in
-    let k = c.locate-place.result.inside - 1 in
+    let block = c.locate_near-place.result.block in
+    let k = c.locate_near-place.result.inside - 1 in
     let old = get_or xss block c.index-blocks-place.result in
-    let here : block < length xss = c.locate-place.ensures.found (omega arith) in
-    let some = c.locate-place.ensures.behind (omega arith) in
-    let long = c.locate-place.ensures.inside here in
+    let here : block < length xss = c.locate_near-place.ensures.found in
+    let some = c.locate_near-place.ensures.behind in
+    let long = c.locate_near-place.ensures.inside here in
     let within : k < length (get_or xss block []) = omega (arith, some, long) in
-    let place : length (joined (take block xss)) + k ≡ c.args.i = omega (arith, some, c.locate-place.ensures.place) in
+    let place : length (joined (take block xss)) + k ≡ c.args.i = omega (arith, some, c.locate_near-place.ensures.place) in
     let read = get_or_default xss block c.index-blocks-place.result old here in
     λ d.
     ap (λ ys. joined (set xss block ys)) (c.change.ensures.value d)
@@ -39,12 +39,19 @@ returns-clause-members g c =
 pub returns-clause-filled : goal.returns-clause-filled
 returns-clause-filled g c =
     let xss = c.args.blocks.now in
-    let block = c.locate-place.result.block in
-    let here : block < length xss = c.locate-place.ensures.found (omega arith) in
+    let block = c.locate_near-place.result.block in
+    let here : block < length xss = c.locate_near-place.ensures.found in
     let full : IsFilled (get_or xss block c.index-blocks-place.result) = All-get_or IsFilled xss block c.index-blocks-place.result here c.requires.filled in
     All-set IsFilled xss block c.change.new.self (omega (arith, full, c.change.ensures.len)) c.requires.filled
 
 pub returns-clause-len : goal.returns-clause-len
 returns-clause-len g c =
-    let here : c.locate-place.result.block < length c.args.blocks.now = c.locate-place.ensures.found (omega arith) in
-    length_same c.args.blocks.now c.locate-place.result.block c.change.new.self c.index-blocks-place.result here c.change.ensures.len
+    let here : c.locate_near-place.result.block < length c.args.blocks.now = c.locate_near-place.ensures.found in
+    length_same c.args.blocks.now c.locate_near-place.result.block c.change.new.self c.index-blocks-place.result here c.change.ensures.len
+
+pub returns-clause-near : goal.returns-clause-near
+returns-clause-near g c =
+    let xss = c.args.blocks.now in
+    let block = c.locate_near-place.result.block in
+    let same = ap (λ yss. length (joined yss)) (take-set xss block c.change.new.self) in
+    omega (arith, same, c.locate_near-place.ensures.place)

@@ -6,5 +6,6 @@ abbrev pub invariant-loop : goal.invariant-loop
 invariant-loop g l = record {
   blocks : l.self-inside.blocks ≡ l.initial.self-inside.blocks;
   len : l.self-inside.len ≡ l.initial.self-inside.len;
+  near : l.self-inside.near ≡ l.initial.self-inside.near;
   spare : l.counter ≤ vec_len l.self-inside.spare;
 }

@@ -1,0 +1,10 @@
+use Rattle.std.proofs.Common.{◌≡◌, ◌<◌, ◌+◌, length, take}
+use Rattle.mdchunks.specs.Lists.{joined}
+use Rattle.mdchunks.proofs.places.locate_near.Given as goal
+
+-- so many chunks lie in front of the place
+abbrev pub invariant-loop-i : goal.invariant-loop-i
+invariant-loop-i g l = record {
+  place : length (joined (take l.i l.blocks)) + l.left ≡ l.at;
+  behind : 0 < l.left;
+}
