@@ -118,7 +118,7 @@ mutual
 
 -- ---- texts
 
-first_there : (front : List (List ℕ)) (t : List ℕ) (behind : List (List ℕ)) → text_at (front ++ t ∷ behind) (length front) ≡ t
+pub first_there : (front : List (List ℕ)) (t : List ℕ) (behind : List (List ℕ)) → text_at (front ++ t ∷ behind) (length front) ≡ t
 first_there [] t behind = refl
 first_there (f ∷ front) t behind = first_there front t behind
 

@@ -12,7 +12,7 @@ use Rattle.mdblock.specs.declared.blocks.Item as i
 use Rattle.mdblock.proofs.CopyLaws.{items_in, size_more, texts_more}
 use Rattle.mdblock.proofs.Views.{pushed_blocks, pushed_items}
 
-next_first : {A : Type 0} (xs : List A) (n : ℕ) (x : A) → n < length xs → x ≡ get_or xs n x → drop n xs ≡ x ∷ drop (n + 1) xs
+pub next_first : {A : Type 0} (xs : List A) (n : ℕ) (x : A) → n < length xs → x ≡ get_or xs n x → drop n xs ≡ x ∷ drop (n + 1) xs
 next_first xs n x lt is =
     let e : suc n ≡ n + 1 = omega arith in
     drop-cons xs n x lt ∙ ap (λ z. z ∷ drop (suc n) xs) (sym is) ∙ ap (λ z. x ∷ drop z xs) e

@@ -33,6 +33,7 @@ pub mod SplicedMarks
 pub mod SplicedUnits
 pub mod StartLaws
 pub mod TableLaws
+pub mod TextOrder
 pub mod TipLaws
 pub mod Views
 pub mod Within

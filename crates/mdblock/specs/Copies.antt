@@ -1,5 +1,5 @@
 -- Copies of blocks for another unit: their texts have positions one after the other there, in document order.
-use Rattle.std.specs.Prelude.{ℕ, ◌+◌, List, [], ◌∷◌, ◌++◌, length, map, slice_get, unwrap_or}
+use Rattle.std.specs.Prelude.{◌≡◌, ℕ, ◌+◌, List, [], ◌∷◌, ◌++◌, length, map, slice_get, unwrap_or}
 use Rattle.std.specs.List.{flat_map, range_with_len}
 use Rattle.blockspec.specs.BlockTree.{Block, paragraph, heading, thematic_break, code_block, html_block, block_quote, list, table, Blocks, no_blocks, block, Items, no_items, item}
 
@@ -53,3 +53,8 @@ text_at texts at = unwrap_or (slice_get texts at) []
 
 abbrev pub texts_at : List (List ℕ) → List ℕ → List (List ℕ)
 texts_at texts positions = map (text_at texts) positions
+
+-- these are numbers one after the other from one on, and this is the next one
+abbrev pub IsBehind : (at : ℕ) → List ℕ → (end : ℕ) → Type 0
+IsBehind at [] end = end ≡ at
+IsBehind at (p ∷ ps) end = (p ≡ at) × IsBehind (at + 1) ps end

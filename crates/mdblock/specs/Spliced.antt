@@ -1,8 +1,8 @@
 -- A list that goes on with the later items of another.
-use Rattle.std.specs.Prelude.{ℕ, ◌≡◌, zero, suc, ◌+◌, ◌-◌, ◌^◌, Bool, false, not, ◌||◌, min, List, [], ◌∷◌, ◌++◌, drop, length, map, slice_get, take, unwrap_or}
+use Rattle.std.specs.Prelude.{ℕ, ◌≡◌, zero, suc, ◌+◌, ◌-◌, ◌^◌, Bool, false, not, ◌||◌, min, List, [], ◌∷◌, ◌++◌, Option, Some, None, drop, length, map, slice_get, take, unwrap_or}
 use Rattle.std.specs.List.{list_any}
 use Rattle.mdtext.specs.EntityTable.{EntityTable}
-use Rattle.blockspec.specs.BlockTree.{paragraph, heading, thematic_break, code_block, html_block, block_quote, list, table, Blocks, no_blocks, block, Items, no_items, item}
+use Rattle.blockspec.specs.BlockTree.{ListKind, paragraph, heading, thematic_break, code_block, html_block, block_quote, list, table, Blocks, no_blocks, block, Items, no_items, item}
 use Rattle.blockspec.specs.UnitTree.{UnitTree}
 use Rattle.itemspec.specs.ItemMarks.{ItemMark}
 use Rattle.mdblock.specs.Copies.{copied_items, items_positions, texts_at}
@@ -34,6 +34,23 @@ as_first_list tight items (block (html_block lines) rest) = no_blocks
 as_first_list tight items (block (block_quote inner) rest) = no_blocks
 as_first_list tight items (block (list kind was inside) rest) = block (list kind tight items) no_blocks
 as_first_list tight items (block (table aligns head rows) rest) = no_blocks
+
+-- its kind
+abbrev pub first_kind : Blocks → Option ListKind
+first_kind no_blocks = None
+first_kind (block (paragraph text task) rest) = None
+first_kind (block (heading level text) rest) = None
+first_kind (block thematic_break rest) = None
+first_kind (block (code_block lang body) rest) = None
+first_kind (block (html_block lines) rest) = None
+first_kind (block (block_quote inner) rest) = None
+first_kind (block (list kind tight items) rest) = Some kind
+first_kind (block (table aligns head rows) rest) = None
+
+-- items as a list of a kind
+abbrev pub list_of_kind : Bool → Items → Option ListKind → Blocks
+list_of_kind tight items None = no_blocks
+list_of_kind tight items (Some kind) = block (list kind tight items) no_blocks
 
 -- as far behind one number as another is behind `from`, as far as numbers reach
 abbrev pub further_on : (at from to : ℕ) → ℕ

@@ -13,6 +13,7 @@ mod lines;
 mod open_blocks;
 mod readers;
 mod splicing;
+mod text_order;
 mod units;
 
 pub use blocks::{Block, Item, ListKind};

@@ -1,18 +1,20 @@
 //! A list whose front was read anew, and whose later items were found before (CommonMark 5.3).
 
-ghost use Rattle.std.specs.Prelude.{◌≡◌, ◌+◌, ◌-◌, ◌<◌, ◌≤◌, ◌++◌, ◌∷◌, [], ℕ, List, IfOk, Some, drop, length, map, take, true};
+ghost use Rattle.std.specs.Prelude.{◌≡◌, ◌+◌, ◌-◌, ◌<◌, ◌≤◌, ◌++◌, ◌∷◌, [], ℕ, List, IfOk, OnOk, Some, drop, length, map, option_map, string_bytes, true};
 ghost use Rattle.mdtext.specs.EntityTable.{EntityTable};
 ghost use Rattle.blockspec.specs.BlockUnits.{units};
-ghost use Rattle.mdblock.specs.BlockView.{blocks_view, items_view};
+ghost use Rattle.mdblock.specs.BlockView.{blocks_view, items_view, kind_view};
+ghost use Rattle.mdblock.specs.Copies.{copied_items, items_positions, texts_at};
 ghost use Rattle.mdblock.specs.FoundLists.{AreJoinsOf, StandsForUnit, found_unit, join_mark};
 ghost use Rattle.mdblock.specs.Positions.{BlocksIn, ItemsIn};
-ghost use Rattle.mdblock.specs.Spliced.{MeetsAt, as_first_list, first_items, further_on, mark_at, mark_further, spliced_list, tight_list};
+ghost use Rattle.mdblock.specs.Spliced.{MeetsAt, first_items, first_kind, further_on, list_of_kind, mark_at, mark_further, spliced_list, take_items, tight_list};
 ghost use Rattle.mdblock.specs.held.ReaderState.{held_joined};
 ghost use Rattle.mdblock.specs.held.Reads.{handed, open_begin};
 
-use crate::blocks::{Block, Item};
+use crate::blocks::{Block, Item, ListKind};
 use crate::copies::{copied_items, push_definitions};
 use crate::readers::Reader;
+use crate::text_order::behind_items;
 use crate::units::{Found, Join};
 use mdtext::NoMemory;
 use std::alloc::Global;
@@ -40,47 +42,68 @@ pub fn splice(front: Reader, old: &Found, k: usize) -> Result<Found, NoMemory>
 {
     let alloc = front.alloc();
     let front = front.into_found()?;
-    spliced(alloc, &front, old, k)
+    spliced(alloc, front, old, k)
 }
 
 /// The items of a list but the last one, and those of an old list from its join `k` on.
-fn spliced(alloc: Global, front: &Found, old: &Found, k: usize) -> Result<Found, NoMemory>
+fn spliced(alloc: Global, front: Found, old: &Found, k: usize) -> Result<Found, NoMemory>
     requires join { k < length old.now.marks }
-    ensures list { IfOk result (λ found. found ≡ spliced_list front.now old.now k) }
+    ensures list { IfOk result (λ found. found ≡ spliced_list front old.now k) }
     ensures texts { IfOk result (λ found. length found.unit.texts ≤ usize.MAX) }
     ensures definitions { IfOk result (λ found. length found.unit.definitions ≤ usize.MAX) }
 {
     let from = join_at(old.joins(), k);
     let to = join_at(front.joins(), front.joins().len().saturating_sub(1));
-    let mut texts = Vec::new(alloc);
-    let kept = first_of(list_items(front.unit().blocks()), front.joins().len());
-    let mut items = copied_items(alloc, kept, front.unit().texts(), &mut texts)?;
+    let begin = front.begin();
+    let kind = list_kind(front.unit().blocks());
+    let behind_join = old.lines().saturating_sub(from.line).saturating_sub(1);
+    let lines = front.lines().saturating_add(behind_join);
+    let (blocks, mut definitions, texts, mut joins) = front.into_parts();
+    let (mut items, mut texts) = taken_items(alloc, into_items(alloc, blocks), texts, joins.len())?;
     let later = behind(list_items(old.unit().blocks()), k + 1);
     let mut later = copied_items(alloc, later, old.unit().texts(), &mut texts)?;
     items.append(&mut later)?;
-    let mut definitions = Vec::new(alloc);
-    let kept = first_of(front.unit().definitions(), to.definitions);
-    push_definitions(alloc, kept, &mut definitions)?;
+    definitions.truncate(to.definitions);
     let later = behind(old.unit().definitions(), from.definitions);
     push_definitions(alloc, later, &mut definitions)?;
     let later = behind(old.joins(), k + 1);
-    let joins = spliced_joins(alloc, front.joins(), later, from, to)?;
-    let blocks = as_list(
-        alloc,
-        front.unit().blocks(),
-        is_tight(&joins, old.is_parted()),
-        items,
-    )?;
-    let lines = old.lines().saturating_sub(from.line).saturating_sub(1);
+    push_joins(later, from, to, &mut joins)?;
+    let blocks = as_list(alloc, kind, is_tight(&joins, old.is_parted()), items)?;
     Ok(Found::new(
-        front.begin(),
-        front.lines().saturating_add(lines),
+        begin,
+        lines,
         blocks,
         definitions,
         texts,
         joins,
         old.is_parted(),
     ))
+}
+
+/// So many of a list's first items, and their texts. Where the texts have their positions in document order, as those have that were read, all are moved; else
+/// they are copied so.
+fn taken_items(
+    alloc: Global,
+    items: Vec<Item>,
+    texts: Vec<String>,
+    count: usize,
+) -> Result<(Vec<Item>, Vec<String>), NoMemory>
+    ensures items { IfOk result (λ taken. items_view taken.0.items ≡ copied_items 0 (take_items count (items_view items.items))) }
+    ensures texts { IfOk result (λ taken. map string_bytes taken.1.items
+        ≡ texts_at (map string_bytes texts.items) (items_positions (take_items count (items_view items.items)))) }
+{
+    let mut items = items;
+    items.truncate(count);
+    let mut texts = texts;
+    if let Some(end) = behind_items(&items, 0) {
+        if end <= texts.len() {
+            texts.truncate(end);
+            return Ok((items, texts));
+        }
+    }
+    let mut copied = Vec::new(alloc);
+    let copies = copied_items(alloc, &items, &texts, &mut copied)?;
+    Ok((copies, copied))
 }
 
 /// The join of that number; where there is none, what stands before a list's first item.
@@ -96,13 +119,6 @@ fn join_at(joins: &[Join], k: usize) -> Join
             loose: false,
         },
     }
-}
-
-/// So many from the front on; all where there are not as many.
-fn first_of<T>(all: &[T], count: usize) -> &[T]
-    ensures { result.now ≡ take count all.now }
-{
-    all.get(..count).unwrap_or(all)
 }
 
 /// What is behind so many.
@@ -122,23 +138,39 @@ fn list_items(blocks: &[Block]) -> &[Item]
     }
 }
 
-/// A list of these items, of the kind of the one that stands first; nothing where none does.
+/// The items of a list that stands first, taken out; none where no list does.
+fn into_items(alloc: Global, blocks: Vec<Block>) -> Vec<Item>
+    ensures { items_view result.items ≡ first_items (blocks_view blocks.items) }
+{
+    match blocks.into_iter().next() {
+        Some(Block::List { items, .. }) => items,
+        _ => Vec::new(alloc),
+    }
+}
+
+/// The kind of a list that stands first.
+fn list_kind(blocks: &[Block]) -> Option<ListKind>
+    ensures { option_map kind_view result ≡ first_kind (blocks_view blocks.now) }
+{
+    match blocks.first() {
+        Some(Block::List { kind, .. }) => Some(*kind),
+        _ => None,
+    }
+}
+
+/// A list of these items, of this kind; nothing where there is none.
 fn as_list(
     alloc: Global,
-    blocks: &[Block],
+    kind: Option<ListKind>,
     tight: bool,
     items: Vec<Item>,
 ) -> Result<Vec<Block>, NoMemory>
     ensures within { IfOk result (λ made. (n : ℕ) → ItemsIn n (items_view items.items) → BlocksIn n (blocks_view made.items)) }
-    ensures list { IfOk result (λ made. blocks_view made.items ≡ as_first_list tight (items_view items.items) (blocks_view blocks.now)) }
+    ensures list { IfOk result (λ made. blocks_view made.items ≡ list_of_kind tight (items_view items.items) (option_map kind_view kind)) }
 {
     let mut made = Vec::new(alloc);
-    if let Some(Block::List { kind, .. }) = blocks.first() {
-        made.push(Block::List {
-            kind: *kind,
-            tight,
-            items,
-        })?;
+    if let Some(kind) = kind {
+        made.push(Block::List { kind, tight, items })?;
     }
     Ok(made)
 }
@@ -150,25 +182,15 @@ fn is_tight(joins: &[Join], parted: bool) -> bool
     !parted && !joins.iter().any(|join| join.loose)
 }
 
-/// The joins in front, and others behind them, which stood behind `from` and stand behind `to` then.
-fn spliced_joins(
-    alloc: Global,
-    front: &[Join],
-    behind: &[Join],
-    from: Join,
-    to: Join,
-) -> Result<Vec<Join>, NoMemory>
-    ensures { IfOk result (λ joins. map join_mark joins.items
-        ≡ map join_mark front.now ++ map (mark_further (join_mark from) (join_mark to)) (map join_mark behind.now)) }
+/// Puts joins behind those that are there, which stood behind `from` and stand behind `to` then.
+fn push_joins(behind: &[Join], from: Join, to: Join, joins: &mut Vec<Join>) -> Result<(), NoMemory>
+    ensures { OnOk result (map join_mark joins.new.items
+        ≡ map join_mark joins.old.items ++ map (mark_further (join_mark from) (join_mark to)) (map join_mark behind.now)) }
 {
-    let mut joins = Vec::new(alloc);
-    for join in front {
-        joins.push(*join)?;
-    }
     for later in behind {
         joins.push(moved(*later, from, to))?;
     }
-    Ok(joins)
+    Ok(())
 }
 
 /// A join behind `from`, where it stands behind `to`.

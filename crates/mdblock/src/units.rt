@@ -164,6 +164,21 @@ impl Found {
         &self.joins
     }
 
+    /// The blocks of the unit, its definitions, its texts, and the later items of a list.
+    pub(crate) fn into_parts(self) -> (Vec<Block>, Vec<Definition>, Vec<String>, Vec<Join>)
+        ensures blocks { blocks_view result.0.items ≡ self.unit.blocks }
+        ensures definitions { map definition_of result.1.items ≡ self.unit.definitions }
+        ensures texts { map string_bytes result.2.items ≡ self.unit.texts }
+        ensures joins { map join_mark result.3.items ≡ self.marks }
+    {
+        let Unit {
+            blocks,
+            definitions,
+            texts,
+        } = self.unit;
+        (blocks, definitions, texts, self.joins)
+    }
+
     /// Whether a gap parts two blocks of its last item, where it is a list.
     pub(crate) fn is_parted(&self) -> bool
         ensures { result ≡ self.now.parted }
