@@ -67,6 +67,10 @@ fn read_member(key: &str, reader: &mut Reader<'_>, texts: &mut NamedTexts) -> Re
     ensures ok { OnOk result ((d : Data) × ReadsValue 126 reader.old d reader.new × (with_member key.now d texts.old ≡ Some texts.new)) }
     ensures shorter { OnOk result (length reader.new < length reader.old) }
 {
+    // A file in another order is read the old way, by a tree that puts names into order.
+    if texts.is_far_from_end(key.strip_prefix('&').unwrap_or(key)) {
+        return Err(TableFault::NotJson);
+    }
     let passed = pass_value(reader, DEPTH)?;
     put_member(key, passed.characters, texts)
 }

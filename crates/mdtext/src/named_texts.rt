@@ -12,6 +12,9 @@ use std::alloc::Global;
 use std::cmp::Ordering;
 use std::marker::Model;
 
+// As many names as one may be put in front of.
+const MANY: usize = 1000;
+
 // Where a name and its text lie, one behind the other.
 #[derive(Clone, Copy, Debug)]
 pub struct Span {
@@ -59,6 +62,18 @@ impl NamedTexts {
             Err(place) => self.spans.insert(place, span)?,
         }
         Ok(())
+    }
+
+    /// Whether a name would go in front of many others, which would all move.
+    pub fn is_far_from_end(&self, name: &str) -> bool {
+        let len = self.spans.len();
+        if len < MANY {
+            return false;
+        }
+        match compare(&self.bytes, self.spans[len - MANY], name.as_bytes()) {
+            Ordering::Less => true,
+            Ordering::Equal | Ordering::Greater => false,
+        }
     }
 
     /// The text at a name. It takes no memory.
