@@ -565,3 +565,21 @@ followed_adds room level new before after l follows in_item s texts definitions 
 pub passed_adds : (room : ℕ) (level mid new : Level) (before between after : Gathering) (l il : BlockLine) → mid ≡ level → il ≡ l → between ≡ before → AddsLine room mid between il new after → AddsLine room level before l new after
 passed_adds room level mid new before between after l il a b c adds =
     subst (λ z. AddsLine room z before l new after) a (subst (λ z. AddsLine room mid z l new after) c (subst (λ z. AddsLine room mid between z new after) b adds))
+
+-- the same of a line that is read on inside the open container
+pub bl_quote_read_on : (room less : ℕ) (level : Level) (inner : Box Level Global) (got inner_new : Level) (before after : Gathering) (l il : BlockLine) → less + 1 ≡ room → level.last ≡ open_block.Quote inner → matches Quote l ≡ true → got ≡ inner.value → il ≡ opened Quote l →
+    AddsLine less got before il inner_new after → AddsLine room level before l (record (holding_quote level inner inner_new) { blank = false }) after
+bl_quote_read_on room less level inner got inner_new before after l il n is m same opens adds =
+    followed_adds room level (record (holding_quote level inner inner_new) { blank = false }) before after l (quote_followed room less level inner got inner_new before after l il n is m same opens adds)
+
+pub bl_item_read_on : (room less : ℕ) (level : Level) (inner : Box Level Global) (list : OpenList) (got inner_new : Level) (before after : Gathering) (l il : BlockLine) → less + 1 ≡ room → level.last ≡ open_block.List inner list → has_columns list l ≡ true → got ≡ inner.value →
+    il ≡ without_columns l list.needed → AddsLine less got before il inner_new after → AddsLine room level before l (record (holding_list level inner inner_new list) { blank = false }) after
+bl_item_read_on room less level inner list got inner_new before after l il n is m same opens adds =
+    followed_adds room level (record (holding_list level inner inner_new list) { blank = false }) before after l (item_followed room less level inner list got inner_new before after l il n is m same opens adds)
+
+-- The level is taken apart and put together again.
+bl_put_back : (level : Level) (last : OpenBlock) → level.last ≡ last → (let put : Level = record level { last = last } in put) ≡ level
+bl_put_back level last is = ap (λ (x : OpenBlock). let put : Level = record level { last = x } in put) (sym is)
+
+pub bl_put_back_adds : (room : ℕ) (level new : Level) (last : OpenBlock) (before after : Gathering) (l : BlockLine) → level.last ≡ last → AddsLine room (record level { last = last }) before l new after → AddsLine room level before l new after
+bl_put_back_adds room level new last before after l is adds = passed_adds room level (record level { last = last }) new before before after l l (bl_put_back level last is) refl refl adds

@@ -232,6 +232,7 @@ impl Level {
 
     /// Reads one line more, where at most `room` containers may be open inside one another.
     #[cycle(reading)]
+    #[tactic(auto, using(crate::proofs::Within::growing))]
     fn read(
         &mut self,
         line: &mut Line,
@@ -246,15 +247,51 @@ impl Level {
         ensures adds { OnOk result (AddsLine room self.old gathering.old line.old self.new gathering.new) }
         ensures deep { IsErrOf result NestedTooDeep → SinksLine room self.old gathering.old line.old }
     {
-        if self.follow(line, room, gathering)? {
-            return Ok(());
+        match &mut self.last {
+            OpenBlock::Shut => self.read_unfollowed(line, room, gathering),
+            OpenBlock::Leaf(_) => self.read_unfollowed(line, room, gathering),
+            OpenBlock::Quote(inner) => {
+                if !block_quotes::matches(line) {
+                    return self.read_unfollowed(line, room, gathering);
+                }
+                block_quotes::take_marker(line);
+                self.blank = false;
+                inner.read(line, deeper(room)?, gathering)
+            }
+            OpenBlock::List(inner, list) => {
+                if !list.matches(line) {
+                    return self.read_unfollowed(line, room, gathering);
+                }
+                list.enter(line);
+                self.blank = false;
+                inner.read(line, deeper(room)?, gathering)
+            }
         }
+    }
+
+    /// The same of a line that has neither the marker nor the indentation of the open container.
+    #[inline(never)]
+    #[cycle(reading)]
+    fn read_unfollowed(
+        &mut self,
+        line: &mut Line,
+        room: usize,
+        gathering: &mut Gathering,
+    ) -> Result<(), BlockFault>
+        requires level { LevelIn (length gathering.old.texts.items) self.old }
+        requires unfollowed { IsUnfollowed self.old.last line.old }
+        ensures within { OnOk result (LevelIn (length gathering.new.texts.items) self.new) }
+        ensures grows { length gathering.old.texts.items ≤ length gathering.new.texts.items }
+        ensures entities { gathering.new.entities.now ≡ gathering.old.entities.now }
+        ensures fault { IfErr result (λ fault. fault ≡ Failed → ⊥) }
+        ensures adds { OnOk result (AddsLine room self.old gathering.old line.old self.new gathering.new) }
+        ensures deep { IsErrOf result NestedTooDeep → SinksLine room self.old gathering.old line.old }
+    {
         let continuation = self.continuation(line);
         self.add(line, continuation, room, gathering)
     }
 
     /// Reads a line with the marker or the indentation of the open container, and answers whether it has it. Else it changes nothing.
-    #[cycle(reading)]
     #[tactic(auto, using(crate::proofs::Within::growing))]
     pub(crate) fn follow(
         &mut self,

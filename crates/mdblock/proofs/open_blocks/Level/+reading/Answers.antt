@@ -1,44 +1,55 @@
-use Rattle.std.proofs.Common.{Err, sym, ◌∙◌, ap, subst}
+use Rattle.std.proofs.Common.{refl, sym, ◌∙◌, subst}
 use Rattle.std.proofs.lemmas.Result.{on_ok_weaker}
+use Rattle.mdblock.specs.declared.open_blocks.OpenBlock as open_block
 use Rattle.mdblock.specs.held.LinesAdded.{ContinuesLevel}
-use Rattle.mdblock.proofs.LevelBegins.{err_is}
-use Rattle.mdblock.proofs.LevelAdds.{on_both, outside_adds, outside_sinks, marked_blank, shut_goes, leaf_goes_on, quote_read, quote_read_sinks, quote_followed, quote_followed_sinks, item_followed, item_followed_sinks, list_read, list_read_sinks, list_stayed, list_begun, list_begun_sinks, followed_adds, passed_adds}
+use Rattle.mdblock.proofs.LevelAdds.{on_both, outside_adds, outside_sinks, marked_blank, shut_goes, leaf_goes_on, quote_read, quote_read_sinks, bl_quote_read_on, quote_followed_sinks, bl_item_read_on, item_followed_sinks, bl_put_back_adds, list_read, list_read_sinks, list_stayed, list_begun, list_begun_sinks}
 use Rattle.mdblock.proofs.open_blocks.Level.+reading.Goals as goal
 
 -- ---- read
 
-pub read-returns-then-branch-clause-adds : goal.read-returns-then-branch-clause-adds
-read-returns-then-branch-clause-adds t c =
-    followed_adds c.args.room c.args.self.now c.follow.new.self c.args.gathering.now c.follow.new.gathering c.args.line.now (c.in_ok-follow.ensures.adds c.if-branch.true)
+pub read-returns-in-Shut-clause-adds : goal.read-returns-in-Shut-clause-adds
+read-returns-in-Shut-clause-adds t c =
+    let n = c.read_unfollowed in
+    on_ok_weaker n.result (bl_put_back_adds c.args.room c.args.self.now n.new.self c.args.self.now.last c.args.gathering.now n.new.gathering c.args.line.now refl) n.ensures.adds
 
-pub read-returns-clause-adds : goal.read-returns-clause-adds
-read-returns-clause-adds t c =
-    let p = c.in_ok-follow.ensures.passes c.if-branch.false in
-    on_ok_weaker c.add.result (passed_adds c.args.room c.args.self.now c.follow.new.self c.add.new.self c.args.gathering.now c.follow.new.gathering c.add.new.gathering c.args.line.now c.follow.new.line p.0 p.1 p.2) c.add.ensures.adds
+pub read-returns-in-Leaf-clause-adds : goal.read-returns-in-Leaf-clause-adds
+read-returns-in-Leaf-clause-adds t c =
+    let n = c.read_unfollowed-in-Leaf in
+    on_ok_weaker n.result (bl_put_back_adds c.args.room c.args.self.now n.new.self c.args.self.now.last c.args.gathering.now n.new.gathering c.args.line.now refl) n.ensures.adds
 
--- ---- follow
+pub read-returns-then-not-matches-clause-adds : goal.read-returns-then-not-matches-clause-adds
+read-returns-then-not-matches-clause-adds t c =
+    let n = c.read_unfollowed-then-not-matches in
+    on_ok_weaker n.result (bl_put_back_adds c.args.room c.args.self.now n.new.self (open_block.Quote c.in-Quote.inner) c.args.gathering.now n.new.gathering c.args.line.now c.in-Quote.is) n.ensures.adds
 
-pub follow-returns-in_err-read-in-Quote-clause-deep : goal.follow-returns-in_err-read-in-Quote-clause-deep
-follow-returns-in_err-read-in-Quote-clause-deep t c = λ is.
+pub read-returns-then-not-matches-2-clause-adds : goal.read-returns-then-not-matches-2-clause-adds
+read-returns-then-not-matches-2-clause-adds t c =
+    let n = c.read_unfollowed-then-not-matches-2 in
+    on_ok_weaker n.result (bl_put_back_adds c.args.room c.args.self.now n.new.self (open_block.List c.in-List.inner c.in-List.list) c.args.gathering.now n.new.gathering c.args.line.now c.in-List.is) n.ensures.adds
+
+pub read-returns-in_ok-deeper-in-Quote-clause-adds : goal.read-returns-in_ok-deeper-in-Quote-clause-adds
+read-returns-in_ok-deeper-in-Quote-clause-adds t c =
+    on_ok_weaker c.read.result
+    (bl_quote_read_on c.args.room c.in_ok-deeper-in-Quote.field-0 c.args.self.now c.in-Quote.inner c.deref_mut.result.now c.read.new.self c.args.gathering.now c.read.new.gathering c.args.line.now c.take_marker.new.line
+    c.in_ok-deeper-in-Quote.ensures.less c.in-Quote.is (sym c.matches.ensures.value ∙ c.if-not-matches.false) c.deref_mut.ensures.value c.take_marker.ensures)
+    c.read.ensures.adds
+
+pub read-returns-in_ok-deeper-in-Quote-clause-deep : goal.read-returns-in_ok-deeper-in-Quote-clause-deep
+read-returns-in_ok-deeper-in-Quote-clause-deep t c = λ is.
     quote_followed_sinks c.args.room c.in_ok-deeper-in-Quote.field-0 c.args.self.now c.in-Quote.inner c.deref_mut.result.now c.args.gathering.now c.args.line.now c.take_marker.new.line c.in_ok-deeper-in-Quote.ensures.less c.in-Quote.is
-    (sym c.matches.ensures.value ∙ c.if-not-matches.false) c.deref_mut.ensures.value c.take_marker.ensures
-    (c.in_err-read-in-Quote.ensures.deep (ap Err (sym (err_is c.from_residual-in_err-read-in-Quote.result _ _ c.from_residual-in_err-read-in-Quote.ensures.1 is))))
+    (sym c.matches.ensures.value ∙ c.if-not-matches.false) c.deref_mut.ensures.value c.take_marker.ensures (c.read.ensures.deep is)
 
-pub follow-returns-in_err-read-in-List-clause-deep : goal.follow-returns-in_err-read-in-List-clause-deep
-follow-returns-in_err-read-in-List-clause-deep t c = λ is.
+pub read-returns-in_ok-deeper-in-List-clause-adds : goal.read-returns-in_ok-deeper-in-List-clause-adds
+read-returns-in_ok-deeper-in-List-clause-adds t c =
+    on_ok_weaker c.read-in-List.result
+    (bl_item_read_on c.args.room c.in_ok-deeper-in-List.field-0 c.args.self.now c.in-List.inner c.in-List.list c.deref_mut-in-List.result.now c.read-in-List.new.self c.args.gathering.now c.read-in-List.new.gathering c.args.line.now c.enter.new.line
+    c.in_ok-deeper-in-List.ensures.less c.in-List.is (sym c.matches-in-List.ensures ∙ c.if-not-matches-2.false) c.deref_mut-in-List.ensures.value c.enter.ensures)
+    c.read-in-List.ensures.adds
+
+pub read-returns-in_ok-deeper-in-List-clause-deep : goal.read-returns-in_ok-deeper-in-List-clause-deep
+read-returns-in_ok-deeper-in-List-clause-deep t c = λ is.
     item_followed_sinks c.args.room c.in_ok-deeper-in-List.field-0 c.args.self.now c.in-List.inner c.in-List.list c.deref_mut-in-List.result.now c.args.gathering.now c.args.line.now c.enter.new.line c.in_ok-deeper-in-List.ensures.less c.in-List.is
-    (sym c.matches-in-List.ensures ∙ c.if-not-matches-2.false) c.deref_mut-in-List.ensures.value c.enter.ensures
-    (c.in_err-read-in-List.ensures.deep (ap Err (sym (err_is c.from_residual-in_err-read-in-List.result _ _ c.from_residual-in_err-read-in-List.ensures.1 is))))
-
-pub follow-returns-in_ok-read-in-Quote-clause-adds : goal.follow-returns-in_ok-read-in-Quote-clause-adds
-follow-returns-in_ok-read-in-Quote-clause-adds t c = λ _.
-    quote_followed c.args.room c.in_ok-deeper-in-Quote.field-0 c.args.self.now c.in-Quote.inner c.deref_mut.result.now c.read.new.self c.args.gathering.now c.read.new.gathering c.args.line.now c.take_marker.new.line
-    c.in_ok-deeper-in-Quote.ensures.less c.in-Quote.is (sym c.matches.ensures.value ∙ c.if-not-matches.false) c.deref_mut.ensures.value c.take_marker.ensures c.in_ok-read-in-Quote.ensures.adds
-
-pub follow-returns-in_ok-read-in-List-clause-adds : goal.follow-returns-in_ok-read-in-List-clause-adds
-follow-returns-in_ok-read-in-List-clause-adds t c = λ _.
-    item_followed c.args.room c.in_ok-deeper-in-List.field-0 c.args.self.now c.in-List.inner c.in-List.list c.deref_mut-in-List.result.now c.read-in-List.new.self c.args.gathering.now c.read-in-List.new.gathering c.args.line.now c.enter.new.line
-    c.in_ok-deeper-in-List.ensures.less c.in-List.is (sym c.matches-in-List.ensures ∙ c.if-not-matches-2.false) c.deref_mut-in-List.ensures.value c.enter.ensures c.in_ok-read-in-List.ensures.adds
+    (sym c.matches-in-List.ensures ∙ c.if-not-matches-2.false) c.deref_mut-in-List.ensures.value c.enter.ensures (c.read-in-List.ensures.deep is)
 
 -- ---- add
 

@@ -4,8 +4,8 @@ use Rattle.mdblock.proofs.open_blocks.Level.+reading.Given as goal
 abbrev pub decreases-read : goal.decreases-read
 decreases-read l = 4 * l.room + 3
 
-abbrev pub decreases-follow : goal.decreases-follow
-decreases-follow l = 4 * l.room + 2
+abbrev pub decreases-read_unfollowed : goal.decreases-read_unfollowed
+decreases-read_unfollowed l = 4 * l.room + 2
 
 abbrev pub decreases-add : goal.decreases-add
 decreases-add l = 4 * l.room + 1
