@@ -44,6 +44,32 @@ pub(crate) fn push_found(over: &mut Vec<Block>, found: Option<Block>) -> Result<
     }
 }
 
+/// The same where another block comes behind it: an item with more than one block mostly has two, so at first there is room for both.
+pub(crate) fn push_found_inside(
+    over: &mut Vec<Block>,
+    found: Option<Block>,
+    in_item: bool,
+) -> Result<(), AllocError>
+    ensures pushed { OnOk result (blocks_view over.new.items ≡ blocks_before (blocks_view over.old.items) (found_view found)) }
+    ensures within { OnOk result ((n : ℕ) → BlocksIn n (blocks_view over.old.items) → IfSome found (λ block. BlockIn n (block_view block))
+        → BlocksIn n (blocks_view over.new.items)) }
+{
+    if in_item {
+        make_room_for_two(over)?;
+    }
+    push_found(over, found)
+}
+
+/// Room for two blocks, where there is none yet.
+fn make_room_for_two(over: &mut Vec<Block>) -> Result<(), AllocError>
+    ensures { over.new.items ≡ over.old.items }
+{
+    if over.is_empty() {
+        over.reserve_exact(2)?;
+    }
+    Ok(())
+}
+
 /// The blocks with one more, where there is one.
 pub(crate) fn with_found(
     mut over: Vec<Block>,

@@ -21,7 +21,7 @@ mod continuations;
 
 use crate::block_starts::{BlockStart, beginning};
 use crate::blocks::Block;
-use crate::closed_blocks::{with_found, with_item, with_list, with_quote};
+use crate::closed_blocks::{push_found_inside, with_found, with_item, with_list, with_quote};
 use crate::container::block_quotes;
 use crate::container::list_items::{Entry, end_item, enter_item};
 use crate::container::lists::OpenList;
@@ -189,9 +189,53 @@ impl Level {
         mem::replace(self, Level::new(alloc, false))
     }
 
-    #[tactic(auto, using(crate::proofs::Within::growing))]
     /// Puts the open block among those that are over.
     fn shut(&mut self, gathering: &mut Gathering) -> Result<(), AllocError>
+        requires { LevelIn (length gathering.old.texts.items) self.old }
+        ensures within { OnOk result (LevelIn (length gathering.new.texts.items) self.new) }
+        ensures grows { length gathering.old.texts.items ≤ length gathering.new.texts.items }
+        ensures entities { gathering.new.entities.now ≡ gathering.old.entities.now }
+        ensures ends { OnOk result (EndsAll self.old gathering.old self.new gathering.new) }
+    {
+        if self.is_open_leaf() {
+            return self.shut_leaf(gathering);
+        }
+        self.shut_container(gathering)
+    }
+
+    /// Whether the open block is a leaf.
+    fn is_open_leaf(&self) -> bool
+        ensures { result ≡ true → IsOpenLeaf self.now.last }
+    {
+        matches!(self.last, OpenBlock::Leaf(_))
+    }
+
+    #[tactic(auto, using(crate::proofs::Within::growing))]
+    /// The same of a leaf, where it stands. Another block comes behind it.
+    fn shut_leaf(&mut self, gathering: &mut Gathering) -> Result<(), AllocError>
+        requires level { LevelIn (length gathering.old.texts.items) self.old }
+        requires leaf { IsOpenLeaf self.old.last }
+        ensures within { OnOk result (LevelIn (length gathering.new.texts.items) self.new) }
+        ensures grows { length gathering.old.texts.items ≤ length gathering.new.texts.items }
+        ensures entities { gathering.new.entities.now ≡ gathering.old.entities.now }
+        ensures ends { OnOk result (EndsAll self.old gathering.old self.new gathering.new) }
+    {
+        let first = self.is_at_front();
+        match mem::replace(&mut self.last, OpenBlock::Shut) {
+            OpenBlock::Leaf(leaf) => {
+                let found = leaf.end(first, gathering)?;
+                push_found_inside(&mut self.over, found, self.in_item)
+            }
+            last => {
+                self.last = last;
+                Ok(())
+            }
+        }
+    }
+
+    #[tactic(auto, using(crate::proofs::Within::growing))]
+    /// The same of any block.
+    fn shut_container(&mut self, gathering: &mut Gathering) -> Result<(), AllocError>
         requires { LevelIn (length gathering.old.texts.items) self.old }
         ensures within { OnOk result (LevelIn (length gathering.new.texts.items) self.new) }
         ensures grows { length gathering.old.texts.items ≤ length gathering.new.texts.items }

@@ -2,7 +2,7 @@ use Rattle.std.proofs.Common.{refl, subst}
 use Rattle.mdblock.specs.held.HeldLevel.{ClosesAll}
 use Rattle.mdblock.specs.declared.open_blocks.OpenBlock as open_block
 use Rattle.mdblock.proofs.LevelBegins.{all_end}
-use Rattle.mdblock.proofs.open_blocks.Level.shut.Goals as goal
+use Rattle.mdblock.proofs.open_blocks.Level.shut_container.Goals as goal
 
 pub returns-clause-ends : goal.returns-clause-ends
 returns-clause-ends c =
