@@ -59,6 +59,16 @@ enum OpenBlock {
     List(Box<Level>, OpenList),
 }
 
+/// How the reading of a line inside a level ends.
+#[derive(Clone, Copy, Debug, PartialEq, Eq)]
+enum Reading {
+    /// It is read.
+    Done,
+    TooDeep,
+    NoMemory,
+    Failed,
+}
+
 /// How a line continues the open block, or an open list.
 #[derive(Clone, Copy, Debug, PartialEq, Eq)]
 pub(crate) enum Continuation {
@@ -276,7 +286,6 @@ impl Level {
 
     /// Reads one line more, where at most `room` containers may be open inside one another.
     #[cycle(reading)]
-    #[tactic(auto, using(crate::proofs::Within::growing))]
     fn read(
         &mut self,
         line: &mut Line,
@@ -291,6 +300,26 @@ impl Level {
         ensures adds { OnOk result (AddsLine room self.old gathering.old line.old self.new gathering.new) }
         ensures deep { IsErrOf result NestedTooDeep → SinksLine room self.old gathering.old line.old }
     {
+        match self.read_inside(line, room, gathering) {
+            Reading::Done => Ok(()),
+            Reading::TooDeep => Err(BlockFault::NestedTooDeep),
+            Reading::NoMemory => Err(BlockFault::NoMemory),
+            Reading::Failed => Err(BlockFault::Failed),
+        }
+    }
+
+    /// The same, told by a word: it ends with the reading inside the open container, which makes it a loop.
+    #[cycle(reading)]
+    #[tactic(auto, using(crate::proofs::Within::growing))]
+    fn read_inside(&mut self, line: &mut Line, room: usize, gathering: &mut Gathering) -> Reading
+        requires { LevelIn (length gathering.old.texts.items) self.old }
+        ensures within { result ≡ Reading.Done → LevelIn (length gathering.new.texts.items) self.new }
+        ensures grows { length gathering.old.texts.items ≤ length gathering.new.texts.items }
+        ensures entities { gathering.new.entities.now ≡ gathering.old.entities.now }
+        ensures fault { result ≡ Reading.Failed → ⊥ }
+        ensures adds { result ≡ Reading.Done → AddsLine room self.old gathering.old line.old self.new gathering.new }
+        ensures deep { result ≡ Reading.TooDeep → SinksLine room self.old gathering.old line.old }
+    {
         match &mut self.last {
             OpenBlock::Shut => self.read_unfollowed(line, room, gathering),
             OpenBlock::Leaf(_) => self.read_unfollowed(line, room, gathering),
@@ -298,17 +327,23 @@ impl Level {
                 if !block_quotes::matches(line) {
                     return self.read_unfollowed(line, room, gathering);
                 }
+                if room < 1 {
+                    return Reading::TooDeep;
+                }
                 block_quotes::take_marker(line);
                 self.blank = false;
-                inner.read(line, deeper(room)?, gathering)
+                inner.read_inside(line, room - 1, gathering)
             }
             OpenBlock::List(inner, list) => {
                 if !list.matches(line) {
                     return self.read_unfollowed(line, room, gathering);
                 }
+                if room < 1 {
+                    return Reading::TooDeep;
+                }
                 list.enter(line);
                 self.blank = false;
-                inner.read(line, deeper(room)?, gathering)
+                inner.read_inside(line, room - 1, gathering)
             }
         }
     }
@@ -321,18 +356,23 @@ impl Level {
         line: &mut Line,
         room: usize,
         gathering: &mut Gathering,
-    ) -> Result<(), BlockFault>
+    ) -> Reading
         requires level { LevelIn (length gathering.old.texts.items) self.old }
         requires unfollowed { IsUnfollowed self.old.last line.old }
-        ensures within { OnOk result (LevelIn (length gathering.new.texts.items) self.new) }
+        ensures within { result ≡ Reading.Done → LevelIn (length gathering.new.texts.items) self.new }
         ensures grows { length gathering.old.texts.items ≤ length gathering.new.texts.items }
         ensures entities { gathering.new.entities.now ≡ gathering.old.entities.now }
-        ensures fault { IfErr result (λ fault. fault ≡ Failed → ⊥) }
-        ensures adds { OnOk result (AddsLine room self.old gathering.old line.old self.new gathering.new) }
-        ensures deep { IsErrOf result NestedTooDeep → SinksLine room self.old gathering.old line.old }
+        ensures fault { result ≡ Reading.Failed → ⊥ }
+        ensures adds { result ≡ Reading.Done → AddsLine room self.old gathering.old line.old self.new gathering.new }
+        ensures deep { result ≡ Reading.TooDeep → SinksLine room self.old gathering.old line.old }
     {
         let continuation = self.continuation(line);
-        self.add(line, continuation, room, gathering)
+        match self.add(line, continuation, room, gathering) {
+            Ok(()) => Reading::Done,
+            Err(BlockFault::NestedTooDeep) => Reading::TooDeep,
+            Err(BlockFault::NoMemory) => Reading::NoMemory,
+            Err(BlockFault::Failed) => Reading::Failed,
+        }
     }
 
     /// Reads a line with the marker or the indentation of the open container, and answers whether it has it. Else it changes nothing.

@@ -1,4 +1,4 @@
-use Rattle.std.proofs.Common.{refl, sym, ◌∙◌, subst}
+use Rattle.std.proofs.Common.{refl, sym, ◌∙◌, ◌-◌, arith, subst}
 use Rattle.std.proofs.lemmas.Result.{on_ok_weaker}
 use Rattle.mdblock.specs.declared.open_blocks.OpenBlock as open_block
 use Rattle.mdblock.specs.held.LinesAdded.{ContinuesLevel}
@@ -7,49 +7,52 @@ use Rattle.mdblock.proofs.open_blocks.Level.+reading.Goals as goal
 
 -- ---- read
 
-pub read-returns-in-Shut-clause-adds : goal.read-returns-in-Shut-clause-adds
-read-returns-in-Shut-clause-adds t c =
+pub read-returns-in-Done-clause-adds : goal.read-returns-in-Done-clause-adds
+read-returns-in-Done-clause-adds t c = c.read_inside.ensures.adds c.in-Done.is
+
+-- ---- read_inside
+
+pub read_inside-returns-in-Shut-clause-adds : goal.read_inside-returns-in-Shut-clause-adds
+read_inside-returns-in-Shut-clause-adds t c = λ is.
     let n = c.read_unfollowed in
-    on_ok_weaker n.result (bl_put_back_adds c.args.room c.args.self.now n.new.self c.args.self.now.last c.args.gathering.now n.new.gathering c.args.line.now refl) n.ensures.adds
+    bl_put_back_adds c.args.room c.args.self.now n.new.self c.args.self.now.last c.args.gathering.now n.new.gathering c.args.line.now refl (n.ensures.adds is)
 
-pub read-returns-in-Leaf-clause-adds : goal.read-returns-in-Leaf-clause-adds
-read-returns-in-Leaf-clause-adds t c =
+pub read_inside-returns-in-Leaf-clause-adds : goal.read_inside-returns-in-Leaf-clause-adds
+read_inside-returns-in-Leaf-clause-adds t c = λ is.
     let n = c.read_unfollowed-in-Leaf in
-    on_ok_weaker n.result (bl_put_back_adds c.args.room c.args.self.now n.new.self c.args.self.now.last c.args.gathering.now n.new.gathering c.args.line.now refl) n.ensures.adds
+    bl_put_back_adds c.args.room c.args.self.now n.new.self c.args.self.now.last c.args.gathering.now n.new.gathering c.args.line.now refl (n.ensures.adds is)
 
-pub read-returns-then-not-matches-clause-adds : goal.read-returns-then-not-matches-clause-adds
-read-returns-then-not-matches-clause-adds t c =
+pub read_inside-returns-then-not-matches-clause-adds : goal.read_inside-returns-then-not-matches-clause-adds
+read_inside-returns-then-not-matches-clause-adds t c = λ is.
     let n = c.read_unfollowed-then-not-matches in
-    on_ok_weaker n.result (bl_put_back_adds c.args.room c.args.self.now n.new.self (open_block.Quote c.in-Quote.inner) c.args.gathering.now n.new.gathering c.args.line.now c.in-Quote.is) n.ensures.adds
+    bl_put_back_adds c.args.room c.args.self.now n.new.self (open_block.Quote c.in-Quote.inner) c.args.gathering.now n.new.gathering c.args.line.now c.in-Quote.is (n.ensures.adds is)
 
-pub read-returns-then-not-matches-2-clause-adds : goal.read-returns-then-not-matches-2-clause-adds
-read-returns-then-not-matches-2-clause-adds t c =
+pub read_inside-returns-then-not-matches-2-clause-adds : goal.read_inside-returns-then-not-matches-2-clause-adds
+read_inside-returns-then-not-matches-2-clause-adds t c = λ is.
     let n = c.read_unfollowed-then-not-matches-2 in
-    on_ok_weaker n.result (bl_put_back_adds c.args.room c.args.self.now n.new.self (open_block.List c.in-List.inner c.in-List.list) c.args.gathering.now n.new.gathering c.args.line.now c.in-List.is) n.ensures.adds
+    bl_put_back_adds c.args.room c.args.self.now n.new.self (open_block.List c.in-List.inner c.in-List.list) c.args.gathering.now n.new.gathering c.args.line.now c.in-List.is (n.ensures.adds is)
 
-pub read-returns-in_ok-deeper-in-Quote-clause-adds : goal.read-returns-in_ok-deeper-in-Quote-clause-adds
-read-returns-in_ok-deeper-in-Quote-clause-adds t c =
-    on_ok_weaker c.read.result
-    (bl_quote_read_on c.args.room c.in_ok-deeper-in-Quote.field-0 c.args.self.now c.in-Quote.inner c.deref_mut.result.now c.read.new.self c.args.gathering.now c.read.new.gathering c.args.line.now c.take_marker.new.line
-    c.in_ok-deeper-in-Quote.ensures.less c.in-Quote.is (sym c.matches.ensures.value ∙ c.if-not-matches.false) c.deref_mut.ensures.value c.take_marker.ensures)
-    c.read.ensures.adds
+pub read_inside-returns-else-room-lt1-clause-adds : goal.read_inside-returns-else-room-lt1-clause-adds
+read_inside-returns-else-room-lt1-clause-adds t c = λ is.
+    bl_quote_read_on c.args.room (c.args.room - 1) c.args.self.now c.in-Quote.inner c.deref_mut.result.now c.read_inside.new.self c.args.gathering.now c.read_inside.new.gathering c.args.line.now c.take_marker.new.line
+    (omega (arith, c.if-room-lt1.false)) c.in-Quote.is (sym c.matches.ensures.value ∙ c.if-not-matches.false) c.deref_mut.ensures.value c.take_marker.ensures (c.read_inside.ensures.adds is)
 
-pub read-returns-in_ok-deeper-in-Quote-clause-deep : goal.read-returns-in_ok-deeper-in-Quote-clause-deep
-read-returns-in_ok-deeper-in-Quote-clause-deep t c = λ is.
-    quote_followed_sinks c.args.room c.in_ok-deeper-in-Quote.field-0 c.args.self.now c.in-Quote.inner c.deref_mut.result.now c.args.gathering.now c.args.line.now c.take_marker.new.line c.in_ok-deeper-in-Quote.ensures.less c.in-Quote.is
-    (sym c.matches.ensures.value ∙ c.if-not-matches.false) c.deref_mut.ensures.value c.take_marker.ensures (c.read.ensures.deep is)
+pub read_inside-returns-else-room-lt1-clause-deep : goal.read_inside-returns-else-room-lt1-clause-deep
+read_inside-returns-else-room-lt1-clause-deep t c = λ is.
+    quote_followed_sinks c.args.room (c.args.room - 1) c.args.self.now c.in-Quote.inner c.deref_mut.result.now c.args.gathering.now c.args.line.now c.take_marker.new.line (omega (arith, c.if-room-lt1.false)) c.in-Quote.is
+    (sym c.matches.ensures.value ∙ c.if-not-matches.false) c.deref_mut.ensures.value c.take_marker.ensures (c.read_inside.ensures.deep is)
 
-pub read-returns-in_ok-deeper-in-List-clause-adds : goal.read-returns-in_ok-deeper-in-List-clause-adds
-read-returns-in_ok-deeper-in-List-clause-adds t c =
-    on_ok_weaker c.read-in-List.result
-    (bl_item_read_on c.args.room c.in_ok-deeper-in-List.field-0 c.args.self.now c.in-List.inner c.in-List.list c.deref_mut-in-List.result.now c.read-in-List.new.self c.args.gathering.now c.read-in-List.new.gathering c.args.line.now c.enter.new.line
-    c.in_ok-deeper-in-List.ensures.less c.in-List.is (sym c.matches-in-List.ensures ∙ c.if-not-matches-2.false) c.deref_mut-in-List.ensures.value c.enter.ensures)
-    c.read-in-List.ensures.adds
+pub read_inside-returns-else-room-lt1-2-clause-adds : goal.read_inside-returns-else-room-lt1-2-clause-adds
+read_inside-returns-else-room-lt1-2-clause-adds t c = λ is.
+    let n = c.read_inside-in-List in
+    bl_item_read_on c.args.room (c.args.room - 1) c.args.self.now c.in-List.inner c.in-List.list c.deref_mut-in-List.result.now n.new.self c.args.gathering.now n.new.gathering c.args.line.now c.enter.new.line
+    (omega (arith, c.if-room-lt1-2.false)) c.in-List.is (sym c.matches-in-List.ensures ∙ c.if-not-matches-2.false) c.deref_mut-in-List.ensures.value c.enter.ensures (n.ensures.adds is)
 
-pub read-returns-in_ok-deeper-in-List-clause-deep : goal.read-returns-in_ok-deeper-in-List-clause-deep
-read-returns-in_ok-deeper-in-List-clause-deep t c = λ is.
-    item_followed_sinks c.args.room c.in_ok-deeper-in-List.field-0 c.args.self.now c.in-List.inner c.in-List.list c.deref_mut-in-List.result.now c.args.gathering.now c.args.line.now c.enter.new.line c.in_ok-deeper-in-List.ensures.less c.in-List.is
-    (sym c.matches-in-List.ensures ∙ c.if-not-matches-2.false) c.deref_mut-in-List.ensures.value c.enter.ensures (c.read-in-List.ensures.deep is)
+pub read_inside-returns-else-room-lt1-2-clause-deep : goal.read_inside-returns-else-room-lt1-2-clause-deep
+read_inside-returns-else-room-lt1-2-clause-deep t c = λ is.
+    let n = c.read_inside-in-List in
+    item_followed_sinks c.args.room (c.args.room - 1) c.args.self.now c.in-List.inner c.in-List.list c.deref_mut-in-List.result.now c.args.gathering.now c.args.line.now c.enter.new.line (omega (arith, c.if-room-lt1-2.false)) c.in-List.is
+    (sym c.matches-in-List.ensures ∙ c.if-not-matches-2.false) c.deref_mut-in-List.ensures.value c.enter.ensures (n.ensures.deep is)
 
 -- ---- add
 
