@@ -329,6 +329,7 @@ impl<'e> OpenUnit<'e> {
     }
 
     /// Takes the unit that is held; the next one begins after `fed` lines.
+    #[inline(always)]
     fn take_unit(&mut self, fed: usize) -> Result<Option<Found>, AllocError>
         requires { AreKept self.old }
         ensures given { IfOk result (λ found. GivesUnit self.old fed found) }
@@ -344,6 +345,7 @@ impl<'e> OpenUnit<'e> {
     }
 
     /// The unit that is held, which ends after `fed` lines.
+    #[inline(always)]
     fn into_unit(self, fed: usize) -> Result<Option<Found>, AllocError>
         requires { AreKept self }
         ensures { IfOk result (λ found. GivesUnit self.entry fed found) }
@@ -355,6 +357,7 @@ impl<'e> OpenUnit<'e> {
     }
 
     /// All that is held as a unit with its first line there, which ends after `fed` lines.
+    #[inline(always)]
     fn into_found(self, begin: usize, fed: usize) -> Result<Found, AllocError>
         requires { AreKept self }
         ensures gives { IfOk result (λ found. (s : Summary) → HoldsSummary self.entry s

@@ -179,6 +179,7 @@ impl Level {
     }
 
     /// Holds an open block quote of these blocks.
+    #[inline(always)]
     fn hold_quote(&mut self, alloc: Global, inner: Level) -> Result<(), AllocError>
         ensures within { OnOk result ((n : ℕ) → BlocksIn n (blocks_view self.old.over.items) → LevelIn n inner → LevelIn n self.new) }
         ensures over { OnOk result (self.new.over ≡ self.old.over) }
@@ -190,6 +191,7 @@ impl Level {
     }
 
     /// Holds an open list whose last item has these blocks.
+    #[inline(always)]
     fn hold_list(&mut self, alloc: Global, inner: Level, list: OpenList) -> Result<(), AllocError>
         ensures within { OnOk result ((n : ℕ) → BlocksIn n (blocks_view self.old.over.items) → LevelIn n inner → ItemsIn n (items_view list.items.items)
             → LevelIn n self.new) }
