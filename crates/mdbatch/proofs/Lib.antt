@@ -1,3 +1,4 @@
+pub mod ClosedBrackets
 pub mod DueRefusals
 pub mod SplitText
 pub mod UnitsGathered

@@ -15,6 +15,7 @@ use mdhtml::UnitWriter;
 use mdinline::{InlineFault, LabelTable};
 use mdtext::NoMemory;
 use mdview::EditFault;
+use memchr::memchr;
 use std::alloc::Global;
 use std::mem::replace;
 
@@ -122,9 +123,16 @@ fn may_ask(unit: &Unit) -> bool
 {
     let texts = unit.texts();
     for text in texts {
-        if text.as_bytes().contains(&b']') {
+        if closes_bracket(text.as_bytes()) {
             return true;
         }
     }
     false
+}
+
+#[tactic(auto, using(crate::proofs::ClosedBrackets::none_closes))]
+fn closes_bracket(text: &[u8]) -> bool
+    ensures { result ≡ false → closes_bracket text.now ≡ false }
+{
+    memchr(b']', text).is_some()
 }

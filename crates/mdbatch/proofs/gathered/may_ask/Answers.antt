@@ -6,8 +6,7 @@ use Rattle.mdbatch.proofs.gathered.may_ask.Goals as goal
 
 pub loop-text-preserved : goal.loop-text-preserved
 loop-text-preserved c =
-    let free = sym c.contains.ensures.value ∙ c.if-contains.false in
-    fits_more closes_bracket c.texts-texts.result.now c.loop-text.text-index c.text-item.result c.loop-text-test.true c.text-item.is (ap closes_bracket (sym c.as_bytes.ensures.value) ∙ free) c.loop-text.invariant
+    fits_more closes_bracket c.texts-texts.result.now c.loop-text.text-index c.text-item.result c.loop-text-test.true c.text-item.is (ap closes_bracket (sym c.as_bytes.ensures.value) ∙ c.closes_bracket.ensures c.if-closes_bracket.false) c.loop-text.invariant
 
 pub returns : goal.returns
 returns c = λ none.
