@@ -19,6 +19,9 @@ use memchr::memchr;
 use std::alloc::Global;
 use std::mem::replace;
 
+/// HTML of more bytes is moved, and not copied, where a unit has to wait behind it.
+const LONG: usize = 16_384;
+
 /// A unit that waits for the labels of the whole text, and the HTML of the units between the one that waits before it and itself.
 #[derive(Drop)]
 pub(crate) struct Waiting {
@@ -106,14 +109,30 @@ impl Gathered {
 
     /// The unit waits, behind all that is written so far.
     fn keep(&mut self, alloc: Global, found: Found) -> Result<(), NoMemory>
-        ensures waits { OnOk result ((w : Waiting) × (self.new.waiting.items ≡ self.old.waiting.items ++ w ∷ []) × (w.found ≡ found) × (w.before ≡ self.old.html)) }
+        ensures waits { OnOk result ((w : Waiting) × (self.new.waiting.items ≡ self.old.waiting.items ++ w ∷ []) × (w.found ≡ found) × (string_bytes w.before ≡ string_bytes self.old.html)) }
         ensures html { OnOk result (string_bytes self.new.html ≡ []) }
         ensures labels { self.new.labels ≡ self.old.labels }
         ensures too_deep { self.new.too_deep ≡ self.old.too_deep }
     {
-        let before = replace(&mut self.html, String::new(alloc));
+        let before = self.taken_html(alloc)?;
         self.waiting.push(Waiting { before, found })?;
         Ok(())
+    }
+
+    /// Takes the HTML of the units behind the last one that waits. Its room stays for that of those that come, save of a long one, which is not copied.
+    fn taken_html(&mut self, alloc: Global) -> Result<String, NoMemory>
+        ensures taken { IfOk result (λ html. string_bytes html ≡ string_bytes self.old.html) }
+        ensures html { OnOk result (string_bytes self.new.html ≡ []) }
+        ensures waiting { self.new.waiting ≡ self.old.waiting }
+        ensures labels { self.new.labels ≡ self.old.labels }
+        ensures too_deep { self.new.too_deep ≡ self.old.too_deep }
+    {
+        if self.html.len() > LONG {
+            return Ok(replace(&mut self.html, String::new(alloc)));
+        }
+        let html = String::from_str(alloc, &self.html)?;
+        self.html.clear();
+        Ok(html)
     }
 }
 

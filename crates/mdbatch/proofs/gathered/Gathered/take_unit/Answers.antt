@@ -1,9 +1,9 @@
-use Rattle.std.proofs.Common.{◌≡◌, ◌++◌, ◌∙◌, [], ◌∷◌, Err, None, Some, true, ap, refl, string_bytes, subst, sym}
+use Rattle.std.proofs.Common.{◌≡◌, ◌++◌, ◌∙◌, [], ◌∷◌, Err, Some, true, ap, refl, string_bytes, subst, sym}
 use Rattle.std.specs.List.{All, list_any}
 use Rattle.std.proofs.lemmas.List.Elements.{All-push}
 use Rattle.inlinespec.specs.LabelMap.{target_in}
 use Rattle.mdhtml.specs.BlockHtml.{ends_line}
-use Rattle.mdhtml.specs.WrittenUnits.{entities_of, is_deep_unit, options_of, written_unit}
+use Rattle.mdhtml.specs.WrittenUnits.{is_deep_unit, written_unit}
 use Rattle.mdblock.specs.FoundLists.{found_unit}
 use Rattle.mdbatch.specs.GatheredUnits.{EndsLine, IsWoven, closes_bracket, setting_of}
 use Rattle.viewspec.specs.LabelTable.{with_definitions}
@@ -33,8 +33,8 @@ returns-then-may_ask-clause-gathers c = λ all before.
     let waits = c.in_ok-keep.ensures.waits in
     let one = waits.0 in
     let none = is_none _ (sym c.is_some.ensures ∙ c.if-is_some.false) in
-    let ends = subst (λ h. ends_line (string_bytes h) ≡ true) (sym waits.3) (before.line none) in
-    let woven = woven_kept setting held all one (string_bytes c.args.self.now.html) new (ap string_bytes waits.3) c.in_ok-keep.ensures.html (before.woven none) in
+    let ends = subst (λ h. ends_line h ≡ true) (sym waits.3) (before.line none) in
+    let woven = woven_kept setting held all one (string_bytes c.args.self.now.html) new waits.3 c.in_ok-keep.ensures.html (before.woven none) in
     record {
       labels = labels_more all (found_unit c.args.found) _ _ before.labels (c.keep.ensures.labels ∙ adds);
       lines = subst (All EndsLine) (sym waits.1) (All-push EndsLine held one before.lines ends);
