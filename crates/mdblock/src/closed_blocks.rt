@@ -47,6 +47,7 @@ pub(crate) fn push_found(over: &mut Vec<Block>, found: Option<Block>) -> Result<
 }
 
 /// The same where another block comes behind it: an item with more than one block mostly has two, so at first there is room for both.
+#[inline(always)]
 pub(crate) fn push_found_inside(
     over: &mut Vec<Block>,
     found: Option<Block>,

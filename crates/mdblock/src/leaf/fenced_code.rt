@@ -70,6 +70,7 @@ impl Fence {
     }
 
     /// Reads a line: what closes the code, or a line of it.
+    #[inline(always)]
     pub(crate) fn add(mut self, line: &mut Line) -> Result<LeafAfter, AllocError>
         ensures within { (n : ℕ) → IfOk result (λ step. LeafAfterIn n step) }
         ensures step { (entities : EntityTable) (info : List ℕ) (later : List BlockLine)
