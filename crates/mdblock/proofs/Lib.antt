@@ -9,6 +9,7 @@ pub mod EndedItemLaws
 pub mod FitLaws
 pub mod HeldMarks
 pub mod HeldNodesLaws
+pub mod FenceGrows
 pub mod FirstBytes
 pub mod HtmlEnds
 pub mod Interrupts

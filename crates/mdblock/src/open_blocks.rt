@@ -533,6 +533,13 @@ impl Level {
                 paragraph.push_line(line)?;
                 Ok(())
             }
+            OpenBlock::Leaf(Leaf::Fence(fence)) => {
+                if fence.closes(line) {
+                    return self.add_and_put(line, continuation, gathering);
+                }
+                fence.push_line(line)?;
+                Ok(())
+            }
             _ => self.add_and_put(line, continuation, gathering),
         }
     }

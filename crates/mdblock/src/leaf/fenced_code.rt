@@ -1,6 +1,6 @@
 //! Fenced code (CommonMark 4.5).
 
-ghost use Rattle.std.specs.Prelude.{◌≡◌, ℕ, ◌≤◌, not, true, List, [], IfOk, length, string_bytes};
+ghost use Rattle.std.specs.Prelude.{◌≡◌, ℕ, ◌≤◌, not, true, List, [], ◌∷◌, ◌++◌, IfOk, OnOk, length, string_bytes};
 ghost use Rattle.std.specs.List.{prefix_len};
 ghost use Rattle.mdtext.specs.EntityTable.{EntityTable};
 ghost use Rattle.mdleaf.specs.CodeLanguage.{code_language, ends_language};
@@ -63,7 +63,7 @@ impl Fence {
     }
 
     /// Whether a line is the closing fence.
-    fn closes(&self, line: &Line) -> bool
+    pub(crate) fn closes(&self, line: &Line) -> bool
         ensures { result ≡ closes self.now.mark self.now.length line.now }
     {
         line.is_near_margin() && fence_end(line.text(), self.mark, self.length)
@@ -81,10 +81,20 @@ impl Fence {
         if self.closes(line) {
             return Ok(over(self.end()));
         }
+        self.push_line(line)?;
+        Ok(going(Leaf::Fence(self)))
+    }
+
+    /// Appends a line of the code.
+    #[inline(always)]
+    pub(crate) fn push_line(&mut self, line: &mut Line) -> Result<(), AllocError>
+        ensures step { OnOk result ((entities : EntityTable) (info : List ℕ) (later : List BlockLine)
+            → IsFenceOf entities self.old.indent self.old.mark self.old.length info later self.old
+            → IsFenceOf entities self.old.indent self.old.mark self.old.length info (later ++ line.old ∷ []) self.new) }
+    {
         line.take_columns(self.indent);
         line.push_to(&mut self.body)?;
-        self.body.push_str("\n")?;
-        Ok(going(Leaf::Fence(self)))
+        self.body.push_str("\n")
     }
 
     /// What the code is at its end.
