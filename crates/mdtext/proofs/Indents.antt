@@ -14,11 +14,11 @@ width_bounds column b = by_tab (eqb b 9) where
   by_tab true = (omega arith, omega arith)
   by_tab false = (omega arith, omega arith)
 
-indent_cons : (column b : ℕ) (bs : List ℕ) → is_space_or_tab b ≡ true → indent_at column (b ∷ bs) ≡ width column b + indent_at (column + width column b) bs
+pub indent_cons : (column b : ℕ) (bs : List ℕ) → is_space_or_tab b ≡ true → indent_at column (b ∷ bs) ≡ width column b + indent_at (column + width column b) bs
 unfolding indent_at
 indent_cons column b bs h = rw h refl
 
-indent_other : (column b : ℕ) (bs : List ℕ) → is_space_or_tab b ≡ false → indent_at column (b ∷ bs) ≡ 0
+pub indent_other : (column b : ℕ) (bs : List ℕ) → is_space_or_tab b ≡ false → indent_at column (b ∷ bs) ≡ 0
 unfolding indent_at
 indent_other column b bs h = rw h refl
 
@@ -54,7 +54,7 @@ indent_spaces column (suc left) rest =
     one_space column (replicate left 32 ++ rest) ∙ ap (λ n. 1 + n) (indent_spaces (column + 1) left rest)
     ∙ ap (λ c. 1 + (left + indent_at c rest)) (next_column column left) ∙ omega arith
 
-is_bool : (t : Bool) → (t ≡ true) ⊎ (t ≡ false)
+pub is_bool : (t : Bool) → (t ≡ true) ⊎ (t ≡ false)
 is_bool true = inl refl
 is_bool false = inr refl
 

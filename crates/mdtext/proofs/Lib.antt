@@ -1,5 +1,6 @@
 pub mod FoldedAscii
 pub mod BareBrackets
+pub mod EvenIndents
 pub mod FirstPlaces
 pub mod Lanes
 pub mod Indents

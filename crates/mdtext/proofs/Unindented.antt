@@ -1,13 +1,13 @@
 -- A text without its indentation: columns that are skipped leave it as it is.
-use Rattle.std.proofs.Common.{◌≡◌, ℕ, zero, suc, ◌+◌, ◌-◌, ◌*◌, ◌^◌, ◌<◌, ◌≤◌, Bool, true, false, List, [], ◌∷◌, ◌++◌, length, drop, get_or, length-drop, replicate, refl, ap, sym, ◌∙◌, arith, add-one, subst, ◌⊎◌, inl, inr, nat_le}
+use Rattle.std.proofs.Common.{◌≡◌, ℕ, zero, suc, ◌+◌, ◌-◌, ◌*◌, ◌^◌, ◌<◌, ◌≤◌, Bool, true, false, List, [], ◌∷◌, length, drop, get_or, length-drop, refl, ap, sym, ◌∙◌, arith, add-one, subst, ◌⊎◌, inl, inr, nat_le}
 use Rattle.std.proofs.lemmas.Bool.Decides.{nat_tests}
 use Rattle.std.proofs.lemmas.List.{drop_more, drop_all}
 use Rattle.std.proofs.lemmas.Str.{IsCharBoundary-start, IsCharBoundary-after_ascii}
 use Rattle.std.proofs.lemmas.List.Sums.{prefix_len-le-length, prefix_len_passes}
 use Rattle.std.specs.List.{prefix_len}
 use Rattle.std.specs.Str.{IsUtf8, IsCharBoundary}
-use Rattle.mdtext.specs.Columns.{Place, is_space_or_tab, width, indent_at, indent, line_at, skip_from, skip, unindented, AreMarks}
-use Rattle.mdtext.proofs.Indents.{steps, lands, indent_nil, indent_spaces, width_bounds, mark_ends}
+use Rattle.mdtext.specs.Columns.{Place, is_space_or_tab, width, indent_at, indent, line_at, skip_from, skip, unindented}
+use Rattle.mdtext.proofs.Indents.{steps, lands, indent_nil, indent_spaces, width_bounds}
 
 pub at_most_or_more : (m n : ℕ) → (m ≤ n) ⊎ (n < m)
 at_most_or_more m n = by_test (nat_le m n) refl where
@@ -71,10 +71,10 @@ pub record CountsBlanks (at : ℕ) (text : List ℕ) : Type 0 where
 pub blanks_none : (text : List ℕ) → CountsBlanks 0 text
 blanks_none text = record { so_far = omega arith }
 
-front_blank : (b : ℕ) (bs : List ℕ) → is_space_or_tab b ≡ true → prefix_len is_space_or_tab (b ∷ bs) ≡ 1 + prefix_len is_space_or_tab bs
+pub front_blank : (b : ℕ) (bs : List ℕ) → is_space_or_tab b ≡ true → prefix_len is_space_or_tab (b ∷ bs) ≡ 1 + prefix_len is_space_or_tab bs
 front_blank b bs h = rw h refl
 
-front_other : (b : ℕ) (bs : List ℕ) → is_space_or_tab b ≡ false → prefix_len is_space_or_tab (b ∷ bs) ≡ 0
+pub front_other : (b : ℕ) (bs : List ℕ) → is_space_or_tab b ≡ false → prefix_len is_space_or_tab (b ∷ bs) ≡ 0
 front_other b bs h = rw h refl
 
 pub blanks_more : (at : ℕ) (text : List ℕ) → CountsBlanks at text → at < length text → is_space_or_tab (get_or text at 0) ≡ true → CountsBlanks (at + 1) text

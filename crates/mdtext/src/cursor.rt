@@ -1,5 +1,5 @@
 //! The place in a line up to which its containers have taken it.
-ghost use Rattle.std.specs.Prelude.{◌≡◌, ◌+◌, ◌*◌, ◌-◌, ◌<◌, ◌≤◌, ◌^◌, ◌%◌, [], length, drop};
+ghost use Rattle.std.specs.Prelude.{◌≡◌, ◌+◌, ◌*◌, ◌-◌, ◌<◌, ◌≤◌, ◌^◌, ◌%◌, [], length, drop, true};
 ghost use Rattle.std.specs.List.{prefix_len};
 ghost use Rattle.mdtext.specs.Columns.{AreMarks, indent, indent_at, is_space_or_tab, line_at, skip, skip_from, strip, unindented, width};
 
@@ -73,6 +73,7 @@ impl<'a> Cursor<'a> {
     }
 
     /// Goes over columns of spaces and tabs. Of a tab only some columns may be taken.
+    #[inline]
     pub fn skip_columns(&mut self, columns: usize)
         requires { columns ≤ indent (line_at self.old) }
         ensures place { self.new ≡ skip self.old columns }
@@ -81,6 +82,32 @@ impl<'a> Cursor<'a> {
         if columns == 0 {
             return;
         }
+        if self.is_even() {
+            let rest = self.rest();
+            self.column += columns;
+            self.rest = &rest[columns..];
+            self.indent -= columns;
+            return;
+        }
+        self.skip_widths(columns);
+    }
+
+    /// Whether each of the spaces and tabs takes one column, and none is left of a tab.
+    #[inline]
+    fn is_even(&self) -> bool
+        ensures left { result ≡ true → self.now.left ≡ 0 }
+        ensures even { result ≡ true → indent (line_at self.now) ≡ prefix_len is_space_or_tab self.now.rest }
+    {
+        self.left == 0 && self.rest.len() - self.text.len() == self.indent
+    }
+
+    /// The same for any spaces and tabs, one after another.
+    #[inline(never)]
+    fn skip_widths(&mut self, columns: usize)
+        requires { columns ≤ indent (line_at self.old) }
+        ensures place { self.new ≡ skip self.old columns }
+        ensures line { line_at self.new ≡ strip (line_at self.old) columns }
+    {
         let mut rest = self.rest();
         let mut column = self.column;
         let mut left = self.left;

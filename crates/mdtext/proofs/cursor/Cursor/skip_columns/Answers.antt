@@ -1,69 +1,54 @@
-use Rattle.std.proofs.Common.{◌≡◌, ◌+◌, arith, ap, ◌∙◌, sym, refl}
-use Rattle.std.proofs.lemmas.Str.{IsCharBoundary-after_ascii}
-use Rattle.mdtext.specs.Columns.{Place, skip_from, indent_at, indent, line_at, skip, unindented}
+use Rattle.std.proofs.Common.{◌≡◌, drop, arith, ap, sym, subst, ◌∙◌}
+use Rattle.mdtext.specs.Columns.{indent, line_at}
+use Rattle.mdtext.proofs.Indents.{indent_spaces}
 use Rattle.mdtext.proofs.Strips.{line_skip}
-use Rattle.mdtext.proofs.Indents.{steps, walks_on, walked, indent_spaces, lands}
-use Rattle.mdtext.proofs.Unindented.{skip_none, text_stays}
+use Rattle.mdtext.proofs.Unindented.{skip_none}
+use Rattle.mdtext.proofs.EvenIndents.{EvenAt, even_at, even_fits, even_cut, even_place, even_kept}
 use Rattle.mdtext.proofs.cursor.Cursor.skip_columns.Goals as goal
 
-pub loop-left-init : goal.loop-left-init
-loop-left-init c =
+pub overflow_add-self : goal.overflow_add-self
+overflow_add-self c =
+    let here = c.self.inside in
+    let even = even_at here.column here.left c.args.columns here.rest.now c.args.self.now c.self.view_is (c.is_even.ensures.left c.if-is_even.true) (c.is_even.ensures.even c.if-is_even.true) c.requires in
+    let fits = even_fits here.column here.left c.args.columns here.rest.now even c.self.invariant.1 in
+    omega (arith, fits)
+
+pub range_from-self-inside-requires : goal.range_from-self-inside-requires
+range_from-self-inside-requires c =
     let here = c.self.inside in
     let rest_is : c.rest-rest.result.now ≡ here.rest.now = c.rest-rest.ensures ∙ sym (ap (λ p. p.rest) c.self.view_is) in
-    let all : indent (line_at c.args.self.now) ≡ here.left + indent_at (here.column + here.left) c.rest-rest.result.now =
-    sym (ap (λ p. indent (line_at p)) c.self.view_is) ∙ indent_spaces here.column here.left here.rest.now ∙ sym (ap (λ r. here.left + indent_at (here.column + here.left) r) rest_is) in
-    record {
-      text = c.rest-rest.utf8;
-      walks = record {
-        enough = omega (arith, all, c.requires);
-        room = rw rest_is c.self.invariant.1;
-        counted = refl;
-        same = refl;
-      };
-    }
+    let even = even_at here.column here.left c.args.columns here.rest.now c.args.self.now c.self.view_is (c.is_even.ensures.left c.if-is_even.true) (c.is_even.ensures.even c.if-is_even.true) c.requires in
+    λ _. even_cut here.column here.left c.args.columns c.rest-rest.result.now c.rest-rest.utf8 (subst (EvenAt here.column here.left c.args.columns) (sym rest_is) even)
 
-pub bounds-as_bytes-0 : goal.bounds-as_bytes-0
-bounds-as_bytes-0 c = let s = steps c.loop-left.column c.loop-left.left c.loop-left.wanted c.loop-left.rest.now c.loop-left-test.true c.loop-left.invariant.walks.enough in rw c.as_bytes.ensures.value s.some
-
-pub range_from-rest-requires : goal.range_from-rest-requires
-range_from-rest-requires c = let s = steps c.loop-left.column c.loop-left.left c.loop-left.wanted c.loop-left.rest.now c.loop-left-test.true c.loop-left.invariant.walks.enough in
-    λ _. IsCharBoundary-after_ascii _ 0 c.loop-left.invariant.text s.some s.ascii
-
-pub loop-left-preserved : goal.loop-left-preserved
-loop-left-preserved c = record {
-  text = c.range_from-rest.utf8;
-  walks = walks_on _ _ _ _ _ _ _ _ _ c.loop-left.invariant.walks c.loop-left-test.true (rw c.as_bytes.ensures.value at c.width-left.ensures) c.range_from-rest.ensures.value c.range_from-rest.ensures.len;
-}
-
-pub overflow_sub-self-2 : goal.overflow_sub-self-2
-overflow_sub-self-2 c =
+pub overflow_sub-self : goal.overflow_sub-self
+overflow_sub-self c =
     let all = sym (ap (λ p. indent (line_at p)) c.self.view_is) ∙ indent_spaces c.self.inside.column c.self.inside.left c.self.inside.rest.now in
     omega (arith, c.requires, c.self.invariant.0, all)
 
-pub returns-clause-place : goal.returns-clause-place
-returns-clause-place c =
-    sym (lands c.loop-left.column c.loop-left.left c.loop-left.wanted c.loop-left.rest.now c.loop-left-test.false) ∙ c.loop-left.invariant.walks.same
-    ∙ ap (λ r. skip_from c.self.inside.column c.self.inside.left c.args.columns r) (c.rest-rest.ensures ∙ sym (ap (λ p. p.rest) c.self.view_is)) ∙ ap (λ p. skip p c.args.columns) c.self.view_is
-
-pub returns-clause-line : goal.returns-clause-line
-returns-clause-line c =
-    ap line_at (sym (lands c.loop-left.column c.loop-left.left c.loop-left.wanted c.loop-left.rest.now c.loop-left-test.false) ∙ c.loop-left.invariant.walks.same
-    ∙ ap (λ r. skip_from c.self.inside.column c.self.inside.left c.args.columns r) (c.rest-rest.ensures ∙ sym (ap (λ p. p.rest) c.self.view_is)) ∙ ap (λ p. skip p c.args.columns) c.self.view_is)
-    ∙ line_skip c.args.self.now c.args.columns c.requires
-
 pub invariant_of-self : goal.invariant_of-self
 invariant_of-self c =
-    let all = sym (ap (λ p. indent (line_at p)) c.self.view_is) ∙ indent_spaces c.self.inside.column c.self.inside.left c.self.inside.rest.now in
-    let rest_is = c.rest-rest.ensures ∙ sym (ap (λ p. p.rest) c.self.view_is) in
-    let here : Place = record { column = c.self.inside.column; left = c.self.inside.left; rest = c.self.inside.rest.now } in
-    let there = sym (lands c.loop-left.column c.loop-left.left c.loop-left.wanted c.loop-left.rest.now c.loop-left-test.false) ∙ c.loop-left.invariant.walks.same
-    ∙ ap (λ r. skip_from c.self.inside.column c.self.inside.left c.args.columns r) rest_is in
-    let ends = walked _ _ _ _ _ _ _ c.loop-left.invariant.walks c.loop-left-test.false in
-    let total = ap (λ r. c.self.inside.left + indent_at (c.self.inside.column + c.self.inside.left) r) rest_is in (
-      omega (arith, ends.0, total, c.self.invariant.0),
-      ends.1,
-      c.self.invariant.2 ∙ sym (text_stays here c.args.columns (omega (arith, c.requires, ap (λ p. indent (line_at p)) c.self.view_is))) ∙ sym (ap (λ (p : Place). unindented p.rest) there),
-    )
+    let here = c.self.inside in
+    let rest_is : c.rest-rest.result.now ≡ here.rest.now = c.rest-rest.ensures ∙ sym (ap (λ p. p.rest) c.self.view_is) in
+    let after : c.range_from-self-inside.result.now ≡ drop c.args.columns here.rest.now = c.range_from-self-inside.ensures.value ∙ ap (drop c.args.columns) rest_is in
+    let even = even_at here.column here.left c.args.columns here.rest.now c.args.self.now c.self.view_is (c.is_even.ensures.left c.if-is_even.true) (c.is_even.ensures.even c.if-is_even.true) c.requires in
+    let kept = even_kept here.column here.left c.args.columns here.indent here.rest.now c.range_from-self-inside.result.now here.text.now even c.self.invariant.0 c.self.invariant.1 c.self.invariant.2 after in
+    (kept.indent, kept.short, kept.same)
+
+pub returns-then-is_even-clause-place : goal.returns-then-is_even-clause-place
+returns-then-is_even-clause-place c =
+    let here = c.self.inside in
+    let rest_is : c.rest-rest.result.now ≡ here.rest.now = c.rest-rest.ensures ∙ sym (ap (λ p. p.rest) c.self.view_is) in
+    let after : c.range_from-self-inside.result.now ≡ drop c.args.columns here.rest.now = c.range_from-self-inside.ensures.value ∙ ap (drop c.args.columns) rest_is in
+    let even = even_at here.column here.left c.args.columns here.rest.now c.args.self.now c.self.view_is (c.is_even.ensures.left c.if-is_even.true) (c.is_even.ensures.even c.if-is_even.true) c.requires in
+    even_place here.column here.left c.args.columns here.rest.now c.range_from-self-inside.result.now c.args.self.now c.self.view_is even after
+
+pub returns-then-is_even-clause-line : goal.returns-then-is_even-clause-line
+returns-then-is_even-clause-line c =
+    let here = c.self.inside in
+    let rest_is : c.rest-rest.result.now ≡ here.rest.now = c.rest-rest.ensures ∙ sym (ap (λ p. p.rest) c.self.view_is) in
+    let after : c.range_from-self-inside.result.now ≡ drop c.args.columns here.rest.now = c.range_from-self-inside.ensures.value ∙ ap (drop c.args.columns) rest_is in
+    let even = even_at here.column here.left c.args.columns here.rest.now c.args.self.now c.self.view_is (c.is_even.ensures.left c.if-is_even.true) (c.is_even.ensures.even c.if-is_even.true) c.requires in
+    ap line_at (even_place here.column here.left c.args.columns here.rest.now c.range_from-self-inside.result.now c.args.self.now c.self.view_is even after) ∙ line_skip c.args.self.now c.args.columns c.requires
 
 pub returns-then-columns-eq0-clause-place : goal.returns-then-columns-eq0-clause-place
 returns-then-columns-eq0-clause-place c = skip_none c.args.self.now c.args.columns (omega (arith, c.if-columns-eq0.true))

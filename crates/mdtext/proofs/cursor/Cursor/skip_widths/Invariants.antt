@@ -3,7 +3,7 @@ use denote.Text.{Utf8}
 use Rattle.std.proofs.Common.{◌+◌, length}
 use Rattle.mdtext.specs.Columns.{indent_at, skip_from}
 use Rattle.mdtext.proofs.Indents.{Walks}
-use Rattle.mdtext.proofs.cursor.Cursor.skip_columns.Given as goal
+use Rattle.mdtext.proofs.cursor.Cursor.skip_widths.Given as goal
 
 abbrev pub invariant-loop-left : goal.invariant-loop-left
 invariant-loop-left l = record {
