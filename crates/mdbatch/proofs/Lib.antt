@@ -7,3 +7,4 @@ pub mod PageTargets
 pub mod ReadLines
 pub mod WholeTexts
 pub mod PageViews
+pub mod UnitsAtOnce

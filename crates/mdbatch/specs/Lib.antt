@@ -2,3 +2,4 @@ pub mod BatchHtml
 pub mod GatheredUnits
 pub mod TextLabels
 pub mod ViewHtml
+pub mod UnitsAtOnce

@@ -14,6 +14,7 @@ ghost use Rattle.mdbatch.specs.GatheredUnits.{EndsLine, Gathers, HasGathered, Is
 ghost use Rattle.mdbatch.specs.TextLabels.{page_table, target_on_page};
 ghost use Rattle.mdbatch.specs.ViewHtml.{ViewHtml};
 
+use crate::at_once::{html_at_once, may_define};
 use crate::gathered::{Gathered, Waiting};
 use crate::limits::within_limits;
 use crate::page_labels::PageLabels;
@@ -67,6 +68,11 @@ fn clean_html(
     ensures fault { IfErr result (IsFaultOf (first_too_deep options.now.max_containers (split_lines text.now))
         (deep_on_page (record { entities = entities.now; options = options.now }) prelude.now (split_lines text.now))) }
 {
+    if !may_define(text) {
+        if let Some(html) = html_at_once(alloc, text, entities, options, prelude)? {
+            return Ok(html);
+        }
+    }
     let gathered = gathered_units(alloc, text, entities, options)?;
     whole_html(alloc, gathered, entities, options, prelude)
 }

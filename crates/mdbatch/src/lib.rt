@@ -1,6 +1,7 @@
 //! The HTML of a whole text at once, with no preview held.
 #![tactic(auto)]
 
+mod at_once;
 mod batch;
 mod gathered;
 mod labels;

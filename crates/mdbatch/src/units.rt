@@ -55,7 +55,7 @@ pub(crate) fn gathered_units(
 
 /// The first line of a text that is not empty, and the text after its ending: an empty line at once.
 #[inline(always)]
-fn next_line(text: &str) -> (&str, &str)
+pub(crate) fn next_line(text: &str) -> (&str, &str)
     requires { 0 < length text.now }
     ensures lines { split_lines text.now ≡ result.0.now ∷ split_lines result.1.now }
     ensures shorter { length result.1.now < length text.now }

@@ -6,7 +6,7 @@ use Rattle.mdbatch.proofs.batch.clean_html.Goals as goal
 
 pub returns-in_err-gathered-clause-fault : goal.returns-in_err-gathered-clause-fault
 returns-in_err-gathered-clause-fault c =
-    let p = err_from_is_err_and c.from_residual.result c.from_residual.ensures.1 in
+    let p = err_from_is_err_and c.from_residual-in_err-gathered.result c.from_residual-in_err-gathered.ensures.1 in
     rw (p.1, p.2) (of_reading _ _ c.in_err-gathered.field-0.0 c.in_err-gathered.ensures.fault)
 
 pub returns-clause-html : goal.returns-clause-html

@@ -1,0 +1,92 @@
+use Rattle.std.proofs.Common.{◌≡◌, ◌++◌, ◌∙◌, [], ◌∷◌, ap, arith, eqb-true, refl, rules, string_bytes, subst, sym}
+use Rattle.std.proofs.lemmas.List.{nil_from_length}
+use Rattle.std.specs.Option.{option_map, option_to_list}
+use Rattle.mdtext.specs.Lines.{split_lines}
+use Rattle.blockspec.specs.BlockUnits.{units}
+use Rattle.blockspec.specs.Nesting.{first_too_deep}
+use Rattle.mdblock.specs.held.Reads.{handed}
+use Rattle.mdview.specs.Document.{size_of}
+use Rattle.mdblock.specs.FoundLists.{found_unit}
+use Rattle.viewspec.specs.Setting.{Setting}
+use Rattle.mdbatch.specs.GatheredUnits.{setting_of}
+use Rattle.mdbatch.specs.TextLabels.{target_on_page}
+use Rattle.mdbatch.specs.UnitsAtOnce.{AddsUnits}
+use Rattle.viewlaws.proofs.ReadLines.{none_deep, none_handed}
+use Rattle.mdbatch.proofs.ReadLines.{all_fed, next_fed}
+use Rattle.mdbatch.proofs.SplitText.{size_next}
+use Rattle.mdbatch.proofs.UnitsAtOnce.{added_behind, none_added}
+use Rattle.mdbatch.proofs.at_once.written_units.Goals as goal
+
+pub loop-rest-init : goal.loop-rest-init
+loop-rest-init c =
+    let setting : Setting = record { entities = c.args.entities.now; options = c.args.options.now } in
+    let table = target_on_page c.args.labels.now in
+    record {
+      text = c.utf8.text;
+      few = search rules;
+      small = c.requires.small;
+      adds = (
+        [],
+        refl,
+        c.new-reader.ensures.reads,
+        subst (λ html. AddsUnits setting table (handed c.args.entities.now []) [] html) (sym c.in_ok-html.ensures.bytes)
+            (subst (λ units. AddsUnits setting table units [] []) (sym (none_handed c.args.entities.now)) (none_added setting table)),
+      );
+      setting = ap (λ o. record { entities = (setting_of c.new-writer.result).entities; options = o }) c.new-writer.ensures.options
+          ∙ ap (λ e. record { entities = e; options = c.args.options.now }) c.new-writer.ensures.entities;
+    }
+
+pub loop-rest-preserved : goal.loop-rest-preserved
+loop-rest-preserved c =
+    let before = c.loop-rest.invariant.adds in
+    let limit = c.args.options.now.max_containers in
+    let e = c.args.entities.now in
+    let ls = before.0 in
+    let line = c.next_line.result.0.now in
+    let later = split_lines c.next_line.result.1.now in
+    let size = size_next line later in
+    let same = c.loop-rest.invariant.setting in
+    let setting : Setting = record { entities = e; options = c.args.options.now } in
+    let table = target_on_page c.args.labels.now in
+    let mid = string_bytes c.loop-rest.html in
+    let new = string_bytes c.write_found.new.html in
+    let more = option_to_list (option_map found_unit c.in-Ok.found) in
+    let added = subst (λ (s : Setting). AddsUnits s table more mid new) same (c.in_ok-write_found-in-Ok.ensures.adds c.if-not-branch.false) in
+    record {
+      text = search rules;
+      few = search rules;
+      small = omega (arith, size, ap size_of c.next_line.ensures.lines, c.loop-rest.invariant.small);
+      adds = (
+        ls ++ line ∷ [],
+        next_fed (split_lines c.args.text.now) ls (split_lines c.loop-rest.rest.now) line later before.1 c.next_line.ensures.lines,
+        c.in-Ok.ensures.reads limit e ls before.2,
+        subst (λ units. AddsUnits setting table units [] new) (sym (c.in-Ok.ensures.hands limit e ls before.2))
+            (added_behind setting table (handed e ls) more [] mid new before.3 added),
+      );
+      setting = c.write_found.ensures.setting ∙ same;
+    }
+
+pub returns-in-Ok-finish-clause-adds : goal.returns-in-Ok-finish-clause-adds
+returns-in-Ok-finish-clause-adds c =
+    let before = c.loop-rest.invariant.adds in
+    let limit = c.args.options.now.max_containers in
+    let e = c.args.entities.now in
+    let ls = before.0 in
+    let same = c.loop-rest.invariant.setting in
+    let setting : Setting = record { entities = e; options = c.args.options.now } in
+    let table = target_on_page c.args.labels.now in
+    let mid = string_bytes c.loop-rest.html in
+    let new = string_bytes c.write_found-in-Ok-finish.new.html in
+    let more = option_to_list (option_map found_unit c.in-Ok-finish.last) in
+    let all = all_fed c.args.text.now ls c.loop-rest.rest.now (nil_from_length c.loop-rest.rest.now (eqb-true _ _ (sym c.is_empty.ensures ∙ c.loop-rest-test.false))) before.1 in
+    let added = subst (λ (s : Setting). AddsUnits s table more mid new) same (c.in_ok-write_found-in-Ok-finish.ensures.adds c.if-not-branch-2.false) in
+    subst (λ lines. AddsUnits setting table (units e lines) [] new) (sym all)
+    (subst (λ units. AddsUnits setting table units [] new) (sym (c.in-Ok-finish.ensures.hands limit e ls before.2))
+    (added_behind setting table (handed e ls) more [] mid new before.3 added))
+
+pub returns-in-Ok-finish-clause-nesting : goal.returns-in-Ok-finish-clause-nesting
+returns-in-Ok-finish-clause-nesting c =
+    let before = c.loop-rest.invariant.adds in
+    let limit = c.args.options.now.max_containers in
+    let all = all_fed c.args.text.now before.0 c.loop-rest.rest.now (nil_from_length c.loop-rest.rest.now (eqb-true _ _ (sym c.is_empty.ensures ∙ c.loop-rest-test.false))) before.1 in
+    ap (first_too_deep limit) all ∙ none_deep limit c.args.entities.now c.loop-rest.reader before.0 before.2
