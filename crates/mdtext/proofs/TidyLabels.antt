@@ -1,8 +1,7 @@
 -- A label that is its own words is a label, and is collapsed as it is.
-use Rattle.std.proofs.Common.{◌≡◌, ℕ, zero, suc, ◌+◌, ◌-◌, ◌*◌, ◌<◌, ◌≤◌, Bool, true, false, not, List, [], ◌∷◌, ◌++◌, length, drop, get_or, fold, refl, ap, ap₂, sym, ◌∙◌, arith, append_assoc, append-nil, eqb, nat_le, nat_lt, ◌==◌, ◌&&◌, ◌||◌, ⊎_elim}
+use Rattle.std.proofs.Common.{◌≡◌, ℕ, zero, suc, ◌+◌, ◌-◌, ◌*◌, ◌<◌, ◌≤◌, Bool, true, false, not, List, [], ◌∷◌, ◌++◌, length, fold, refl, ap, ap₂, sym, ◌∙◌, arith, append_assoc, append-nil, eqb, nat_le, nat_lt, ◌==◌, ◌&&◌, ◌||◌, ⊎_elim}
 use Rattle.std.proofs.lemmas.Bool.{cases_Bool, eqb-true}
 use Rattle.std.proofs.lemmas.Bool.Decides.{nat_tests}
-use Rattle.std.proofs.lemmas.List.{drop_more}
 use Rattle.std.specs.List.{list_any}
 use Rattle.std.specs.Str.{chars, chars_after, continuation_len, lead_bits}
 use Rattle.mdtext.specs.Labels.{is_label_space, at_front_of_word, words, add_word, collapsed, is_label}
@@ -115,9 +114,3 @@ tidy_is_label inside h =
     let parts = both (nat_le (length inside) 999) (is_tidy_behind 32 inside) h in
     let short : nat_le (length (chars inside)) 999 ≡ true = grind (arith, nat_tests, parts.0, fewer inside) in
     rw (short, has_word inside parts.1, unbracketed 32 inside parts.1) refl
-
--- ---- the loop
-
-pub one_fits : (before : ℕ) (text : List ℕ) (i : ℕ) (all : Bool) → i < length text → fits before (get_or text i 0) ≡ true → is_tidy_behind before (drop i text) ≡ all → is_tidy_behind (get_or text i 0) (drop (i + 1) text) ≡ all
-one_fits before text i all h e w =
-    sym (ap (is_tidy_behind before) (drop_more text i 0 h) ∙ ap (λ t. t && is_tidy_behind (get_or text i 0) (drop (i + 1) text)) e) ∙ w

@@ -92,9 +92,6 @@ module _ (depth : ℕ) (old new : List Token) where
 abbrev pub ItemsGoOn : ℕ → List Token → ℕ → List Token → Type 0
 ItemsGoOn depth all n left = (js : json.Items) (new : List Token) → items (value depth) n left ≡ Some (js, new) → IsSome (of_items js) → ReadsItems depth all new
 
-pub items_begin : (depth : ℕ) (all : List Token) → ItemsGoOn depth all (length all) all
-items_begin depth all = λ js new e h. (js, e, h)
-
 some_more : (j : json.Json) (d : Data) (js : json.Items) → of_json j ≡ Some d → IsSome (of_items js) → IsSome (of_items (json.item j js))
 some_more j d js e h =
     let ds = some_of (of_items js) h in

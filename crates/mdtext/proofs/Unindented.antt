@@ -68,9 +68,6 @@ text_stays place columns h = skipped place.column place.left columns place.rest 
 pub record CountsBlanks (at : ℕ) (text : List ℕ) : Type 0 where
   pub so_far : at + prefix_len is_space_or_tab (drop at text) ≡ prefix_len is_space_or_tab text
 
-pub blanks_none : (text : List ℕ) → CountsBlanks 0 text
-blanks_none text = record { so_far = omega arith }
-
 pub front_blank : (b : ℕ) (bs : List ℕ) → is_space_or_tab b ≡ true → prefix_len is_space_or_tab (b ∷ bs) ≡ 1 + prefix_len is_space_or_tab bs
 front_blank b bs h = rw h refl
 
