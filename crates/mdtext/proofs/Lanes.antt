@@ -1,5 +1,5 @@
 -- A class among 32 bytes at a time.
-use Rattle.std.proofs.Common.{◌≡◌, ℕ, ◌+◌, ◌<◌, ◌≤◌, zero, suc, max, min, ◌++◌, eqb-true, Bool, true, false, cond, not, ◌||◌, List, [], ◌∷◌, length, take, drop, map, get_or, refl, ap, sym, ◌∙◌, arith, eqb}
+use Rattle.std.proofs.Common.{◌≡◌, ℕ, ◌+◌, ◌-◌, ◌<◌, ◌≤◌, zero, suc, max, min, ◌++◌, eqb-true, Bool, true, false, cond, not, ◌||◌, List, [], ◌∷◌, length, take, drop, map, get_or, refl, ap, sym, ◌∙◌, arith, eqb}
 use Rattle.std.specs.Int.{bit_at}
 use Rattle.std.specs.Int.RustNames.{bit_or}
 use Rattle.std.specs.Simd.Lanes.{mask_l}
@@ -7,7 +7,7 @@ use Rattle.std.specs.List.{position_or_len, slice_range}
 use Rattle.std.proofs.lemmas.Nat.Bits.{bit_at_or, same_from_bits}
 use Rattle.std.proofs.lemmas.Simd.{bit_mask_l}
 use Rattle.std.proofs.lemmas.List.Folds.{prefix_len-append}
-use Rattle.std.proofs.lemmas.List.{take-append-drop, drop-drop, length-take-le}
+use Rattle.std.proofs.lemmas.List.{take-append-drop, take_all, drop-drop, length-take-le}
 use Rattle.std.proofs.lemmas.List.Sums.{prefix_len-le-length}
 use Rattle.std.proofs.Common.{length-drop}
 
@@ -73,3 +73,21 @@ pub first_of_front : (p : ℕ → Bool) (bytes rest block : List ℕ) (n : ℕ) 
 first_of_front p bytes rest block n e h =
     ap (λ k. min k (length bytes)) (h ∙ ap (position_or_len p) e ∙ prefix_len-append (λ x. not (p x)) bytes rest)
     ∙ kept_at (position_or_len p bytes) (length bytes) _ (position_or_len p rest) (prefix_len-le-length (λ x. not (p x)) bytes) refl
+
+-- a place that is not behind the first one tells it as well
+one_passed : (t : Bool) (n all rest : ℕ) → suc n ≤ cond t (1 + all) 0 → (n ≤ all → n + rest ≡ all) → suc n + rest ≡ cond t (1 + all) 0
+one_passed true n all rest h same = omega (arith, same (omega (arith, h)))
+one_passed false n all rest h same = absurd (omega (arith, h))
+
+passed : (p : ℕ → Bool) (xs : List ℕ) (n : ℕ) → n ≤ position_or_len p xs → n + position_or_len p (drop n xs) ≡ position_or_len p xs
+passed p xs zero h = omega arith
+passed p [] (suc n) h = absurd (omega (arith, h))
+passed p (x ∷ xs) (suc n) h = one_passed (not (p x)) n (position_or_len p xs) (position_or_len p (drop n xs)) h (λ k. passed p xs n k)
+
+-- the last w bytes tell the first place, where it is not in front of them
+pub last_block : (p : ℕ → Bool) (bytes : List ℕ) (at w n : ℕ) → w ≤ length bytes → length bytes - at < w → at + position_or_len p (drop at bytes) ≡ position_or_len p bytes
+    → n ≡ position_or_len p (slice_range bytes (length bytes - w) (length bytes - w + w)) → length bytes - w + n ≡ position_or_len p bytes
+last_block p bytes at w n long near before is =
+    let s = length bytes - w in
+    let all : slice_range bytes s (s + w) ≡ drop s bytes = block_is bytes s w ∙ take_all w (drop s bytes) (omega (arith, length-drop s bytes, long)) in
+    ap (λ k. s + k) (is ∙ ap (position_or_len p) all) ∙ passed p bytes s (omega (arith, before, near, long))

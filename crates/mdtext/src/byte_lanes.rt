@@ -21,7 +21,11 @@ pub(crate) fn first_of_many(bytes: &[u8], class: &[u8]) -> usize
         }
         at += 32;
     }
-    at + first_of_few(&bytes[at..], class)
+    if len < 32 {
+        return first_of_few(bytes, class);
+    }
+    // The last block begins among bytes that were looked at, none of which is in the class.
+    len - 32 + first_in_block(bytes, len - 32, class)
 }
 
 #[inline(always)]

@@ -3,7 +3,7 @@ use Rattle.std.proofs.lemmas.List.Sums.{prefix_len-le-length}
 use Rattle.std.proofs.lemmas.List.{take_rest}
 use Rattle.std.specs.List.{position_or_len}
 use Rattle.mdtext.specs.ByteClass.{in_class}
-use Rattle.mdtext.proofs.Lanes.{found_here, not_here}
+use Rattle.mdtext.proofs.Lanes.{found_here, last_block, not_here}
 use Rattle.mdtext.proofs.byte_lanes.first_of_many.Goals as goal
 
 pub returns-then-stop-lt32 : goal.returns-then-stop-lt32
@@ -19,5 +19,10 @@ loop-at-preserved c = record {
 
 pub overflow_add-result-2 : goal.overflow_add-result-2
 overflow_add-result-2 c =
-    let here : c.first_of_few.result ≡ position_or_len (in_class c.args.class.now) (drop c.loop-at.at c.args.bytes.now) = c.first_of_few.ensures ∙ ap (position_or_len _) (take_rest c.args.bytes.now c.loop-at.at) in
-    omega (arith, here, c.loop-at.invariant.none_before, prefix_len-le-length (λ x. not (in_class c.args.class.now x)) c.args.bytes.now, c.loop-at.invariant.small)
+    let bytes = c.args.bytes.now in
+    let all = last_block (in_class c.args.class.now) bytes c.loop-at.at 32 c.first_in_block.result (omega (arith, c.if-len-lt32.false)) (omega (arith, c.loop-at-test.false, c.loop-at.invariant.within)) c.loop-at.invariant.none_before c.first_in_block.ensures in
+    omega (arith, all, prefix_len-le-length (λ x. not (in_class c.args.class.now x)) bytes, c.loop-at.invariant.small)
+
+pub returns : goal.returns
+returns c =
+    last_block (in_class c.args.class.now) c.args.bytes.now c.loop-at.at 32 c.first_in_block.result (omega (arith, c.if-len-lt32.false)) (omega (arith, c.loop-at-test.false, c.loop-at.invariant.within)) c.loop-at.invariant.none_before c.first_in_block.ensures
