@@ -2,6 +2,7 @@ pub mod AskedLabels
 pub mod BacktickTable
 pub mod Brackets
 pub mod FoundLinks
+pub mod HeldReadings
 pub mod KnownText
 pub mod LeafEvents
 pub mod LimitedSinks

@@ -66,8 +66,9 @@ impl<'a> TextReader<'a> {
         let room = mem::replace(&mut self.words, String::new(self.alloc));
         let builder = TreeBuilder::new(self.alloc, room);
         let built = self.read_into(text, labels, &mut asked, builder, limit)?;
-        let (tree, room) = built.finish()?;
+        let (row, room) = built.finish()?;
         self.words = room;
-        Ok(Parsed::new(tree, asked.finish()?))
+        let parsed = Parsed::new(self.alloc, row, asked.finish()?)?;
+        Ok(parsed)
     }
 }

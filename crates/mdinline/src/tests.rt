@@ -1,6 +1,7 @@
 //! Maps of labels, and the reading of texts.
 
 mod borders;
+mod copies;
 mod emphasis;
 mod links;
 mod nested_emphasis;

@@ -7,10 +7,12 @@ ghost use Rattle.inlinespec.specs.JoinedTexts.{AreJoined};
 ghost use Rattle.inlinespec.specs.LabelMap.{target_of};
 ghost use Rattle.mdinline.specs.SpanKinds.{span_of};
 ghost use Rattle.mdinline.specs.TreeView.{inline_view, inlines_view};
+ghost use Rattle.mdinline.specs.held.HeldReadings.{row_view};
 ghost use Rattle.mdinline.specs.held.TreeBuilding.{IsJoined, IsNoText, TreeTakes, built, made_events, open_span, row_events};
 ghost use Rattle.mdinline.specs.held.TreeTakings.{tree_takes_more, tree_takes_none};
 
 use crate::inlines::Inline;
+use crate::rows::Row;
 use crate::sinks::{InlineSink, SpanKind};
 use mdtext::{NoMemory, Target};
 use std::alloc::{AllocError, Global};
@@ -59,11 +61,26 @@ impl TreeBuilder {
     }
 
     /// The tree, where no span is open, and the room.
-    pub(crate) fn finish(mut self) -> Result<(Vec<Inline>, String), AllocError>
-        ensures { self.frames.items ≡ [] → IsJoined self → IfOk result (λ done. inlines_view done.0.items ≡ tree_of (built self)) }
+    pub(crate) fn finish(mut self) -> Result<(Row, String), AllocError>
+        ensures { self.frames.items ≡ [] → IsJoined self → IfOk result (λ done. row_view done.0 ≡ tree_of (built self)) }
     {
+        if self.last.is_empty() {
+            return self.finish_text();
+        }
         self.end_text()?;
-        Ok((self.last, self.text))
+        Ok((Row::Many(self.last), self.text))
+    }
+
+    /// The tree of a text that nothing stands before, and the room. Takes no list.
+    fn finish_text(self) -> Result<(Row, String), AllocError>
+        requires { self.last.items ≡ [] }
+        ensures { self.frames.items ≡ [] → IfOk result (λ done. row_view done.0 ≡ tree_of (built self)) }
+    {
+        if self.text.is_empty() {
+            return Ok((Row::Empty, self.text));
+        }
+        let text = String::from_str(self.alloc, &self.text)?;
+        Ok((Row::One(Inline::Text(text)), self.text))
     }
 
     /// Appends the text behind what stands last, if there is any.

@@ -27,8 +27,8 @@ fn a_reader_is_used_again(rt: HostRuntime) -> Result<(), Fail> {
         let Ok(tree) = reader.read_into(text, &labels, &mut asked, empty, 64) else {
             return Err(Fail::from("refused"));
         };
-        let (inlines, _) = tree.finish()?;
-        let shown = format!(in alloc; "{inlines:?}")?;
+        let (row, _) = tree.finish()?;
+        let shown = format!(in alloc; "{:?}", row.inlines())?;
         assert_eq!(rt; shown.as_str(), want, "in {text:?}");
     }
     Ok(())

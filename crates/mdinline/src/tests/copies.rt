@@ -1,0 +1,53 @@
+//! Copies of readings.
+
+use super::rows::{Definition, parsed_of};
+use std::alloc::Global;
+use std::test::Fail;
+
+/// A reading, as it is printed.
+fn shown_of(
+    alloc: Global,
+    text: &str,
+    definitions: &[Definition],
+    is_copied: bool,
+) -> Result<String, Fail> {
+    let parsed = parsed_of(alloc, text, definitions)?;
+    if is_copied {
+        let copy = parsed.copy(alloc)?;
+        drop(parsed);
+        return Ok(format!(in alloc; "{copy:?}")?);
+    }
+    Ok(format!(in alloc; "{parsed:?}")?)
+}
+
+/// A copy stays when what it was made from is let go.
+#[test]
+fn readings_are_copied_whole(rt: HostRuntime) -> Result<(), Fail> {
+    let alloc = rt.alloc();
+    let rows = [
+        ("", "Parsed { tree: [], asked: Asked { labels: [] } }"),
+        (
+            "t",
+            "Parsed { tree: [Text(\"t\")], asked: Asked { labels: [] } }",
+        ),
+        (
+            "[t]",
+            "Parsed { tree: [Text(\"[t]\")], asked: Asked { labels: [Label { folded: \"t\" }] } }",
+        ),
+        (
+            "t[`c`\\\n](/u 'v')",
+            "Parsed { tree: [Text(\"t\"), Link(Target { url: \"/u\", title: \"v\" }, [Code(\"c\"), Hard])], asked: Asked { labels: [] } }",
+        ),
+        (
+            "![k][]",
+            "Parsed { tree: [Image(Target { url: \"/k\", title: \"\" }, [Text(\"k\")])], asked: Asked { labels: [Label { folded: \"k\" }] } }",
+        ),
+    ];
+    for (text, want) in rows {
+        for is_copied in [false, true] {
+            let shown = shown_of(alloc, text, &[("k", "/k", "")], is_copied)?;
+            assert_eq!(rt; shown.as_str(), want, "in {text:?}");
+        }
+    }
+    Ok(())
+}
