@@ -35,6 +35,7 @@ use crate::scanner::Scanner;
 use crate::sinks::InlineSink;
 use crate::texts::{begins_mark, begins_text, plain_end};
 use crate::tokens::Token;
+use crate::trees::TreeRoom;
 use mdpair::{DelimiterRun, delimiter_run};
 use mdscan::Span;
 use mdtext::{Entities, Label};
@@ -50,8 +51,8 @@ pub struct TextReader<'a> {
     pending: Pending<'a>,
     label: Label,
     scratch: Scratch,
-    /// Room for the text of a tree.
-    pub(crate) words: String,
+    /// Room for a tree.
+    pub(crate) room: TreeRoom,
 }
 
 impl<'a> TextReader<'a> {
@@ -66,7 +67,7 @@ impl<'a> TextReader<'a> {
             pending: Pending::new(alloc),
             label: Label::new(alloc),
             scratch: Scratch::new(alloc),
-            words: String::new(alloc),
+            room: TreeRoom::new(alloc),
         }
     }
 

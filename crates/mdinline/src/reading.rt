@@ -11,7 +11,7 @@ use crate::faults::InlineFault;
 use crate::labels::Labels;
 use crate::parsed::Parsed;
 use crate::readers::TextReader;
-use crate::trees::TreeBuilder;
+use crate::trees::{TreeBuilder, TreeRoom};
 use mdtext::{Count, Entities};
 use std::alloc::Global;
 use std::mem;
@@ -63,11 +63,11 @@ impl<'a> TextReader<'a> {
     {
         count.inline();
         let mut asked = AskedSet::new(self.alloc);
-        let room = mem::replace(&mut self.words, String::new(self.alloc));
+        let room = mem::replace(&mut self.room, TreeRoom::new(self.alloc));
         let builder = TreeBuilder::new(self.alloc, room);
         let built = self.read_into(text, labels, &mut asked, builder, limit)?;
         let (row, room) = built.finish()?;
-        self.words = room;
+        self.room = room;
         let parsed = Parsed::new(self.alloc, row, asked.finish()?)?;
         Ok(parsed)
     }

@@ -33,6 +33,25 @@ struct Frame {
     before: Vec<Inline>,
 }
 
+/// Room that a tree is built in, kept from one tree to the next. What lies in it is of no use.
+#[derive(Drop)]
+pub(crate) struct TreeRoom {
+    text: String,
+    row: Vec<Inline>,
+    frames: Vec<Frame>,
+}
+
+impl TreeRoom {
+    /// No room yet. Takes no memory.
+    pub(crate) fn new(alloc: Global) -> TreeRoom {
+        TreeRoom {
+            text: String::new(alloc),
+            row: Vec::new(alloc),
+            frames: Vec::new(alloc),
+        }
+    }
+}
+
 /// A tree up to a place, with the spans that are open there.
 #[derive(Drop)]
 pub(crate) struct TreeBuilder {
@@ -45,42 +64,58 @@ pub(crate) struct TreeBuilder {
 
 impl TreeBuilder {
     /// No inlines yet. What `room` has is let go. Takes no memory.
-    pub(crate) fn new(alloc: Global, room: String) -> TreeBuilder
+    pub(crate) fn new(alloc: Global, room: TreeRoom) -> TreeBuilder
         ensures events { built result ≡ [] }
         ensures frames { result.frames.items ≡ [] }
         ensures joined { IsJoined result }
     {
-        let mut text = room;
+        let TreeRoom {
+            mut text,
+            row: mut last,
+            mut frames,
+        } = room;
         text.clear();
+        last.clear();
+        frames.clear();
         TreeBuilder {
             alloc,
-            frames: Vec::new(alloc),
-            last: Vec::new(alloc),
+            frames,
+            last,
             text,
         }
     }
 
-    /// The tree, where no span is open, and the room.
-    pub(crate) fn finish(mut self) -> Result<(Row, String), AllocError>
+    /// The tree, where no span is open, and the room. What stands in the room goes to a list of its own, which is no longer than it has to be.
+    pub(crate) fn finish(mut self) -> Result<(Row, TreeRoom), AllocError>
         ensures { self.frames.items ≡ [] → IsJoined self → IfOk result (λ done. row_view done.0 ≡ tree_of (built self)) }
     {
         if self.last.is_empty() {
             return self.finish_text();
         }
         self.end_text()?;
-        Ok((Row::Many(self.last), self.text))
+        let mut row = Vec::with_capacity(self.alloc, self.last.len())?;
+        row.append(&mut self.last)?;
+        Ok((Row::Many(row), self.into_room()))
+    }
+
+    fn into_room(self) -> TreeRoom {
+        TreeRoom {
+            text: self.text,
+            row: self.last,
+            frames: self.frames,
+        }
     }
 
     /// The tree of a text that nothing stands before, and the room. Takes no list.
-    fn finish_text(self) -> Result<(Row, String), AllocError>
+    fn finish_text(self) -> Result<(Row, TreeRoom), AllocError>
         requires { self.last.items ≡ [] }
         ensures { self.frames.items ≡ [] → IfOk result (λ done. row_view done.0 ≡ tree_of (built self)) }
     {
         if self.text.is_empty() {
-            return Ok((Row::Empty, self.text));
+            return Ok((Row::Empty, self.into_room()));
         }
         let text = String::from_str(self.alloc, &self.text)?;
-        Ok((Row::One(Inline::Text(text)), self.text))
+        Ok((Row::One(Inline::Text(text)), self.into_room()))
     }
 
     /// Appends the text behind what stands last, if there is any.

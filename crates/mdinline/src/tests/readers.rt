@@ -1,7 +1,7 @@
 //! A reader of texts that is used again.
 
 use crate::readers::TextReader;
-use crate::trees::TreeBuilder;
+use crate::trees::{TreeBuilder, TreeRoom};
 use crate::{LabelTable, Unasked};
 use mdtext::Entities;
 use std::test::Fail;
@@ -23,7 +23,7 @@ fn a_reader_is_used_again(rt: HostRuntime) -> Result<(), Fail> {
     ];
     for (text, want) in rows {
         let mut asked = Unasked;
-        let empty = TreeBuilder::new(alloc, String::new(alloc));
+        let empty = TreeBuilder::new(alloc, TreeRoom::new(alloc));
         let Ok(tree) = reader.read_into(text, &labels, &mut asked, empty, 64) else {
             return Err(Fail::from("refused"));
         };

@@ -1,5 +1,6 @@
-use Rattle.std.proofs.Common.{Vec, Global, string_bytes, ap, ◌∙◌}
+use Rattle.std.proofs.Common.{Vec, Global, string_bytes, ap, ◌∙◌, ◌++◌}
 use Rattle.mdinline.specs.declared.trees.Frame.{Frame}
+use Rattle.mdinline.specs.TreeView.{inlines_view}
 use Rattle.mdinline.specs.held.TreeBuilding.{built}
 use Rattle.mdinline.proofs.JoinedRows.{tree_whole}
 use Rattle.mdinline.proofs.trees.TreeBuilder.finish.Goals as goal
@@ -8,4 +9,5 @@ pub returns : goal.returns
 returns c = λ none joined.
     let s = c.end_text.new.self in
     let now = c.in_ok-end_text.ensures in
-    tree_whole s.frames.items s.last.items (string_bytes s.text) (built c.args.self) (ap (λ (v : Vec Frame Global). v.items) now.frames ∙ none) now.text now.events (now.joined joined)
+    ap inlines_view (c.in_ok-append.ensures.items ∙ ap (λ l. l ++ s.last.items) c.in_ok-row.ensures.items)
+    ∙ tree_whole s.frames.items s.last.items (string_bytes s.text) (built c.args.self) (ap (λ (v : Vec Frame Global). v.items) now.frames ∙ none) now.text now.events (now.joined joined)
