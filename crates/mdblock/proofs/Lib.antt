@@ -22,6 +22,7 @@ pub mod Markers
 pub mod NextItemLaws
 pub mod NextLineLaws
 pub mod ParagraphLaws
+pub mod NoDefinitions
 pub mod PartedLaws
 pub mod PlacedNodes
 pub mod ReadsLaws

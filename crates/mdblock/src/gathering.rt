@@ -2,6 +2,7 @@
 
 ghost use Rattle.std.specs.Prelude.{◌≡◌, ◌-◌, ◌<◌, ◌≤◌, [], ◌∷◌, ◌++◌, IfOk, OnOk, length, string_bytes};
 ghost use Rattle.std.specs.List.{range_with_len};
+ghost use Rattle.mdscan.specs.Blanks.{begins_with};
 ghost use Rattle.mdleaf.specs.LeadingDefinitions.{leading_of};
 ghost use Rattle.mdleaf.specs.ParagraphText.{behind_definitions};
 ghost use Rattle.mdblock.specs.held.HandedIn.{gathered_definitions};
@@ -80,6 +81,9 @@ impl<'e> Gathering<'e> {
         ensures found { OnOk result (gathered_definitions self.new
             ≡ gathered_definitions self.old ++ leading_of self.old.entities.now (string_bytes text.old)) }
     {
+        if !may_define(text.as_str()) {
+            return Ok(());
+        }
         let mut leading = leading_definitions(self.alloc, text.as_str(), self.entities)?;
         self.definitions.append(&mut leading.definitions)?;
         text.replace_range(..leading.rest, "")
@@ -106,6 +110,13 @@ impl<'e> Gathering<'e> {
     {
         (self.definitions, self.texts)
     }
+}
+
+/// Whether a text begins as a link reference definition does: most paragraphs need no closer look.
+fn may_define(text: &str) -> bool
+    ensures { result ≡ begins_with 91 text.now }
+{
+    matches!(text.as_bytes(), [b'[', ..])
 }
 
 /// The positions from one on and before another.
