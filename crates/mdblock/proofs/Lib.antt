@@ -44,6 +44,7 @@ pub mod LevelContainers
 pub mod LevelGroups
 pub mod LevelLeaves
 pub mod LevelLines
+pub mod LeavesGrow
 pub mod LevelAdds
 pub mod LevelBlanks
 pub mod LevelGoes

@@ -540,6 +540,21 @@ impl Level {
                 fence.push_line(line)?;
                 Ok(())
             }
+            OpenBlock::Leaf(Leaf::Table(table)) => {
+                table.push_row(line, gathering)?;
+                Ok(())
+            }
+            OpenBlock::Leaf(Leaf::Html(html)) => {
+                if html.ends(line) {
+                    return self.add_and_put(line, continuation, gathering);
+                }
+                html.push_line(line)?;
+                Ok(())
+            }
+            OpenBlock::Leaf(Leaf::Code(code)) => {
+                code.push_line(line)?;
+                Ok(())
+            }
             _ => self.add_and_put(line, continuation, gathering),
         }
     }

@@ -1,6 +1,6 @@
 //! HTML blocks (CommonMark 4.6).
 
-ghost use Rattle.std.specs.Prelude.{◌≡◌, ℕ, ◌||◌, nat_lt, not, List, [], ◌∷◌, ◌++◌, IfOk, string_bytes};
+ghost use Rattle.std.specs.Prelude.{◌≡◌, ℕ, ◌||◌, nat_lt, not, List, [], ◌∷◌, ◌++◌, IfOk, OnOk, string_bytes};
 ghost use Rattle.blockspec.specs.BlockLine.{BlockLine, is_blank_line};
 ghost use Rattle.blockspec.specs.BlockTree.{html_block};
 ghost use Rattle.mdblock.specs.BlockView.{block_view};
@@ -47,13 +47,23 @@ impl HtmlBlock {
         ensures step { (first : BlockLine) (later : List BlockLine) → IsHtmlOf self.kind (first ∷ later) self
             → IfOk result (λ step. IsHtmlStep (ends_html self.kind line.now) self.kind (first ∷ later ++ line.now ∷ []) step) }
     {
-        self.body.push_str("\n")?;
-        line.push_to(&mut self.body)?;
+        self.push_line(line)?;
         Ok(self.after(line))
     }
 
+    /// Appends a line of the block.
+    pub(crate) fn push_line(&mut self, line: &Line) -> Result<(), AllocError>
+        ensures kind { self.new.kind ≡ self.old.kind }
+        ensures step { OnOk result ((kind : ℕ) (first : BlockLine) (later : List BlockLine) → IsHtmlOf kind (first ∷ later) self.old
+            → IsHtmlOf kind (first ∷ later ++ line.now ∷ []) self.new) }
+    {
+        self.body.push_str("\n")?;
+        line.push_to(&mut self.body)?;
+        Ok(())
+    }
+
     /// Whether a line holds what ends the block.
-    fn ends(&self, line: &Line) -> bool
+    pub(crate) fn ends(&self, line: &Line) -> bool
         ensures { result ≡ ends_html self.now.kind line.now }
     {
         html_end(self.kind, line.whole())

@@ -1,6 +1,6 @@
 //! Indented code (CommonMark 4.4).
 
-ghost use Rattle.std.specs.Prelude.{◌≡◌, ℕ, List, [], ◌∷◌, ◌++◌, IfOk, string_bytes};
+ghost use Rattle.std.specs.Prelude.{◌≡◌, ℕ, List, [], ◌∷◌, ◌++◌, IfOk, OnOk, string_bytes};
 ghost use Rattle.blockspec.specs.BlockLine.{BlockLine};
 ghost use Rattle.blockspec.specs.BlockTree.{code_block};
 ghost use Rattle.mdblock.specs.BlockView.{block_view};
@@ -47,16 +47,24 @@ impl IndentedCode {
         ensures within { (n : ℕ) → IfOk result (λ step. LeafAfterIn n step) }
         ensures step { (lines : List BlockLine) → IsCodeOf lines self → IfOk result (λ step. IsGoing (IsCodeLeaf (lines ++ line.old ∷ [])) step) }
     {
+        self.push_line(line)?;
+        Ok(going(Leaf::Code(self)))
+    }
+
+    /// Appends a line of the code.
+    pub(crate) fn push_line(&mut self, line: &mut Line) -> Result<(), AllocError>
+        ensures { OnOk result ((lines : List BlockLine) → IsCodeOf lines self.old → IsCodeOf (lines ++ line.old ∷ []) self.new) }
+    {
         let blank = line.is_blank();
         line.take_columns(4);
         line.push_to(&mut self.blanks)?;
         self.blanks.push_str("\n")?;
         if blank {
-            return Ok(going(Leaf::Code(self)));
+            return Ok(());
         }
         self.body.push_str(self.blanks.as_str())?;
         self.blanks.clear();
-        Ok(going(Leaf::Code(self)))
+        Ok(())
     }
 
     /// What the code is at its end: blank lines there are no part of it.

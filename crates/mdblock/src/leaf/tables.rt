@@ -70,10 +70,29 @@ impl Table {
             ≡ gathered_texts gathering.old ++ row_of self.aligns.items (rest line.now)) }
         ensures definitions { gathering.new.definitions ≡ gathering.old.definitions }
     {
+        self.push_row(line, gathering)?;
+        Ok(going(Leaf::Table(self)))
+    }
+
+    /// Appends a data row.
+    pub(crate) fn push_row(
+        &mut self,
+        line: &Line,
+        gathering: &mut Gathering,
+    ) -> Result<(), AllocError>
+        requires { TableIn (length gathering.old.texts.items) self.old }
+        ensures within { OnOk result (TableIn (length gathering.new.texts.items) self.new) }
+        ensures grows { length gathering.old.texts.items ≤ length gathering.new.texts.items }
+        ensures entities { gathering.new.entities.now ≡ gathering.old.entities.now }
+        ensures row { OnOk result (IsRowMore (length gathering.old.texts.items) self.old (Leaf.Table self.new)) }
+        ensures texts { OnOk result (gathered_texts gathering.new
+            ≡ gathered_texts gathering.old ++ row_of self.old.aligns.items (rest line.now)) }
+        ensures definitions { gathering.new.definitions ≡ gathering.old.definitions }
+    {
         let cells = data_row(gathering.alloc(), line.text(), self.aligns.len())?;
         let row = gathering.row(cells)?;
         self.push(row)?;
-        Ok(going(Leaf::Table(self)))
+        Ok(())
     }
 
     fn push(&mut self, row: Vec<usize>) -> Result<(), AllocError>

@@ -1,14 +1,9 @@
-use Rattle.std.proofs.Common.{◌≡◌, OnOk, ap, rules, subst, sym, ◌∙◌}
-use Rattle.mdblock.specs.held.LevelSteps.{GrowsLeaf}
+use Rattle.std.proofs.Common.{ap, sym, ◌∙◌}
 use Rattle.mdblock.specs.declared.open_blocks.OpenBlock as open_block
 use Rattle.mdblock.proofs.FenceGrows.{bl_fence_put_back, bl_fence_reads}
+use Rattle.mdblock.proofs.LeavesGrow.{code_reads, html_put_back, html_reads, row_reads}
 use Rattle.mdblock.proofs.LevelGrows.{paragraph_reads}
 use Rattle.mdblock.proofs.open_blocks.Level.add_to_leaf.Goals as goal
-
-pub returns-in_default-clause-adds : goal.returns-in_default-clause-adds
-returns-in_default-clause-adds c =
-    let same : c.in_default.self ≡ c.args.self.now = search rules in
-    subst (λ z. OnOk c.add_and_put-in_default.result (GrowsLeaf z c.args.gathering.now c.args.line.now c.add_and_put-in_default.new.self c.add_and_put-in_default.new.gathering)) same c.add_and_put-in_default.ensures.adds
 
 pub returns-in_ok-push_line-in-Leaf-Paragraph-clause-adds : goal.returns-in_ok-push_line-in-Leaf-Paragraph-clause-adds
 returns-in_ok-push_line-in-Leaf-Paragraph-clause-adds c =
@@ -26,3 +21,25 @@ returns-then-closes-clause-adds c =
     let n = c.add_and_put-then-closes in
     bl_fence_put_back _ n.result c.args.self.now n.new.self c.args.gathering.now n.new.gathering c.args.line.now c.in-Leaf-Fence.fence
     (c.in-Leaf-Fence.is ∙ ap open_block.Leaf c.in-Leaf-Fence.field-0-is) n.ensures.adds
+
+pub returns-in_ok-push_row-in-Leaf-Table-clause-adds : goal.returns-in_ok-push_row-in-Leaf-Table-clause-adds
+returns-in_ok-push_row-in-Leaf-Table-clause-adds c =
+    let e = c.in_ok-push_row-in-Leaf-Table.ensures in
+    row_reads c.args.self.now c.args.gathering.now c.push_row.new.gathering c.args.line.now c.in-Leaf-Table.table c.push_row.new.self
+    (c.in-Leaf-Table.is ∙ ap open_block.Leaf c.in-Leaf-Table.field-0-is) e.row e.texts e.definitions
+
+pub returns-in_ok-push_line-in-Leaf-Html-clause-adds : goal.returns-in_ok-push_line-in-Leaf-Html-clause-adds
+returns-in_ok-push_line-in-Leaf-Html-clause-adds c =
+    html_reads c.args.self.now c.args.gathering.now c.args.line.now c.in-Leaf-Html.html c.push_line-in-Leaf-Html.new.self
+    (c.in-Leaf-Html.is ∙ ap open_block.Leaf c.in-Leaf-Html.field-0-is) (sym c.ends.ensures ∙ c.if-ends.false) c.in_ok-push_line-in-Leaf-Html.ensures.step
+
+pub returns-then-ends-clause-adds : goal.returns-then-ends-clause-adds
+returns-then-ends-clause-adds c =
+    let n = c.add_and_put-then-ends in
+    html_put_back _ n.result c.args.self.now n.new.self c.args.gathering.now n.new.gathering c.args.line.now c.in-Leaf-Html.html
+    (c.in-Leaf-Html.is ∙ ap open_block.Leaf c.in-Leaf-Html.field-0-is) n.ensures.adds
+
+pub returns-in_ok-push_line-in-Leaf-Code-clause-adds : goal.returns-in_ok-push_line-in-Leaf-Code-clause-adds
+returns-in_ok-push_line-in-Leaf-Code-clause-adds c =
+    code_reads c.args.self.now c.args.gathering.now c.args.line.now c.in-Leaf-Code.code c.push_line-in-Leaf-Code.new.self
+    (c.in-Leaf-Code.is ∙ ap open_block.Leaf c.in-Leaf-Code.field-0-is) c.in_ok-push_line-in-Leaf-Code.ensures

@@ -1,10 +1,11 @@
-use Rattle.std.proofs.Common.{[], ◌∷◌, ◌++◌, refl, string_bytes}
-use Rattle.mdblock.proofs.LeafTexts.{html_next}
+use Rattle.std.proofs.Common.{[], ◌∷◌, ◌++◌, subst, sym}
+use Rattle.blockspec.specs.Stretches.{ends_html}
+use Rattle.mdblock.specs.held.OpenLeaves.{IsHtmlOf, IsHtmlStep}
 use Rattle.mdblock.proofs.leaf.html_blocks.HtmlBlock.add.Goals as goal
 
 pub returns-clause-step : goal.returns-clause-step
 returns-clause-step c = λ first later h.
-    c.after.ensures.step (first ∷ later ++ c.args.line.now ∷ []) (record {
-      kind_is = refl;
-      body = html_next first later c.args.line.now (string_bytes c.args.self.body) _ _ h.body c.in_ok-push_str.ensures.bytes c.in_ok-push_to.ensures;
-    })
+    let lines = first ∷ later ++ c.args.line.now ∷ [] in
+    let more = c.push_line.new.self in
+    let own = subst (λ k. IsHtmlOf k lines more) (sym c.in_ok-push_line.ensures.kind) (c.in_ok-push_line.ensures.step c.args.self.kind first later h) in
+    subst (λ k. IsHtmlStep (ends_html k c.args.line.now) k lines c.after.result) c.in_ok-push_line.ensures.kind (c.after.ensures.step lines own)
