@@ -7,6 +7,7 @@ pub mod CopyLaws
 pub mod CopySteps
 pub mod EndedItemLaws
 pub mod FitLaws
+pub mod FoundParts
 pub mod HeldMarks
 pub mod HeldNodesLaws
 pub mod FenceGrows
@@ -35,6 +36,7 @@ pub mod SplicedMarks
 pub mod SplicedUnits
 pub mod StartLaws
 pub mod TableLaws
+pub mod TakenBlocks
 pub mod TextOrder
 pub mod TipLaws
 pub mod Views

@@ -11,6 +11,7 @@ ghost use Rattle.mdblock.specs.Positions.{CellsIn};
 use mdleaf::{Definition, leading_definitions};
 use mdtext::Entities;
 use std::alloc::{AllocError, Global};
+use std::mem;
 
 /// The definitions and the inline texts of a unit, in document order.
 #[derive(Drop)]
@@ -103,12 +104,18 @@ impl<'e> Gathering<'e> {
         self.definitions.len()
     }
 
-    /// The definitions and the texts.
-    pub(crate) fn parts(self) -> (Vec<Definition>, Vec<String>)
-        ensures definitions { result.0 ≡ self.entry.definitions }
-        ensures texts { result.1 ≡ self.entry.texts }
+    /// Takes the definitions and the texts out, and leaves none.
+    pub(crate) fn take_parts(&mut self) -> (Vec<Definition>, Vec<String>)
+        ensures definitions { result.0 ≡ self.old.definitions }
+        ensures texts { result.1 ≡ self.old.texts }
+        ensures no_definitions { self.new.definitions.items ≡ [] }
+        ensures no_texts { self.new.texts.items ≡ [] }
+        ensures entities { self.new.entities.now ≡ self.old.entities.now }
     {
-        (self.definitions, self.texts)
+        (
+            mem::replace(&mut self.definitions, Vec::new(self.alloc)),
+            mem::replace(&mut self.texts, Vec::new(self.alloc)),
+        )
     }
 }
 

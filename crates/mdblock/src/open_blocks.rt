@@ -208,7 +208,7 @@ impl Level {
         ensures ends { OnOk result (EndsAll self.old gathering.old self.new gathering.new) }
     {
         if self.is_open_leaf() {
-            return self.shut_leaf(gathering);
+            return self.shut_leaf(self.in_item, gathering);
         }
         self.shut_container(gathering)
     }
@@ -221,20 +221,22 @@ impl Level {
     }
 
     #[tactic(auto, using(crate::proofs::Within::growing))]
-    /// The same of a leaf, where it stands. Another block comes behind it.
-    fn shut_leaf(&mut self, gathering: &mut Gathering) -> Result<(), AllocError>
+    /// The same of a leaf, where it stands. `more`: whether there is to be room for another block behind it.
+    fn shut_leaf(&mut self, more: bool, gathering: &mut Gathering) -> Result<(), AllocError>
         requires level { LevelIn (length gathering.old.texts.items) self.old }
         requires leaf { IsOpenLeaf self.old.last }
         ensures within { OnOk result (LevelIn (length gathering.new.texts.items) self.new) }
         ensures grows { length gathering.old.texts.items ≤ length gathering.new.texts.items }
         ensures entities { gathering.new.entities.now ≡ gathering.old.entities.now }
         ensures ends { OnOk result (EndsAll self.old gathering.old self.new gathering.new) }
+        ensures closes { OnOk result (ClosesAll self.old gathering.old self.new.over.items gathering.new) }
+        ensures shut { OnOk result (is_shut self.new.last ≡ true) }
     {
         let first = self.is_at_front();
         match mem::replace(&mut self.last, OpenBlock::Shut) {
             OpenBlock::Leaf(leaf) => {
                 let found = leaf.end(first, gathering)?;
-                push_found_inside(&mut self.over, found, self.in_item)
+                push_found_inside(&mut self.over, found, more)
             }
             last => {
                 self.last = last;
@@ -265,6 +267,43 @@ impl Level {
             spaced,
         };
         Ok(())
+    }
+
+    #[tactic(auto, using(crate::proofs::Within::growing))]
+    /// Takes all the blocks out, the open one included, and leaves none, of a list item or not.
+    pub(crate) fn take_blocks(
+        &mut self,
+        in_item: bool,
+        gathering: &mut Gathering,
+    ) -> Result<Vec<Block>, AllocError>
+        requires { LevelIn (length gathering.old.texts.items) self.old }
+        ensures within { IfOk result (λ blocks. BlocksIn (length gathering.new.texts.items) (blocks_view blocks.items)) }
+        ensures grows { length gathering.old.texts.items ≤ length gathering.new.texts.items }
+        ensures entities { gathering.new.entities.now ≡ gathering.old.entities.now }
+        ensures closes { IfOk result (λ blocks. ClosesAll self.old gathering.old blocks.items gathering.new) }
+        ensures empty { OnOk result (IsEmpty in_item self.new) }
+    {
+        if self.is_shut() {
+            return Ok(self.take_over(in_item, gathering.alloc()));
+        }
+        if self.is_open_leaf() {
+            self.shut_leaf(false, gathering)?;
+            return Ok(self.take_over(in_item, gathering.alloc()));
+        }
+        mem::replace(self, Level::new(gathering.alloc(), in_item)).close(gathering)
+    }
+
+    /// The same where no block is open.
+    fn take_over(&mut self, in_item: bool, alloc: Global) -> Vec<Block>
+        requires { is_shut self.old.last ≡ true }
+        ensures over { result ≡ self.old.over }
+        ensures empty { IsEmpty in_item self.new }
+    {
+        self.in_item = in_item;
+        self.begun = false;
+        self.blank = false;
+        self.spaced = false;
+        mem::replace(&mut self.over, Vec::new(alloc))
     }
 
     #[tactic(auto, using(crate::proofs::Within::growing))]

@@ -340,42 +340,61 @@ impl<'e> OpenUnit<'e> {
         ensures joins { OnOk result (self.new.joins.items ≡ []) }
         ensures entities { OnOk result (self.new.gathering.entities.now ≡ self.old.gathering.entities.now) }
     {
-        let next = OpenUnit::new(self.gathering.alloc(), self.gathering.entities(), Some(fed));
-        mem::replace(self, next).into_unit(fed)
-    }
-
-    /// The unit that is held, which ends after `fed` lines.
-    #[inline(always)]
-    fn into_unit(self, fed: usize) -> Result<Option<Found>, AllocError>
-        requires { AreKept self }
-        ensures { IfOk result (λ found. GivesUnit self.entry fed found) }
-    {
-        match self.begin {
+        let begin = mem::replace(&mut self.begin, Some(fed));
+        let found = self.take_found(begin.unwrap_or(0), fed)?;
+        match begin {
             None => Ok(None),
-            Some(begin) => Ok(Some(self.into_found(begin, fed)?)),
+            Some(_) => Ok(Some(found)),
         }
     }
 
-    /// All that is held as a unit with its first line there, which ends after `fed` lines.
+    /// Takes all that is held as a unit with its first line there, which ends after `fed` lines, and leaves nothing.
     #[inline(always)]
-    fn into_found(self, begin: usize, fed: usize) -> Result<Found, AllocError>
-        requires { AreKept self }
-        ensures gives { IfOk result (λ found. (s : Summary) → HoldsSummary self.entry s
-            → found ≡ list_between self.entry.gathering.entities.now s (held_marks self.entry) fed begin) }
+    fn take_found(&mut self, begin: usize, fed: usize) -> Result<Found, AllocError>
+        requires { AreKept self.old }
+        ensures gives { IfOk result (λ found. (s : Summary) → HoldsSummary self.old s
+            → found ≡ list_between self.old.gathering.entities.now s (held_marks self.old) fed begin) }
         ensures lines { IfOk result (λ found. found.lines ≤ fed) }
+        ensures kept { OnOk result (AreKept self.new) }
+        ensures empty { OnOk result (HoldsSummary self.new no_summary) }
+        ensures begin { self.new.begin ≡ self.old.begin }
+        ensures joined { OnOk result (self.new.joined ≡ false) }
+        ensures joins { OnOk result (self.new.joins.items ≡ []) }
+        ensures entities { OnOk result (self.new.gathering.entities.now ≡ self.old.gathering.entities.now) }
     {
-        let mut gathering = self.gathering;
         let parted = self.level.is_parted();
-        let blocks = self.level.close(&mut gathering)?;
-        let (definitions, texts) = gathering.parts();
+        let blocks = self.level.take_blocks(false, &mut self.gathering)?;
+        let (definitions, texts) = self.gathering.take_parts();
+        let joins = mem::replace(&mut self.joins, Vec::new(self.gathering.alloc()));
+        self.joined = false;
         Ok(Found::new(
             begin,
             fed.saturating_sub(begin),
             blocks,
             definitions,
             texts,
-            self.joins,
+            joins,
             parted,
         ))
+    }
+
+    /// The unit that is held, which ends after `fed` lines.
+    #[inline(always)]
+    fn into_unit(mut self, fed: usize) -> Result<Option<Found>, AllocError>
+        requires { AreKept self }
+        ensures { IfOk result (λ found. GivesUnit self.entry fed found) }
+    {
+        self.take_unit(fed)
+    }
+
+    /// All that is held as a unit with its first line there, which ends after `fed` lines.
+    #[inline(always)]
+    fn into_found(mut self, begin: usize, fed: usize) -> Result<Found, AllocError>
+        requires { AreKept self }
+        ensures gives { IfOk result (λ found. (s : Summary) → HoldsSummary self.entry s
+            → found ≡ list_between self.entry.gathering.entities.now s (held_marks self.entry) fed begin) }
+        ensures lines { IfOk result (λ found. found.lines ≤ fed) }
+    {
+        self.take_found(begin, fed)
     }
 }

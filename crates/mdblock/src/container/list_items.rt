@@ -12,7 +12,6 @@ use crate::gathering::Gathering;
 use crate::lines::Line;
 use crate::open_blocks::{Continuation, Level};
 use std::alloc::AllocError;
-use std::mem;
 
 /// What a line of an open list does inside its last item.
 pub(crate) enum Entry {
@@ -83,9 +82,8 @@ pub(crate) fn end_item(
     ensures kind { OnOk result (list.new.kind ≡ list.old.kind) }
 {
     if list.is_open() {
-        let item = mem::replace(inner, Level::new(gathering.alloc(), true));
-        let spaced = item.spaced;
-        list.push(item.close(gathering)?, spaced)?;
+        let spaced = inner.spaced;
+        list.push(inner.take_blocks(true, gathering)?, spaced)?;
     }
     Ok(())
 }
