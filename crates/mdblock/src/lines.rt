@@ -119,6 +119,16 @@ impl<'a> Line<'a> {
     }
 }
 
+/// Finds room for a line of so many bytes with its ending; where there is none, for some lines more: what has a second line mostly has others.
+pub(crate) fn make_room(out: &mut String, length: usize) -> Result<(), AllocError>
+    ensures { string_bytes out.new ≡ string_bytes out.old }
+{
+    if out.capacity().saturating_sub(out.len()) <= length {
+        out.reserve(length.saturating_add(1).saturating_mul(3))?;
+    }
+    Ok(())
+}
+
 fn push_spaces(out: &mut String, count: usize) -> Result<(), AllocError>
     ensures { OnOk result (string_bytes out.new ≡ string_bytes out.old ++ replicate count 32) }
 {

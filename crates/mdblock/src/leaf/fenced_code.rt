@@ -17,7 +17,7 @@ ghost use Rattle.blockspec.specs.Stretches.{closes};
 use crate::blocks::Block;
 use crate::gathering::Gathering;
 use crate::leaf::{Leaf, LeafAfter, going, over};
-use crate::lines::Line;
+use crate::lines::{Line, make_room};
 use mdscan::{FenceLine, fence_end};
 use mdtext::unescape;
 use std::alloc::AllocError;
@@ -93,6 +93,7 @@ impl Fence {
             → IsFenceOf entities self.old.indent self.old.mark self.old.length info (later ++ line.old ∷ []) self.new) }
     {
         line.take_columns(self.indent);
+        make_room(&mut self.body, line.whole().len())?;
         line.push_to(&mut self.body)?;
         self.body.push_str("\n")
     }

@@ -12,7 +12,7 @@ ghost use Rattle.blockspec.specs.Stretches.{ends_html};
 use crate::blocks::Block;
 use crate::gathering::Gathering;
 use crate::leaf::{Leaf, LeafAfter, going, over};
-use crate::lines::Line;
+use crate::lines::{Line, make_room};
 use mdscan::html_end;
 use std::alloc::AllocError;
 
@@ -57,6 +57,7 @@ impl HtmlBlock {
         ensures step { OnOk result ((kind : ℕ) (first : BlockLine) (later : List BlockLine) → IsHtmlOf kind (first ∷ later) self.old
             → IsHtmlOf kind (first ∷ later ++ line.now ∷ []) self.new) }
     {
+        make_room(&mut self.body, line.whole().len())?;
         self.body.push_str("\n")?;
         line.push_to(&mut self.body)?;
         Ok(())

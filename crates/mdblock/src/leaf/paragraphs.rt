@@ -27,7 +27,7 @@ use crate::gathering::Gathering;
 use crate::leaf::headings::setext_heading;
 use crate::leaf::tables::Table;
 use crate::leaf::{Leaf, LeafAfter, going};
-use crate::lines::{Line, trimmed_length};
+use crate::lines::{Line, make_room, trimmed_length};
 use crate::open_blocks::Continuation;
 use mdleaf::{begins_table, is_only_definitions, table_header, task_mark};
 use mdscan::setext;
@@ -230,6 +230,7 @@ impl Paragraph {
         ensures text { OnOk result (self.new.text ≡ self.old.text ++ 10 ∷ rest line.now) }
         ensures last { OnOk result (self.new.last ≡ length self.old.text + 1) }
     {
+        make_room(&mut self.text, line.text().len())?;
         self.text.push_str("\n")?;
         self.last = self.text.len();
         self.text.push_str(line.text())
