@@ -1,5 +1,5 @@
 -- A level whose blocks are taken out.
-use Rattle.std.proofs.Common.{◌≡◌, ℕ, Bool, true, false, not, [], refl, sym, ap, subst, ◌∙◌}
+use Rattle.std.proofs.Common.{◌≡◌, ℕ, Bool, true, not, [], refl, sym, ap, subst, ◌∙◌}
 use Rattle.blockspec.specs.LineSummary.{nothing_yet, no_summary}
 use Rattle.mdtext.specs.EntityTable.{EntityTable}
 use Rattle.mdblock.specs.BlockView.{blocks_view}

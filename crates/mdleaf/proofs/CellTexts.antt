@@ -7,6 +7,7 @@ use Rattle.std.specs.Str.{IsUtf8}
 use Rattle.std.proofs.lemmas.Str.{IsCharBoundary-after_ascii, IsUtf8-drop}
 use Rattle.std.proofs.Math.Seq.{drop-append_seam, get_or-append_seam}
 use Rattle.std.proofs.lemmas.List.{drop-drop, length-append, length-map}
+use Rattle.memchr.specs.Find.{IsFirstByte, is_byte}
 use Rattle.mdscan.specs.declared.delimiter_rows.Align.{Align}
 use Rattle.mdscan.specs.DelimiterRow.{delimiter_align, delimiter_columns, is_delimiter}
 use Rattle.mdscan.specs.declared.spans.Span.{Span}
@@ -39,6 +40,10 @@ stays [] h = refl
 stays (b ∷ rest) h =
     let g = later b rest h in
     kept b rest (and_false (eqb b 92) (begins_with 124 rest) (not_first rest g)) ∙ ap (λ (t : List ℕ). b ∷ t) (stays rest g)
+
+-- where a search finds no bar
+pub not_found : (text : List ℕ) → IsFirstByte (is_byte 124) text None → text ≡ cell_text text
+not_found text h = sym (stays text (λ i inside e. h i (omega arith) inside (rw e refl)))
 
 -- before a bar one backslash is left out
 pub at_bar : (before after : List ℕ) → HasNoBar before → cell_text (before ++ 124 ∷ after) ≡ before_bar before ++ 124 ∷ cell_text after

@@ -7,6 +7,7 @@ ghost use Rattle.mdleaf.specs.TableRows.{before_bar, begins_table, cell_text, fi
 use crate::parts::part_of;
 use mdscan::{Align, Span, align_by_colons, cell_count, cells, delimiter_row};
 use mdtext::NoMemory;
+use memchr::memchr;
 use std::alloc::Global;
 
 /// A table's first two rows: the alignment of each column, and the texts of the header cells, as many.
@@ -82,6 +83,9 @@ fn aligns_of(alloc: Global, row: &str) -> Result<Vec<Align>, NoMemory>
 fn cell_text(alloc: Global, cell: &str) -> Result<String, NoMemory>
     ensures { IfOk result (λ text. string_bytes text ≡ cell_text cell.now) }
 {
+    if let None = memchr(b'|', cell.as_bytes()) {
+        return Ok(String::from_str(alloc, cell)?);
+    }
     let mut text = String::with_capacity(alloc, cell.len())?;
     let mut rest = cell;
     while let Some((before, after)) = rest.split_once('|') {

@@ -3,6 +3,7 @@ pub mod Digits
 pub mod Headings
 pub mod HtmlEnds
 pub mod Rows
+pub mod BarSearch
 pub mod CellSpans
 pub mod Delimiters
 pub mod Sequences

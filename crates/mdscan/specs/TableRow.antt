@@ -1,5 +1,5 @@
 -- Rows of tables (GFM Tables (extension)).
-use Rattle.std.specs.Prelude.{ℕ, ◌+◌, ◌-◌, Bool, not, ◌&&◌, ◌==◌, nat_lt, List, [], ◌∷◌, take, filter, slice_index, if◌then◌else◌}
+use Rattle.std.specs.Prelude.{◌≡◌, ◌≤◌, ◌<◌, ℕ, ◌+◌, ◌-◌, Bool, false, not, ◌&&◌, ◌==◌, nat_lt, List, [], ◌∷◌, take, filter, slice_index, if◌then◌else◌}
 use Rattle.std.specs.List.{range_with_len}
 use Rattle.mdscan.specs.declared.spans.Span.{Span}
 use Rattle.mdscan.specs.Spans.{trimmed_from}
@@ -7,6 +7,10 @@ use Rattle.mdscan.specs.Spans.{trimmed_from}
 -- a bar that does not stand directly after a backslash
 abbrev pub splits : List ℕ → ℕ → Bool
 splits row at = (slice_index row at == 124) && not (slice_index row (at - 1) == 92)
+
+-- a row is split at no place from one on and before another
+abbrev pub IsWholeBetween : List ℕ → ℕ → ℕ → Type 0
+IsWholeBetween row from end = (at : ℕ) → from ≤ at → at < end → splits row at ≡ false
 
 -- a row without the spaces and tabs at its ends, and then without one bar at its beginning
 abbrev pub inner_start : List ℕ → ℕ

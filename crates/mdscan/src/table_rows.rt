@@ -1,10 +1,11 @@
 //! Rows of tables.
 
-ghost use Rattle.std.specs.Prelude.{◌≡◌, ◌<◌, ◌≤◌, All, IfOk, length};
+ghost use Rattle.std.specs.Prelude.{◌≡◌, ◌<◌, ◌≤◌, All, IfNone, IfOk, IfSome, length};
 ghost use Rattle.mdscan.specs.Spans.{IsSpanOf};
-ghost use Rattle.mdscan.specs.TableRow.{inside, splits, cell, row_cells};
+ghost use Rattle.mdscan.specs.TableRow.{IsWholeBetween, inside, splits, cell, row_cells};
 
 use crate::spans::{Span, trimmed_bytes};
+use memchr::memchr;
 use std::alloc::{AllocError, Global};
 
 /// The cells of a table's row, without the spaces and tabs at their ends (GFM Tables (extension)). A backslash before a bar
@@ -43,11 +44,13 @@ fn cells_of(alloc: Global, row: &[u8]) -> Result<Vec<Span>, AllocError>
     let inner = inner(row);
     let mut cells = Vec::new(alloc);
     let mut start = inner.start;
-    for at in inner.start..inner.end {
-        if is_split(row, at) {
-            cells.push(cell_at(row, start, at))?;
-            start = at + 1;
+    let mut at = inner.start;
+    while let Some(bar) = bar_from(row, at, inner.end) {
+        if is_split(row, bar) {
+            cells.push(cell_at(row, start, bar))?;
+            start = bar + 1;
         }
+        at = bar + 1;
     }
     cells.push(cell_at(row, start, inner.end))?;
     Ok(cells)
@@ -70,6 +73,19 @@ pub(crate) fn inner(row: &[u8]) -> Span
         end -= 1;
     }
     Span { start, end }
+}
+
+/// The first bar from one place on and before another.
+fn bar_from(row: &[u8], from: usize, end: usize) -> Option<usize>
+    requires ordered { from ≤ end }
+    requires within { end ≤ length row.now }
+    ensures found { IfSome result (λ bar. (from ≤ bar) × (bar < end) × IsWholeBetween row.now from bar) }
+    ensures none { IfNone result (IsWholeBetween row.now from end) }
+{
+    match memchr(b'|', &row[from..end]) {
+        Some(before) => Some(from + before),
+        None => None,
+    }
 }
 
 /// Whether a row is split at a place: a bar stands there, and not directly after a backslash.

@@ -1,8 +1,14 @@
-use Rattle.std.proofs.Common.{◌++◌, ◌∷◌, [], ap, ◌∙◌, arith, string_bytes}
+use Rattle.memchr.specs.Find.{IsFirstByte, is_byte}
+use Rattle.std.proofs.Common.{None, subst, ◌++◌, ◌∷◌, [], ap, ◌∙◌, arith, string_bytes}
 use Rattle.std.proofs.lemmas.Str.Pattern.{split_parts}
 use Rattle.mdleaf.specs.TableRows.{cell_text}
-use Rattle.mdleaf.proofs.CellTexts.{after_bar, write_bar, write_rest}
+use Rattle.mdleaf.proofs.CellTexts.{after_bar, not_found, write_bar, write_rest}
 use Rattle.mdleaf.proofs.table_rows.cell_text.Goals as goal
+
+pub returns-in-None : goal.returns-in-None
+returns-in-None c =
+    let none = subst (IsFirstByte (is_byte 124) c.as_bytes.result.now) c.in-None.is c.memchr.ensures in
+    c.in_ok-from_str.ensures.ok ∙ not_found c.args.cell.now (subst (λ t. IsFirstByte (is_byte 124) t None) c.as_bytes.ensures.value none)
 
 pub loop-before-preserved : goal.loop-before-preserved
 loop-before-preserved c =
@@ -16,5 +22,5 @@ loop-before-preserved c =
 
 pub returns : goal.returns
 returns c =
-    let none = rw c.in_default.is at (split_parts 124 c.loop-before.rest.now _ c.split_once.ensures.cases (omega arith)) in
+    let none = rw c.in_default-split_once.is at (split_parts 124 c.loop-before.rest.now _ c.split_once.ensures.cases (omega arith)) in
     c.in_ok-push_str-2.ensures.bytes ∙ write_rest (cell_text c.args.cell.now) c.loop-before.rest.now (string_bytes c.loop-before.text) none c.loop-before.invariant.so_far
