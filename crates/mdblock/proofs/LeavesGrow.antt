@@ -21,7 +21,7 @@ use Rattle.mdblock.specs.held.HandedIn.{gathered_texts}
 use Rattle.mdblock.specs.held.HeldLevel.{is_front}
 use Rattle.mdblock.specs.held.HeldTables.{IsRowMore}
 use Rattle.mdblock.specs.held.LevelSteps.{GrowsLeaf}
-use Rattle.mdblock.specs.held.OpenLeaves.{IsCodeOf, IsGoing, IsHtmlOf, IsHtmlStep}
+use Rattle.mdblock.specs.held.OpenLeaves.{IsCodeOf, IsHtmlOf, IsHtmlStep}
 use Rattle.mdblock.proofs.LeafTurns.{html_added, code_added, table_added}
 use Rattle.mdblock.proofs.LevelGrows.{leaf_reads}
 use Rattle.mdblock.proofs.PlacedNodes.{blocks_nil}

@@ -1,4 +1,4 @@
-use Rattle.std.proofs.Common.{◌++◌, refl, ap, sym, ◌∙◌, string_bytes}
+use Rattle.std.proofs.Common.{◌++◌, ap, sym, ◌∙◌, string_bytes}
 use Rattle.blockspec.specs.LeafContents.{code_text}
 use Rattle.mdblock.proofs.LeafTexts.{body_next, end_is_none}
 use Rattle.mdblock.proofs.leaf.indented_code.IndentedCode.push_line.Goals as goal
