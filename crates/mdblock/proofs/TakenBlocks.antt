@@ -1,15 +1,13 @@
 -- A level whose blocks are taken out.
-use Rattle.std.proofs.Common.{◌≡◌, ℕ, Bool, true, not, [], refl, sym, ap, subst, ◌∙◌}
+use Rattle.std.proofs.Common.{◌≡◌, ℕ, Bool, true, not, [], refl, sym, ap, ◌∙◌}
 use Rattle.blockspec.specs.LineSummary.{nothing_yet, no_summary}
 use Rattle.mdtext.specs.EntityTable.{EntityTable}
 use Rattle.mdblock.specs.BlockView.{blocks_view}
-use Rattle.mdblock.specs.Positions.{BlocksIn}
 use Rattle.mdblock.specs.declared.open_blocks.Level.{Level}
 use Rattle.mdblock.specs.declared.open_blocks.OpenBlock as open_block
 use Rattle.mdblock.specs.declared.open_blocks.OpenBlock.{OpenBlock}
 use Rattle.mdblock.specs.held.HeldLevel.{IsShut, StandsFor, StandsForLast, is_shut}
 use Rattle.mdblock.specs.held.LevelSteps.{IsEmpty}
-use Rattle.mdblock.specs.held.OpenPositions.{LevelIn, OpenBlockIn}
 use Rattle.mdblock.proofs.HeldNodesLaws.{none_over, none_spaced}
 
 pub shut_is : (o : OpenBlock) → is_shut o ≡ true → o ≡ open_block.Shut
@@ -17,18 +15,6 @@ shut_is open_block.Shut h = refl
 shut_is (open_block.Leaf held) h = absurd (let x : ⊥ = cc in x)
 shut_is (open_block.Quote' p over last in_item begun blank spaced) h = absurd (let x : ⊥ = cc in x)
 shut_is (open_block.List' p over last in_item begun blank spaced list) h = absurd (let x : ⊥ = cc in x)
-
-pub stays_shut : (o : OpenBlock) → is_shut o ≡ true → IsShut o
-stays_shut o h = subst IsShut (sym (shut_is o h)) tt
-
-shut_in : (n : ℕ) (o : OpenBlock) → IsShut o → OpenBlockIn n o
-shut_in n open_block.Shut h = tt
-shut_in n (open_block.Leaf held) h = absurd h
-shut_in n (open_block.Quote' p over last in_item begun blank spaced) h = absurd h
-shut_in n (open_block.List' p over last in_item begun blank spaced list) h = absurd h
-
-pub empty_in : (n : ℕ) (in_item : Bool) (level : Level) → IsEmpty in_item level → LevelIn n level
-empty_in n in_item level h = (subst (λ z. BlocksIn n (blocks_view z)) (sym h.0) tt, shut_in n level.last h.1)
 
 nothing_stands : (entities : EntityTable) (at : ℕ) (o : OpenBlock) → IsShut o → StandsForLast entities at o [] nothing_yet
 nothing_stands entities at open_block.Shut h = refl
