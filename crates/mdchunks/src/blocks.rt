@@ -6,6 +6,7 @@ ghost use Rattle.std.specs.Vec.Iter.{into_iter_items};
 ghost use Rattle.mdchunks.specs.Lists.{replaced, weigh};
 ghost use Rattle.mdchunks.specs.Marks.{AreMarksOf};
 
+use crate::moves::splice;
 use crate::weights::{Change, Weighed, all_marks, sum_weights};
 use std::alloc::{AllocError, Global};
 use std::marker::Model;
@@ -93,7 +94,7 @@ impl<T: Weighed + Drop> Block<T> {
         requires fits { length self.old + vec_len added ≤ 64 + removed }
         ensures { self.new ≡ replaced self.old at removed added.items }
     {
-        splice_list(&mut self.items, at, removed, &mut added);
+        splice(&mut self.items, at, removed, &mut added);
         self.weight = sum_weights(&self.items);
         self.marks = all_marks(&self.items);
     }
@@ -160,19 +161,6 @@ impl<T: Weighed + Drop> Block<T> {
         self.weight = sum_weights(&self.items);
         self.marks = all_marks(&self.items);
     }
-}
-
-/// Puts members in the place of others in a list that has room for what it has then.
-fn splice_list<T: Drop>(items: &mut Vec<T>, at: usize, removed: usize, added: &mut Vec<T>)
-    requires within { at + removed ≤ vec_len items.old }
-    requires room { vec_len items.old + vec_len added.old ≤ vec_capacity items.old + removed }
-    ensures items { items.new.items ≡ replaced items.old.items at removed added.old.items }
-    ensures capacity { vec_capacity items.old ≤ vec_capacity items.new }
-{
-    let behind = items.len() - at - removed;
-    items.drain(at..at + removed);
-    items.append(added).unwrap();
-    items[at..].rotate_left(behind);
 }
 
 /// Moves members from an iterator to an empty list that has room for them, up to a number.

@@ -10,8 +10,9 @@ use std::mem;
 /// moved only where there are more or fewer of them.
 pub(crate) fn splice<T: Drop>(items: &mut Vec<T>, at: usize, del: usize, add: &mut Vec<T>)
     requires within { at + del ≤ vec_len items.old }
-    requires room { vec_len items.old + vec_len add.old ≤ vec_capacity items.old }
-    ensures { items.new.items ≡ replaced items.old.items at del add.old.items }
+    requires room { vec_len items.old + vec_len add.old ≤ vec_capacity items.old + del }
+    ensures items { items.new.items ≡ replaced items.old.items at del add.old.items }
+    ensures capacity { vec_capacity items.old ≤ vec_capacity items.new }
 {
     let both = del.min(add.len());
     swap_members(items, at, add, both);
@@ -45,8 +46,9 @@ fn cut_front<T: Drop>(items: &mut Vec<T>, n: usize)
 /// The same, by moving all that stands behind the place.
 fn splice_rest<T: Drop>(items: &mut Vec<T>, at: usize, del: usize, add: &mut Vec<T>)
     requires within { at + del ≤ vec_len items.old }
-    requires room { vec_len items.old + vec_len add.old ≤ vec_capacity items.old }
-    ensures { items.new.items ≡ replaced items.old.items at del add.old.items }
+    requires room { vec_len items.old + vec_len add.old ≤ vec_capacity items.old + del }
+    ensures items { items.new.items ≡ replaced items.old.items at del add.old.items }
+    ensures capacity { vec_capacity items.old ≤ vec_capacity items.new }
 {
     let kept = items.len() - del;
     // the front, the tail, the members that go
