@@ -22,7 +22,7 @@ pub struct Chunks<T: Weighed> {
     /// Chunks for members that come.
     spare: Vec<Block<T>>,
     len: usize,
-    /// Where the next member that changes is looked for first.
+    /// Where the next place is looked for first.
     near: Near,
 }
 
@@ -102,7 +102,7 @@ impl<T: Weighed + Drop> Chunks<T> {
         requires { from ≤ length self.now.items }
         ensures { result ≡ drop from self.now.items }
     {
-        Iter::from(&self.blocks, from)
+        Iter::from_near(&self.blocks, self.near, from)
     }
 
     /// What the members in front of this number weigh together, up to the greatest number.
@@ -141,7 +141,6 @@ impl<T: Weighed + Drop> Chunks<T> {
         if added.len() > usize::MAX - self.len {
             return Err(AllocError);
         }
-        self.near = FRONT;
         let needed = added.len() / FULL + 2;
         added.reserve(FULL)?;
         self.blocks.reserve(needed)?;
@@ -159,8 +158,14 @@ impl<T: Weighed + Drop> Chunks<T> {
         ensures { self.new.items ≡ replaced self.old.items at removed added.items }
     {
         let count = added.len();
-        self.near = FRONT;
-        splice(&mut self.blocks, &mut self.spare, at, removed, added);
+        self.near = splice(
+            &mut self.blocks,
+            &mut self.spare,
+            self.near,
+            at,
+            removed,
+            added,
+        );
         self.len = self.len - removed + count;
     }
 }

@@ -7,7 +7,7 @@ ghost use Rattle.mdchunks.specs.Lists.{IsFilled, joined, weigh};
 ghost use Rattle.mdchunks.specs.Marks.{IsApart};
 
 use crate::blocks::Block;
-use crate::places::{first_marked, locate};
+use crate::places::{Near, first_marked, locate, locate_near};
 use crate::weights::Weighed;
 use std::marker::Model;
 
@@ -86,6 +86,26 @@ impl<'a, T: Weighed + Drop> Iter<'a, T> {
         Iter {
             inside: &blocks[place.block].items()[place.inside..],
             rest: &blocks[place.block + 1..],
+        }
+    }
+}
+
+impl<'a, T: Weighed + Drop> Iter<'a, T> {
+    /// The members of some chunks from a place on, which is looked for from a chunk on if it lies behind that one's front.
+    pub(crate) fn from_near(blocks: &'a [Block<T>], near: Near, at: usize) -> Iter<'a, T>
+        requires within { at ≤ length (joined blocks.now) }
+        requires filled { All IsFilled blocks.now }
+        requires near { length (joined (take near.block blocks.now)) ≡ near.front }
+        ensures { result ≡ drop at (joined blocks.now) }
+    {
+        if at <= near.front {
+            return Iter::from(blocks, at);
+        }
+        let place = locate_near(blocks, near, at);
+        let behind = &blocks[place.block + 1..];
+        Iter {
+            inside: &blocks[place.block].items()[place.inside..],
+            rest: behind,
         }
     }
 }

@@ -54,7 +54,7 @@ pub(crate) struct Near {
 pub(crate) const FRONT: Near = Near { block: 0, front: 0 };
 
 /// The chunk in which a place behind some members lies, looked for from a chunk on if it is not in front of that one: of two that meet there the first one.
-fn locate_near<T: Weighed + Drop>(blocks: &[Block<T>], near: Near, at: usize) -> Place
+pub(crate) fn locate_near<T: Weighed + Drop>(blocks: &[Block<T>], near: Near, at: usize) -> Place
     requires within { at ≤ length (joined blocks.now) }
     requires some { 0 < at }
     requires near { length (joined (take near.block blocks.now)) ≡ near.front }
@@ -80,27 +80,32 @@ fn locate_near<T: Weighed + Drop>(blocks: &[Block<T>], near: Near, at: usize) ->
     unreachable!()
 }
 
-/// The chunk in which an edit begins: that of the first member that goes, where one does.
+/// The chunk in which an edit begins, looked for from a chunk on if it can be: that of the first member that goes, where one does.
 pub(crate) fn locate_edit<T: Weighed + Drop>(
     blocks: &[Block<T>],
+    near: Near,
     at: usize,
     removed: usize,
 ) -> Place
     requires within { at + removed ≤ length (joined blocks.now) }
     requires few { length (joined blocks.now) < 2 ^ 64 }
     requires some { 0 < length blocks.now }
+    requires near { length (joined (take near.block blocks.now)) ≡ near.front }
     ensures within { result.block < length blocks.now }
     ensures place { length (joined (take result.block blocks.now)) + result.inside ≡ at }
     ensures inside { result.inside ≤ length (get_or blocks.now result.block []) }
 {
-    if removed == 0 {
-        return locate(blocks, at);
+    if removed > 0 {
+        let place = locate_near(blocks, near, at + 1);
+        return Place {
+            block: place.block,
+            inside: place.inside - 1,
+        };
     }
-    let place = locate(blocks, at + 1);
-    Place {
-        block: place.block,
-        inside: place.inside - 1,
+    if at > near.front {
+        return locate_near(blocks, near, at);
     }
+    locate(blocks, at)
 }
 
 /// The member of this number.

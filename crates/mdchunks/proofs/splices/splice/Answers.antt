@@ -1,5 +1,5 @@
 use Rattle.std.proofs.Common.{◌≡◌, ◌<◌, ◌≤◌, ◌+◌, ◌∙◌, [], ap, arith, get_or, length}
-use Rattle.std.proofs.lemmas.List.{get_or_read}
+use Rattle.std.proofs.lemmas.List.{get_or_read, take-set}
 use Rattle.std.proofs.Math.ListN.{set}
 use Rattle.mdchunks.specs.Lists.{joined}
 use Rattle.mdchunks.proofs.Inserted.{spliced_at}
@@ -17,3 +17,11 @@ returns-then-len-removed-ge-FEW-clause-members g c =
     ap (λ ys. joined (set xss block ys)) c.splice.ensures
     ∙ spliced_at xss block c.locate_edit-place.result.inside c.args.at c.args.removed c.index_mut.result.now c.args.added.items here c.index_mut.ensures.value within
     (rw same at c.locate_edit-place.ensures.place)
+
+pub returns-then-len-removed-ge-FEW-clause-near : goal.returns-then-len-removed-ge-FEW-clause-near
+returns-then-len-removed-ge-FEW-clause-near g c =
+    let xss = c.args.blocks.now.items in
+    let block = c.locate_edit-place.result.block in
+    let place = rw c.deref.ensures.value at c.locate_edit-place.ensures.place in
+    let same = ap (λ yss. length (joined yss)) (take-set xss block c.splice.new.self) in
+    omega (arith, same, place)
