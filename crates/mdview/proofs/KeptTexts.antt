@@ -148,8 +148,9 @@ number_or n (Some k) = k
 
 module _ (limit : ℕ) (e : EntityTable) (labels : Table) (units : List HeldUnit) (trees : List UnitTree) (read : All (IsReadUnder e labels) units) (shallow : All (IsShallow limit e labels) units) where
   kept_by : (part : Kept) (readings : KeptReadings) → IsKept units trees part → readings.at ≡ part.at
-      → ((unit : HeldUnit) → slice_get units part.unit ≡ Some unit → readings.readings.now ≡ drop part.from unit.read.readings) → AreReadingsOf limit e labels (last_texts trees) readings
-  kept_by part readings w at is =
+      → ((unit : HeldUnit) → slice_get units part.unit ≡ Some unit → readings.readings.now ≡ drop part.from unit.read.readings) → slice_get units part.unit ≡ Some readings.unit.now
+      → AreReadingsOf limit e labels (last_texts trees) readings
+  kept_by part readings w at is like =
       let here = read_member (IsReadUnder e labels) units part.unit w.unit w.held read in
       let none = read_member (IsShallow limit e labels) units part.unit w.unit w.held shallow in
       let texts = w.unit.read.unit.texts in
@@ -158,13 +159,15 @@ module _ (limit : ℕ) (e : EntityTable) (labels : Table) (units : List HeldUnit
         readings = is w.unit w.held ∙ ap (drop part.from) here ∙ drop-map (reading_of e labels) part.from texts ∙ ap (map (reading_of e labels)) (sym w.texts)
             ∙ ap (λ n. map (reading_of e labels) (drop n (last_texts trees))) (sym at);
         shallow = ap (list_any (is_deep limit)) (is w.unit w.held) ∙ none_dropped (is_deep limit) part.from w.unit.read.readings (ap (list_any (is_deep limit)) here ∙ none);
+        like = read_member (IsReadUnder e labels) units part.unit readings.unit.now like read;
+        like_shallow = read_member (IsShallow limit e labels) units part.unit readings.unit.now like shallow;
       }
 
   -- Readings of the kept texts are those that the held unit has of them.
   pub kept_read : (kept : Option Kept) (result : Option KeptReadings) → IfSome kept (IsKept units trees) → option_map number_read result ≡ option_map number_kept kept
       → IfSome result (λ readings. IfSome kept (λ part. (unit : HeldUnit) → slice_get units part.unit ≡ Some unit → readings.readings.now ≡ drop part.from unit.read.readings))
-      → IfSome result (AreReadingsOf limit e labels (last_texts trees))
+      → IfSome result (λ readings. IfSome kept (λ part. slice_get units part.unit ≡ Some readings.unit.now)) → IfSome result (AreReadingsOf limit e labels (last_texts trees))
   unfolding number_or
-  kept_read kept None w at is = tt
-  kept_read None (Some readings) w at is = cc
-  kept_read (Some part) (Some readings) w at is = kept_by part readings w (ap (number_or 0) at) is
+  kept_read kept None w at is like = tt
+  kept_read None (Some readings) w at is like = cc
+  kept_read (Some part) (Some readings) w at is like = kept_by part readings w (ap (number_or 0) at) is like

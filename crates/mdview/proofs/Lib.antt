@@ -48,6 +48,7 @@ pub mod Elsewhere
 pub mod LedByUnits
 pub mod LineWeights
 pub mod Ahead
+pub mod AlikeTexts
 pub mod FewUnits
 pub mod WhereReading
 pub mod LabelMarkLaws

@@ -6,6 +6,7 @@ use Rattle.blockspec.specs.UnitTree.{UnitTree}
 use Rattle.inlinespec.specs.LinkTails.{Table}
 use Rattle.viewspec.specs.Refusals.{is_deep}
 use Rattle.viewspec.specs.View.{reading_of}
+use Rattle.viewlaws.specs.UnitTexts.{is_deep_under, readings_under}
 use Rattle.joinlaws.specs.LaterTexts.{asking_of}
 use Rattle.mdview.specs.declared.kept_texts.KeptReadings.{KeptReadings}
 use Rattle.mdview.specs.declared.reparse.Kept.{Kept}
@@ -36,11 +37,13 @@ pub record IsKept (units : List HeldUnit) (found : List UnitTree) (kept : Kept) 
   pub at : kept.at ≤ length (last_texts found)
   pub texts : drop kept.at (last_texts found) ≡ drop kept.from unit.read.unit.texts
 
--- These are readings of the texts of a unit from a number on, and in none of them do spans lie too deep.
+-- These are readings of the texts of a unit from a number on, and in none of them do spans lie too deep; the held unit that has them reads so too.
 pub record AreReadingsOf (limit : ℕ) (e : EntityTable) (labels : Table) (texts : List (List ℕ)) (kept : KeptReadings) : Type 0 where
   pub at : kept.at ≤ length texts
   pub readings : kept.readings.now ≡ map (reading_of e labels) (drop kept.at texts)
   pub shallow : list_any (is_deep limit) kept.readings.now ≡ false
+  pub like : kept.unit.now.read.readings ≡ readings_under e labels kept.unit.now.read.unit
+  pub like_shallow : is_deep_under limit e labels kept.unit.now.read.unit ≡ false
 
 abbrev pub number_kept : Kept → ℕ
 number_kept kept = kept.at

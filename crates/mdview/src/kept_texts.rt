@@ -10,7 +10,7 @@ ghost use Rattle.viewlaws.specs.UnitTexts.{deep_found, is_deep_under, readings_u
 ghost use Rattle.joinlaws.specs.LaterTexts.{asking_of};
 ghost use Rattle.mdview.specs.HeldLists.{list_in, unplaced};
 ghost use Rattle.mdview.specs.HeldUnit.{HeldUnit, IsRendered};
-ghost use Rattle.mdview.specs.HeldTexts.{IsReadUnder, IsTextFault, entities_in, labels_before, labels_behind, line_on};
+ghost use Rattle.mdview.specs.HeldTexts.{IsReadUnder, IsShallow, IsTextFault, entities_in, labels_before, labels_behind, line_on};
 ghost use Rattle.mdview.specs.KeptTexts.{AreReadingsOf, IsHeldPart, last_texts, number_kept, number_read, texts_with_kept};
 ghost use Rattle.mdview.specs.LabelTargets.{IsElsewhere};
 
@@ -29,6 +29,8 @@ use mdtext::Count;
 pub(crate) struct KeptReadings<'a> {
     pub(crate) at: usize,
     pub(crate) readings: &'a [Parsed],
+    /// The unit that has them.
+    pub(crate) unit: &'a HeldUnit,
 }
 
 /// The readings of the texts that are kept.
@@ -40,12 +42,14 @@ pub(crate) fn kept_readings<'a>(
     ensures at { option_map number_read result ≡ option_map number_kept kept }
     ensures readings { IfSome result (λ readings. IfSome kept (λ part. (unit : HeldUnit) → slice_get units.now.items part.unit ≡ Some unit
         → readings.readings.now ≡ drop part.from unit.read.readings)) }
+    ensures unit { IfSome result (λ readings. IfSome kept (λ part. slice_get units.now.items part.unit ≡ Some readings.unit.now)) }
 {
     let kept = kept?;
     let unit = units.get(kept.unit)?;
     Some(KeptReadings {
         at: kept.at,
         readings: &unit.inlines()[kept.from..],
+        unit,
     })
 }
 
@@ -55,12 +59,17 @@ impl<'a> TextReader<'a> {
         &self,
         found: Vec<Found>,
         kept: Option<KeptReadings<'_>>,
+        held: &Chunks<HeldUnit>,
+        first: usize,
         from: usize,
         room: &mut TextRoom<'a>,
         count: &mut C,
     ) -> Result<Vec<HeldUnit>, EditFault>
         requires limits { HasLimits self.now.options.now }
         requires elsewhere { IsElsewhere self.now.labels.now.held.now self.now.labels.now.changes.now }
+        requires first { first ≤ length held.now.items }
+        requires held { All (IsReadUnder (entities_in room.old) (labels_before self.now)) held.now.items }
+        requires held_shallow { All (IsShallow self.now.options.now.max_spans (entities_in room.old) (labels_before self.now)) held.now.items }
         requires kept { IfSome kept (AreReadingsOf self.now.options.now.max_spans (entities_in room.old) (labels_before self.now) (last_texts (trees_in (map found_unit found.items)))) }
         ensures all { IfOk result (λ units. length units.items ≡ length found.items) }
         ensures lists { IfOk result (λ units. map list_in units.items ≡ map unplaced found.items) }
@@ -74,13 +83,13 @@ impl<'a> TextReader<'a> {
             + texts_with_kept (entities_in room.old) (labels_before self.now) (labels_behind self.now) (option_map number_read kept.entry) (trees_in (map found_unit found.items)) }
     {
         let Some(kept) = kept else {
-            return self.read_units(found, from, room, count);
+            return self.read_units(found, held, first, from, room, count);
         };
         let mut front = found;
         let Some(last) = front.pop() else {
             return Ok(Vec::new(self.alloc));
         };
-        let mut units = self.read_units(front, from, room, count)?;
+        let mut units = self.read_units(front, held, first, from, room, count)?;
         let begin = from.saturating_add(last.begin());
         match self.read_last(last, kept, room, count) {
             Ok(unit) => units.push(unit)?,
@@ -137,7 +146,13 @@ impl<'a> TextReader<'a> {
     {
         let texts = unit.texts();
         let mut inlines = Vec::with_capacity(self.alloc, texts.len())?;
-        self.read_all(&texts[..kept.at], &mut inlines, room, count)?;
+        self.read_alike(
+            &texts[..kept.at],
+            Some(kept.unit),
+            &mut inlines,
+            room,
+            count,
+        )?;
         self.read_concerned(&texts[kept.at..], kept.readings, &mut inlines, room, count)?;
         Ok(inlines)
     }

@@ -1,6 +1,7 @@
 //! The engine of a preview pane: a text that is edited by lines, and its HTML.
 #![tactic(auto)]
 
+mod alike_texts;
 mod clean;
 mod commit;
 mod defining;

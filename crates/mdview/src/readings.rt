@@ -1,6 +1,6 @@
 //! What inline texts read as after an edit, and the HTML of units.
 
-ghost use Rattle.std.specs.Prelude.{◌≡◌, ◌+◌, ◌≤◌, ◌<◌, ◌^◌, ◌++◌, ◌∷◌, List, [], None, Some, IfOk, IfErr, IsErrOf, OnOk, false, if◌then◌else◌, length, map, option_map, slice_get, string_bytes, sum_by, true};
+ghost use Rattle.std.specs.Prelude.{◌≡◌, ◌+◌, ◌≤◌, ◌<◌, ◌^◌, ◌++◌, ◌∷◌, List, [], None, Some, IfOk, IfSome, IfErr, IsErrOf, OnOk, false, if◌then◌else◌, length, map, option_map, slice_get, string_bytes, sum_by, true};
 ghost use Rattle.std.specs.List.{All, list_any};
 ghost use Rattle.blockspec.specs.UnitTree.{UnitTree};
 ghost use Rattle.mdblock.specs.FoundLists.{found_unit};
@@ -61,15 +61,22 @@ impl Change<HeldUnit> for Again {
 }
 
 impl<'a> TextReader<'a> {
-    /// Reads the texts of the units that were found in the lines from `from` on.
+    /// Reads the texts of the units that were found in the lines from `from` on. They may have texts of the held units from
+    /// number `first` on, in whose place they stand, one by one: the readings of those are copied.
     pub(crate) fn read_units<C: Count>(
         &self,
         found: Vec<Found>,
+        held: &Chunks<HeldUnit>,
+        first: usize,
         from: usize,
         room: &mut TextRoom<'a>,
         count: &mut C,
     ) -> Result<Vec<HeldUnit>, EditFault>
         requires limits { HasLimits self.now.options.now }
+        requires first { first ≤ length held.now.items }
+        requires elsewhere { IsElsewhere self.now.labels.now.held.now self.now.labels.now.changes.now }
+        requires held { All (IsReadUnder (entities_in room.old) (labels_before self.now)) held.now.items }
+        requires held_shallow { All (IsShallow self.now.options.now.max_spans (entities_in room.old) (labels_before self.now)) held.now.items }
         ensures all { IfOk result (λ units. length units.items ≡ length found.items) }
         ensures lists { IfOk result (λ units. map list_in units.items ≡ map unplaced found.items) }
         ensures pieces { IfOk result (λ units. All (IsRendered self.now.options.now) units.items) }
@@ -81,9 +88,11 @@ impl<'a> TextReader<'a> {
         ensures inlines { C.inlines count.new ≤ C.inlines count.old + sum_by texts_in (trees_in (map found_unit found.items)) }
     {
         let mut units = Vec::with_capacity(self.alloc, found.len())?;
+        let mut like = held.iter_from(first);
         for one in found {
             let begin = from.saturating_add(one.begin());
-            match self.read_unit(one, room, count) {
+            let was = like.next();
+            match self.read_unit(one, was, room, count) {
                 Ok(unit) => units.push(unit)?,
                 Err(fault) => return Err(fault_in_unit(fault, begin)),
             }
@@ -94,10 +103,14 @@ impl<'a> TextReader<'a> {
     fn read_unit<C: Count>(
         &self,
         found: Found,
+        held: Option<&HeldUnit>,
         room: &mut TextRoom<'a>,
         count: &mut C,
     ) -> Result<HeldUnit, InlineFault>
         requires limits { HasLimits self.now.options.now }
+        requires elsewhere { IsElsewhere self.now.labels.now.held.now self.now.labels.now.changes.now }
+        requires held { IfSome held (λ u. IsReadUnder (entities_in room.old) (labels_before self.now) u.now) }
+        requires held_shallow { IfSome held (λ u. IsShallow self.now.options.now.max_spans (entities_in room.old) (labels_before self.now) u.now) }
         ensures unit { IfOk result (λ unit. unit.read.unit ≡ found.unit) }
         ensures list { IfOk result (λ unit. list_in unit ≡ unplaced found) }
         ensures piece { IfOk result (IsRendered self.now.options.now) }
@@ -108,7 +121,7 @@ impl<'a> TextReader<'a> {
         ensures lines { C.lines count.new ≡ C.lines count.old }
         ensures inlines { C.inlines count.new ≤ C.inlines count.old + texts_in found.unit }
     {
-        let inlines = self.read_texts(found.unit(), room, count)?;
+        let inlines = self.read_texts(found.unit(), held, room, count)?;
         let piece = room.unit_html(found.unit().blocks(), &inlines, self.options)?;
         Ok(HeldUnit::new(found, inlines, piece))
     }
@@ -116,10 +129,14 @@ impl<'a> TextReader<'a> {
     fn read_texts<C: Count>(
         &self,
         unit: &Unit,
+        held: Option<&HeldUnit>,
         room: &mut TextRoom<'a>,
         count: &mut C,
     ) -> Result<Vec<Parsed>, InlineFault>
         requires limits { HasLimits self.now.options.now }
+        requires elsewhere { IsElsewhere self.now.labels.now.held.now self.now.labels.now.changes.now }
+        requires held { IfSome held (λ u. IsReadUnder (entities_in room.old) (labels_before self.now) u.now) }
+        requires held_shallow { IfSome held (λ u. IsShallow self.now.options.now.max_spans (entities_in room.old) (labels_before self.now) u.now) }
         ensures all { IfOk result (λ inlines. length inlines.items ≡ length unit.now.texts) }
         ensures readings { IfOk result (λ inlines. inlines.items ≡ readings_under (entities_in room.old) (labels_behind self.now) unit.now) }
         ensures shallow { OnOk result (is_deep_under self.now.options.now.max_spans (entities_in room.old) (labels_behind self.now) unit.now ≡ false) }
@@ -130,36 +147,11 @@ impl<'a> TextReader<'a> {
     {
         let texts = unit.texts();
         let mut inlines = Vec::with_capacity(self.alloc, texts.len())?;
-        self.read_all(texts, &mut inlines, room, count)?;
+        self.read_alike(texts, held, &mut inlines, room, count)?;
         Ok(inlines)
     }
 
-    /// Reads texts, and puts their readings behind those that are there.
-    pub(crate) fn read_all<C: Count>(
-        &self,
-        texts: &[String],
-        inlines: &mut Vec<Parsed>,
-        room: &mut TextRoom<'a>,
-        count: &mut C,
-    ) -> Result<(), InlineFault>
-        requires limits { HasLimits self.now.options.now }
-        ensures readings { OnOk result (inlines.new.items
-            ≡ inlines.old.items ++ map (reading_of (entities_in room.old) (labels_behind self.now)) (map string_bytes texts.now)) }
-        ensures shallow { OnOk result (list_any (is_deep self.now.options.now.max_spans)
-            (map (reading_of (entities_in room.old) (labels_behind self.now)) (map string_bytes texts.now)) ≡ false) }
-        ensures deep { IsErrOf result TooDeep → list_any (is_deep self.now.options.now.max_spans)
-            (map (reading_of (entities_in room.old) (labels_behind self.now)) (map string_bytes texts.now)) ≡ true }
-        ensures room { entities_in room.new ≡ entities_in room.old }
-        ensures lines { C.lines count.new ≡ C.lines count.old }
-        ensures inlines { C.inlines count.new ≤ C.inlines count.old + length texts.now }
-    {
-        for text in texts {
-            inlines.push(self.read_text(text, room, count)?)?;
-        }
-        Ok(())
-    }
-
-    fn read_text<C: Count>(
+    pub(crate) fn read_text<C: Count>(
         &self,
         text: &str,
         room: &mut TextRoom<'a>,

@@ -1,4 +1,4 @@
-use Rattle.std.proofs.Common.{◌+◌, ◌++◌, Err, arith, ap, drop, length, map, string_bytes, take, ◌-◌, ◌∙◌, sym}
+use Rattle.std.proofs.Common.{◌++◌, Err, arith, ap, drop, length, map, string_bytes, take, ◌-◌, ◌∙◌, sym}
 use Rattle.std.specs.List.{list_any}
 use Rattle.std.proofs.lemmas.List.{length-take}
 use Rattle.viewspec.specs.Refusals.{is_deep}
@@ -9,11 +9,11 @@ use Rattle.mdview.specs.HeldTexts.{entities_in, labels_before, labels_behind}
 use Rattle.mdview.proofs.KeptTexts.{behind_passes, both_parts, front_passes, neither_passes, part_is}
 use Rattle.mdview.proofs.readings.TextReader.read_part.Goals as goal
 
-pub returns-in_err-read_all-clause-deep : goal.returns-in_err-read_all-clause-deep
-returns-in_err-read_all-clause-deep g c =
+pub returns-in_err-read_alike-clause-deep : goal.returns-in_err-read_alike-clause-deep
+returns-in_err-read_alike-clause-deep g c =
     let read = reading_of (entities_in c.args.room.now) (labels_behind c.args.self.now) in
     λ too. front_passes read c.texts-texts.result.now c.args.unit.now.texts c.texts-texts.ensures c.args.kept.at (is_deep c.args.self.now.options.now.max_spans)
-    (c.in_err-read_all.ensures.deep (ap Err (sym (err_is c.from_residual-in_err-read_all.result _ _ c.from_residual-in_err-read_all.ensures.1 too))))
+    (c.in_err-read_alike.ensures.deep (ap Err (sym (err_is c.from_residual-in_err-read_alike.result _ _ c.from_residual-in_err-read_alike.ensures.1 too))))
 
 pub read_concerned-requires-clause-held : goal.read_concerned-requires-clause-held
 read_concerned-requires-clause-held g c =
@@ -22,7 +22,7 @@ read_concerned-requires-clause-held g c =
     let texts = c.texts-texts.result.now in
     c.requires.kept.readings
     ∙ ap (map read) (part_is read texts c.args.unit.now.texts c.texts-texts.ensures c.args.kept.at)
-    ∙ ap (λ e. map (reading_of e old) (map string_bytes (take (length texts - c.args.kept.at) (drop c.args.kept.at texts)))) (sym c.read_all.ensures.room)
+    ∙ ap (λ e. map (reading_of e old) (map string_bytes (take (length texts - c.args.kept.at) (drop c.args.kept.at texts)))) (sym c.read_alike.ensures.room)
 
 pub returns-in_err-read_concerned-clause-deep : goal.returns-in_err-read_concerned-clause-deep
 returns-in_err-read_concerned-clause-deep g c =
@@ -31,7 +31,7 @@ returns-in_err-read_concerned-clause-deep g c =
     let deep = is_deep c.args.self.now.options.now.max_spans in
     let texts = c.texts-texts.result.now in
     λ too. behind_passes read texts c.args.unit.now.texts c.texts-texts.ensures c.args.kept.at deep
-    (ap (λ e. list_any deep (map (reading_of e new) (map string_bytes (take (length texts - c.args.kept.at) (drop c.args.kept.at texts))))) (sym c.read_all.ensures.room)
+    (ap (λ e. list_any deep (map (reading_of e new) (map string_bytes (take (length texts - c.args.kept.at) (drop c.args.kept.at texts))))) (sym c.read_alike.ensures.room)
     ∙ c.in_err-read_concerned.ensures.deep (ap Err (sym (err_is c.from_residual-in_err-read_concerned.result _ _ c.from_residual-in_err-read_concerned.ensures.1 too))))
 
 pub returns-in_err-read_concerned-clause-inlines : goal.returns-in_err-read_concerned-clause-inlines
@@ -39,10 +39,10 @@ returns-in_err-read_concerned-clause-inlines g c =
     let old = labels_before c.args.self.now in
     let new = labels_behind c.args.self.now in
     let texts = c.texts-texts.result.now in
-    let same = ap (λ e. asking_of e old new (map string_bytes (take (length texts - c.args.kept.at) (drop c.args.kept.at texts)))) c.read_all.ensures.room
+    let same = ap (λ e. asking_of e old new (map string_bytes (take (length texts - c.args.kept.at) (drop c.args.kept.at texts)))) c.read_alike.ensures.room
     ∙ ap (asking_of (entities_in c.args.room.now) old new) (sym (part_is (reading_of (entities_in c.args.room.now) old) texts c.args.unit.now.texts c.texts-texts.ensures c.args.kept.at)) in
     let size = length-take c.args.kept.at texts in
-    grind (arith, c.read_concerned.ensures.inlines, c.read_all.ensures.inlines, same, size)
+    grind (arith, c.read_concerned.ensures.inlines, c.read_alike.ensures.inlines, same, size)
 
 pub returns-clause-readings : goal.returns-clause-readings
 returns-clause-readings g c =
@@ -51,9 +51,9 @@ returns-clause-readings g c =
     let texts = c.texts-texts.result.now in
     let part = map string_bytes (take (length texts - c.args.kept.at) (drop c.args.kept.at texts)) in
     c.in_ok-read_concerned.ensures.readings
-    ∙ ap (λ l. l ++ map (reading_of (entities_in c.read_all.new.room) new) part)
-    (c.in_ok-read_all.ensures.readings ∙ ap (λ l. l ++ map read (map string_bytes (take c.args.kept.at texts))) c.in_ok-inlines.ensures.items)
-    ∙ ap (λ e. map read (map string_bytes (take c.args.kept.at texts)) ++ map (reading_of e new) part) c.read_all.ensures.room
+    ∙ ap (λ l. l ++ map (reading_of (entities_in c.read_alike.new.room) new) part)
+    (c.in_ok-read_alike.ensures.readings ∙ ap (λ l. l ++ map read (map string_bytes (take c.args.kept.at texts))) c.in_ok-inlines.ensures.items)
+    ∙ ap (λ e. map read (map string_bytes (take c.args.kept.at texts)) ++ map (reading_of e new) part) c.read_alike.ensures.room
     ∙ both_parts read texts c.args.unit.now.texts c.texts-texts.ensures c.args.kept.at
 
 pub returns-clause-shallow : goal.returns-clause-shallow
@@ -62,8 +62,8 @@ returns-clause-shallow g c =
     let read = reading_of (entities_in c.args.room.now) new in
     let deep = is_deep c.args.self.now.options.now.max_spans in
     let texts = c.texts-texts.result.now in
-    neither_passes read texts c.args.unit.now.texts c.texts-texts.ensures c.args.kept.at deep c.in_ok-read_all.ensures.shallow
-    (ap (λ e. list_any deep (map (reading_of e new) (map string_bytes (take (length texts - c.args.kept.at) (drop c.args.kept.at texts))))) (sym c.read_all.ensures.room)
+    neither_passes read texts c.args.unit.now.texts c.texts-texts.ensures c.args.kept.at deep c.in_ok-read_alike.ensures.shallow
+    (ap (λ e. list_any deep (map (reading_of e new) (map string_bytes (take (length texts - c.args.kept.at) (drop c.args.kept.at texts))))) (sym c.read_alike.ensures.room)
     ∙ c.in_ok-read_concerned.ensures.shallow)
 
 pub returns-clause-inlines : goal.returns-clause-inlines
@@ -71,7 +71,7 @@ returns-clause-inlines g c =
     let old = labels_before c.args.self.now in
     let new = labels_behind c.args.self.now in
     let texts = c.texts-texts.result.now in
-    let same = ap (λ e. asking_of e old new (map string_bytes (take (length texts - c.args.kept.at) (drop c.args.kept.at texts)))) c.read_all.ensures.room
+    let same = ap (λ e. asking_of e old new (map string_bytes (take (length texts - c.args.kept.at) (drop c.args.kept.at texts)))) c.read_alike.ensures.room
     ∙ ap (asking_of (entities_in c.args.room.now) old new) (sym (part_is (reading_of (entities_in c.args.room.now) old) texts c.args.unit.now.texts c.texts-texts.ensures c.args.kept.at)) in
     let size = length-take c.args.kept.at texts in
-    grind (arith, c.read_concerned.ensures.inlines, c.read_all.ensures.inlines, same, size)
+    grind (arith, c.read_concerned.ensures.inlines, c.read_alike.ensures.inlines, same, size)

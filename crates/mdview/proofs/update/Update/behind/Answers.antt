@@ -5,7 +5,7 @@ use Rattle.std.specs.Option.{option_or}
 use Rattle.viewlaws.specs.UnitTexts.{asking_texts, asking_units, deep_found, deep_from, trees_in}
 use Rattle.mdblock.specs.FoundLists.{found_unit}
 use Rattle.mdview.specs.HeldBlocks.{held_tile}
-use Rattle.mdview.specs.HeldTexts.{IsReadUnder, IsReread, IsTextFault, between, deep_in_parts, entities_in, head_read, line_on, number_again}
+use Rattle.mdview.specs.HeldTexts.{IsReadUnder, IsReread, IsShallow, IsTextFault, between, deep_in_parts, entities_in, head_read, line_on, number_again}
 use Rattle.mdview.specs.HeldUnit.{HeldUnit, unit_in}
 use Rattle.mdview.specs.KeptTexts.{AreReadingsOf, last_texts, number_kept, texts_with_kept}
 use Rattle.mdview.specs.LabelTargets.{led_after, target_held}
@@ -31,7 +31,17 @@ read_found-requires-clause-kept g c =
     let trees = trees_in (map found_unit c.args.reparsed.found.items) in
     subst (λ z. IfSome c.kept_readings-kept.result (AreReadingsOf limit z old (last_texts trees))) (sym (c.read_again.ensures.room ∙ c.new-room.ensures))
     (kept_read limit held.entities.now old held.units.now.items trees c.requires.read c.requires.shallow c.args.reparsed.kept c.kept_readings-kept.result c.requires.kept
-    c.kept_readings-kept.ensures.at c.kept_readings-kept.ensures.readings)
+    c.kept_readings-kept.ensures.at c.kept_readings-kept.ensures.readings c.kept_readings-kept.ensures.unit)
+
+pub read_found-requires-clause-held : goal.read_found-requires-clause-held
+read_found-requires-clause-held g c =
+    let held = c.args.held.now in
+    subst (λ z. All (IsReadUnder z (target_held held.labels.now)) held.units.now.items) (sym (c.read_again.ensures.room ∙ c.new-room.ensures)) c.requires.read
+
+pub read_found-requires-clause-held_shallow : goal.read_found-requires-clause-held_shallow
+read_found-requires-clause-held_shallow g c =
+    let held = c.args.held.now in
+    subst (λ z. All (IsShallow held.options.now.max_spans z (target_held held.labels.now)) held.units.now.items) (sym (c.read_again.ensures.room ∙ c.new-room.ensures)) c.requires.shallow
 
 pub returns-in_err-read_again-clause-deep : goal.returns-in_err-read_again-clause-deep
 returns-in_err-read_again-clause-deep g c =

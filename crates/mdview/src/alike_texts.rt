@@ -1,0 +1,133 @@
+//! What the inline texts of a unit read as where a held unit has the same ones.
+
+ghost use Rattle.std.specs.Prelude.{◌≡◌, ◌+◌, ◌≤◌, ◌++◌, ℕ, Bool, List, IfOk, IfSome, IsErrOf, OnOk, false, length, map, string_bytes, true};
+ghost use Rattle.std.specs.List.{list_any};
+ghost use Rattle.mdhtml.specs.Limits.{HasLimits};
+ghost use Rattle.mdinline.specs.ParsedText.{ParsedText};
+ghost use Rattle.mdinline.specs.declared.faults.InlineFault.TheVariants.{TooDeep};
+ghost use Rattle.viewspec.specs.Refusals.{is_deep};
+ghost use Rattle.viewspec.specs.View.{reading_of};
+ghost use Rattle.mdview.specs.HeldTexts.{IsReadUnder, IsShallow, entities_in, labels_before, labels_behind};
+ghost use Rattle.mdview.specs.LabelTargets.{IsElsewhere};
+
+use crate::held_units::HeldUnit;
+use crate::readings::TextReader;
+use crate::text_room::TextRoom;
+use mdinline::{InlineFault, Parsed};
+use mdtext::Count;
+
+/// What the text of this number of a held unit reads as, if it is the same text.
+fn same_reading<'b>(text: &str, held: &'b HeldUnit, i: usize) -> Option<&'b Parsed>
+    ensures reading { IfSome result (λ r. (f : List ℕ → ParsedText) → held.now.read.readings ≡ map f held.now.read.unit.texts → r.now ≡ f text.now) }
+    ensures shallow { IfSome result (λ r. (p : ParsedText → Bool) → list_any p held.now.read.readings ≡ false → p r.now ≡ false) }
+{
+    let there = held.unit().texts().get(i)?;
+    if there.as_str() == text {
+        let reading = held.inlines().get(i)?;
+        return Some(reading);
+    }
+    None
+}
+
+/// The same of the text of this number, of so many, by its number from the front or from the end.
+fn kept_reading<'b>(
+    text: &str,
+    held: Option<&'b HeldUnit>,
+    i: usize,
+    texts: usize,
+) -> Option<&'b Parsed>
+    ensures reading { IfSome result (λ r. (f : List ℕ → ParsedText) → IfSome held.entry (λ u. u.now.read.readings ≡ map f u.now.read.unit.texts) → r.now ≡ f text.now) }
+    ensures shallow { IfSome result (λ r. (p : ParsedText → Bool) → IfSome held.entry (λ u. list_any p u.now.read.readings ≡ false) → p r.now ≡ false) }
+{
+    let held = held?;
+    if let Some(reading) = same_reading(text, held, i) {
+        return Some(reading);
+    }
+    // As far from the end.
+    let place = held.unit().texts().len().checked_add(i)?;
+    same_reading(text, held, place.checked_sub(texts)?)
+}
+
+impl<'a> TextReader<'a> {
+    /// Reads texts, and puts their readings behind those that are there. A text that a held unit has at the same place, counted from the front or from the
+    /// end, reads as it did, unless it asked for a label that leads elsewhere: its reading is copied.
+    pub(crate) fn read_alike<C: Count>(
+        &self,
+        texts: &[String],
+        held: Option<&HeldUnit>,
+        inlines: &mut Vec<Parsed>,
+        room: &mut TextRoom<'a>,
+        count: &mut C,
+    ) -> Result<(), InlineFault>
+        requires limits { HasLimits self.now.options.now }
+        requires elsewhere { IsElsewhere self.now.labels.now.held.now self.now.labels.now.changes.now }
+        requires held { IfSome held (λ u. IsReadUnder (entities_in room.old) (labels_before self.now) u.now) }
+        requires held_shallow { IfSome held (λ u. IsShallow self.now.options.now.max_spans (entities_in room.old) (labels_before self.now) u.now) }
+        ensures readings { OnOk result (inlines.new.items
+            ≡ inlines.old.items ++ map (reading_of (entities_in room.old) (labels_behind self.now)) (map string_bytes texts.now)) }
+        ensures shallow { OnOk result (list_any (is_deep self.now.options.now.max_spans)
+            (map (reading_of (entities_in room.old) (labels_behind self.now)) (map string_bytes texts.now)) ≡ false) }
+        ensures deep { IsErrOf result TooDeep → list_any (is_deep self.now.options.now.max_spans)
+            (map (reading_of (entities_in room.old) (labels_behind self.now)) (map string_bytes texts.now)) ≡ true }
+        ensures room { entities_in room.new ≡ entities_in room.old }
+        ensures lines { C.lines count.new ≡ C.lines count.old }
+        ensures inlines { C.inlines count.new ≤ C.inlines count.old + length texts.now }
+    {
+        for i in 0..texts.len() {
+            inlines.push(self.read_or_keep(&texts[i], held, i, texts.len(), room, count)?)?;
+        }
+        Ok(())
+    }
+
+    fn read_or_keep<C: Count>(
+        &self,
+        text: &str,
+        held: Option<&HeldUnit>,
+        i: usize,
+        texts: usize,
+        room: &mut TextRoom<'a>,
+        count: &mut C,
+    ) -> Result<Parsed, InlineFault>
+        requires limits { HasLimits self.now.options.now }
+        requires elsewhere { IsElsewhere self.now.labels.now.held.now self.now.labels.now.changes.now }
+        requires held { IfSome held (λ u. IsReadUnder (entities_in room.old) (labels_before self.now) u.now) }
+        requires held_shallow { IfSome held (λ u. IsShallow self.now.options.now.max_spans (entities_in room.old) (labels_before self.now) u.now) }
+        ensures reading { IfOk result (λ parsed. parsed ≡ reading_of (entities_in room.old) (labels_behind self.now) text.now) }
+        ensures shallow { OnOk result (is_deep self.now.options.now.max_spans (reading_of (entities_in room.old) (labels_behind self.now) text.now) ≡ false) }
+        ensures deep { IsErrOf result TooDeep → is_deep self.now.options.now.max_spans (reading_of (entities_in room.old) (labels_behind self.now) text.now) ≡ true }
+        ensures room { entities_in room.new ≡ entities_in room.old }
+        ensures lines { C.lines count.new ≡ C.lines count.old }
+        ensures inlines { C.inlines count.new ≤ C.inlines count.old + 1 }
+    {
+        match kept_reading(text, held, i, texts) {
+            Some(reading) => self.keep_one(text, reading, room, count),
+            None => self.read_text(text, room, count),
+        }
+    }
+
+    /// What a text reads as that read so before the edit. It is counted as one that is read.
+    fn keep_one<C: Count>(
+        &self,
+        text: &str,
+        held: &Parsed,
+        room: &mut TextRoom<'a>,
+        count: &mut C,
+    ) -> Result<Parsed, InlineFault>
+        requires limits { HasLimits self.now.options.now }
+        requires elsewhere { IsElsewhere self.now.labels.now.held.now self.now.labels.now.changes.now }
+        requires held { held.now ≡ reading_of (entities_in room.old) (labels_before self.now) text.now }
+        requires shallow { is_deep self.now.options.now.max_spans held.now ≡ false }
+        ensures reading { IfOk result (λ parsed. parsed ≡ reading_of (entities_in room.old) (labels_behind self.now) text.now) }
+        ensures shallow { OnOk result (is_deep self.now.options.now.max_spans (reading_of (entities_in room.old) (labels_behind self.now) text.now) ≡ false) }
+        ensures deep { IsErrOf result TooDeep → is_deep self.now.options.now.max_spans (reading_of (entities_in room.old) (labels_behind self.now) text.now) ≡ true }
+        ensures room { entities_in room.new ≡ entities_in room.old }
+        ensures lines { C.lines count.new ≡ C.lines count.old }
+        ensures inlines { C.inlines count.new ≤ C.inlines count.old + 1 }
+    {
+        if self.labels.changes.concern(held.asked()) {
+            return self.read_text(text, room, count);
+        }
+        count.inline();
+        Ok(held.copy(self.alloc)?)
+    }
+}
