@@ -4,6 +4,7 @@ ghost use Rattle.std.specs.List.{list_any};
 ghost use Rattle.mdtext.specs.Lines.{without_nul};
 ghost use Rattle.mdview.specs.Edit.{has_special};
 
+use crate::limits::SPLICE_ROOM;
 use mdtext::clean_line;
 use std::alloc::{AllocError, Global};
 
@@ -19,7 +20,7 @@ pub(crate) fn clean_lines(
     if are_plain {
         return copied(alloc, lines);
     }
-    let mut clean_lines = Vec::with_capacity(alloc, lines.len())?;
+    let mut clean_lines = Vec::with_capacity(alloc, lines.len().saturating_add(SPLICE_ROOM))?;
     for line in lines {
         clean_lines.push(clean_line(alloc, line)?)?;
     }
@@ -30,7 +31,7 @@ pub(crate) fn clean_lines(
 fn copied(alloc: Global, lines: &[&str]) -> Result<Vec<String>, AllocError>
     ensures { IfOk result (λ copied. map string_bytes copied.items ≡ map (λ line. line.now) lines.now) }
 {
-    let mut copied = Vec::with_capacity(alloc, lines.len())?;
+    let mut copied = Vec::with_capacity(alloc, lines.len().saturating_add(SPLICE_ROOM))?;
     for line in lines {
         copied.push(String::from_str(alloc, line)?)?;
     }

@@ -11,6 +11,10 @@ pub(crate) const MAX_LINES: usize = 1_000_000;
 
 pub(crate) const MAX_SIZE: usize = 16_777_216;
 
+/// Members that are put among others are asked to have room for 64 more (`Chunks::reserve_splice`), and one may be added before: a list that has this much
+/// room from the beginning need not grow.
+pub(crate) const SPLICE_ROOM: usize = 65;
+
 /// Whether no line ending and no U+0000 stands in any of the lines. So it is in most texts, and then no line is searched again.
 pub(crate) fn are_plain(lines: &[&str]) -> bool
     ensures { result ≡ true → list_any has_special (map (λ line. line.now) lines.now) ≡ false }

@@ -21,6 +21,7 @@ ghost use Rattle.mdview.specs.LabelTargets.{IsElsewhere};
 use crate::fault::EditFault;
 use crate::held_labels::LabelsAfter;
 use crate::held_units::HeldUnit;
+use crate::limits::SPLICE_ROOM;
 use crate::marked_units::{line_from, next_marked};
 use crate::text_room::TextRoom;
 use mdblock::{Found, Unit};
@@ -87,7 +88,8 @@ impl<'a> TextReader<'a> {
         ensures lines { C.lines count.new ≡ C.lines count.old }
         ensures inlines { C.inlines count.new ≤ C.inlines count.old + sum_by texts_in (trees_in (map found_unit found.items)) }
     {
-        let mut units = Vec::with_capacity(self.alloc, found.len())?;
+        let wanted = found.len().saturating_add(SPLICE_ROOM);
+        let mut units = Vec::with_capacity(self.alloc, wanted)?;
         let mut like = held.iter_from(first);
         for one in found {
             let begin = from.saturating_add(one.begin());

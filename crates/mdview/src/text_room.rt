@@ -12,6 +12,9 @@ use mdinline::{Parsed, TextReader};
 use mdtext::{Entities, NoMemory};
 use std::alloc::Global;
 
+/// Room for the HTML of most units, so that it need not grow bit by bit.
+const HTML_ROOM: usize = 1_000;
+
 /// A reader of texts, and room for the HTML of a unit: both are used again for the next one.
 #[derive(Drop)]
 pub(crate) struct TextRoom<'a> {
@@ -45,6 +48,7 @@ impl<'a> TextRoom<'a> {
         ensures room { entities_in self.new ≡ entities_in self.old }
     {
         self.html.clear();
+        self.html.reserve(HTML_ROOM)?;
         append_unit_html(blocks, texts, options, &mut self.html)?;
         Ok(String::from_str(self.alloc, &self.html)?)
     }
