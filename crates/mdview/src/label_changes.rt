@@ -128,6 +128,9 @@ impl LabelChanges {
         requires room { HasRoom held.old self }
         ensures { (label : List ℕ) → target_held held.new label ≡ led_after held.old self label }
     {
+        if self.is_empty() {
+            return;
+        }
         for (label, target) in self.targets {
             held.set(&label, target);
         }

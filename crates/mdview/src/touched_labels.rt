@@ -197,6 +197,9 @@ impl TouchedLabels {
     {
         let alloc = self.alloc;
         let mut changed = BTreeMap::new(alloc);
+        if self.is_empty() {
+            return Ok(changed);
+        }
         for (label, target) in self.targets {
             let target = or_beside(alloc, target, &label, prelude)?;
             put_elsewhere(&mut changed, label, target, held)?;

@@ -8,6 +8,9 @@ use Rattle.mdview.specs.LabelTargets.{at, changed, target_held}
 use Rattle.mdview.proofs.Elsewhere.{led_more, room_here, room_more}
 use Rattle.mdview.proofs.label_changes.LabelChanges.commit.Goals as goal
 
+pub returns-then-is_empty : goal.returns-then-is_empty
+returns-then-is_empty c = λ q. ap (λ target. changed target (target_held c.args.held.now q)) (sym (c.is_empty.ensures c.if-is_empty.true q))
+
 pub set-requires : goal.set-requires
 set-requires c =
     let key = c.in-Some.label in

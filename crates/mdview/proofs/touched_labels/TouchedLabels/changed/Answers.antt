@@ -7,9 +7,15 @@ use Rattle.std.specs.Ordering.{nat_cmp}
 use Rattle.std.proofs.lemmas.Map.Keys.{sorted_tail}
 use Rattle.mdview.specs.LabelTargets.{target_held}
 use Rattle.mdview.specs.Preludes.{target_beside}
-use Rattle.mdview.specs.ToldLabels.{said_in, told_in}
+use Rattle.mdview.specs.ToldLabels.{said, said_in, told_in}
 use Rattle.mdview.proofs.Elsewhere.{said_more}
 use Rattle.mdview.proofs.touched_labels.TouchedLabels.changed.Goals as goal
+
+pub returns-then-is_empty : goal.returns-then-is_empty
+returns-then-is_empty c =
+    let held = c.args.held.now in
+    let prelude = c.args.prelude.now in
+    λ q. ap (λ es. told_in es q) c.new-changed.ensures.empty ∙ ap (λ t. said t (target_held held q) (target_beside prelude q)) (sym (c.is_empty.ensures c.if-is_empty.true q))
 
 pub loop-label-preserved : goal.loop-label-preserved
 loop-label-preserved c =
