@@ -161,6 +161,25 @@ fn an_edit_reads_its_stretch(rt: HostRuntime) -> Result<(), Fail> {
     Ok(())
 }
 
+/// A text that stays is counted as one that is read, in front of the edit and behind it; where it asked for a label that leads elsewhere then it is read.
+#[test]
+fn texts_that_stay_count(rt: HostRuntime) -> Result<(), Fail> {
+    let alloc = rt.alloc();
+    let lines = ["> [foo]", ">", "> b", ">", "> *c*"];
+    let mut preview = preview_of(alloc, lines.as_slice())?;
+    let mut count = Tally::new();
+    let added = ["> B", ">", "> [foo]: /a"];
+    preview
+        .edit(2, 1, added.as_slice(), &mut count)
+        .map_err(|_| "refused")?;
+    assert_eq!(rt; (count.lines(), count.inlines()), (7, 3));
+    assert_eq!(rt;
+        preview.piece(0),
+        Some("<blockquote>\n<p><a href=\"/a\">foo</a></p>\n<p>B</p>\n<p><em>c</em></p>\n</blockquote>\n")
+    );
+    Ok(())
+}
+
 #[test]
 fn the_first_definition_counts(rt: HostRuntime) -> Result<(), Fail> {
     let alloc = rt.alloc();
