@@ -175,7 +175,9 @@ fn texts_that_stay_count(rt: HostRuntime) -> Result<(), Fail> {
     assert_eq!(rt; (count.lines(), count.inlines()), (7, 3));
     assert_eq!(rt;
         preview.piece(0),
-        Some("<blockquote>\n<p><a href=\"/a\">foo</a></p>\n<p>B</p>\n<p><em>c</em></p>\n</blockquote>\n")
+        Some(
+            "<blockquote>\n<p><a href=\"/a\">foo</a></p>\n<p>B</p>\n<p><em>c</em></p>\n</blockquote>\n"
+        )
     );
     Ok(())
 }
