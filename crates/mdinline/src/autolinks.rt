@@ -1,11 +1,11 @@
 //! Autolinks (CommonMark 6.5).
 
-ghost use Rattle.std.specs.Prelude.{◌≡◌, ◌-◌, ◌<◌, IfSome, length, option_map, slice_index, true};
+ghost use Rattle.std.specs.Prelude.{◌≡◌, ◌-◌, ◌<◌, ℕ, List, IfSome, length, option_map, slice_index, true};
 ghost use Rattle.mdtext.specs.EntityTable.{EntityTable};
 ghost use Rattle.mdscan.specs.AutoLink.{autolink_at};
-ghost use Rattle.mdscan.specs.Spans.{IsEndAfter};
+ghost use Rattle.mdscan.specs.Spans.{IsEndAfter, IsSpanOf, part};
 ghost use Rattle.inlinespec.specs.Lexing.{autolink_lexeme};
-ghost use Rattle.mdinline.specs.held.LeafEvents.{IsTokenOf};
+ghost use Rattle.mdinline.specs.held.LeafEvents.{IsTokenOf, autolink_events, leaf_events};
 ghost use Rattle.mdinline.specs.held.ReadPending.{is_leaf};
 ghost use Rattle.mdinline.specs.held.Recognised.{lexeme_of};
 
@@ -29,12 +29,22 @@ pub(crate) fn autolink_found(text: &str, at: usize) -> Option<Found<'static>>
                 start: at + 1,
                 end: auto.end - 1,
             };
-            let token = Token::Autolink {
-                inside,
-                is_mail: auto.mail,
-            };
+            let token = autolink_token(inside, auto.mail);
             Some(leaf_of(token, auto.end))
         }
         None => None,
+    }
+}
+
+/// The autolink between whose angle brackets this stands.
+fn autolink_token(inside: Span, is_mail: bool) -> Token<'static>
+    ensures leaf { is_leaf result ≡ true }
+    ensures token { (text : List ℕ) → IsSpanOf text inside → IsTokenOf text result }
+    ensures value { (entities : EntityTable) (text : List ℕ) → leaf_events entities text result ≡ autolink_events entities (part text inside) is_mail }
+{
+    if is_mail {
+        Token::MailAutolink(inside)
+    } else {
+        Token::Autolink(inside)
     }
 }

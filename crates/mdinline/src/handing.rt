@@ -99,8 +99,9 @@ pub(crate) fn hand_leaf<S: InlineSink>(
         Token::Meaning(referent) => hand_meaning(referent, scratch, sink),
         Token::Code(span) => sink.code_span(part(text, span)),
         Token::Html(span) => sink.raw_html(part(text, span)),
-        Token::Autolink { inside, is_mail } => {
-            hand_autolink(source, part(text, inside), is_mail, scratch, sink)
+        Token::Autolink(span) => hand_autolink(source, part(text, span), false, scratch, sink),
+        Token::MailAutolink(span) => {
+            hand_autolink(source, part(text, span), true, scratch, sink)
         }
         Token::SoftBreak => sink.soft_break(),
         Token::HardBreak => sink.hard_break(),

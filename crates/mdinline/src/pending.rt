@@ -118,6 +118,7 @@ impl<'a> Pending<'a> {
     }
 
     /// Keeps a run.
+    #[inline(always)]
     pub(crate) fn run(&mut self, run: DelimiterRun) -> Result<(), AllocError>
         ensures tokens { OnOk result (self.new.tokens.items ≡ self.old.tokens.items ++ kept.Run run ∷ []) }
         ensures openings { self.new.openings ≡ self.old.openings }

@@ -50,8 +50,10 @@ pub(crate) enum Token<'a> {
     Code(Span),
     /// Raw HTML.
     Html(Span),
-    /// What stands between the angle brackets of an autolink.
-    Autolink { inside: Span, is_mail: bool },
+    /// What stands between the angle brackets of an autolink. That of an e-mail address is a variant of its own: with a flag behind the span a token would be
+    /// moved in parts of odd sizes.
+    Autolink(Span),
+    MailAutolink(Span),
     SoftBreak,
     HardBreak,
     /// `[` or `![`: text, unless a `]` makes the beginning of a link or an image of it.

@@ -13,6 +13,7 @@ use mdtext::{is_punct, is_white};
 ///
 /// Its neighbours are the characters as they are written, before escapes and references; the beginning and the end of the text count as
 /// whitespace. Three or more tildes can neither open nor close. Takes no memory.
+#[inline(always)]
 #[tactic(auto, unfolding(crate::specs::Neighbours::run_at))]
 pub fn delimiter_run(text: &str, at: usize) -> Option<DelimiterRun>
     ensures value { result ≡ run_at text.now at }

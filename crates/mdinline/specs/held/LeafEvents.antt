@@ -1,5 +1,5 @@
 -- What the reader keeps of a text, as events (CommonMark 6).
-use Rattle.std.specs.Prelude.{◌≡◌, ℕ, zero, suc, ◌∷◌, ◌++◌, List, [], Bool, Option, Some, None, IfSome, replicate, slice_get}
+use Rattle.std.specs.Prelude.{◌≡◌, ℕ, zero, suc, ◌∷◌, ◌++◌, List, [], Bool, false, true, Option, Some, None, IfSome, replicate, slice_get}
 use Rattle.mdtext.specs.EntityTable.{EntityTable}
 use Rattle.mdtext.specs.Escaped.{escaped}
 use Rattle.mdtext.specs.Referents.{referent_text}
@@ -33,7 +33,8 @@ leaf_events entities text (t.Text span) = written (part text span)
 leaf_events entities text (t.Meaning referent) = written (referent_text referent)
 leaf_events entities text (t.Code span) = CodeSpan (as_one_line (part text span)) ∷ []
 leaf_events entities text (t.Html span) = RawHtml (part text span) ∷ []
-leaf_events entities text (t.Autolink span mail) = autolink_events entities (part text span) mail
+leaf_events entities text (t.Autolink span) = autolink_events entities (part text span) false
+leaf_events entities text (t.MailAutolink span) = autolink_events entities (part text span) true
 leaf_events entities text t.SoftBreak = SoftBreak ∷ []
 leaf_events entities text t.HardBreak = HardBreak ∷ []
 leaf_events entities text (t.Bracket image) = bracket_text image
@@ -78,6 +79,7 @@ IsTokenOf text (t.Plain span) = IsSpanOf text span × (escaped (part text span) 
 IsTokenOf text (t.Text span) = IsSpanOf text span
 IsTokenOf text (t.Code span) = IsSpanOf text span
 IsTokenOf text (t.Html span) = IsSpanOf text span
-IsTokenOf text (t.Autolink span mail) = IsSpanOf text span
+IsTokenOf text (t.Autolink span) = IsSpanOf text span
+IsTokenOf text (t.MailAutolink span) = IsSpanOf text span
 IsTokenOf text (t.Enter image goal) = IsGoalOf text goal
 IsTokenOf text _ = Unit {0}

@@ -11,9 +11,9 @@ returns-in-Some-clause-token c =
     let at = c.args.at in
     let e = closed text at c.in-Some.auto c.in-Some.ensures.value in
     token_kept text c.leaf_of.result _ c.leaf_of.ensures.token
-    (record {
+    (c.autolink_token-token.ensures.token text (record {
       ordered = e.start;
       within = (let inside = e.inside in omega (arith, inside));
       starts_whole = behind text text at refl c.utf8.text c.requires.inside c.requires.mark;
       ends_whole = IsCharBoundary-before_ascii text (c.in-Some.auto.end - 1) e.inside e.mark;
-    })
+    }))
