@@ -6,7 +6,9 @@ ghost use Rattle.mdtext.specs.ByteClass.{in_class};
 
 use crate::byte_class::{Class, first_special};
 
-/// The text up to its first byte of a class, and that byte with what follows it. It takes no memory.
+/// The text up to its first byte of a class, and that byte with what follows it. It takes no memory. Each caller has a class of its own, for which the search
+/// is made.
+#[inline(always)]
 pub fn split_at_special<'a>(text: &'a str, class: &Class) -> (&'a str, Option<(u8, &'a str)>)
     requires { (b : ℕ) → in_class class.now b ≡ true → b < 128 }
     ensures plain { list_any (in_class class.now) result.0.now ≡ false }
