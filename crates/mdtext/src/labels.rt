@@ -46,7 +46,6 @@ impl Label {
     pub fn fold(&mut self, alloc: Global, inside: &str) -> Result<bool, NoMemory>
         ensures { IfOk result (λ is_label. label_of inside.now ≡ (if is_label then Some self.new else None)) }
     {
-        self.folded.clear();
         if !collapse(inside, &mut self.folded)? {
             return Ok(false);
         }
@@ -147,19 +146,21 @@ pub fn fold_label(alloc: Global, inside: &str) -> Result<Option<Label>, NoMemory
     }
 }
 
-// Appends the words of a label, with a space between them, and answers whether it is one. Most labels are their own words.
+// Makes the text the words of a label, with a space between them, and answers whether it is one: if not, the text stays. Most labels are their own words.
 fn collapse(inside: &str, text: &mut String) -> Result<bool, NoMemory>
-    requires { string_bytes text.old ≡ [] }
     ensures label { IfOk result (λ found. found ≡ is_label inside.now) }
     ensures words { IfOk result (λ found. found ≡ true → string_bytes text.new ≡ collapsed inside.now) }
+    ensures left { IfOk result (λ found. found ≡ false → text.new ≡ text.old) }
 {
     if is_tidy(inside) {
+        text.clear();
         text.push_str(inside)?;
         return Ok(true);
     }
     if !is_label(inside) {
         return Ok(false);
     }
+    text.clear();
     append_collapsed(inside, text)?;
     Ok(true)
 }

@@ -1,7 +1,5 @@
-use Rattle.std.proofs.Common.{◌≡◌, ◌∙◌, sym, ap, drop, arith, not}
+use Rattle.std.proofs.Common.{◌∙◌, sym, arith, not}
 use Rattle.std.proofs.lemmas.List.Sums.{prefix_len-le-length}
-use Rattle.std.proofs.lemmas.List.{take_rest}
-use Rattle.std.specs.List.{position_or_len}
 use Rattle.mdtext.specs.ByteClass.{in_class}
 use Rattle.mdtext.proofs.Lanes.{found_here, last_block, not_here}
 use Rattle.mdtext.proofs.byte_lanes.first_of_many.Goals as goal

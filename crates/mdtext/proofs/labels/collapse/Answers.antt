@@ -7,4 +7,4 @@ returns-then-is_tidy-clause-label c = sym (tidy_is_label c.args.inside.now (sym 
 
 pub returns-then-is_tidy-clause-words : goal.returns-then-is_tidy-clause-words
 returns-then-is_tidy-clause-words c =
-    λ _. c.in_ok-push_str.ensures.bytes ∙ ap (λ t. t ++ c.args.inside.now) c.requires ∙ sym (tidy_collapsed c.args.inside.now (sym c.is_tidy.ensures ∙ c.if-is_tidy.true))
+    λ _. c.in_ok-push_str.ensures.bytes ∙ ap (λ t. t ++ c.args.inside.now) c.clear.ensures.bytes ∙ sym (tidy_collapsed c.args.inside.now (sym c.is_tidy.ensures ∙ c.if-is_tidy.true))
