@@ -1,5 +1,5 @@
 -- A class among 32 bytes at a time.
-use Rattle.std.proofs.Common.{◌≡◌, ℕ, ◌+◌, ◌-◌, ◌<◌, ◌≤◌, zero, suc, max, min, ◌++◌, eqb-true, Bool, true, false, cond, not, ◌||◌, List, [], ◌∷◌, length, take, drop, map, get_or, refl, ap, sym, ◌∙◌, arith, eqb}
+use Rattle.std.proofs.Common.{◌≡◌, ℕ, ◌+◌, ◌-◌, ◌<◌, ◌≤◌, zero, suc, max, Bool, true, false, cond, not, ◌||◌, List, [], ◌∷◌, length, take, drop, map, get_or, refl, ap, sym, ◌∙◌, arith, eqb}
 use Rattle.std.specs.Int.{bit_at}
 use Rattle.std.specs.Int.RustNames.{bit_or}
 use Rattle.std.specs.Simd.Lanes.{mask_l}
@@ -64,16 +64,6 @@ not_here p bytes at w n h e large =
     let all : position_or_len p (drop at bytes) ≡ w + position_or_len p (drop (at + w) bytes) = cut p bytes at w n h e ∙ grind (arith, within, large) in
     omega (arith, all)
 
-kept_at : (n m : ℕ) (t : Bool) (rest : ℕ) → n ≤ m → eqb n m ≡ t → min (cond t (m + rest) n) m ≡ n
-kept_at n m true rest h e = omega (arith, h, eqb-true n m e)
-kept_at n m false rest h e = omega (arith, h)
-
--- what stands behind the bytes makes no difference to the first place among them
-pub first_of_front : (p : ℕ → Bool) (bytes rest block : List ℕ) (n : ℕ) → block ≡ bytes ++ rest → n ≡ position_or_len p block → min n (length bytes) ≡ position_or_len p bytes
-first_of_front p bytes rest block n e h =
-    ap (λ k. min k (length bytes)) (h ∙ ap (position_or_len p) e ∙ prefix_len-append (λ x. not (p x)) bytes rest)
-    ∙ kept_at (position_or_len p bytes) (length bytes) _ (position_or_len p rest) (prefix_len-le-length (λ x. not (p x)) bytes) refl
-
 -- a place that is not behind the first one tells it as well
 one_passed : (t : Bool) (n all rest : ℕ) → suc n ≤ cond t (1 + all) 0 → (n ≤ all → n + rest ≡ all) → suc n + rest ≡ cond t (1 + all) 0
 one_passed true n all rest h same = omega (arith, same (omega (arith, h)))
@@ -85,9 +75,20 @@ passed p [] (suc n) h = absurd (omega (arith, h))
 passed p (x ∷ xs) (suc n) h = one_passed (not (p x)) n (position_or_len p xs) (position_or_len p (drop n xs)) h (λ k. passed p xs n k)
 
 -- the last w bytes tell the first place, where it is not in front of them
-pub last_block : (p : ℕ → Bool) (bytes : List ℕ) (at w n : ℕ) → w ≤ length bytes → length bytes - at < w → at + position_or_len p (drop at bytes) ≡ position_or_len p bytes
+pub last_block : (p : ℕ → Bool) (bytes : List ℕ) (at w n : ℕ) → w ≤ length bytes → length bytes - at ≤ w → at + position_or_len p (drop at bytes) ≡ position_or_len p bytes
     → n ≡ position_or_len p (slice_range bytes (length bytes - w) (length bytes - w + w)) → length bytes - w + n ≡ position_or_len p bytes
 last_block p bytes at w n long near before is =
     let s = length bytes - w in
     let all : slice_range bytes s (s + w) ≡ drop s bytes = block_is bytes s w ∙ take_all w (drop s bytes) (omega (arith, length-drop s bytes, long)) in
     ap (λ k. s + k) (is ∙ ap (position_or_len p) all) ∙ passed p bytes s (omega (arith, before, near, long))
+
+-- the same of the first w bytes
+pub found_first : (p : ℕ → Bool) (bytes : List ℕ) (w n : ℕ) → w ≤ length bytes → n ≡ position_or_len p (slice_range bytes 0 w) → n < w → n ≡ position_or_len p bytes
+found_first p bytes w n h e small = let here = found_here p bytes 0 w n (omega (arith, h)) (e ∙ ap (λ k. position_or_len p (slice_range bytes 0 k)) (omega arith)) small in omega (arith, here)
+
+pub not_first : (p : ℕ → Bool) (bytes : List ℕ) (w n : ℕ) → w ≤ length bytes → n ≡ position_or_len p (slice_range bytes 0 w) → w ≤ n
+    → w + position_or_len p (drop w bytes) ≡ position_or_len p bytes
+not_first p bytes w n h e large =
+    let behind = not_here p bytes 0 w n (omega (arith, h)) (e ∙ ap (λ k. position_or_len p (slice_range bytes 0 k)) (omega arith)) large in
+    let same : w + position_or_len p (drop w bytes) ≡ 0 + w + position_or_len p (drop (0 + w) bytes) = ap (λ k. k + position_or_len p (drop k bytes)) (omega arith) in
+    omega (arith, same, behind)

@@ -62,13 +62,71 @@ fn equal(block: u8x32, byte: u8) -> u64
     block.simd_eq(u8x32::splat(byte)).to_bitmask()
 }
 
-/// The same of at most 32 bytes, which are copied to the front of a block.
+/// The same of at most 32 bytes: the first 16 and the last 16 of them, or byte by byte where there are fewer.
 #[inline(always)]
 fn first_of_few(bytes: &[u8], class: &[u8]) -> usize
     requires { length bytes.now ≤ 32 }
     ensures { result ≡ position_or_len (in_class class.now) bytes.now }
 {
-    let mut block = [0; 32];
-    block[..bytes.len()].copy_from_slice(bytes);
-    first_in_block(&block, 0, class).min(bytes.len())
+    let len = bytes.len();
+    if len < 16 {
+        return first_by_bytes(bytes, class);
+    }
+    let stop = first_in_half(bytes, 0, class);
+    if stop < 16 {
+        return stop;
+    }
+    len - 16 + first_in_half(bytes, len - 16, class)
+}
+
+#[inline(always)]
+fn first_in_half(bytes: &[u8], at: usize, class: &[u8]) -> usize
+    requires { at + 16 ≤ length bytes.now }
+    ensures { result ≡ position_or_len (in_class class.now) (slice_range bytes.now at (at + 16)) }
+{
+    let marks = half_marks(u8x16::from_slice(&bytes[at..]), class);
+    if marks == 0 {
+        16
+    } else {
+        marks.trailing_zeros() as usize
+    }
+}
+
+#[inline(always)]
+fn half_marks(block: u8x16, class: &[u8]) -> u64
+    requires { length block ≡ 16 }
+    ensures { result ≡ mask_l (map (in_class class.now) block) }
+{
+    let mut marks = 0;
+    for byte in class {
+        marks |= half_equal(block, *byte);
+    }
+    marks
+}
+
+#[inline(always)]
+fn half_equal(block: u8x16, byte: u8) -> u64
+    requires { length block ≡ 16 }
+    ensures { result ≡ mask_l (map (λ x. x == byte) block) }
+{
+    block.simd_eq(u8x16::splat(byte)).to_bitmask()
+}
+
+#[inline(always)]
+fn first_by_bytes(bytes: &[u8], class: &[u8]) -> usize
+    ensures { result ≡ position_or_len (in_class class.now) bytes.now }
+{
+    for (i, byte) in bytes.iter().enumerate() {
+        if is_in(class, *byte) {
+            return i;
+        }
+    }
+    bytes.len()
+}
+
+#[inline(always)]
+fn is_in(class: &[u8], byte: u8) -> bool
+    ensures { result ≡ in_class class.now byte }
+{
+    class.iter().any(|one| byte == *one)
 }
