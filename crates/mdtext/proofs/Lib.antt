@@ -4,6 +4,7 @@ pub mod EvenIndents
 pub mod FirstPlaces
 pub mod Lanes
 pub mod Indents
+pub mod LabelFronts
 pub mod LabelWords
 pub mod LineEnds
 pub mod Meanings

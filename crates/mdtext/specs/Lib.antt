@@ -7,6 +7,7 @@ pub mod EntityReading
 pub mod EntityTable
 pub mod Escaped
 pub mod EscapedUrl
+pub mod LabelFronts
 pub mod Labels
 pub mod Lines
 pub mod NamedTexts

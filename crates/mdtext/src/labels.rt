@@ -1,34 +1,50 @@
 //! Link labels, and what they lead to.
-ghost use Rattle.std.specs.Prelude.{◌≡◌, ◌++◌, ◌∷◌, [], false, true, None, Some, IfOk, OnOk, chars, fold, length, nat_eq, nat_le, not};
+ghost use Rattle.std.specs.Prelude.{◌≡◌, ◌+◌, ◌*◌, ◌<◌, ◌≤◌, ◌++◌, ◌∷◌, [], false, true, None, Some, IfOk, OnOk, chars, fold, length, nat_eq, nat_le, not, slice_index};
 ghost use Rattle.std.specs.Prelude.{refl, string_bytes, if◌then◌else◌};
 ghost use Rattle.std.specs.Cmp.{partial_equiv_from_equiv};
 ghost use Rattle.std.specs.Cmp.Lexicographic.{pointwise, nat_list_eq_equiv, nat_list_cmp_total, slice_cmp, texts_po, texts_ties};
 ghost use Rattle.std.specs.List.{list_any};
 ghost use Rattle.std.specs.Ordering.{nat_cmp};
+ghost use Rattle.mdtext.specs.LabelFronts.{IsFrontOf};
 ghost use Rattle.mdtext.specs.TidyLabels.{fits, is_tidy, is_word_byte};
 ghost use Rattle.mdtext.specs.Labels.{add_word, collapsed, folded, space_between, has_bare_bracket, is_label, is_label_space, label_of, words};
 
 use crate::NoMemory;
 use crate::byte_class::Class;
+use crate::references::byte_at;
 use crate::runs::split_at_special;
 use caseless::default_case_fold_str;
 use std::alloc::Global;
 use std::cmp::Ordering;
 use std::marker::Model;
+use std::{fmt, mem};
 
 /// A link label as labels are matched (CommonMark 4.7): after Unicode case folding, without spaces, tabs and line
 /// endings at its ends, and with one space for each run of them inside. Labels are ordered by this text's bytes.
-#[derive(Debug, Drop)]
+#[derive(Drop)]
 pub struct Label {
     folded: String,
+    /// Its first bytes as a number. Most labels are told apart by it, without a look at the text, which lies elsewhere.
+    front: u64,
 }
 
 impl Model for Label {
     ghost use Rattle.std.specs.Prelude.{List, ℕ, string_bytes};
+    ghost use Rattle.mdtext.specs.LabelFronts.{IsFrontOf};
 
     ghost Value = { List ℕ };
 
     ghost view = { λ label. string_bytes label.folded };
+
+    ghost invariant = { λ label. IsFrontOf (string_bytes label.folded) label.front };
+}
+
+impl fmt::Debug for Label {
+    fn fmt<W: fmt::Write>(&self, f: &mut fmt::Formatter<W>) -> fmt::Result {
+        f.debug_struct("Label")
+            .field("folded", &self.folded)
+            .finish()
+    }
 }
 
 impl Label {
@@ -38,6 +54,7 @@ impl Label {
     {
         Label {
             folded: String::new(alloc),
+            front: 0,
         }
     }
 
@@ -46,10 +63,17 @@ impl Label {
     pub fn fold(&mut self, alloc: Global, inside: &str) -> Result<bool, NoMemory>
         ensures { IfOk result (λ is_label. label_of inside.now ≡ (if is_label then Some self.new else None)) }
     {
-        if !collapse(inside, &mut self.folded)? {
+        let front = mem::replace(&mut self.front, 0);
+        let mut folded = mem::replace(&mut self.folded, String::new(alloc));
+        let found = collapse(inside, &mut folded)?;
+        if !found {
+            self.folded = folded;
+            self.front = front;
             return Ok(false);
         }
-        fold_case(alloc, &mut self.folded)?;
+        fold_case(alloc, &mut folded)?;
+        self.front = front_of(&folded);
+        self.folded = folded;
         Ok(true)
     }
 
@@ -66,6 +90,7 @@ impl Label {
     {
         Ok(Label {
             folded: String::from_str(alloc, &self.folded)?,
+            front: self.front,
         })
     }
 }
@@ -104,7 +129,10 @@ impl Ord for Label {
     ghost matches_eq = { λ a b. texts_ties a b };
 
     fn cmp(&self, other: &Self) -> Ordering {
-        self.as_str().cmp(other.as_str())
+        match self.front.cmp(&other.front) {
+            Ordering::Equal => self.as_str().cmp(other.as_str()),
+            order => order,
+        }
     }
 }
 
@@ -144,6 +172,29 @@ pub fn fold_label(alloc: Global, inside: &str) -> Result<Option<Label>, NoMemory
     } else {
         Ok(None)
     }
+}
+
+// The first eight bytes of a text as one number; zeros stand behind a shorter text.
+fn front_of(text: &str) -> u64
+    ensures { IsFrontOf text.now result }
+{
+    let high = four_bytes(text, 0);
+    let low = four_bytes(text, 4);
+    high * 4_294_967_296 + low
+}
+
+fn four_bytes(text: &str, at: usize) -> u64
+    requires { at ≤ 4 }
+    ensures value { result ≡ slice_index text.now at * 16777216 + slice_index text.now (at + 1) * 65536
+        + slice_index text.now (at + 2) * 256 + slice_index text.now (at + 3) }
+    ensures bytes { (slice_index text.now at < 256) × (slice_index text.now (at + 1) < 256)
+        × (slice_index text.now (at + 2) < 256) × (slice_index text.now (at + 3) < 256) }
+{
+    let first = u64::from(byte_at(text, at));
+    let second = u64::from(byte_at(text, at + 1));
+    let third = u64::from(byte_at(text, at + 2));
+    let fourth = u64::from(byte_at(text, at + 3));
+    first * 16_777_216 + second * 65_536 + third * 256 + fourth
 }
 
 // Makes the text the words of a label, with a space between them, and answers whether it is one: if not, the text stays. Most labels are their own words.
