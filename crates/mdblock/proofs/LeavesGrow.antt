@@ -1,5 +1,5 @@
 -- HTML blocks, indented code and tables that grow where they stand.
-use Rattle.std.proofs.Common.{◌≡◌, ℕ, false, List, [], ◌∷◌, ◌++◌, Some, None, Ok, OnOk, Result, length, map, ap, refl, sym, subst}
+use Rattle.std.proofs.Common.{◌≡◌, ℕ, false, List, [], ◌∷◌, ◌++◌, Some, None, Ok, length, map, ap, refl, sym, subst}
 use Rattle.std.proofs.lemmas.List.{length-map}
 use Rattle.std.specs.Prelude.{string_bytes}
 use Rattle.blockspec.specs.BlockLine.{BlockLine, rest}
@@ -16,25 +16,34 @@ use Rattle.mdblock.specs.declared.leaf.indented_code.IndentedCode.{IndentedCode}
 use Rattle.mdblock.specs.declared.leaf.tables.Table.{Table}
 use Rattle.mdblock.specs.declared.open_blocks.Level.{Level}
 use Rattle.mdblock.specs.declared.open_blocks.OpenBlock as open_block
-use Rattle.mdblock.specs.declared.open_blocks.OpenBlock.{OpenBlock}
 use Rattle.mdblock.specs.held.HandedIn.{gathered_texts}
 use Rattle.mdblock.specs.held.HeldLevel.{is_front}
 use Rattle.mdblock.specs.held.HeldTables.{IsRowMore}
-use Rattle.mdblock.specs.held.LevelSteps.{GrowsLeaf}
+use Rattle.mdblock.specs.held.ClosedViews.{found_view}
+use Rattle.mdblock.specs.held.LevelSteps.{GrowsLeaf, HasRestOf, open_leaf_of}
+use Rattle.mdblock.specs.held.TreesBehind.{blocks_before}
 use Rattle.mdblock.specs.held.OpenLeaves.{IsCodeOf, IsHtmlOf, IsHtmlStep}
 use Rattle.mdblock.proofs.LeafTurns.{html_added, code_added, table_added}
 use Rattle.mdblock.proofs.LevelGrows.{leaf_reads}
 use Rattle.mdblock.proofs.PlacedNodes.{blocks_nil}
+
+-- whatever the line leaves of it
+pub html_steps : (level new : Level) (before : Gathering) (l : BlockLine) (h : HtmlBlock) (step : LeafAfter) → level.last ≡ open_block.Leaf (leaf.Html h) →
+    ((first : BlockLine) (later : List BlockLine) → IsHtmlOf h.kind (first ∷ later) h → IsHtmlStep (ends_html h.kind l) h.kind (first ∷ later ++ l ∷ []) step) →
+    blocks_view new.over.items ≡ blocks_before (blocks_view level.over.items) (found_view step.over) → new.last ≡ open_leaf_of step.going → HasRestOf level new → GrowsLeaf level before l new before
+html_steps level new before l h step is steps over last marks =
+    leaf_reads (Unit {0}) level new before before l (leaf.Html h) step (is_front level.in_item level.over.items) is refl
+    (λ e kind first later of tip. html_added {E = Unit {0}} e h kind first later tip l (Ok step) steps of)
+    tt (refl, refl) over last marks
 
 pub html_reads : (level : Level) (before : Gathering) (l : BlockLine) (h more : HtmlBlock) → level.last ≡ open_block.Leaf (leaf.Html h) → ends_html h.kind l ≡ false →
     ((kind : ℕ) (first : BlockLine) (later : List BlockLine) → IsHtmlOf kind (first ∷ later) h → IsHtmlOf kind (first ∷ later ++ l ∷ []) more) →
     GrowsLeaf level before l (record level { last = open_block.Leaf (leaf.Html more) }) before
 html_reads level before l h more is stays grows =
     let step : LeafAfter = record { over = None; going = Some (leaf.Html more) } in
-    leaf_reads (Unit {0}) level (record level { last = open_block.Leaf (leaf.Html more) }) before before l (leaf.Html h) step (is_front level.in_item level.over.items) is refl
-    (λ e kind first later of tip. html_added {E = Unit {0}} e h kind first later tip l (Ok step)
-    (λ first later own. subst (λ t. IsHtmlStep t h.kind (first ∷ later ++ l ∷ []) step) (sym stays) (record { nothing_over = refl; going = grows h.kind first later own })) of)
-    tt (refl, refl) (sym (blocks_nil (blocks_view level.over.items))) refl (refl, refl, refl)
+    html_steps level (record level { last = open_block.Leaf (leaf.Html more) }) before l h step is
+    (λ first later own. subst (λ t. IsHtmlStep t h.kind (first ∷ later ++ l ∷ []) step) (sym stays) (record { nothing_over = refl; going = grows h.kind first later own }))
+    (sym (blocks_nil (blocks_view level.over.items))) refl (refl, refl, refl)
 
 pub code_reads : (level : Level) (before : Gathering) (l : BlockLine) (c more : IndentedCode) → level.last ≡ open_block.Leaf (leaf.Code c) →
     ((lines : List BlockLine) → IsCodeOf lines c → IsCodeOf (lines ++ l ∷ []) more) →
@@ -55,10 +64,3 @@ row_reads level before after l t more is row texts definitions =
     leaf_reads (Unit {0}) level (record level { last = open_block.Leaf (leaf.Table more) }) before after l (leaf.Table t) step (is_front level.in_item level.over.items) is refl
     (λ e kind first later of tip. table_added {E = Unit {0}} e t kind first later tip l (Ok step) (length before.texts.items) (record { nothing_over = refl; going = row }) of)
     (record { nothing_over = refl; going = more_of (leaf.Table more) row }, texts) (ap (λ d. map definition_of d.items) definitions) (sym (blocks_nil (blocks_view level.over.items))) refl (refl, refl, refl)
-
--- A level is taken apart as far as its HTML block, and put together again.
-pub html_put_back : (E : Type 0) (result : Result (Unit {0}) E) (level new : Level) (before after : Gathering) (l : BlockLine) (h : HtmlBlock) → level.last ≡ open_block.Leaf (leaf.Html h) →
-    OnOk result (GrowsLeaf (record level { last = open_block.Leaf (leaf.Html h) }) before l new after) → OnOk result (GrowsLeaf level before l new after)
-html_put_back E result level new before after l h is adds =
-    let same : (let put : Level = record level { last = open_block.Leaf (leaf.Html h) } in put) ≡ level = ap (λ (x : OpenBlock). let put : Level = record level { last = x } in put) (sym is) in
-    subst (λ z. OnOk result (GrowsLeaf z before l new after)) same adds

@@ -10,7 +10,7 @@ ghost use Rattle.blockspec.specs.LineSummary.{no_summary};
 ghost use Rattle.mdtext.specs.EntityTable.{EntityTable};
 ghost use Rattle.mdblock.specs.held.Continuations.{IsBeginningOf, IsContinuationOf, ContinuesOpen};
 ghost use Rattle.mdblock.specs.held.EndedItems.{EndsLastItem, KeepsNext};
-ghost use Rattle.mdblock.specs.held.LevelSteps.{GrowsLeaf, IsOpenLeaf, AddsButBlank, EndsAll, IsAllOver, IsEmpty, IsInside, IsVerbatim, MarksBlank};
+ghost use Rattle.mdblock.specs.held.LevelSteps.{GrowsLeaf, IsOpenLeaf, AddsButBlank, EndsAll, EndsLeaf, IsAllOver, IsEmpty, IsInside, IsVerbatim, KeepsLeaf, MarksBlank};
 ghost use Rattle.mdblock.specs.held.LinesAdded.{AddsLine, ContinuesLevel, FollowsLine, IsUnfollowed, SinksLine};
 ghost use Rattle.mdblock.specs.held.OpenPositions.{LevelIn};
 ghost use Rattle.mdblock.specs.held.StartSpans.{IsStartOf};
@@ -27,7 +27,7 @@ use crate::container::list_items::{Entry, end_item, enter_item};
 use crate::container::lists::OpenList;
 use crate::faults::BlockFault;
 use crate::gathering::Gathering;
-use crate::leaf::Leaf;
+use crate::leaf::{Leaf, over};
 use crate::lines::Line;
 use mdscan::Marker;
 use std::alloc::{AllocError, Global};
@@ -567,15 +567,15 @@ impl Level {
         if !continuation.is_matched() {
             return self.add_and_put(line, continuation, gathering);
         }
+        if self.ends_with(line) {
+            return self.add_last_line(line);
+        }
         match &mut self.last {
             OpenBlock::Leaf(Leaf::Paragraph(paragraph)) => {
                 paragraph.push_line(line)?;
                 Ok(())
             }
             OpenBlock::Leaf(Leaf::Fence(fence)) => {
-                if fence.closes(line) {
-                    return self.add_and_put(line, continuation, gathering);
-                }
                 fence.push_line(line)?;
                 Ok(())
             }
@@ -584,9 +584,6 @@ impl Level {
                 Ok(())
             }
             OpenBlock::Leaf(Leaf::Html(html)) => {
-                if html.ends(line) {
-                    return self.add_and_put(line, continuation, gathering);
-                }
                 html.push_line(line)?;
                 Ok(())
             }
@@ -618,6 +615,43 @@ impl Level {
         match mem::replace(&mut self.last, OpenBlock::Shut) {
             OpenBlock::Leaf(leaf) => {
                 let step = leaf.add(continuation, line, first, gathering)?;
+                self.put(step)?;
+                Ok(())
+            }
+            last => {
+                self.last = last;
+                Ok(())
+            }
+        }
+    }
+
+    /// Whether a line ends the open leaf and is a line of it: a closing fence, and what ends an HTML block.
+    #[inline(always)]
+    fn ends_with(&self, line: &Line) -> bool
+        ensures ends { result ≡ true → EndsLeaf self.now.last line.now }
+        ensures goes_on { result ≡ false → KeepsLeaf self.now.last line.now }
+    {
+        match &self.last {
+            OpenBlock::Leaf(Leaf::Fence(fence)) => fence.closes(line),
+            OpenBlock::Leaf(Leaf::Html(html)) => html.ends(line),
+            _ => false,
+        }
+    }
+
+    #[tactic(auto, using(crate::proofs::Within::growing))]
+    /// Reads the last line of the open leaf, which is not looked at again, and puts the block in place.
+    fn add_last_line(&mut self, line: &mut Line) -> Result<(), AllocError>
+        requires { EndsLeaf self.old.last line.old }
+        ensures within { OnOk result ((n : ℕ) → LevelIn n self.old → LevelIn n self.new) }
+        ensures adds { OnOk result ((gathering : Gathering) → GrowsLeaf self.old gathering line.old self.new gathering) }
+    {
+        match mem::replace(&mut self.last, OpenBlock::Shut) {
+            OpenBlock::Leaf(Leaf::Fence(fence)) => {
+                self.put(over(fence.end()))?;
+                Ok(())
+            }
+            OpenBlock::Leaf(Leaf::Html(html)) => {
+                let step = html.add_last(line)?;
                 self.put(step)?;
                 Ok(())
             }

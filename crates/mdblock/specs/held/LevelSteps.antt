@@ -22,7 +22,7 @@ use Rattle.blockspec.specs.LineSummary.{Summary, summary, Last, nothing_yet, end
 use Rattle.blockspec.specs.ListGroups.{Group, is_tight_inside, nodes_of}
 use Rattle.blockspec.specs.NodeTree.{Nodes, placed}
 use Rattle.blockspec.specs.Laziness.{is_verbatim}
-use Rattle.blockspec.specs.Stretches.{Continues, IsLastLine, paragraph_step, is_single, first_of}
+use Rattle.blockspec.specs.Stretches.{Continues, IsLastLine, closes, ends_html, paragraph_step, is_single, first_of}
 use Rattle.blockspec.specs.UnitBegin.{list_mark, same_mark}
 use Rattle.mdblock.specs.declared.block_starts.BlockStart.{BlockStart}
 use Rattle.mdblock.specs.declared.block_starts.BlockStart.TheVariants as o
@@ -257,6 +257,18 @@ IsOpenLeaf open_block.Shut = ⊥
 IsOpenLeaf (open_block.Leaf held) = Unit {0}
 IsOpenLeaf (open_block.Quote' p over last in_item begun blank spaced) = ⊥
 IsOpenLeaf (open_block.List' p over last in_item begun blank spaced list) = ⊥
+
+-- the line that ends fenced code or an HTML block
+abbrev pub EndsLeaf : OpenBlock → BlockLine → Type 0
+EndsLeaf (open_block.Leaf (leaf.Fence f)) l = closes f.mark f.length l ≡ true
+EndsLeaf (open_block.Leaf (leaf.Html h)) l = ends_html h.kind l ≡ true
+EndsLeaf held l = ⊥
+
+-- a line that does not
+abbrev pub KeepsLeaf : OpenBlock → BlockLine → Type 0
+KeepsLeaf (open_block.Leaf (leaf.Fence f)) l = closes f.mark f.length l ≡ false
+KeepsLeaf (open_block.Leaf (leaf.Html h)) l = ends_html h.kind l ≡ false
+KeepsLeaf held l = Unit {0}
 
 abbrev pub HandsInNothing : (old new : Gathering) → Type 0
 HandsInNothing old new = (gathered_texts new ≡ gathered_texts old) × (gathered_definitions new ≡ gathered_definitions old)

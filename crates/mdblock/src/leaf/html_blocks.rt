@@ -1,6 +1,6 @@
 //! HTML blocks (CommonMark 4.6).
 
-ghost use Rattle.std.specs.Prelude.{◌≡◌, ℕ, ◌||◌, nat_lt, not, List, [], ◌∷◌, ◌++◌, IfOk, OnOk, string_bytes};
+ghost use Rattle.std.specs.Prelude.{◌≡◌, ℕ, ◌||◌, nat_lt, not, true, List, [], ◌∷◌, ◌++◌, IfOk, OnOk, string_bytes};
 ghost use Rattle.blockspec.specs.BlockLine.{BlockLine, is_blank_line};
 ghost use Rattle.blockspec.specs.BlockTree.{html_block};
 ghost use Rattle.mdblock.specs.BlockView.{block_view};
@@ -49,6 +49,18 @@ impl HtmlBlock {
     {
         self.push_line(line)?;
         Ok(self.after(line))
+    }
+
+    /// Reads the line that ends the block.
+    #[inline(always)]
+    pub(crate) fn add_last(mut self, line: &Line) -> Result<LeafAfter, AllocError>
+        requires { ends_html self.kind line.now ≡ true }
+        ensures within { (n : ℕ) → IfOk result (λ step. LeafAfterIn n step) }
+        ensures step { (first : BlockLine) (later : List BlockLine) → IsHtmlOf self.kind (first ∷ later) self
+            → IfOk result (λ step. IsHtmlStep (ends_html self.kind line.now) self.kind (first ∷ later ++ line.now ∷ []) step) }
+    {
+        self.push_line(line)?;
+        Ok(over(self.end()))
     }
 
     /// Appends a line of the block.
