@@ -46,7 +46,8 @@ pub(crate) fn push_found(over: &mut Vec<Block>, found: Option<Block>) -> Result<
     }
 }
 
-/// The same where another block comes behind it: an item with more than one block mostly has two, so at first there is room for both.
+/// The same where another block comes behind it: an item with more than one block mostly has two, so at first there is room for both. Where there is none, as
+/// of a paragraph of definitions alone, no room is taken.
 #[inline(always)]
 pub(crate) fn push_found_inside(
     over: &mut Vec<Block>,
@@ -57,7 +58,7 @@ pub(crate) fn push_found_inside(
     ensures within { OnOk result ((n : ℕ) → BlocksIn n (blocks_view over.old.items) → IfSome found (λ block. BlockIn n (block_view block))
         → BlocksIn n (blocks_view over.new.items)) }
 {
-    if in_item {
+    if in_item && found.is_some() {
         make_room_for_two(over)?;
     }
     push_found(over, found)
