@@ -119,12 +119,19 @@ impl<'a> Line<'a> {
     }
 }
 
-/// Finds room for a line of so many bytes with its ending; where there is none, for some lines more: what has a second line mostly has others.
+/// Finds room for a line of so many bytes with its ending. Where there is none, it finds some for later lines too, since what has a second line mostly has others:
+/// for two as long, but for no more than is there with its ending, so that about half of the room at most stays empty. Where nothing is there, for one as long.
 pub(crate) fn make_room(out: &mut String, length: usize) -> Result<(), AllocError>
     ensures { string_bytes out.new ≡ string_bytes out.old }
 {
     if out.capacity().saturating_sub(out.len()) <= length {
-        out.reserve(length.saturating_add(1).saturating_mul(3))?;
+        let line = length.saturating_add(1);
+        let later = if out.is_empty() {
+            line
+        } else {
+            line.saturating_mul(2).min(out.len().saturating_add(1))
+        };
+        out.reserve(line.saturating_add(later))?;
     }
     Ok(())
 }
