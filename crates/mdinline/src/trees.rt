@@ -33,6 +33,9 @@ struct Frame {
     before: Vec<Inline>,
 }
 
+/// The longest row that is built in room that stays. A longer one goes out with its room, so that one long text holds no memory for the texts behind it.
+const LONG_ROW: usize = 64;
+
 /// Room that a tree is built in, kept from one tree to the next. What lies in it is of no use.
 #[derive(Drop)]
 pub(crate) struct TreeRoom {
@@ -85,7 +88,8 @@ impl TreeBuilder {
         }
     }
 
-    /// The tree, where no span is open, and the room. What stands in the room goes to a list of its own, which is no longer than it has to be.
+    /// The tree, where no span is open, and the room. What stands in the room goes to a list of its own, which is no longer than it has to be; a long row
+    /// takes its room with it.
     pub(crate) fn finish(mut self) -> Result<(Row, TreeRoom), AllocError>
         ensures { self.frames.items ≡ [] → IsJoined self → IfOk result (λ done. row_view done.0 ≡ tree_of (built self)) }
     {
@@ -93,6 +97,10 @@ impl TreeBuilder {
             return self.finish_text();
         }
         self.end_text()?;
+        if self.last.len() > LONG_ROW {
+            let row = mem::replace(&mut self.last, Vec::new(self.alloc));
+            return Ok((Row::Many(row), self.into_room()));
+        }
         let mut row = Vec::with_capacity(self.alloc, self.last.len())?;
         row.append(&mut self.last)?;
         Ok((Row::Many(row), self.into_room()))
@@ -287,5 +295,37 @@ fn kind_of(kind: SpanKind, inside: Vec<Inline>) -> Inline
         SpanKind::Emph => Inline::Emph(inside),
         SpanKind::Strong => Inline::Strong(inside),
         SpanKind::Strike => Inline::Strike(inside),
+    }
+}
+
+#[cfg(test)]
+mod tests {
+    use super::*;
+    use std::test::Fail;
+
+    /// Builds a row of so many line breaks in the room, and answers for how many inlines it has room then.
+    fn room_behind(alloc: Global, room: &mut TreeRoom, len: usize) -> Result<usize, Fail> {
+        let taken = mem::replace(room, TreeRoom::new(alloc));
+        let mut builder = TreeBuilder::new(alloc, taken);
+        for _ in 0..len {
+            builder.soft_break()?;
+        }
+        let (row, left) = builder.finish()?;
+        if row.inlines().len() != len {
+            return Err(Fail::from("inlines are missing"));
+        }
+        *room = left;
+        Ok(room.row.capacity())
+    }
+
+    #[test]
+    fn a_long_row_leaves_no_room(rt: HostRuntime) -> Result<(), Fail> {
+        let alloc = rt.alloc();
+        let mut room = TreeRoom::new(alloc);
+        for (len, most) in [(64, 64), (1, 64), (65, 0), (0, 0), (300, 0), (64, 64)] {
+            let left = room_behind(alloc, &mut room, len)?;
+            assert!(rt; left <= most, "{left} behind {len}");
+        }
+        Ok(())
     }
 }
