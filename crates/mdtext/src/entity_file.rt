@@ -4,7 +4,7 @@ ghost use Rattle.std.specs.Str.{is_utf8};
 ghost use Rattle.serde_json.specs.Errors.{IsMemory};
 ghost use Rattle.serde_json.specs.Read.{read};
 ghost use Rattle.serde_json.specs.View.{view};
-ghost use Rattle.mdtext.specs.EntityFile.{characters_of, counts, is_name, name_of, with_characters, with_member};
+ghost use Rattle.mdtext.specs.EntityFile.{characters_of, counts, is_name, is_there, name_of, with_characters, with_member};
 
 use crate::NoMemory;
 use crate::named_texts::NamedTexts;
@@ -102,21 +102,23 @@ pub fn add_member(key: &str, value: &Value, texts: &mut NamedTexts) -> Result<()
     ensures err { IfErr result (λ fault. fault ≢ TableFault.NoMemory
         → (fault ≡ TableFault.BadEntry) × (with_member key.now (view value.now) texts.old ≡ None)) }
 {
-    put_member(key, characters(value), texts)
+    put_member(key, characters(value), texts)?;
+    Ok(())
 }
 
-/// Adds a member of the file, by the text of its `characters`, to the texts.
+/// Adds a member of the file, by the text of its `characters`, to the texts. Answers whether its text took another's place.
 pub fn put_member(
     key: &str,
     characters: Option<&str>,
     texts: &mut NamedTexts,
-) -> Result<(), TableFault>
+) -> Result<bool, TableFault>
     ensures ok { OnOk result (with_characters key.now (option_map (λ s. s.now) characters.entry) texts.old ≡ Some texts.new) }
     ensures err { IfErr result (λ fault. fault ≢ TableFault.NoMemory
         → (fault ≡ TableFault.BadEntry) × (with_characters key.now (option_map (λ s. s.now) characters.entry) texts.old ≡ None)) }
+    ensures replaces { IfOk result (λ replaces. replaces ≡ is_there key.now texts.old) }
 {
     if !counts(key) {
-        return Ok(());
+        return Ok(false);
     }
     let Some(name) = name_of(key) else {
         return Err(TableFault::BadEntry);
@@ -124,8 +126,7 @@ pub fn put_member(
     let Some(text) = characters else {
         return Err(TableFault::BadEntry);
     };
-    texts.put(name, text)?;
-    Ok(())
+    Ok(texts.put(name, text)?)
 }
 
 // Whether the member's name ends with `;`.

@@ -1,9 +1,9 @@
 //! An entity file, read from its tokens with no tree of its values.
-ghost use Rattle.std.specs.Prelude.{◌≡◌, ◌<◌, [], IfOk, IsSome, Ok, OnOk, Some, length, option_map, true};
+ghost use Rattle.std.specs.Prelude.{◌≡◌, ◌<◌, [], IfOk, IsSome, Ok, OnOk, Some, length, option_map, false, true};
 ghost use Rattle.serde_json.specs.Data.{Data, Members};
 ghost use Rattle.serde_json.specs.Find.{as_object, as_str, get_member};
 ghost use Rattle.serde_json.specs.Read.{number_of};
-ghost use Rattle.mdtext.specs.EntityFile.{characters_of, characters_among, file_table, of_object, with_member, with_members};
+ghost use Rattle.mdtext.specs.EntityFile.{characters_of, characters_among, file_table, is_there, of_object, with_member, with_members};
 ghost use Rattle.mdtext.specs.EntityReading.{ReadsItems, ReadsMembers, ReadsValue};
 
 use crate::entity_file::{TableFault, put_member};
@@ -66,13 +66,18 @@ fn read_members(reader: &mut Reader<'_>, texts: &mut NamedTexts) -> Result<(), T
 fn read_member(key: &str, reader: &mut Reader<'_>, texts: &mut NamedTexts) -> Result<(), TableFault>
     ensures ok { OnOk result ((d : Data) × ReadsValue 126 reader.old d reader.new × (with_member key.now d texts.old ≡ Some texts.new)) }
     ensures shorter { OnOk result (length reader.new < length reader.old) }
+    ensures once { OnOk result (is_there key.now texts.old ≡ false) }
 {
     // A file in another order is read the old way, by a tree that puts names into order.
     if texts.is_far_from_end(key.strip_prefix('&').unwrap_or(key)) {
         return Err(TableFault::NotJson);
     }
     let passed = pass_value(reader, DEPTH)?;
-    put_member(key, passed.characters, texts)
+    // So is one that has a name twice: a text that was replaced would stay among the bytes.
+    if put_member(key, passed.characters, texts)? {
+        return Err(TableFault::NotJson);
+    }
+    Ok(())
 }
 
 #[cycle(pass_value)]

@@ -1,5 +1,5 @@
 //! Texts by their names.
-ghost use Rattle.std.specs.Prelude.{◌≡◌, ◌+◌, ◌++◌, ℕ, List, [], IfOk, OnOk, length, option_map};
+ghost use Rattle.std.specs.Prelude.{◌≡◌, ◌+◌, ◌++◌, ℕ, List, [], IfOk, OnOk, is_some, length, option_map};
 ghost use Rattle.std.specs.BTreeMap.{insert_entry};
 ghost use Rattle.std.specs.Cmp.Lexicographic.{slice_cmp};
 ghost use Rattle.std.specs.Map.{lookup};
@@ -51,17 +51,25 @@ impl NamedTexts {
         }
     }
 
-    /// Puts a text in at a name, in place of one that is there.
-    pub fn put(&mut self, name: &str, text: &str) -> Result<(), NoMemory>
-        ensures { OnOk result (self.new ≡ insert_entry (slice_cmp nat_cmp) self.old name.now text.now) }
+    /// Puts a text in at a name, in place of one that is there, and answers whether there was one.
+    ///
+    /// The bytes of the one that was there stay.
+    pub fn put(&mut self, name: &str, text: &str) -> Result<bool, NoMemory>
+        ensures table { OnOk result (self.new ≡ insert_entry (slice_cmp nat_cmp) self.old name.now text.now) }
+        ensures replaces { IfOk result (λ replaces. replaces ≡ is_some (lookup (bytes_eq name.now) self.old)) }
     {
         let place = place_to_put(&self.bytes, &self.spans, name.as_bytes());
         let span = keep(&mut self.bytes, name, text)?;
         match place {
-            Ok(place) => self.spans[place] = span,
-            Err(place) => self.spans.insert(place, span)?,
+            Ok(place) => {
+                self.spans[place] = span;
+                Ok(true)
+            }
+            Err(place) => {
+                self.spans.insert(place, span)?;
+                Ok(false)
+            }
         }
-        Ok(())
     }
 
     /// Whether a name would go in front of many others, which would all move.

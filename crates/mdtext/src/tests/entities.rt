@@ -68,6 +68,24 @@ fn files_of_other_shapes(rt: HostRuntime) -> Result<(), Fail> {
 }
 
 #[test]
+fn of_a_name_twice_the_second_text_is_left(rt: HostRuntime) -> Result<(), Fail> {
+    let mut bytes = String::from_str(rt.alloc(), "{\"&a;\":{\"characters\":\"")?;
+    for _ in 0..10_000 {
+        bytes.push_str("first text ")?;
+    }
+    bytes.push_str("\"},\"&b;\":{\"characters\":\"2\"},\"&a;\":{\"characters\":\"1\"}}")?;
+    let entities = Entities::from_json(rt.alloc(), bytes.as_bytes())?;
+    assert_eq!(rt; entities.get("a"), Some("1"));
+    assert_eq!(rt; entities.get("b"), Some("2"));
+    let bytes = "{\"&a;\":{\"characters\":\"1\"},\"&b;\":{\"characters\":\"2\"}}";
+    let once = Entities::from_json(rt.alloc(), bytes.as_bytes())?;
+    let shown = format!(in rt.alloc(); "{entities:?}")?;
+    let want = format!(in rt.alloc(); "{once:?}")?;
+    assert_eq!(rt; shown.as_str(), want.as_str());
+    Ok(())
+}
+
+#[test]
 fn files_that_are_refused(rt: HostRuntime) {
     for bytes in [
         "",
