@@ -8,7 +8,7 @@ use Rattle.std.proofs.lemmas.List.Elements.{All-head, All-tail, All-append, All-
 use Rattle.std.proofs.lemmas.Map.Entries.{lookup_head, lookup_tail}
 use Rattle.std.proofs.lemmas.Map.Lookups.{exact_bytes}
 use Rattle.std.proofs.lemmas.Map.Text.{is_eq-slice_cmp}
-use Rattle.std.proofs.lemmas.Map.Views.{All-values-insert_entry}
+use Rattle.std.proofs.lemmas.Map.Views.{All-keys-insert_entry, All-values-insert_entry}
 use Rattle.std.specs.BTreeMap.{insert_entry}
 use Rattle.std.specs.Cmp.Lexicographic.{slice_cmp}
 use Rattle.std.specs.List.{All, AllByRecursion, insert, slice_range}
@@ -170,7 +170,7 @@ looked_up_nowhere (x ∷ xs) name (suc i) b a =
 
 pub no_texts : (bytes : List ℕ) (spans : List Span) → spans ≡ [] → AreNamedTexts bytes spans
 unfolding IsStrictlySortedBy
-no_texts bytes spans e = subst (AreNamedTexts bytes) (sym e) (record { within = λ k d lt. absurd (omega (arith, lt)); sorted = tt; texts = λ k d lt. absurd (omega (arith, lt)) })
+no_texts bytes spans e = subst (AreNamedTexts bytes) (sym e) (record { within = λ k d lt. absurd (omega (arith, lt)); sorted = tt; names = λ k d lt. absurd (omega (arith, lt)); texts = λ k d lt. absurd (omega (arith, lt)) })
 
 module _ (bytes : List ℕ) (spans : List Span) (held : AreNamedTexts bytes spans) (name : List ℕ) (i : ℕ) (s d : Span) (within : i < length spans) (is : s ≡ get_or spans i d) where
   entry_is : get_or (named_texts bytes spans) i ([], []) ≡ named_text bytes s
@@ -194,6 +194,11 @@ module _ (bytes : List ℕ) (spans : List Span) (held : AreNamedTexts bytes span
   pub lies_within : LiesWithin (length bytes) s
   lies_within = subst (LiesWithin (length bytes)) (sym is) (All-get_or (LiesWithin (length bytes)) spans i d within held.within)
 
+  pub name_is_utf8 : IsUtf8 (named_text bytes s).0
+  name_is_utf8 =
+      subst IsUtf8 (get_or-map (λ e. e.0) (named_texts bytes spans) i ([], []) [] inside ∙ ap (λ e. e.0) entry_is)
+      (All-get_or IsUtf8 (keys_of (named_texts bytes spans)) i [] (omega (arith, inside, length-map (named_texts bytes spans) (λ e. e.0))) held.names)
+
   pub text_is_utf8 : IsUtf8 (named_text bytes s).1
   text_is_utf8 =
       subst IsUtf8 (get_or-map (λ e. e.1) (named_texts bytes spans) i ([], []) [] inside ∙ ap (λ e. e.1) entry_is)
@@ -206,6 +211,12 @@ module _ (bytes : List ℕ) (spans : List Span) (held : AreNamedTexts bytes span
 pub place_seen : (b c n m : List ℕ) (ss ts : List Span) (r : Result ℕ ℕ) → b ≡ c → ss ≡ ts → n ≡ m → IsPlaceOf (named_texts b ss) n r → IsPlaceOf (named_texts c ts) m r
 place_seen b c n m ss ts r e f g h = subst (λ x. IsPlaceOf (named_texts x ts) m r) e (subst (λ x. IsPlaceOf (named_texts b x) m r) f (subst (λ x. IsPlaceOf (named_texts b ss) x r) g h))
 
+-- a name and its text may both be lent, where the values are told in other words
+pub both_utf8 : (b bytes : List ℕ) (ss spans : List Span) (i : ℕ) (d : Span) → b ≡ bytes → ss ≡ spans → AreNamedTexts bytes spans → i < length ss → IsUtf8 (named_text b (get_or ss i d)).0 × IsUtf8 (named_text b (get_or ss i d)).1
+both_utf8 b bytes ss spans i d e f held within =
+    let moved = subst (AreNamedTexts b) (sym f) (subst (λ x. AreNamedTexts x spans) (sym e) held) in
+    (name_is_utf8 b ss moved [] i (get_or ss i d) d within refl, text_is_utf8 b ss moved [] i (get_or ss i d) d within refl)
+
 -- ---- what is held after a text was put in
 
 map-insert : {A B : Type 0} (f : A → B) (xs : List A) (i : ℕ) (x : A) → map f (insert xs i x) ≡ insert (map f xs) i (f x)
@@ -214,7 +225,7 @@ map-insert f [] (suc i) x = refl
 map-insert f (y ∷ ys) zero x = refl
 map-insert f (y ∷ ys) (suc i) x = ap (λ t. f y ∷ t) (map-insert f ys i x)
 
-module _ (bytes name text longer : List ℕ) (spans : List Span) (held : AreNamedTexts bytes spans) (s : Span) (utf8 : IsUtf8 text) (grown : longer ≡ bytes ++ name ++ text) (n : s.name ≡ length bytes) (t : s.text ≡ length bytes + length name) (e : s.end ≡ length longer) where
+module _ (bytes name text longer : List ℕ) (spans : List Span) (held : AreNamedTexts bytes spans) (s : Span) (named : IsUtf8 name) (utf8 : IsUtf8 text) (grown : longer ≡ bytes ++ name ++ text) (n : s.name ≡ length bytes) (t : s.text ≡ length bytes + length name) (e : s.end ≡ length longer) where
   kept : named_texts longer spans ≡ named_texts bytes spans
   kept = ap (λ b. named_texts b spans) (grown ∙ append_assoc bytes name text) ∙ texts_kept bytes (name ++ text) spans held.within
 
@@ -241,6 +252,7 @@ module _ (bytes name text longer : List ℕ) (spans : List Span) (held : AreName
       record {
         within = within;
         sorted = subst Sorted (sym view) (sorted_put (named_texts bytes spans) name text held.sorted);
+        names = subst (λ table. All IsUtf8 (keys_of table)) (sym view) (All-keys-insert_entry (slice_cmp nat_cmp) name text IsUtf8 (named_texts bytes spans) held.names named);
         texts = subst (λ table. All IsUtf8 (values_of table)) (sym view) (All-values-insert_entry (slice_cmp nat_cmp) name text IsUtf8 (named_texts bytes spans) held.texts utf8);
       }
 
@@ -257,5 +269,6 @@ held_still bytes more longer spans held grown =
     subst (λ b. AreNamedTexts b spans) (sym grown) (record {
       within = All-weaker (LiesWithin (length bytes)) (LiesWithin (length (bytes ++ more))) (λ x h. (h.0, h.1, omega (arith, h.2, length-append bytes more))) spans held.within;
       sorted = subst Sorted (sym view) held.sorted;
+      names = subst (λ table. All IsUtf8 (keys_of table)) (sym view) held.names;
       texts = subst (λ table. All IsUtf8 (values_of table)) (sym view) held.texts;
     })

@@ -19,10 +19,11 @@ named_texts bytes spans = map (named_text bytes) spans
 abbrev pub LiesWithin : ℕ → Span → Type 0
 LiesWithin len s = (s.name ≤ s.text) × (s.text ≤ s.end) × (s.end ≤ len)
 
--- what is held is a table, and each text may be lent
+-- what is held is a table, and each name and each text may be lent
 pub record AreNamedTexts (bytes : List ℕ) (spans : List Span) : Type 0 where
   pub within : All (LiesWithin (length bytes)) spans
   pub sorted : IsStrictlySortedBy (slice_cmp nat_cmp) (keys_of (named_texts bytes spans))
+  pub names : All IsUtf8 (keys_of (named_texts bytes spans))
   pub texts : All IsUtf8 (values_of (named_texts bytes spans))
 
 abbrev pub name_at : EntityTable → ℕ → List ℕ

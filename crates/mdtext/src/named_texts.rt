@@ -4,19 +4,20 @@ ghost use Rattle.std.specs.BTreeMap.{insert_entry};
 ghost use Rattle.std.specs.Cmp.Lexicographic.{slice_cmp};
 ghost use Rattle.std.specs.Map.{lookup};
 ghost use Rattle.std.specs.Ordering.{nat_cmp};
-ghost use Rattle.std.specs.Str.{bytes_eq};
+ghost use Rattle.std.specs.Str.{IsUtf8, bytes_eq};
 ghost use Rattle.mdtext.specs.NamedTexts.{AreNamedTexts, IsPlaceOf, LiesWithin, named_text, named_texts};
 
 use crate::NoMemory;
 use std::alloc::Global;
 use std::cmp::Ordering;
+use std::fmt;
 use std::marker::Model;
 
 // As many names as one may be put in front of.
 const MANY: usize = 1000;
 
 // Where a name and its text lie, one behind the other.
-#[derive(Clone, Copy, Debug)]
+#[derive(Clone, Copy)]
 pub struct Span {
     name: usize,
     text: usize,
@@ -24,7 +25,7 @@ pub struct Span {
 }
 
 /// Names, each once, with their texts: all bytes in one block, as they came, and where they lie in the names' order.
-#[derive(Debug, Drop)]
+#[derive(Drop)]
 pub struct NamedTexts {
     bytes: Vec<u8>,
     spans: Vec<Span>,
@@ -95,6 +96,34 @@ impl NamedTexts {
             }
             Err(_) => None,
         }
+    }
+}
+
+/// A map of the names and their texts, as a `BTreeMap` shows it.
+impl fmt::Debug for NamedTexts {
+    fn fmt<W: fmt::Write>(&self, f: &mut fmt::Formatter<W>) -> fmt::Result {
+        let mut out = f.debug_map();
+        for span in &self.spans {
+            let (name, text) = named_text(&self.bytes, *span);
+            out.entry(&name, &text);
+        }
+        out.finish()
+    }
+}
+
+fn named_text(bytes: &[u8], span: Span) -> (&str, &str)
+    requires within { LiesWithin (length bytes.now) span }
+    requires name { IsUtf8 (named_text bytes.now span).0 }
+    requires text { IsUtf8 (named_text bytes.now span).1 }
+    ensures { (result.0.now, result.1.now) ≡ named_text bytes.now span }
+{
+    let name = &bytes[span.name..span.text];
+    let text = &bytes[span.text..span.end];
+    unsafe {
+        (
+            std::str::from_utf8_unchecked(name),
+            std::str::from_utf8_unchecked(text),
+        )
     }
 }
 

@@ -86,6 +86,26 @@ fn of_a_name_twice_the_second_text_is_left(rt: HostRuntime) -> Result<(), Fail> 
 }
 
 #[test]
+fn entities_are_shown_as_a_map(rt: HostRuntime) -> Result<(), Fail> {
+    let bytes = "{\"&b;\":{\"characters\":\"\\\"\\u00a0\"},\"&a;\":{\"characters\":\"1\"}}";
+    let entities = Entities::from_json(rt.alloc(), bytes.as_bytes())?;
+    let shown = format!(in rt.alloc(); "{entities:?}")?;
+    assert_eq!(rt;
+        shown.as_str(),
+        "Entities { texts: {\"a\": \"1\", \"b\": \"\\\"\\u{a0}\"} }"
+    );
+    let shown = format!(in rt.alloc(); "{entities:#?}")?;
+    assert_eq!(rt;
+        shown.as_str(),
+        "Entities {\n    texts: {\n        \"a\": \"1\",\n        \"b\": \"\\\"\\u{a0}\",\n    },\n}"
+    );
+    let none = Entities::from_json(rt.alloc(), b"{}")?;
+    let shown = format!(in rt.alloc(); "{none:?}")?;
+    assert_eq!(rt; shown.as_str(), "Entities { texts: {} }");
+    Ok(())
+}
+
+#[test]
 fn files_that_are_refused(rt: HostRuntime) {
     for bytes in [
         "",

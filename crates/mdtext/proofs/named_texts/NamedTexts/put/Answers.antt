@@ -18,7 +18,7 @@ invariant_of-self-in-Ok c =
     let spans = c.self.inside.spans.items in
     let place = place_seen _ bytes _ c.args.name.now _ spans (Ok c.in-Ok.place) c.deref.ensures.value c.deref-2.ensures.value c.as_bytes.ensures.value c.in-Ok.ensures in
     let kept = c.in_ok-span.ensures.ok in
-    held_over bytes c.args.name.now c.args.text.now c.keep.new.bytes.items spans c.self.invariant c.in_ok-span.span c.utf8.text kept.0 kept.1 kept.2 kept.3 c.in-Ok.place place
+    held_over bytes c.args.name.now c.args.text.now c.keep.new.bytes.items spans c.self.invariant c.in_ok-span.span c.utf8.name c.utf8.text kept.0 kept.1 kept.2 kept.3 c.in-Ok.place place
 
 pub invariant_of-self-in-Err : goal.invariant_of-self-in-Err
 invariant_of-self-in-Err c =
@@ -27,7 +27,7 @@ invariant_of-self-in-Err c =
     let place = place_seen _ bytes _ c.args.name.now _ spans (Err c.in-Err.place) c.deref.ensures.value c.deref-2.ensures.value c.as_bytes.ensures.value c.in-Err.ensures in
     let kept = c.in_ok-span.ensures.ok in
     subst (AreNamedTexts c.keep.new.bytes.items) (sym c.in_ok-insert-in-Err.ensures.items)
-    (held_in bytes c.args.name.now c.args.text.now c.keep.new.bytes.items spans c.self.invariant c.in_ok-span.span c.utf8.text kept.0 kept.1 kept.2 kept.3 c.in-Err.place place)
+    (held_in bytes c.args.name.now c.args.text.now c.keep.new.bytes.items spans c.self.invariant c.in_ok-span.span c.utf8.name c.utf8.text kept.0 kept.1 kept.2 kept.3 c.in-Err.place place)
 
 pub invariant_of-self-in_err-insert-in-Err : goal.invariant_of-self-in_err-insert-in-Err
 invariant_of-self-in_err-insert-in-Err c =
@@ -40,7 +40,7 @@ returns-in-Ok-clause-table c =
     let spans = c.self.inside.spans.items in
     let place = place_seen _ bytes _ c.args.name.now _ spans (Ok c.in-Ok.place) c.deref.ensures.value c.deref-2.ensures.value c.as_bytes.ensures.value c.in-Ok.ensures in
     let kept = c.in_ok-span.ensures.ok in
-    view_over bytes c.args.name.now c.args.text.now c.keep.new.bytes.items spans c.self.invariant c.in_ok-span.span c.utf8.text kept.0 kept.1 kept.2 kept.3 c.in-Ok.place place
+    view_over bytes c.args.name.now c.args.text.now c.keep.new.bytes.items spans c.self.invariant c.in_ok-span.span c.utf8.name c.utf8.text kept.0 kept.1 kept.2 kept.3 c.in-Ok.place place
     ∙ ap (λ table. insert_entry (slice_cmp nat_cmp) table c.args.name.now c.args.text.now) c.self.view_is
 
 pub returns-in_ok-insert-in-Err-clause-table : goal.returns-in_ok-insert-in-Err-clause-table
@@ -50,7 +50,7 @@ returns-in_ok-insert-in-Err-clause-table c =
     let place = place_seen _ bytes _ c.args.name.now _ spans (Err c.in-Err.place) c.deref.ensures.value c.deref-2.ensures.value c.as_bytes.ensures.value c.in-Err.ensures in
     let kept = c.in_ok-span.ensures.ok in
     ap (named_texts c.keep.new.bytes.items) c.in_ok-insert-in-Err.ensures.items
-    ∙ view_in bytes c.args.name.now c.args.text.now c.keep.new.bytes.items spans c.self.invariant c.in_ok-span.span c.utf8.text kept.0 kept.1 kept.2 kept.3 c.in-Err.place place
+    ∙ view_in bytes c.args.name.now c.args.text.now c.keep.new.bytes.items spans c.self.invariant c.in_ok-span.span c.utf8.name c.utf8.text kept.0 kept.1 kept.2 kept.3 c.in-Err.place place
     ∙ ap (λ table. insert_entry (slice_cmp nat_cmp) table c.args.name.now c.args.text.now) c.self.view_is
 
 pub returns-in-Ok-clause-replaces : goal.returns-in-Ok-clause-replaces
