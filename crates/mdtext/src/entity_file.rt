@@ -9,7 +9,6 @@ ghost use Rattle.mdtext.specs.EntityFile.{characters_of, counts, is_name, is_the
 use crate::NoMemory;
 use crate::named_texts::NamedTexts;
 use crate::references::{byte_at, name_len};
-use json::Invalid;
 use serde_json::Value;
 use std::alloc::{AllocFailed, Global};
 use std::error::Error;
@@ -51,17 +50,6 @@ impl From<NoMemory> for TableFault {
 
     fn from(_refused: NoMemory) -> TableFault {
         TableFault::NoMemory
-    }
-}
-
-impl From<Invalid> for TableFault {
-    ghost use Rattle.mdtext.specs.declared.entity_file.TableFault.TheVariants.{NotJson};
-    ghost use Rattle.std.specs.Prelude.{◌≡◌};
-
-    ghost from_gives = { λ _ fault. fault ≡ NotJson };
-
-    fn from(_invalid: Invalid) -> TableFault {
-        TableFault::NotJson
     }
 }
 

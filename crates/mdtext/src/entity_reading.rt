@@ -56,10 +56,14 @@ fn read_members(reader: &mut Reader<'_>, texts: &mut NamedTexts) -> Result<(), T
     requires { texts.old ≡ [] }
     ensures { OnOk result ((found : Members) × ReadsMembers 126 reader.old found reader.new × (with_members found [] ≡ Some texts.new)) }
 {
-    while let Some(key) = reader.next_key()? {
+    while let Some(key) = reader.next_key().map_err(not_json)? {
         read_member(key, reader, texts)?;
     }
     Ok(())
+}
+
+fn not_json(_invalid: Invalid) -> TableFault {
+    TableFault::NotJson
 }
 
 #[inline(always)]
@@ -72,7 +76,7 @@ fn read_member(key: &str, reader: &mut Reader<'_>, texts: &mut NamedTexts) -> Re
     if texts.is_far_from_end(key.strip_prefix('&').unwrap_or(key)) {
         return Err(TableFault::NotJson);
     }
-    let passed = pass_value(reader, DEPTH)?;
+    let passed = pass_value(reader, DEPTH).map_err(not_json)?;
     // So is one that has a name twice: a text that was replaced would stay among the bytes.
     if put_member(key, passed.characters, texts)? {
         return Err(TableFault::NotJson);
