@@ -35,6 +35,7 @@ pub fn read_tokens(alloc: Global, bytes: &[u8]) -> Result<NamedTexts, TableFault
     let mut reader = Reader::new(text, &mut scratch)?;
     let mut texts = NamedTexts::new(alloc);
     read_file(&mut reader, &mut texts)?;
+    texts.fit();
     Ok(texts)
 }
 

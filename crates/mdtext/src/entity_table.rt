@@ -91,6 +91,7 @@ impl Entities {
         for (key, value) in members {
             add_member(key.as_str(), value, &mut texts)?;
         }
+        texts.fit();
         Ok(Entities { texts })
     }
 
@@ -101,6 +102,7 @@ impl Entities {
         for (name, text) in pairs {
             texts.put(name, text)?;
         }
+        texts.fit();
         Ok(Entities { texts })
     }
 

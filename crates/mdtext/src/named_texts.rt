@@ -73,6 +73,14 @@ impl NamedTexts {
         }
     }
 
+    /// Gives back the room that no text needs, where there is memory to move the texts to.
+    pub fn fit(&mut self)
+        ensures { self.new ≡ self.old }
+    {
+        self.bytes.shrink_to_fit();
+        self.spans.shrink_to_fit();
+    }
+
     /// Whether a name would go in front of many others, which would all move.
     pub fn is_far_from_end(&self, name: &str) -> bool {
         let len = self.spans.len();
