@@ -105,6 +105,39 @@ fn entities_are_shown_as_a_map(rt: HostRuntime) -> Result<(), Fail> {
     Ok(())
 }
 
+/// The number in the name of a file's member, by its place.
+fn number_at(place: usize, flipped: usize) -> usize {
+    (place ^ flipped).saturating_add(10_000)
+}
+
+/// A file of so many names. They rise where no bits are flipped, and fall in blocks of the size of the flipped bits.
+fn file_of(alloc: Global, count: usize, flipped: usize) -> Result<String, AllocError> {
+    let mut file = String::from_str(alloc, "{\"\":0")?;
+    for place in 0..count {
+        let number = number_at(place, flipped);
+        let member = format!(in alloc; ",\"&n{number};\":{{\"characters\":\"{number}\"}}")?;
+        file.push_str(&member)?;
+    }
+    file.push_str("}")?;
+    Ok(file)
+}
+
+#[test]
+fn many_names_in_any_order(rt: HostRuntime) -> Result<(), Fail> {
+    for count in [999, 1000, 1001, 1500] {
+        for flipped in [0, 63, 1023, 2047] {
+            let file = file_of(rt.alloc(), count, flipped)?;
+            let entities = Entities::from_json(rt.alloc(), file.as_bytes())?;
+            for place in 0..count {
+                let number = number_at(place, flipped);
+                let name = format!(in rt.alloc(); "n{number}")?;
+                assert_eq!(rt; entities.get(&name), name.get(1..), "{count} {flipped}");
+            }
+        }
+    }
+    Ok(())
+}
+
 #[test]
 fn files_that_are_refused(rt: HostRuntime) {
     for bytes in [
