@@ -247,8 +247,9 @@ impl<'a> Pending<'a> {
         self.paired.clear();
         append_unpaired(&self.runs[from..], &mut self.paired)?;
         self.pairing.pair(&self.runs[from..])?;
-        take_all(&mut self.paired, &mut self.begun, self.pairing.matches())?;
-        Ok(())
+        let taken = take_all(&mut self.paired, &mut self.begun, self.pairing.matches());
+        self.pairing.let_go();
+        taken
     }
 
     /// Marks the tokens of these runs with what is left of them.

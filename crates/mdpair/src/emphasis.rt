@@ -1,6 +1,6 @@
 //! The pairing of the delimiter runs of a text (CommonMark, appendix, process emphasis).
 
-ghost use Rattle.std.specs.Prelude.{◌≡◌, ℕ, ◌+◌, ◌-◌, ◌<◌, ◌≤◌, All, true, Some, None, List, [], ◌∷◌, ◌++◌, IfOk, OnOk, MatchOption, length, take, slice_index_or};
+ghost use Rattle.std.specs.Prelude.{◌≡◌, ℕ, ◌+◌, ◌-◌, ◌<◌, ◌≤◌, All, true, Some, None, List, [], ◌∷◌, ◌++◌, IfOk, OnOk, MatchOption, length, take, slice_index_or, vec_capacity};
 ghost use Rattle.std.specs.List.{AllByRecursion};
 ghost use Rattle.mdpair.specs.declared.emphasis.Remaining.{Remaining as Left};
 ghost use Rattle.mdpair.specs.DelimiterRun.{is_admissible};
@@ -46,7 +46,10 @@ pub fn pair(alloc: Global, runs: &[DelimiterRun]) -> Result<Vec<Match>, AllocErr
     Ok(matches)
 }
 
-/// Pairs the runs of one text after the other, and keeps from one to the next the room that this takes.
+/// The room that a list of a [`Pairing`] may keep from one text to the next.
+const KEPT: usize = 64;
+
+/// Pairs the runs of one text after the other, and keeps from one to the next the room that small texts take.
 #[derive(Drop)]
 pub struct Pairing {
     matches: Vec<Match>,
@@ -55,10 +58,12 @@ pub struct Pairing {
 }
 
 impl Pairing {
-    ghost use Rattle.mdpair.specs.Pairings.{matches_of};
+    ghost use Rattle.mdpair.specs.Pairings.{KeepsLittle, matches_of, room_of};
 
     /// Takes no memory.
-    pub fn new(alloc: Global) -> Pairing {
+    pub fn new(alloc: Global) -> Pairing
+        ensures { matches_of result ≡ [] }
+    {
         Pairing {
             matches: Vec::new(alloc),
             passed: Vec::new(alloc),
@@ -70,11 +75,18 @@ impl Pairing {
     pub fn pair(&mut self, runs: &[DelimiterRun]) -> Result<(), AllocError>
         ensures value { OnOk result (matches_of self.new ≡ matches runs.now) }
         ensures ordered { OnOk result (All (IsOrdered (length runs.now)) (matches_of self.new)) }
+        ensures little { KeepsLittle self.new }
     {
         self.matches.clear();
         self.passed.clear();
         self.bottoms.clear();
-        pair_into(&mut self.passed, &mut self.matches, &mut self.bottoms, runs)
+        let paired = pair_into(&mut self.passed, &mut self.matches, &mut self.bottoms, runs);
+        let_go(&mut self.passed);
+        let_go(&mut self.bottoms);
+        if paired.is_err() {
+            let_go(&mut self.matches);
+        }
+        paired
     }
 
     /// The matches of the runs that were paired last. Takes no memory.
@@ -82,6 +94,25 @@ impl Pairing {
         ensures { result.now ≡ matches_of self.now }
     {
         &self.matches
+    }
+
+    /// Gives back the room of a large text's matches, which are lost by it. Takes no memory.
+    pub fn let_go(&mut self)
+        ensures room { room_of self.new ≤ 64 }
+        ensures little { KeepsLittle self.old → KeepsLittle self.new }
+    {
+        let_go(&mut self.matches);
+    }
+}
+
+/// Where a list has more room than is kept, it is cleared and its room given back.
+fn let_go<T: Drop>(list: &mut Vec<T>)
+    ensures room { vec_capacity list.new ≤ 64 }
+    ensures small { vec_capacity list.old ≤ 64 → list.new ≡ list.old }
+{
+    if list.capacity() > KEPT {
+        list.clear();
+        list.shrink_to_fit();
     }
 }
 

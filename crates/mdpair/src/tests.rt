@@ -1,6 +1,7 @@
 //! Rows of the standard (CommonMark 6.2; GFM Strikethrough (extension)), read from their texts.
 
 mod plain_search;
+mod rooms;
 
 use crate::{DelimiterRun, delimiter_run, pair};
 use std::alloc::{AllocError, Global};
