@@ -85,7 +85,7 @@ impl Prelude {
     {
         let are_plain = are_plain(lines);
         accept(lines, are_plain)?;
-        let lines = clean_lines(alloc, lines, are_plain)?;
+        let lines = clean_lines(alloc, lines, are_plain, 0)?;
         let targets = read_definitions(alloc, &lines, entities, options, count)?;
         Ok(Prelude { lines, targets })
     }

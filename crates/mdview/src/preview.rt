@@ -20,7 +20,7 @@ use crate::commit::{commit, commit_readings};
 use crate::fault::EditFault;
 use crate::held_labels::HeldLabels;
 use crate::held_units::HeldUnit;
-use crate::limits::{MAX_LINES, MAX_SIZE, are_plain, clean_size, first_line_break};
+use crate::limits::{MAX_LINES, MAX_SIZE, SPLICE_ROOM, are_plain, clean_size, first_line_break};
 use crate::lines::Lines;
 use crate::new_text::NewText;
 use crate::patch::Patch;
@@ -295,7 +295,7 @@ impl Preview {
     {
         let are_plain = are_plain(add);
         let size = self.accept(at, del, add, are_plain)?;
-        let mut new_lines = clean_lines(self.alloc, add, are_plain)?;
+        let mut new_lines = clean_lines(self.alloc, add, are_plain, SPLICE_ROOM)?;
         let held = HeldText {
             alloc: self.alloc,
             entities: &self.entities,
