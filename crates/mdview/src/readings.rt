@@ -88,7 +88,12 @@ impl<'a> TextReader<'a> {
         ensures lines { C.lines count.new ≡ C.lines count.old }
         ensures inlines { C.inlines count.new ≤ C.inlines count.old + sum_by texts_in (trees_in (map found_unit found.items)) }
     {
-        let wanted = found.len().saturating_add(SPLICE_ROOM);
+        // Where nothing is found no memory is asked for.
+        let wanted = if found.is_empty() {
+            0
+        } else {
+            found.len().saturating_add(SPLICE_ROOM)
+        };
         let mut units = Vec::with_capacity(self.alloc, wanted)?;
         let mut like = held.iter_from(first);
         for one in found {
