@@ -5,6 +5,7 @@ ghost use Rattle.std.specs.List.{list_any};
 ghost use Rattle.mdhtml.specs.Limits.{HasLimits};
 ghost use Rattle.mdinline.specs.ParsedText.{ParsedText};
 ghost use Rattle.mdinline.specs.declared.faults.InlineFault.TheVariants.{TooDeep};
+ghost use Rattle.mdtext.specs.Counted.{counted};
 ghost use Rattle.viewspec.specs.Refusals.{is_deep};
 ghost use Rattle.viewspec.specs.View.{reading_of};
 ghost use Rattle.mdview.specs.HeldTexts.{IsReadUnder, IsShallow, entities_in, labels_before, labels_behind};
@@ -29,31 +30,35 @@ fn same_reading<'b>(text: &str, held: &'b HeldUnit, i: usize) -> Option<&'b Pars
     None
 }
 
-/// The same of the text of this number, of so many, by its number from the front or from the end.
+/// What text number `i` reads as, which has `left - 1` others behind it, if the held unit has it at the same place: in front, by its number, up to the first
+/// text that differs, and from then on by how many are left. So no text is compared twice.
 fn kept_reading<'b>(
     text: &str,
     held: Option<&'b HeldUnit>,
     i: usize,
-    texts: usize,
+    left: usize,
+    in_front: &mut bool,
 ) -> Option<&'b Parsed>
     ensures reading { IfSome result (λ r. (f : List ℕ → ParsedText) → IfSome held.entry (λ u. u.now.read.readings ≡ map f u.now.read.unit.texts) → r.now ≡ f text.now) }
     ensures shallow { IfSome result (λ r. (p : ParsedText → Bool) → IfSome held.entry (λ u. list_any p u.now.read.readings ≡ false) → p r.now ≡ false) }
 {
     let held = held?;
-    if let Some(reading) = same_reading(text, held, i) {
-        return Some(reading);
+    if *in_front {
+        let reading = same_reading(text, held, i);
+        *in_front = reading.is_some();
+        return reading;
     }
-    // As far from the end.
-    let place = held.unit().texts().len().checked_add(i)?;
-    same_reading(text, held, place.checked_sub(texts)?)
+    same_reading(text, held, held.unit().texts().len().checked_sub(left)?)
 }
 
 impl<'a> TextReader<'a> {
-    /// Reads texts, and puts their readings behind those that are there. A text that a held unit has at the same place, counted from the front or from the
-    /// end, reads as it did, unless it asked for a label that leads elsewhere: its reading is copied.
+    /// Reads texts, behind which their unit has so many others, and puts their readings behind those that are there. A text that a held unit has at the same
+    /// place, counted from the front up to the first that differs and from the end behind it, reads as it did, unless it asked for a label that leads
+    /// elsewhere: its reading is copied.
     pub(crate) fn read_alike<C: Count>(
         &self,
         texts: &[String],
+        behind: usize,
         held: Option<&HeldUnit>,
         inlines: &mut Vec<Parsed>,
         room: &mut TextRoom<'a>,
@@ -73,33 +78,36 @@ impl<'a> TextReader<'a> {
         ensures lines { C.lines count.new ≡ C.lines count.old }
         ensures inlines { C.inlines count.new ≤ C.inlines count.old + length texts.now }
     {
+        let mut in_front = true;
         for i in 0..texts.len() {
-            inlines.push(self.read_or_keep(&texts[i], held, i, texts.len(), room, count)?)?;
+            let text = texts[i].as_str();
+            let left = (texts.len() - i).saturating_add(behind);
+            let kept = kept_reading(text, held, i, left, &mut in_front);
+            inlines.push(self.read_or_keep(text, kept, room, count)?)?;
         }
         Ok(())
     }
 
+    /// Reads a text, or takes what it is known to have read as before the edit.
     fn read_or_keep<C: Count>(
         &self,
         text: &str,
-        held: Option<&HeldUnit>,
-        i: usize,
-        texts: usize,
+        kept: Option<&Parsed>,
         room: &mut TextRoom<'a>,
         count: &mut C,
     ) -> Result<Parsed, InlineFault>
         requires limits { HasLimits self.now.options.now }
         requires elsewhere { IsElsewhere self.now.labels.now.held.now self.now.labels.now.changes.now }
-        requires held { IfSome held (λ u. IsReadUnder (entities_in room.old) (labels_before self.now) u.now) }
-        requires held_shallow { IfSome held (λ u. IsShallow self.now.options.now.max_spans (entities_in room.old) (labels_before self.now) u.now) }
+        requires kept { IfSome kept (λ r. r.now ≡ reading_of (entities_in room.old) (labels_before self.now) text.now) }
+        requires shallow { IfSome kept (λ r. is_deep self.now.options.now.max_spans r.now ≡ false) }
         ensures reading { IfOk result (λ parsed. parsed ≡ reading_of (entities_in room.old) (labels_behind self.now) text.now) }
         ensures shallow { OnOk result (is_deep self.now.options.now.max_spans (reading_of (entities_in room.old) (labels_behind self.now) text.now) ≡ false) }
         ensures deep { IsErrOf result TooDeep → is_deep self.now.options.now.max_spans (reading_of (entities_in room.old) (labels_behind self.now) text.now) ≡ true }
         ensures room { entities_in room.new ≡ entities_in room.old }
         ensures lines { C.lines count.new ≡ C.lines count.old }
-        ensures inlines { C.inlines count.new ≤ C.inlines count.old + 1 }
+        ensures inlines { C.inlines count.new ≡ counted (C.inlines count.old) }
     {
-        match kept_reading(text, held, i, texts) {
+        match kept {
             Some(reading) => self.keep_one(text, reading, room, count),
             None => self.read_text(text, room, count),
         }
@@ -122,7 +130,7 @@ impl<'a> TextReader<'a> {
         ensures deep { IsErrOf result TooDeep → is_deep self.now.options.now.max_spans (reading_of (entities_in room.old) (labels_behind self.now) text.now) ≡ true }
         ensures room { entities_in room.new ≡ entities_in room.old }
         ensures lines { C.lines count.new ≡ C.lines count.old }
-        ensures inlines { C.inlines count.new ≤ C.inlines count.old + 1 }
+        ensures inlines { C.inlines count.new ≡ counted (C.inlines count.old) }
     {
         if self.labels.changes.concern(held.asked()) {
             return self.read_text(text, room, count);

@@ -148,6 +148,7 @@ impl<'a> TextReader<'a> {
         let mut inlines = Vec::with_capacity(self.alloc, texts.len())?;
         self.read_alike(
             &texts[..kept.at],
+            kept.readings.len(),
             Some(kept.unit),
             &mut inlines,
             room,

@@ -6,6 +6,7 @@ ghost use Rattle.blockspec.specs.UnitTree.{UnitTree};
 ghost use Rattle.mdblock.specs.FoundLists.{found_unit};
 ghost use Rattle.mdhtml.specs.Limits.{HasLimits};
 ghost use Rattle.mdinline.specs.declared.faults.InlineFault.TheVariants.{TooDeep};
+ghost use Rattle.mdtext.specs.Counted.{counted};
 ghost use Rattle.viewspec.specs.Changes.{asks_changed};
 ghost use Rattle.viewspec.specs.Refusals.{is_deep};
 ghost use Rattle.viewspec.specs.View.{reading_of};
@@ -154,7 +155,7 @@ impl<'a> TextReader<'a> {
     {
         let texts = unit.texts();
         let mut inlines = Vec::with_capacity(self.alloc, texts.len())?;
-        self.read_alike(texts, held, &mut inlines, room, count)?;
+        self.read_alike(texts, 0, held, &mut inlines, room, count)?;
         Ok(inlines)
     }
 
@@ -170,7 +171,7 @@ impl<'a> TextReader<'a> {
         ensures deep { IsErrOf result TooDeep → is_deep self.now.options.now.max_spans (reading_of (entities_in room.old) (labels_behind self.now) text.now) ≡ true }
         ensures room { entities_in room.new ≡ entities_in room.old }
         ensures lines { C.lines count.new ≡ C.lines count.old }
-        ensures inlines { C.inlines count.new ≤ C.inlines count.old + 1 }
+        ensures inlines { C.inlines count.new ≡ counted (C.inlines count.old) }
     {
         room.reader
             .read(text, self.labels, self.options.max_spans, count)

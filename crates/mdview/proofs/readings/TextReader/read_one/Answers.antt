@@ -1,4 +1,4 @@
-use Rattle.std.proofs.Common.{◌≡◌, false, ap, ◌∙◌, sym}
+use Rattle.std.proofs.Common.{◌≡◌, ◌+◌, ◌≤◌, arith, false, ap, ◌∙◌, sym}
 use Rattle.viewspec.specs.Changes.{asks_changed}
 use Rattle.viewspec.specs.Refusals.{is_deep}
 use Rattle.viewspec.specs.View.{reading_of}
@@ -10,7 +10,8 @@ use Rattle.mdview.proofs.readings.TextReader.read_one.Goals as goal
 pub returns-then-concern-clause-inlines : goal.returns-then-concern-clause-inlines
 returns-then-concern-clause-inlines g c =
     let asks = concerned c.args.self.now c.requires.elsewhere c.args.held.now c.asked.result.now c.concern.result c.asked.ensures c.concern.ensures in
-    rw (sym asks ∙ c.if-concern.true) c.read_text.ensures.inlines
+    let once : g.C.Count.inlines c.read_text.new.count ≤ g.C.Count.inlines c.args.count.now + 1 = omega (arith, c.read_text.ensures.inlines) in
+    rw (sym asks ∙ c.if-concern.true) once
 
 pub returns-in_ok-copy-clause-reading : goal.returns-in_ok-copy-clause-reading
 returns-in_ok-copy-clause-reading g c =
