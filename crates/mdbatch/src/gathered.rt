@@ -19,7 +19,7 @@ use memchr::memchr;
 use std::alloc::Global;
 use std::mem::replace;
 
-/// HTML of more bytes is moved, and not copied, where a unit has to wait behind it.
+/// HTML of more bytes is moved, and not copied, where a unit has to wait behind it. So is that before the first one that waits.
 const LONG: usize = 16_384;
 
 /// A unit that waits for the labels of the whole text, and the HTML of the units between the one that waits before it and itself.
@@ -119,7 +119,8 @@ impl Gathered {
         Ok(())
     }
 
-    /// Takes the HTML of the units behind the last one that waits. Its room stays for that of those that come, save of a long one, which is not copied.
+    /// Takes the HTML of the units behind the last one that waits. Before the first one that waits its room goes with it, which is made for the HTML of the
+    /// whole text; later it stays for that of the units that come, save of a long one, which is not copied.
     fn taken_html(&mut self, alloc: Global) -> Result<String, NoMemory>
         ensures taken { IfOk result (λ html. string_bytes html ≡ string_bytes self.old.html) }
         ensures html { OnOk result (string_bytes self.new.html ≡ []) }
@@ -127,7 +128,7 @@ impl Gathered {
         ensures labels { self.new.labels ≡ self.old.labels }
         ensures too_deep { self.new.too_deep ≡ self.old.too_deep }
     {
-        if self.html.len() > LONG {
+        if self.waiting.is_empty() || self.html.len() > LONG {
             return Ok(replace(&mut self.html, String::new(alloc)));
         }
         let html = String::from_str(alloc, &self.html)?;
