@@ -1,5 +1,5 @@
 //! The HTML of a text that defines no label: each unit is written as it is found.
-ghost use Rattle.std.specs.Prelude.{◌≡◌, ◌≤◌, ◌∷◌, [], IfOk, IfSome, None, length, string_bytes, true};
+ghost use Rattle.std.specs.Prelude.{◌≡◌, ◌≤◌, ◌∷◌, [], IfErr, IfOk, IfSome, None, length, string_bytes, true};
 ghost use Rattle.std.specs.Option.{option_map, option_to_list};
 ghost use Rattle.mdtext.specs.Lines.{split_lines};
 ghost use Rattle.blockspec.specs.BlockUnits.{units};
@@ -8,18 +8,18 @@ ghost use Rattle.mdblock.specs.FoundLists.{found_unit};
 ghost use Rattle.mdhtml.specs.BlockHtml.{ends_line};
 ghost use Rattle.mdhtml.specs.Limits.{HasLimits};
 ghost use Rattle.mdview.specs.Document.{size_of};
-ghost use Rattle.mdbatch.specs.BatchHtml.{WritesPage};
+ghost use Rattle.mdbatch.specs.BatchHtml.{IsReadFault, WritesPage};
 ghost use Rattle.mdbatch.specs.GatheredUnits.{setting_of};
 ghost use Rattle.mdbatch.specs.TextLabels.{target_on_page};
 ghost use Rattle.mdbatch.specs.UnitsAtOnce.{AddsUnits};
 
 use crate::page_labels::PageLabels;
-use crate::units::next_line;
-use mdblock::{BlockFault, Found, Reader};
+use crate::units::{fault_in_line, next_line};
+use mdblock::{Found, Reader};
 use mdhtml::{Options, UnitWriter};
 use mdinline::{InlineFault, LabelTable};
 use mdtext::{Entities, NoMemory, Tally};
-use mdview::Prelude;
+use mdview::{EditFault, Prelude};
 use memchr::memmem;
 use std::alloc::{AllocError, Global};
 
@@ -30,20 +30,21 @@ pub(crate) fn may_define(text: &str) -> bool {
 }
 
 /// The HTML of a text in which no U+0000 stands and which defines no label: so where labels lead is known before its first line. Nothing where a unit
-/// defines one, or where containers or spans lie too deep.
+/// defines one, or where spans lie too deep: a container may begin too deep further on, which is the answer then.
 pub(crate) fn html_at_once(
     alloc: Global,
     text: &str,
     entities: &Entities,
     options: &Options,
     prelude: &Prelude,
-) -> Result<Option<String>, NoMemory>
+) -> Result<Option<String>, EditFault>
     requires limits { HasLimits options.now }
     requires few { length (split_lines text.now) ≤ 1000000 }
     requires small { size_of (split_lines text.now) ≤ 16777216 }
     ensures html { IfOk result (λ html. IfSome html (λ html.
         WritesPage (record { entities = entities.now; options = options.now }) prelude.now (split_lines text.now) (string_bytes html))) }
     ensures nesting { IfOk result (λ html. IfSome html (λ _. first_too_deep options.now.max_containers (split_lines text.now) ≡ None)) }
+    ensures fault { IfErr result (IsReadFault (first_too_deep options.now.max_containers (split_lines text.now))) }
 {
     let no_labels = LabelTable::new(alloc);
     let labels = PageLabels {
@@ -60,13 +61,14 @@ fn written_units<'a>(
     entities: &'a Entities,
     options: &Options,
     labels: &'a PageLabels<'a>,
-) -> Result<Option<String>, NoMemory>
+) -> Result<Option<String>, EditFault>
     requires limits { HasLimits options.now }
     requires few { length (split_lines text.now) ≤ 1000000 }
     requires small { size_of (split_lines text.now) ≤ 16777216 }
     ensures adds { IfOk result (λ html. IfSome html (λ html. AddsUnits (record { entities = entities.now; options = options.now }) (target_on_page labels.now)
         (units entities.now (split_lines text.now)) [] (string_bytes html))) }
     ensures nesting { IfOk result (λ html. IfSome html (λ _. first_too_deep options.now.max_containers (split_lines text.now) ≡ None)) }
+    ensures fault { IfErr result (IsReadFault (first_too_deep options.now.max_containers (split_lines text.now))) }
 {
     let mut writer = UnitWriter::new(alloc, entities, options);
     let mut html = String::with_capacity(alloc, text.len())?;
@@ -81,8 +83,7 @@ fn written_units<'a>(
                     return Ok(None);
                 }
             }
-            Err(BlockFault::NoMemory) => return Err(AllocError),
-            Err(BlockFault::NestedTooDeep | BlockFault::Failed) => return Ok(None),
+            Err(fault) => return Err(fault_in_line(fault, reader.fed())),
         }
         rest = after;
     }
@@ -94,7 +95,7 @@ fn written_units<'a>(
             }
             Ok(Some(html))
         }
-        Err(_) => Err(AllocError),
+        Err(_) => Err(EditFault::NoMemory),
     }
 }
 

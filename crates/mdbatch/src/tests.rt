@@ -400,3 +400,23 @@ fn keeps_the_limits(rt: HostRuntime) -> Result<(), Fail> {
     );
     Ok(())
 }
+
+/// A container that begins too deep is the answer where spans lie too deep before it as well.
+#[test]
+fn containers_come_before_spans(rt: HostRuntime) -> Result<(), Fail> {
+    let alloc = rt.alloc();
+    let mut text = repeated(alloc, "*a ", 65)?;
+    text.push_str("x")?;
+    text.push_str(&repeated(alloc, " b*", 65)?)?;
+    text.push_str("\n\n")?;
+    assert_eq!(rt;
+        refused(alloc, &text, 1)?,
+        Some(EditFault::InlineTooDeep { line: 0 })
+    );
+    text.push_str(&repeated(alloc, ">", 65)?)?;
+    assert_eq!(rt;
+        refused(alloc, &text, 1)?,
+        Some(EditFault::NestedTooDeep { line: 2 })
+    );
+    Ok(())
+}

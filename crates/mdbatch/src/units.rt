@@ -68,7 +68,7 @@ pub(crate) fn next_line(text: &str) -> (&str, &str)
 }
 
 /// No line is fed after a fault, so none is answered `Failed`.
-fn fault_in_line(fault: BlockFault, line: usize) -> EditFault
+pub(crate) fn fault_in_line(fault: BlockFault, line: usize) -> EditFault
     ensures { result ≡ fault_of fault line }
 {
     match fault {

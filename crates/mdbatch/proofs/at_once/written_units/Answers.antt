@@ -1,18 +1,20 @@
-use Rattle.std.proofs.Common.{◌≡◌, ◌++◌, ◌∙◌, [], ◌∷◌, ap, arith, eqb-true, refl, rules, string_bytes, subst, sym}
+use Rattle.std.proofs.Common.{◌++◌, ◌∙◌, [], ◌∷◌, Err, ap, arith, eqb-true, refl, rules, string_bytes, subst, sym}
 use Rattle.std.proofs.lemmas.List.{nil_from_length}
 use Rattle.std.specs.Option.{option_map, option_to_list}
 use Rattle.mdtext.specs.Lines.{split_lines}
 use Rattle.blockspec.specs.BlockUnits.{units}
 use Rattle.blockspec.specs.Nesting.{first_too_deep}
+use Rattle.mdblock.specs.held.ReaderState.{ReaderState}
 use Rattle.mdblock.specs.held.Reads.{handed}
 use Rattle.mdview.specs.Document.{size_of}
 use Rattle.mdblock.specs.FoundLists.{found_unit}
 use Rattle.viewspec.specs.Setting.{Setting}
+use Rattle.mdbatch.specs.BatchHtml.{IsReadFault}
 use Rattle.mdbatch.specs.GatheredUnits.{setting_of}
 use Rattle.mdbatch.specs.TextLabels.{target_on_page}
 use Rattle.mdbatch.specs.UnitsAtOnce.{AddsUnits}
-use Rattle.viewlaws.proofs.ReadLines.{none_deep, none_handed}
-use Rattle.mdbatch.proofs.ReadLines.{all_fed, next_fed}
+use Rattle.viewlaws.proofs.ReadLines.{lines_fed, none_deep, none_handed}
+use Rattle.mdbatch.proofs.ReadLines.{all_fed, fault_is, next_fed}
 use Rattle.mdbatch.proofs.SplitText.{size_next}
 use Rattle.mdbatch.proofs.UnitsAtOnce.{added_behind, none_added}
 use Rattle.mdbatch.proofs.at_once.written_units.Goals as goal
@@ -35,6 +37,18 @@ loop-rest-init c =
       setting = ap (λ o. record { entities = (setting_of c.new-writer.result).entities; options = o }) c.new-writer.ensures.options
           ∙ ap (λ e. record { entities = e; options = c.args.options.now }) c.new-writer.ensures.entities;
     }
+
+pub returns-in-Err-clause-fault : goal.returns-in-Err-clause-fault
+returns-in-Err-clause-fault c =
+    let before = c.loop-rest.invariant.adds in
+    let limit = c.args.options.now.max_containers in
+    let rest = split_lines c.loop-rest.rest.now in
+    let line = c.next_line.result.0.now in
+    let later = split_lines c.next_line.result.1.now in
+    let fed = c.fed.ensures ∙ ap (λ (r : ReaderState). r.fed) c.in-Err.ensures.fault ∙ lines_fed limit c.args.entities.now c.loop-rest.reader before.0 before.2 in
+    subst (IsReadFault _) (sym c.fault_in_line.ensures)
+    (fault_is limit (split_lines c.args.text.now) before.0 rest line later c.in-Err.fault c.fed.result before.1 c.next_line.ensures.lines fed
+    (λ is. c.in-Err.ensures.deep (ap Err is) limit c.args.entities.now before.0 before.2))
 
 pub loop-rest-preserved : goal.loop-rest-preserved
 loop-rest-preserved c =
