@@ -120,7 +120,8 @@ impl<'a> TextReader<'a> {
             + (kept.entry.at + asking_of (entities_in room.old) (labels_before self.now) (labels_behind self.now) (drop kept.entry.at found.unit.texts)) }
     {
         let inlines = self.read_part(found.unit(), kept, room, count)?;
-        let piece = room.unit_html(found.unit().blocks(), &inlines, self.options)?;
+        let like = kept.unit.piece().len();
+        let piece = room.unit_html(found.unit().blocks(), &inlines, self.options, like)?;
         Ok(HeldUnit::new(found, inlines, piece))
     }
 

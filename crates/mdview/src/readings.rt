@@ -130,7 +130,11 @@ impl<'a> TextReader<'a> {
         ensures inlines { C.inlines count.new ≤ C.inlines count.old + texts_in found.unit }
     {
         let inlines = self.read_texts(found.unit(), held, room, count)?;
-        let piece = room.unit_html(found.unit().blocks(), &inlines, self.options)?;
+        let like = match held {
+            Some(unit) => unit.piece().len(),
+            None => 0,
+        };
+        let piece = room.unit_html(found.unit().blocks(), &inlines, self.options, like)?;
         Ok(HeldUnit::new(found, inlines, piece))
     }
 
@@ -297,7 +301,8 @@ impl<'a> TextReader<'a> {
         ensures inlines { C.inlines count.new ≤ C.inlines count.old + asking_in (entities_in room.old) (labels_before self.now) (labels_behind self.now) unit.now.read.unit }
     {
         let inlines = self.read_some(unit, room, count)?;
-        let piece = room.unit_html(unit.unit().blocks(), &inlines, self.options)?;
+        let like = unit.piece().len();
+        let piece = room.unit_html(unit.unit().blocks(), &inlines, self.options, like)?;
         Ok(Again {
             unit: number,
             inlines,

@@ -182,6 +182,31 @@ fn texts_that_stay_count(rt: HostRuntime) -> Result<(), Fail> {
     Ok(())
 }
 
+/// A piece of more than 16 KB that is made again, longer, shorter or short, is that of a preview made from nothing.
+#[test]
+fn a_long_piece_is_made_again(rt: HostRuntime) -> Result<(), Fail> {
+    let alloc = rt.alloc();
+    let mut lines = Vec::new(alloc);
+    for _ in 0..1_500 {
+        lines.push("- item")?;
+    }
+    let mut preview = preview_of(alloc, &lines)?;
+    for (at, line) in [
+        (700, "- *another* item"),
+        (1, "- i"),
+        (1_499, "> quote"),
+        (3, ""),
+    ] {
+        lines[at] = line;
+        preview
+            .edit(at, 1, &[line], &mut Tally::new())
+            .map_err(|_| "refused")?;
+        let fresh = preview_of(alloc, &lines)?;
+        assert_eq!(rt; preview.piece(0), fresh.piece(0), "{line:?}");
+    }
+    Ok(())
+}
+
 #[test]
 fn the_first_definition_counts(rt: HostRuntime) -> Result<(), Fail> {
     let alloc = rt.alloc();
