@@ -85,31 +85,6 @@ fn labels_are_shown_by_their_text(rt: HostRuntime) -> Result<(), Fail> {
 }
 
 #[test]
-fn labels_are_in_the_order_of_their_texts(rt: HostRuntime) -> Result<(), Fail> {
-    let texts = [
-        "a",
-        "b",
-        "a\u{1}",
-        "abcdefg",
-        "abcdefh",
-        "abcdefgh",
-        "abcdefgi",
-        "abcdefghi",
-        "abcdefghj",
-        "abcdefg\u{1}",
-        "\u{E4}bc",
-        "\u{FFFD}",
-    ];
-    for one in texts {
-        for other in texts {
-            let order = folded(&rt, one)?.cmp(&folded(&rt, other)?);
-            assert_eq!(rt; order, one.cmp(other), "{one:?} and {other:?}");
-        }
-    }
-    Ok(())
-}
-
-#[test]
 fn what_is_no_label_leaves_a_label_as_it_was(rt: HostRuntime) -> Result<(), Fail> {
     let mut label = Label::new(rt.alloc());
     assert!(rt; label.fold(rt.alloc(), "Foo bar")?);
