@@ -13,7 +13,7 @@ pub trait Count {
         ensures line { lines self.new ≡ counted (lines self.old) }
         ensures inline { inlines self.new ≡ inlines self.old };
 
-    /// One more inline text was read.
+    /// One more inline text was read, or was found to be one that was read before.
     fn inline(&mut self)
         ensures inline { inlines self.new ≡ counted (inlines self.old) }
         ensures line { lines self.new ≡ lines self.old };
