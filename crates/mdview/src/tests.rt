@@ -197,7 +197,9 @@ fn a_long_piece_is_made_again(rt: HostRuntime) -> Result<(), Fail> {
         (1_499, "> quote"),
         (3, ""),
     ] {
-        lines[at] = line;
+        if let Some(place) = lines.get_mut(at) {
+            *place = line;
+        }
         preview
             .edit(at, 1, &[line], &mut Tally::new())
             .map_err(|_| "refused")?;
