@@ -1,6 +1,9 @@
 -- Parts of items, as they are seen; and the items that a list's later items are told by.
-use Rattle.std.proofs.Common.{◌≡◌, ℕ, zero, suc, ◌-◌, List, [], ◌∷◌, ◌++◌, drop, length, refl, ◌∙◌, ap, arith, length-append}
+use Rattle.std.proofs.Common.{◌||◌, map, ◌≡◌, ℕ, zero, suc, ◌-◌, List, [], ◌∷◌, ◌++◌, drop, length, refl, ◌∙◌, ap, arith, length-append}
+use Rattle.std.specs.List.{list_any}
 use Rattle.std.specs.Prelude.{take}
+use Rattle.mdblock.specs.FoundLists.{join_mark}
+use Rattle.mdblock.specs.declared.units.Join as declared
 use Rattle.blockspec.specs.BlockTree.{item}
 use Rattle.itemspec.specs.ItemMarks.{ItemMark}
 use Rattle.mdblock.specs.BlockView.{item_view, items_view}
@@ -30,3 +33,8 @@ pub last_mark : (front : List ItemMark) (mark : ItemMark) → mark_at (front ++ 
 last_mark front mark =
     let n : length (front ++ mark ∷ []) - 1 ≡ length front = (let p = length-append front (mark ∷ []) in omega (arith, p)) in
     ap (λ z. mark_at (front ++ mark ∷ []) z) n ∙ mark_there front mark []
+
+-- whether one makes its list loose
+pub loose_mapped : (js : List declared.Join) → list_any (λ (j : declared.Join). j.loose) js ≡ list_any (λ (mark : ItemMark). mark.loose) (map join_mark js)
+loose_mapped [] = refl
+loose_mapped (j ∷ js) = ap (λ z. j.loose || z) (loose_mapped js)

@@ -27,6 +27,9 @@ pub mod NoDefinitions
 pub mod PartedLaws
 pub mod PlacedNodes
 pub mod ReadsLaws
+pub mod ResumedItems
+pub mod ResumedLists
+pub mod ResumedReading
 pub mod RowStarts
 pub mod SingleItems
 pub mod Skips

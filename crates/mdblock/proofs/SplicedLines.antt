@@ -62,18 +62,18 @@ front_and_behind e xs (l ∷ ls) more = go (begins_unit xs l) refl (front_and_be
 -- ---- the lines that are held where the last one begins a later item
 
 -- those before it, and those with it
-record HeldJoin (xs : List BlockLine) (l : BlockLine) : Type 0 where
+pub record HeldJoin (xs : List BlockLine) (l : BlockLine) : Type 0 where
   pub joins : joins_list (lines_held [] xs) l ≡ true
   pub held : lines_held [] (xs ++ l ∷ []) ≡ lines_held [] xs ++ l ∷ []
 
-begins_none : (xs : List BlockLine) (l : BlockLine) → joins_list xs l ≡ true → begins_unit xs l ≡ false
+pub begins_none : (xs : List BlockLine) (l : BlockLine) → joins_list xs l ≡ true → begins_unit xs l ≡ false
 begins_none xs l j = go (begins_unit xs l) refl
   where
     go : (b : Bool) → begins_unit xs l ≡ b → b ≡ false
     go false b = refl
     go true b = absurd (let other : joins_list xs l ≡ false = no_join xs l b in let x : true ≡ false = sym j ∙ other in let y : ⊥ = cc in y)
 
-held_join : (xs : List BlockLine) (l : BlockLine) → joins_list xs l ≡ true → HeldJoin xs l
+pub held_join : (xs : List BlockLine) (l : BlockLine) → joins_list xs l ≡ true → HeldJoin xs l
 held_join xs l j =
     let H = lines_held [] xs in
     let joins : joins_list H l ≡ true = held_joins [] xs l ∙ j in
@@ -98,13 +98,13 @@ if_joined limit e reading ls j r = go reading.held j r.4
     go (Some held) j w = sym w.1 ∙ j
 
 -- an old list is cut at each of its later items
-record MarkCut (marks : List ItemMark) (k : ℕ) : Type 0 where
+pub record MarkCut (marks : List ItemMark) (k : ℕ) : Type 0 where
   pub before : List ItemMark
   pub behind : List ItemMark
   pub is : marks ≡ before ++ mark_at marks k ∷ behind
   pub size : length before ≡ k
 
-mark_cut : (marks : List ItemMark) (k : ℕ) → k < length marks → MarkCut marks k
+pub mark_cut : (marks : List ItemMark) (k : ℕ) → k < length marks → MarkCut marks k
 mark_cut [] k h = absurd (omega (arith, h))
 mark_cut (m ∷ marks) zero h = record { before = []; behind = marks; is = refl; size = refl }
 mark_cut (m ∷ marks) (suc k) h =
@@ -126,7 +126,7 @@ full_begin : (k : ℕ) (us : List FoundUnit) (v : FoundUnit) (vs : List FoundUni
 full_begin k [] v vs = refl
 full_begin k (u ∷ us) v vs = refl
 
-begin_at : (e : EntityTable) (xs : List (List ℕ)) (l : List ℕ) → (let X = map document_line xs in let L = document_line l in HeldJoin X L → open_begin e (xs ++ l ∷ []) ≡ Some (front_lines [] (X ++ L ∷ [])))
+pub begin_at : (e : EntityTable) (xs : List (List ℕ)) (l : List ℕ) → (let X = map document_line xs in let L = document_line l in HeldJoin X L → open_begin e (xs ++ l ∷ []) ≡ Some (front_lines [] (X ++ L ∷ [])))
 begin_at e xs l h =
     let X = map document_line xs in
     let L = document_line l in
@@ -141,7 +141,7 @@ begin_at e xs l h =
 
 -- ---- the lines from there on
 
-with_lines : (xs : List (List ℕ)) (l : List ℕ) (ys : List (List ℕ)) → map document_line (xs ++ l ∷ ys) ≡ (map document_line xs ++ document_line l ∷ []) ++ map document_line ys
+pub with_lines : (xs : List (List ℕ)) (l : List ℕ) (ys : List (List ℕ)) → map document_line (xs ++ l ∷ ys) ≡ (map document_line xs ++ document_line l ∷ []) ++ map document_line ys
 with_lines xs l ys = map-append document_line xs (l ∷ ys) ∙ sym (append_assoc (map document_line xs) (document_line l ∷ []) (map document_line ys))
 
 held_from : (xs : List (List ℕ)) (l : List ℕ) (ys : List (List ℕ)) →

@@ -31,13 +31,13 @@ StandsForLines e f ls = (units_of e ls ≡ record { begin = 0; lines = f.lines; 
 
 -- ---- what stands for lines that are one list
 
-abbrev found_at : (lines : ℕ) → UnitTree → FoundUnit
+abbrev pub found_at : (lines : ℕ) → UnitTree → FoundUnit
 found_at lines unit = record { begin = 0; lines = lines; unit = unit }
 
-same_found : (m n : ℕ) (u v : UnitTree) → found_at m u ∷ [] ≡ found_at n v ∷ [] → (m ≡ n) × (u ≡ v)
+pub same_found : (m n : ℕ) (u v : UnitTree) → found_at m u ∷ [] ≡ found_at n v ∷ [] → (m ≡ n) × (u ≡ v)
 same_found m n u v e = let s : found_at m u ≡ found_at n v = cc in (ap (λ (f : FoundUnit). f.lines) s, ap (λ (f : FoundUnit). f.unit) s)
 
-one_unit : (us : List FoundUnit) (lines : ℕ) (unit : UnitTree) → us ≡ found_at lines unit ∷ [] → IsOne (begins_in us)
+pub one_unit : (us : List FoundUnit) (lines : ℕ) (unit : UnitTree) → us ≡ found_at lines unit ∷ [] → IsOne (begins_in us)
 one_unit us lines unit is = subst (λ z. IsOne (begins_in z)) (sym is) refl
 
 same_list : (e : EntityTable) (xs : List BlockLine) (kind other : ListKind) (first one : ListItem) (later more : List ListItem) → top_blocks e xs ≡ ItemList kind first later ∷ [] → top_blocks e xs ≡ ItemList other one more ∷ [] →
@@ -77,7 +77,7 @@ front_first e f xs l kind first later is stands w =
     ∙ ap (λ z. found_at n (list_unit kind t (items_before (nodes_of_items first z) M)) ∷ []) same.2)
 
 -- each item of the lists that lines give has one node
-single_list : (e : EntityTable) (xs : List BlockLine) (kind : ListKind) (first : ListItem) (later : List ListItem) → top_blocks e xs ≡ ItemList kind first later ∷ [] → IsSingle first.nodes × AreSingle later
+pub single_list : (e : EntityTable) (xs : List BlockLine) (kind : ListKind) (first : ListItem) (later : List ListItem) → top_blocks e xs ≡ ItemList kind first later ∷ [] → IsSingle first.nodes × AreSingle later
 single_list e xs kind first later is = let w : SingleTops (ItemList kind first later ∷ []) = subst SingleTops is (blocks_single e xs) in w.0
 
 items_in : Part → ItemNodes
@@ -85,7 +85,7 @@ items_in (Leaves leaves) = no_item_nodes
 items_in (Quoted nodes) = no_item_nodes
 items_in (Listed kind tight items) = items
 
-nodes_together : (kind : ListKind) (first : ListItem) (later : List ListItem) (gap : Bool) (k : ℕ) (item : ListItem) (items : List ListItem) →
+pub nodes_together : (kind : ListKind) (first : ListItem) (later : List ListItem) (gap : Bool) (k : ℕ) (item : ListItem) (items : List ListItem) →
     nodes_of_items first (later ++ items_behind gap k item items) ≡ items_before (nodes_of_items first later) (nodes_of_items item items)
 unfolding items_in
 nodes_together kind first later gap k item items = ap (λ (g : Group). items_in g.part) (list_together kind first later gap k item items)
@@ -107,7 +107,7 @@ record Known (e : EntityTable) (xs zs : List BlockLine) (l : BlockLine) (ys : Li
 last_is : (e : EntityTable) (xs : List BlockLine) (marks : List ItemMark) → marks ≡ list_marks e xs ++ mark_behind e xs ∷ [] → mark_at marks (length marks - 1) ≡ mark_behind e xs
 last_is e xs marks is = ap (λ (z : List ItemMark). mark_at z (length z - 1)) is ∙ last_mark (list_marks e xs) (mark_behind e xs)
 
-definitions_before : (e : EntityTable) (xs : List BlockLine) (kind : ListKind) (first : ListItem) (later : List ListItem) → top_blocks e xs ≡ ItemList kind first later ∷ [] →
+pub definitions_before : (e : EntityTable) (xs : List BlockLine) (kind : ListKind) (first : ListItem) (later : List ListItem) → top_blocks e xs ≡ ItemList kind first later ∷ [] →
     (mark_behind e xs).definitions ≡ definitions_of (nodes_of_items first later)
 definitions_before e xs kind first later is = ap (λ (m : ItemMark). m.definitions) (behind_is e xs kind first later is)
 

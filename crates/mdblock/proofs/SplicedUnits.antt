@@ -48,7 +48,7 @@ items_spliced n N P =
     ∙ ap (placed_before kept) (items_placed_copied (0 + texts_of N) n P)
     ∙ sym (placed_items_before 0 N P)
 
-texts_kept : (N M : ItemNodes) → texts_at (texts_in_items (items_before N M) ++ []) (items_positions (placed_items 0 N)) ≡ texts_in_items N
+pub texts_kept : (N M : ItemNodes) → texts_at (texts_in_items (items_before N M) ++ []) (items_positions (placed_items 0 N)) ≡ texts_in_items N
 texts_kept N M =
     ap (λ z. texts_at z (items_positions (placed_items 0 N))) (append-nil (texts_in_items (items_before N M)) ∙ texts_together N M)
     ∙ ap (texts_at (texts_in_items N ++ texts_in_items M)) (items_placed_positions 0 N)
@@ -63,7 +63,7 @@ texts_later O P =
     ∙ ap (λ z. texts_at (texts_in_items O ++ z) (range_with_len (texts_of O) (texts_of P))) (sym (append-nil (texts_in_items P)))
     ∙ texts_there (texts_in_items O) (texts_in_items P) []
 
-definitions_kept : (N M : ItemNodes) → take (definitions_of N) (definitions_in_items (items_before N M) ++ []) ≡ definitions_in_items N
+pub definitions_kept : (N M : ItemNodes) → take (definitions_of N) (definitions_in_items (items_before N M) ++ []) ≡ definitions_in_items N
 definitions_kept N M =
     ap (take (definitions_of N)) (append-nil (definitions_in_items (items_before N M)) ∙ definitions_together N M)
     ∙ take-append_seam (definitions_in_items N) (definitions_in_items M)

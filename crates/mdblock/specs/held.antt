@@ -17,5 +17,6 @@ pub mod StartSpans
 pub mod ParagraphLines
 pub mod ReaderState
 pub mod Reads
+pub mod ResumedItems
 pub mod StartParts
 pub mod TreesBehind

@@ -12,6 +12,7 @@ mod leaf;
 mod lines;
 mod open_blocks;
 mod readers;
+mod resuming;
 mod splicing;
 mod text_order;
 mod units;

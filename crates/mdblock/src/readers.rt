@@ -9,6 +9,7 @@ ghost use Rattle.blockspec.specs.BlockUnits.{units};
 ghost use Rattle.blockspec.specs.Nesting.{first_too_deep};
 ghost use Rattle.blockspec.specs.SummaryDepth.{sinks};
 ghost use Rattle.mdblock.specs.FoundLists.{AreJoinsOf, StandsForUnit, found_unit, join_mark};
+ghost use Rattle.mdblock.specs.Spliced.{mark_at};
 ghost use Rattle.mdblock.specs.held.Continuations.{IsBeginningOf, IsContinuationOf, ContinuesOpen, begins_item};
 ghost use Rattle.mdblock.specs.held.EndedItems.{IsNextIn};
 ghost use Rattle.mdblock.specs.held.LinesAdded.{ContinuesLevel};
@@ -24,6 +25,8 @@ use crate::faults::BlockFault;
 use crate::gathering::Gathering;
 use crate::lines::Line;
 use crate::open_blocks::{Continuation, Level};
+use crate::resuming::item_behind;
+use crate::splicing::join_at;
 use crate::units::{Found, Join};
 use mdtext::{Count, Entities};
 use std::alloc::{AllocError, Global};
@@ -86,6 +89,47 @@ impl<'e> Reader<'e> {
             fed: 0,
             held: Some(OpenUnit::new(alloc, entities, None)),
         }
+    }
+
+    /// A reader that goes on inside a list that was found: it has read the list's lines up to its join `k`, and that line, which is `text`. So many containers, 1 to
+    /// 256, may be open inside one another. Nothing, where the line begins no item of the list. No line is counted. Takes memory for the items before that
+    /// one (CommonMark 5.3).
+    pub fn resume(
+        alloc: Global,
+        entities: &'e Entities,
+        limit: usize,
+        old: &Found,
+        k: usize,
+        text: &str,
+    ) -> Result<Option<Reader<'e>>, AllocError>
+        requires some { 1 ≤ limit }
+        requires few { limit ≤ 256 }
+        requires short { 4 * length text.now < 2 ^ 64 }
+        ensures fed { IfOk result (λ resumed. IfSome resumed (λ reader. reader.fed ≡ (mark_at old.now.marks k).line + 1)) }
+        ensures reads { IfOk result (λ resumed. IfSome resumed (λ reader. (zs ys : List (List ℕ)) → StandsForUnit entities.now old.now (zs ++ text.now ∷ ys)
+            → (mark_at old.now.marks k).line ≡ length zs → first_too_deep limit (zs ++ text.now ∷ ys) ≡ None → Reads limit entities.now reader (zs ++ text.now ∷ []))) }
+    {
+        let item = match item_behind(alloc, entities, limit, old, k, text) {
+            Ok(Some(item)) => item,
+            Err(BlockFault::NoMemory) => return Err(AllocError),
+            _ => return Ok(None),
+        };
+        let Some(fed) = join_at(old.joins(), k).line.checked_add(1) else {
+            return Ok(None);
+        };
+        Ok(Some(Reader {
+            alloc,
+            entities,
+            limit,
+            fed,
+            held: Some(OpenUnit {
+                level: item.level,
+                gathering: item.gathering,
+                begin: Some(0),
+                joins: item.joins,
+                joined: true,
+            }),
+        }))
     }
 
     /// Counts the next line, which has no line ending, and reads it. Answers the unit before the one that the line begins.

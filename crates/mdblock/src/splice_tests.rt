@@ -56,14 +56,18 @@ fn read<'e>(
     lines: &[&'static str],
 ) -> Result<Reader<'e>, AllocError> {
     let mut reader = Reader::new(alloc, entities, LIMIT);
+    read_on(&mut reader, lines);
+    Ok(reader)
+}
+
+fn read_on(reader: &mut Reader<'_>, lines: &[&'static str]) {
     let mut count = Tally::new();
     for line in lines {
         if reader.fed() == usize::MAX || line.len() > usize::MAX / 4 {
-            return Ok(reader);
+            return;
         }
         let _ = reader.line(line, &mut count);
     }
-    Ok(reader)
 }
 
 /// All that is told of a unit.
@@ -145,6 +149,65 @@ fn join_all(
         }
     }
     Ok(count)
+}
+
+/// Goes on inside a list from each of its later items, and answers how many it has.
+fn resume_all(
+    rt: &impl Abort,
+    alloc: Global,
+    entities: &Entities,
+    lines: &[&'static str],
+) -> Result<usize, AllocError> {
+    let Ok(Some(found)) = read(alloc, entities, lines)?.finish() else {
+        return Ok(0);
+    };
+    let own = lines.get(found.begin()..).unwrap_or(&[]);
+    let want = whole(alloc, entities, own, &[])?;
+    for k in 0..found.joins().len() {
+        let at = found.joins()[k].line;
+        let text = own.get(at).unwrap_or(&"");
+        if text.len() > usize::MAX / 4 {
+            continue;
+        }
+        let Some(mut reader) = Reader::resume(alloc, entities, LIMIT, &found, k, text)? else {
+            assert!(rt; false);
+            continue;
+        };
+        assert!(rt; reader.joined());
+        assert_eq!(rt; reader.fed(), at.saturating_add(1));
+        read_on(&mut reader, own.get(at.saturating_add(1)..).unwrap_or(&[]));
+        let Ok(last) = reader.finish() else {
+            assert!(rt; false);
+            continue;
+        };
+        assert_eq!(rt; told(alloc, last)?.as_str(), want.as_str());
+    }
+    Ok(found.joins().len())
+}
+
+#[test]
+fn lists_are_read_on_from_each_item(rt: HostRuntime) -> Result<(), Fail> {
+    let a = rt.alloc();
+    let entities = Entities::builtin(a)?;
+    let mut seed = 5;
+    let mut count: usize = 0;
+    for _ in 0..2000 {
+        let mut lines = some_lines(a, &mut seed)?;
+        for line in some_lines(a, &mut seed)? {
+            lines.push(line)?;
+        }
+        count = count.saturating_add(resume_all(&rt, a, &entities, &lines)?);
+    }
+    let Ok(Some(found)) = read(a, &entities, &["- a", "- b"])?.finish() else {
+        assert!(rt; false);
+        return Ok(());
+    };
+    // A line that begins no item of the list, and a join that is not there.
+    assert!(rt; Reader::resume(a, &entities, LIMIT, &found, 0, "1. b")?.is_none());
+    assert!(rt; Reader::resume(a, &entities, LIMIT, &found, 0, "b")?.is_none());
+    assert!(rt; Reader::resume(a, &entities, LIMIT, &found, 1, "- b")?.is_none());
+    assert!(rt; count > 500);
+    Ok(())
 }
 
 #[test]

@@ -107,7 +107,7 @@ fn taken_items(
 }
 
 /// The join of that number; where there is none, what stands before a list's first item.
-fn join_at(joins: &[Join], k: usize) -> Join
+pub(crate) fn join_at(joins: &[Join], k: usize) -> Join
     ensures { join_mark result ≡ mark_at (map join_mark joins.now) k }
 {
     match joins.get(k) {
@@ -129,7 +129,7 @@ fn behind<T>(all: &[T], count: usize) -> &[T]
 }
 
 /// The items of a list that stands first; none where no list does.
-fn list_items(blocks: &[Block]) -> &[Item]
+pub(crate) fn list_items(blocks: &[Block]) -> &[Item]
     ensures { items_view result.now ≡ first_items (blocks_view blocks.now) }
 {
     match blocks.first() {
@@ -149,7 +149,7 @@ fn into_items(alloc: Global, blocks: Vec<Block>) -> Vec<Item>
 }
 
 /// The kind of a list that stands first.
-fn list_kind(blocks: &[Block]) -> Option<ListKind>
+pub(crate) fn list_kind(blocks: &[Block]) -> Option<ListKind>
     ensures { option_map kind_view result ≡ first_kind (blocks_view blocks.now) }
 {
     match blocks.first() {

@@ -55,3 +55,4 @@ pub mod LabelMarkLaws
 pub mod PassedUnits
 pub mod KeptTexts
 pub mod SoonTexts
+pub mod ResumedReading

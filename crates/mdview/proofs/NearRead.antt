@@ -44,7 +44,7 @@ ok_any (Ok x) p = p
 ok_any (Err y) p = tt
 
 -- the lines from one on up to another are those up to one between, and more
-longer : (new : List (List ℕ)) (from n m : ℕ) → from ≤ n → n ≤ m → m ≤ length new → drop from (take m new) ≡ drop from (take n new) ++ drop n (take m new)
+pub longer : (new : List (List ℕ)) (from n m : ℕ) → from ≤ n → n ≤ m → m ≤ length new → drop from (take m new) ≡ drop from (take n new) ++ drop n (take m new)
 longer new from n m low mid high =
     let size = length-take-le n new (omega (arith, mid, high)) in
     ap (drop from) (sym (take-append-drop n (take m new)) ∙ ap (λ z. z ++ drop n (take m new)) (take-take n m new mid))

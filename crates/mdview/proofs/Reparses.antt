@@ -21,7 +21,7 @@ use Rattle.viewlaws.specs.UnitTiles.{IsAhead, begins_from}
 use Rattle.blocklaws.proofs.NestingLaws.{moved_on}
 use Rattle.viewlaws.proofs.Cuts.{begins_before_end, begins_within}
 use Rattle.viewlaws.proofs.Depths.{deep_spliced}
-use Rattle.viewlaws.proofs.ReadLines.{none_deep, none_handed}
+use Rattle.viewlaws.proofs.ReadLines.{none_deep}
 use Rattle.viewlaws.proofs.Splices.{IsEdit, from_above}
 use Rattle.viewlaws.proofs.StretchEnds.{counts_join, deep_here, fits_before, handed_above}
 use Rattle.viewlaws.proofs.StretchReadings.{meets_at, meets_nowhere}
@@ -33,7 +33,7 @@ use Rattle.mdview.specs.NewText.{lines_of}
 use Rattle.mdview.specs.declared.new_text.NewText.{NewText}
 use Rattle.mdview.proofs.EditPlaces.{begins_are, begins_many}
 use Rattle.mdview.proofs.ListsStand.{all_longer, stands_pushed}
-use Rattle.mdview.proofs.ReadStretches.{is_edit, meets_later, none_more, stretch_next, stretch_none, stretch_rest, stretch_size, tells_begin}
+use Rattle.mdview.proofs.ReadStretches.{is_edit, meets_later, none_more, stretch_next, stretch_rest, stretch_size, tells_begin}
 
 -- units that are pushed, without their later items
 pub units_pushed : (old new : List FoundList) (unit : Option FoundList) → new ≡ old ++ option_to_list unit → map found_unit new ≡ map found_unit old ++ option_to_list (option_map found_unit unit)
@@ -53,26 +53,12 @@ pub record ReadAbove (limit : ℕ) (e : EntityTable) (new : List (List ℕ)) (p 
   pub handed_out : found ≡ handed e (drop (from_line p) (take line new))
   pub none : (before : ℕ) → Contains (begins e new) before → before < line → is_meeting p before ≡ false
 
-not_behind : (p : Places) (line : ℕ) → line < p.at + p.come → is_meeting p line ≡ false
-not_behind p line h =
-    let no : nat_le (p.at + p.come) line ≡ false = grind (arith, nat_tests, h) in ap (λ t. t && list_any (nat_eq (old_line p line)) p.old_begins) no
-
 same_place : (p : Places) (line : ℕ) → p.at + p.come ≤ line → line_before p line ≡ old_line p line
 same_place p line h = omega (arith, h)
 
 module _ (limit : ℕ) (e : EntityTable) (old new : List (List ℕ)) (p : Places) (w : IsEdit e old new p) where
   pub in_new : p.at ≤ length new
   in_new = let a = w.fits in let b = w.sizes in omega (arith, a, b)
-
-  pub read_first : (reader : ReaderState) (found : List FoundUnit) → Reads limit e reader [] → found ≡ [] → ReadAbove limit e new p reader found (from_line p)
-  read_first reader found reads none =
-      let above = from_above e old new p w in
-      let empty = stretch_none new (from_line p) (omega (arith, above, in_new)) in
-      record {
-        reads = subst (Reads limit e reader) (sym empty) reads;
-        handed_out = none ∙ sym (none_handed e) ∙ ap (handed e) (sym empty);
-        none = λ before c small. not_behind p before (omega (arith, small, above));
-      }
 
   -- one line more
   pub read_next : (old_reader reader : ReaderState) (old_found found : List FoundUnit) (unit : Option FoundUnit) (line : ℕ) (d : List ℕ) → from_line p ≤ line → line < length new

@@ -1,8 +1,9 @@
 //! A unit that is held: with what its texts read as, and its HTML.
 
-ghost use Rattle.std.specs.Prelude.{◌≡◌, ◌≤◌, ◌+◌, ◌-◌, IfSome, Some, is_some, length, map, nat_eq, slice_get, string_bytes};
+ghost use Rattle.std.specs.Prelude.{◌≡◌, ◌<◌, ◌≤◌, ◌+◌, ◌-◌, IfSome, Some, is_some, length, map, nat_eq, slice_get, string_bytes};
 ghost use Rattle.std.specs.List.{list_any};
 ghost use Rattle.std.specs.List.Sorted.{IsNonDecreasing};
+ghost use Rattle.mdblock.specs.Spliced.{mark_at};
 ghost use Rattle.mdview.specs.HeldLists.{item_line, list_in, unplaced};
 ghost use Rattle.mdview.specs.LabelMarks.{held_marks};
 
@@ -80,6 +81,21 @@ impl HeldUnit {
         let place = joins.partition_point(|join| join.line < line);
         if joins.get(place)?.line == line {
             Some(place)
+        } else {
+            None
+        }
+    }
+
+    /// The last of its later items that begins above this line of the unit, if it is a list.
+    pub(crate) fn item_above(&self, line: usize) -> Option<usize>
+        ensures { IfSome result (λ i. (i < length self.now.read.items) × ((mark_at self.now.read.items i).line < line)) }
+    {
+        let joins = self.found.joins();
+        let item = joins
+            .partition_point(|join| join.line < line)
+            .checked_sub(1)?;
+        if joins.get(item)?.line < line {
+            Some(item)
         } else {
             None
         }

@@ -1,6 +1,6 @@
 //! Reads the lines again that an edit may have changed the blocks of.
 
-ghost use Rattle.std.specs.Prelude.{◌≡◌, ◌≤◌, ◌+◌, ◌<◌, ◌-◌, ◌^◌, ◌++◌, ◌&&◌, ◌∷◌, ℕ, List, None, Some, IfErr, IfOk, IfSome, OnOk, [], is_some, length, map, min, sum_by, true};
+ghost use Rattle.std.specs.Prelude.{◌≡◌, ◌≤◌, ◌+◌, ◌<◌, ◌-◌, ◌^◌, ◌++◌, ◌&&◌, ◌∷◌, ℕ, List, None, Some, IfErr, IfOk, IfSome, OnOk, [], drop, is_some, length, map, min, sum_by, take, true};
 ghost use Rattle.std.specs.Option.{option_to_list};
 ghost use Rattle.mdtext.specs.EntityTable.{EntityTable};
 ghost use Rattle.blockspec.specs.BlockUnits.{begins, units};
@@ -9,7 +9,7 @@ ghost use Rattle.itemspec.specs.Joins.{is_joined};
 ghost use Rattle.joinspec.specs.Stops.{is_near, lines_to_stop};
 ghost use Rattle.mdblock.specs.FoundLists.{FoundList, found_unit};
 ghost use Rattle.mdblock.specs.held.ReaderState.{held_joined};
-ghost use Rattle.mdblock.specs.held.Reads.{Reads, open_begin};
+ghost use Rattle.mdblock.specs.held.Reads.{Reads, handed, open_begin};
 ghost use Rattle.mdhtml.specs.Limits.{HasLimits};
 ghost use Rattle.viewspec.specs.Stretch.{is_meeting};
 ghost use Rattle.viewlaws.specs.UnitTexts.{trees_in};
@@ -26,10 +26,12 @@ ghost use Rattle.mdview.specs.ReadingFaults.{OfBlocks};
 ghost use Rattle.mdview.specs.declared.fault.EditFault.TheVariants.{NoMemory};
 
 use crate::fault::EditFault;
+use crate::held_units::HeldUnit;
 use crate::new_text::NewText;
-use crate::resuming::{HeldItem, Resume, UnitCursor, resume_at};
+use crate::resuming::{HeldItem, Resume, UnitCursor, UnitStart, resume_at};
 use crate::update::HeldText;
 use mdblock::{BlockFault, Found, Reader, splice};
+use mdchunks::Chunks;
 use mdtext::Count;
 use std::alloc::AllocError;
 
@@ -54,7 +56,7 @@ pub(crate) struct Reparsed {
 }
 
 /// Reads blocks from the last unit that begins above the edit up to where a unit begins behind it that is held, or a later item of a list is held that begins
-/// there in both texts, or to the end. Each line that is read is counted.
+/// there in both texts, or to the end. Each line that is read is counted, and so is each that a reader takes over from a held list.
 pub(crate) fn reparse<C: Count>(
     held: &HeldText<'_>,
     text: NewText<'_>,
@@ -81,9 +83,11 @@ pub(crate) fn reparse<C: Count>(
     let first = start.unit;
     let mut cursor = UnitCursor::at(held.units, start);
     let mut found = Vec::new(held.alloc);
-    let mut reader = Reader::new(held.alloc, held.entities, held.options.max_containers);
-    let mut ahead = text.lines_from(from);
-    for line in from..text.len() {
+    let mut reader = begun_reader(held, text, from, start)?;
+    let begun = from + reader.fed();
+    count_lines(reader.fed(), count);
+    let mut ahead = text.lines_from(begun);
+    for line in begun..text.len() {
         match reader.line(text.line(line, &mut ahead), count) {
             Ok(unit) => push_some(&mut found, unit)?,
             Err(fault) => return Err(fault_in_line(fault, line)),
@@ -123,6 +127,75 @@ pub(crate) fn reparse<C: Count>(
         found,
         kept: None,
     })
+}
+
+/// A reader that begins in line `from`. Where the unit `start` begins there, is a list and has a later item above the edit, it has read the lines up to the last
+/// such item, and that item's first line.
+fn begun_reader<'a>(
+    held: &HeldText<'a>,
+    text: NewText<'a>,
+    from: usize,
+    start: UnitStart,
+) -> Result<Reader<'a>, AllocError>
+    requires limits { HasLimits held.now.options.now }
+    requires few { length (lines_of text) ≤ 1000000 }
+    requires small { size_of (lines_of text) ≤ 16777216 }
+    requires old { length (old_lines text) ≤ 1000000 }
+    requires held { HoldsUnits held.now.entities.now (old_lines text) held.now.head (map read_of held.now.units.now.items) }
+    requires fits { first_too_deep held.now.options.now.max_containers (old_lines text) ≡ None }
+    requires from { from ≤ text.at }
+    requires counted { IsCounted held.now.head held.now.units.now.items start }
+    ensures above { IfOk result (λ reader. from + reader.fed ≤ text.entry.at) }
+    ensures reads { IfOk result (λ reader.
+        Reads held.now.options.now.max_containers held.now.entities.now reader (drop from (take (from + reader.fed) (lines_of text.entry)))) }
+    ensures none { IfOk result (λ reader. handed held.now.entities.now (drop from (take (from + reader.fed) (lines_of text.entry))) ≡ []) }
+{
+    let limit = held.options.max_containers;
+    if let Some(item) = item_above(held.units, text, from, start) {
+        let list = item.unit.found();
+        let number = from + list.joins()[item.item].line;
+        let mut ahead = text.lines_from(number);
+        let line = text.line(number, &mut ahead);
+        let resumed = Reader::resume(held.alloc, held.entities, limit, list, item.item, line)?;
+        if let Some(reader) = resumed {
+            return Ok(reader);
+        }
+    }
+    Ok(Reader::new(held.alloc, held.entities, limit))
+}
+
+/// Where the unit `start` begins in line `from` and is a list, the last of its later items above the edit.
+fn item_above<'a>(
+    units: &'a Chunks<HeldUnit>,
+    text: NewText<'_>,
+    from: usize,
+    start: UnitStart,
+) -> Option<HeldItem<'a>>
+    ensures item { IfSome result (IsItemOf units.now.items) }
+    ensures begins { IfSome result (λ item. (item.number ≡ start.unit) × (start.line ≡ from)) }
+    ensures above { IfSome result (λ item. from + (mark_in item).line < text.entry.at) }
+{
+    // In front of the first unit reading begins with the text.
+    if start.line != from {
+        return None;
+    }
+    let unit = units.get(start.unit)?;
+    let item = unit.item_above(text.at().checked_sub(from)?)?;
+    Some(HeldItem {
+        unit,
+        number: start.unit,
+        item,
+    })
+}
+
+/// Counts so many lines.
+fn count_lines<C: Count>(lines: usize, count: &mut C)
+    ensures lines { C.lines count.new ≤ C.lines count.old + lines }
+    ensures inlines { C.inlines count.new ≡ C.inlines count.old }
+{
+    for _ in 0..lines {
+        count.line();
+    }
 }
 
 /// A list that goes on in one that is held: what was read, of which the last line begins that item, and the held list's items from there on.

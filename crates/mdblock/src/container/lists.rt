@@ -51,6 +51,24 @@ impl OpenList {
         }
     }
 
+    /// A list of this kind whose last item is open, with the columns that the item's later lines need; these are the items before it.
+    pub(crate) fn going_on(kind: ListKind, items: Vec<Item>, loose: bool, needed: usize) -> OpenList
+        ensures kind { result.kind ≡ kind }
+        ensures items { result.items ≡ items }
+        ensures loose { result.loose ≡ loose }
+        ensures needed { result.needed ≡ needed }
+        ensures open { result.item_open ≡ true }
+    {
+        OpenList {
+            kind,
+            loose,
+            items,
+            item_open: true,
+            needed,
+            parted: false,
+        }
+    }
+
     /// Whether its last item is open.
     pub(crate) fn is_open(&self) -> bool
         ensures { result ≡ self.now.item_open }
@@ -86,15 +104,7 @@ impl OpenList {
         ensures begins { IfSome result (λ marker. begun line.now ≡ Holds (item_of line.now marker)) }
         ensures same { is_some result ≡ same_mark (Some (kind_view self.now.kind)) (list_mark (begun line.now)) }
     {
-        match opening {
-            Some(BlockStart::Item(marker)) => {
-                if is_same_list(self.kind, kind_of(marker)) {
-                    return Some(marker);
-                }
-                None
-            }
-            _ => None,
-        }
+        next_of(self.kind, line, opening)
     }
 
     /// Begins the next item; a gap before it makes the list loose.
@@ -134,6 +144,24 @@ impl OpenList {
             tight: !self.loose,
             items: self.items,
         }
+    }
+}
+
+/// The marker of an item of a list of this kind, where a line begins one; `opening` is what it begins.
+pub(crate) fn next_of(kind: ListKind, line: &Line, opening: Option<BlockStart>) -> Option<Marker>
+    requires { IsBeginningOf line.now opening }
+    ensures marks { IfSome result (λ marker. AreMarks marker.width (rest line.now)) }
+    ensures begins { IfSome result (λ marker. begun line.now ≡ Holds (item_of line.now marker)) }
+    ensures same { is_some result ≡ same_mark (Some (kind_view kind)) (list_mark (begun line.now)) }
+{
+    match opening {
+        Some(BlockStart::Item(marker)) => {
+            if is_same_list(kind, kind_of(marker)) {
+                return Some(marker);
+            }
+            None
+        }
+        _ => None,
     }
 }
 

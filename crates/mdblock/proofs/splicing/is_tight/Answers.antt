@@ -1,15 +1,9 @@
-use Rattle.std.proofs.Common.{rules, tests, ◌≡◌, Bool, true, false, not, ◌||◌, List, [], ◌∷◌, map, refl, ◌∙◌, ap}
-use Rattle.std.specs.List.{list_any}
+use Rattle.std.proofs.Common.{rules, tests, ◌≡◌, Bool, true, false, not, ◌||◌, ◌∙◌, ap}
 use Rattle.std.proofs.lemmas.Iterator.{YieldsList-from_slice}
 use Rattle.std.proofs.lemmas.Iterator.Search.{any_from_yields_List}
-use Rattle.itemspec.specs.ItemMarks.{ItemMark}
-use Rattle.mdblock.specs.FoundLists.{join_mark}
 use Rattle.mdblock.specs.declared.units.Join as declared
+use Rattle.mdblock.proofs.ItemParts.{loose_mapped}
 use Rattle.mdblock.proofs.splicing.is_tight.Goals as goal
-
-loose_mapped : (js : List declared.Join) → list_any (λ (j : declared.Join). j.loose) js ≡ list_any (λ (mark : ItemMark). mark.loose) (map join_mark js)
-loose_mapped [] = refl
-loose_mapped (j ∷ js) = ap (λ z. j.loose || z) (loose_mapped js)
 
 tight_is : (p a b : Bool) → p ≡ false → a ≡ b → not a ≡ not (p || b)
 tight_is true a b h is = absurd (let x : ⊥ = cc in x)

@@ -11,7 +11,6 @@ use Rattle.mdtext.specs.EntityTable.{EntityTable}
 use Rattle.viewspec.specs.Stretch.{from_line, is_meeting}
 use Rattle.viewlaws.specs.UnitTiles.{IsAhead}
 use Rattle.viewlaws.proofs.ReadLines.{none_deep}
-use Rattle.viewlaws.proofs.Splices.{from_above}
 use Rattle.viewlaws.proofs.UnitPlaces.{ahead_later}
 use Rattle.mdview.specs.HeldBlocks.{IsDeepAt, is_at, line_before, lines_in, old_lines, places_of}
 use Rattle.mdview.specs.NewText.{lines_of}
@@ -22,9 +21,10 @@ use Rattle.mdview.specs.declared.resuming.UnitStart.{UnitStart}
 use Rattle.mdview.proofs.EditPlaces.{begins_many}
 use Rattle.mdview.proofs.ListsStand.{stands_pushed}
 use Rattle.mdview.proofs.ReadStretches.{is_edit, stretch_next}
-use Rattle.mdview.proofs.Reparses.{ReadAbove, begin_told, begins_reading, deep_at, deep_told, ended, found_all, met_all, met_told, new_fits, next_ends, next_is, in_new, read_first, read_next, stands_read, units_pushed, unmet_told}
+use Rattle.mdview.proofs.Reparses.{ReadAbove, begin_told, begins_reading, deep_at, deep_told, ended, found_all, met_all, met_told, new_fits, next_ends, next_is, in_new, read_next, stands_read, units_pushed, unmet_told}
+use Rattle.mdview.proofs.ResumedReading.{res_above, res_near}
 use Rattle.joinspec.specs.Stops.{near_line}
-use Rattle.joinlaws.proofs.NearStretch.{near_above, near_told}
+use Rattle.joinlaws.proofs.NearStretch.{near_told}
 use Rattle.std.specs.Prelude.{IfOk}
 use Rattle.std.proofs.lemmas.Bool.Decides.{nat_tests}
 use Rattle.blocklaws.proofs.NestingLaws.{moved_on}
@@ -52,6 +52,14 @@ loop-line-init g c =
     let limit = c.args.held.now.options.now.max_containers in
     let r = c.resume_at-from.result in
     let s = begins_reading e text c.args.held.now.head c.args.held.now.units.now.items c.at.result r.from r.start.unit r.start.line c.requires.held c.requires.old c.at.ensures.at c.resume_at-from.ensures.resumed in
+    let old = old_lines text in
+    let reader = c.in_ok-reader.reader in
+    let so_far = c.in_ok-reader.ensures in
+    let begun = r.from + c.fed.result in
+    let place : r.from + reader.fed ≡ begun = omega (arith, c.fed.ensures) in
+    let up_to : begun ≤ p.at = omega (arith, so_far.above, place) in
+    let read : drop r.from (take (r.from + reader.fed) new) ≡ drop (from_line p) (take begun new) = ap (λ n. drop r.from (take n new)) place ∙ ap (λ n. drop n (take begun new)) s.0 in
+    let was : line_before p r.from ≡ line_before p begun = omega (arith, up_to) in
     record {
       rest = search rules;
       fed = search rules;
@@ -59,12 +67,13 @@ loop-line-init g c =
       inlines = search rules;
       same = search rules;
       forward = search rules;
-      above = subst (λ n. ReadAbove limit e new p c.new-reader.result (map found_unit c.new-found.result.items) n) (sym s.0)
-          (read_first limit e (old_lines text) new p (is_edit e text) c.new-reader.result (map found_unit c.new-found.result.items) c.new-reader.ensures.reads (ap (map found_unit) c.new-found.ensures.items));
-      near = let above = near_above e (old_lines text) new (stops_of e text) (is_stop e text) in omega (arith, above, s.0);
+      above = res_above e old new p (is_edit e text) limit reader (map found_unit c.new-found.result.items) begun up_to (subst (Reads limit e reader) read so_far.reads)
+          (ap (handed e) (sym read) ∙ so_far.none) (ap (map found_unit) c.new-found.ensures.items);
+      near = let behind = res_near e old new (stops_of e text) (is_stop e text) in omega (arith, behind, up_to);
       counted = subst (IsCounted c.args.held.now.head c.args.held.now.units.now.items) (sym c.at-cursor.ensures.1) c.resume_at-from.ensures.counted;
-      ahead = subst (λ (next : UnitStart). IsAhead (map lines_in c.args.held.now.units.now.items) p.old_begins next.unit next.line (line_before p r.from)) (sym c.at-cursor.ensures.1) s.2;
-      stands = subst (All (StandsAt e (drop (from_line p) (take r.from new)))) (sym c.new-found.ensures.items) (All-nil (StandsAt e (drop (from_line p) (take r.from new))));
+      ahead = subst (λ (next : UnitStart). IsAhead (map lines_in c.args.held.now.units.now.items) p.old_begins next.unit next.line (line_before p begun)) (sym c.at-cursor.ensures.1)
+          (subst (λ n. IsAhead (map lines_in c.args.held.now.units.now.items) p.old_begins r.start.unit r.start.line n) was s.2);
+      stands = subst (All (StandsAt e (drop (from_line p) (take begun new)))) (sym c.new-found.ensures.items) (All-nil (StandsAt e (drop (from_line p) (take begun new))));
     }
 
 pub returns-in_err-push_some-in-Ok-clause-stretch : goal.returns-in_err-push_some-in-Ok-clause-stretch
@@ -274,9 +283,9 @@ returns-in_err-push_some-in-Ok-finish-clause-stretch g c =
     let s = begins_reading e text c.args.held.now.head c.args.held.now.units.now.items c.at.result r.from r.start.unit r.start.line c.requires.held c.requires.old c.at.ensures.at c.resume_at-from.ensures.resumed in
     let line = c.loop-line.line in
     let inv = c.loop-line.invariant in
-    let from = from_above e old new p (is_edit e text) in
     let within = in_new limit e old new p (is_edit e text) in
-    let last : line ≡ length new = omega (arith, c.loop-line.auto.line-end, c.loop-line-test.false, c.len-line-end.ensures, s.0, from, within) in
+    let before : r.from + c.fed.result ≤ c.len-line-end.result = omega (arith, c.in_ok-reader.ensures.above, c.fed.ensures, within, c.len-line-end.ensures) in
+    let last : line ≡ length new = omega (arith, c.loop-line.auto.line-end before, c.loop-line-test.false, c.len-line-end.ensures) in
     let above = subst (λ n. ReadAbove limit e new p c.loop-line.reader (map found_unit c.loop-line.found.items) n) last inv.above in
     let few = few_soon e text limit c.loop-line.reader (map found_unit c.loop-line.found.items) (length new) (omega arith) (let near = inv.near in omega (arith, near, last)) above in
     omega (arith, few, inv.lines, s.0, last)
@@ -293,9 +302,9 @@ returns-in-Err-finish-clause-stretch g c =
     let s = begins_reading e text c.args.held.now.head c.args.held.now.units.now.items c.at.result r.from r.start.unit r.start.line c.requires.held c.requires.old c.at.ensures.at c.resume_at-from.ensures.resumed in
     let line = c.loop-line.line in
     let inv = c.loop-line.invariant in
-    let from = from_above e old new p (is_edit e text) in
     let within = in_new limit e old new p (is_edit e text) in
-    let last : line ≡ length new = omega (arith, c.loop-line.auto.line-end, c.loop-line-test.false, c.len-line-end.ensures, s.0, from, within) in
+    let before : r.from + c.fed.result ≤ c.len-line-end.result = omega (arith, c.in_ok-reader.ensures.above, c.fed.ensures, within, c.len-line-end.ensures) in
+    let last : line ≡ length new = omega (arith, c.loop-line.auto.line-end before, c.loop-line-test.false, c.len-line-end.ensures) in
     let above = subst (λ n. ReadAbove limit e new p c.loop-line.reader (map found_unit c.loop-line.found.items) n) last inv.above in
     let few = few_soon e text limit c.loop-line.reader (map found_unit c.loop-line.found.items) (length new) (omega arith) (let near = inv.near in omega (arith, near, last)) above in
     omega (arith, few, inv.lines, s.0, last)
@@ -312,9 +321,9 @@ returns-clause-stretch g c =
     let s = begins_reading e text c.args.held.now.head c.args.held.now.units.now.items c.at.result r.from r.start.unit r.start.line c.requires.held c.requires.old c.at.ensures.at c.resume_at-from.ensures.resumed in
     let line = c.loop-line.line in
     let inv = c.loop-line.invariant in
-    let from = from_above e old new p (is_edit e text) in
     let within = in_new limit e old new p (is_edit e text) in
-    let last : line ≡ length new = omega (arith, c.loop-line.auto.line-end, c.loop-line-test.false, c.len-line-end.ensures, s.0, from, within) in
+    let before : r.from + c.fed.result ≤ c.len-line-end.result = omega (arith, c.in_ok-reader.ensures.above, c.fed.ensures, within, c.len-line-end.ensures) in
+    let last : line ≡ length new = omega (arith, c.loop-line.auto.line-end before, c.loop-line-test.false, c.len-line-end.ensures) in
     let above = subst (λ n. ReadAbove limit e new p c.loop-line.reader (map found_unit c.loop-line.found.items) n) last inv.above in
     let few = few_soon e text limit c.loop-line.reader (map found_unit c.loop-line.found.items) (length new) (omega arith) (let near = inv.near in omega (arith, near, last)) above in
     omega (arith, few, inv.lines, s.0, last)
@@ -331,9 +340,9 @@ returns-clause-fits g c =
     let s = begins_reading e text c.args.held.now.head c.args.held.now.units.now.items c.at.result r.from r.start.unit r.start.line c.requires.held c.requires.old c.at.ensures.at c.resume_at-from.ensures.resumed in
     let line = c.loop-line.line in
     let inv = c.loop-line.invariant in
-    let from = from_above e old new p (is_edit e text) in
     let within = in_new limit e old new p (is_edit e text) in
-    let last : line ≡ length new = omega (arith, c.loop-line.auto.line-end, c.loop-line-test.false, c.len-line-end.ensures, s.0, from, within) in
+    let before : r.from + c.fed.result ≤ c.len-line-end.result = omega (arith, c.in_ok-reader.ensures.above, c.fed.ensures, within, c.len-line-end.ensures) in
+    let last : line ≡ length new = omega (arith, c.loop-line.auto.line-end before, c.loop-line-test.false, c.len-line-end.ensures) in
     let above = subst (λ n. ReadAbove limit e new p c.loop-line.reader (map found_unit c.loop-line.found.items) n) last inv.above in
     let meet = ended limit e old new p (is_edit e text) c.loop-line.reader (map found_unit c.loop-line.found.items) above in
     new_fits limit e old new p (is_edit e text) c.requires.fits (length new) meet (none_deep limit e c.loop-line.reader (drop (from_line p) (take (length new) new)) above.reads)
@@ -350,9 +359,9 @@ returns-clause-read g c =
     let s = begins_reading e text c.args.held.now.head c.args.held.now.units.now.items c.at.result r.from r.start.unit r.start.line c.requires.held c.requires.old c.at.ensures.at c.resume_at-from.ensures.resumed in
     let line = c.loop-line.line in
     let inv = c.loop-line.invariant in
-    let from = from_above e old new p (is_edit e text) in
     let within = in_new limit e old new p (is_edit e text) in
-    let last : line ≡ length new = omega (arith, c.loop-line.auto.line-end, c.loop-line-test.false, c.len-line-end.ensures, s.0, from, within) in
+    let before : r.from + c.fed.result ≤ c.len-line-end.result = omega (arith, c.in_ok-reader.ensures.above, c.fed.ensures, within, c.len-line-end.ensures) in
+    let last : line ≡ length new = omega (arith, c.loop-line.auto.line-end before, c.loop-line-test.false, c.len-line-end.ensures) in
     let above = subst (λ n. ReadAbove limit e new p c.loop-line.reader (map found_unit c.loop-line.found.items) n) last inv.above in
     let meet = ended limit e old new p (is_edit e text) c.loop-line.reader (map found_unit c.loop-line.found.items) above in
     let units_are = found_all limit e old new p (is_edit e text) (map found_unit c.loop-line.found.items) (map found_unit c.push_some-in-Ok-finish.new.found.items) (option_map found_unit c.in-Ok-finish.unit) c.loop-line.reader
@@ -409,9 +418,9 @@ returns-clause-soon g c =
     let s = begins_reading e text c.args.held.now.head c.args.held.now.units.now.items c.at.result r.from r.start.unit r.start.line c.requires.held c.requires.old c.at.ensures.at c.resume_at-from.ensures.resumed in
     let line = c.loop-line.line in
     let inv = c.loop-line.invariant in
-    let from = from_above e old new p (is_edit e text) in
     let within = in_new limit e old new p (is_edit e text) in
-    let last : line ≡ length new = omega (arith, c.loop-line.auto.line-end, c.loop-line-test.false, c.len-line-end.ensures, s.0, from, within) in
+    let before : r.from + c.fed.result ≤ c.len-line-end.result = omega (arith, c.in_ok-reader.ensures.above, c.fed.ensures, within, c.len-line-end.ensures) in
+    let last : line ≡ length new = omega (arith, c.loop-line.auto.line-end before, c.loop-line-test.false, c.len-line-end.ensures) in
     let above = subst (λ n. ReadAbove limit e new p c.loop-line.reader (map found_unit c.loop-line.found.items) n) last inv.above in
     let meet = ended limit e old new p (is_edit e text) c.loop-line.reader (map found_unit c.loop-line.found.items) above in
     let units_are = found_all limit e old new p (is_edit e text) (map found_unit c.loop-line.found.items) (map found_unit c.push_some-in-Ok-finish.new.found.items) (option_map found_unit c.in-Ok-finish.unit) c.loop-line.reader

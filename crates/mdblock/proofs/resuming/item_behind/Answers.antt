@@ -1,0 +1,36 @@
+use Rattle.std.proofs.Common.{◌+◌, ◌<◌, length, map, Some, sym, ◌∙◌, ap, arith}
+use Rattle.std.proofs.lemmas.List.{take-map}
+use Rattle.std.specs.List.{list_any}
+use Rattle.std.specs.Prelude.{take}
+use Rattle.blocklaws.proofs.DocumentLaws.{map_length}
+use Rattle.blockspec.specs.BlockLine.{BlockLine, document_line}
+use Rattle.blockspec.specs.BlockStart.{Holds, Item, begun}
+use Rattle.blockspec.specs.ContainerLines.{opened}
+use Rattle.blockspec.specs.UnitBegin.{list_mark, same_mark}
+use Rattle.blockspec.specs.UnitTree.{UnitTree}
+use Rattle.itemspec.specs.ItemMarks.{ItemMark}
+use Rattle.mdblock.specs.BlockView.{items_view, kind_view}
+use Rattle.mdblock.specs.FoundLists.{join_mark}
+use Rattle.mdblock.specs.Spliced.{first_kind}
+use Rattle.mdblock.proofs.ResumedReading.{item_resumed}
+use Rattle.mdblock.proofs.resuming.item_behind.Goals as goal
+
+pub returns-clause-resumed : goal.returns-clause-resumed
+returns-clause-resumed c =
+    let old = c.args.old.now in
+    let k = c.args.k in
+    let m = c.in-Some-next_of.marker in
+    let list = c.going_on-list.result in
+    let counted = ap length c.joins.ensures in
+    let size = map_length join_mark c.joins.result.now in
+    let small : k < length old.marks = omega (arith, c.if-k-joins.false, counted, size) in
+    let joins = ap (map join_mark) (c.in_ok-joins.ensures ∙ c.before-2.ensures) ∙ sym (take-map join_mark (k + 1) c.joins-2.result.now) ∙ ap (take (k + 1)) c.joins-2.ensures in
+    let kind = sym (c.in-Some.ensures ∙ ap first_kind (c.blocks-2.ensures.value ∙ ap (λ (u : UnitTree). u.blocks) c.unit.ensures)) ∙ ap (λ z. Some (kind_view z)) (sym c.going_on-list.ensures.kind) in
+    let line = c.new-line.ensures in
+    let begins = ap begun (sym line) ∙ c.in-Some-next_of.ensures.begins ∙ ap Holds c.take_marker-needed.ensures.needed in
+    let same = ap (λ z. same_mark (Some (kind_view z)) (list_mark (begun (document_line c.args.text.now)))) c.going_on-list.ensures.kind ∙ ap (λ (z : BlockLine). same_mark (Some (kind_view c.in-Some.kind)) (list_mark (begun z))) (sym line) ∙ sym c.in-Some-next_of.ensures.same in
+    let opens = c.take_marker-needed.ensures.line ∙ ap (opened (Item m c.take_marker-needed.result)) line in
+    let loose = c.going_on-list.ensures.loose ∙ c.is_loose.ensures ∙ ap (λ z. list_any (λ (mark : ItemMark). mark.loose) (map join_mark z)) c.deref.ensures.value in
+    item_resumed c.args.entities.now c.args.limit c.in_ok-deeper.field-0 k old c.args.text.now c.in_ok-of_list.field-0 c.new-inner.result c.begin.new.self list c.in_ok-gathering.gathering c.begin.new.gathering c.take_marker-needed.new.line m c.take_marker-needed.result c.in_ok-joins.joins.items
+    c.in_ok-deeper.ensures.less small c.in_ok-gathering.ensures.entities joins kind begins same c.in_ok-gathering.ensures.texts c.in_ok-gathering.ensures.definitions c.new-inner.ensures.holds_none c.in_ok-begin.ensures.behind c.in_ok-begin.ensures.fits opens
+    c.in_ok-of_list.ensures.last c.going_on-list.ensures.open c.going_on-list.ensures.needed loose (ap (λ z. items_view z.items) c.going_on-list.ensures.items ∙ c.in_ok-gathering.ensures.items) c.in_ok-of_list.ensures.over c.in_ok-of_list.ensures.marks

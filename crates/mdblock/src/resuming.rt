@@ -1,0 +1,129 @@
+//! A list that was found is read on from one of its later items (CommonMark 5.3).
+
+ghost use Rattle.std.specs.Prelude.{◌≡◌, ◌+◌, ◌<◌, ◌*◌, ◌^◌, false, length, map, string_bytes, take, IfOk, IfErr, IfSome, OnOk};
+ghost use Rattle.std.specs.List.{list_any};
+ghost use Rattle.itemspec.specs.ItemMarks.{ItemMark};
+ghost use Rattle.mdleaf.specs.LinkDefinition.{definition_of};
+ghost use Rattle.mdblock.specs.BlockView.{items_view};
+ghost use Rattle.mdblock.specs.Copies.{copied_items, items_positions, texts_at};
+ghost use Rattle.mdblock.specs.FoundLists.{join_mark};
+ghost use Rattle.mdblock.specs.Positions.{ItemsIn};
+ghost use Rattle.mdblock.specs.Spliced.{first_items, mark_at, take_items};
+ghost use Rattle.mdblock.specs.held.OpenPositions.{LevelIn};
+ghost use Rattle.mdblock.specs.held.ResumedItems.{IsResumedAt};
+ghost use Rattle.mdblock.specs.declared.faults.BlockFault.TheVariants.{Failed};
+
+use crate::block_starts::beginning;
+use crate::blocks::Item;
+use crate::container::lists::{OpenList, next_of, take_marker};
+use crate::copies::{copied_items, push_definitions};
+use crate::faults::BlockFault;
+use crate::gathering::Gathering;
+use crate::lines::Line;
+use crate::open_blocks::{Level, deeper};
+use crate::splicing::{join_at, list_items, list_kind};
+use crate::units::{Found, Join};
+use mdtext::Entities;
+use std::alloc::{AllocError, Global};
+
+/// What is held of a list whose last line began an item.
+#[derive(Drop)]
+pub(crate) struct OpenItem<'e> {
+    pub(crate) level: Level,
+    pub(crate) gathering: Gathering<'e>,
+    pub(crate) joins: Vec<Join>,
+}
+
+#[tactic(auto, using(crate::proofs::Within::growing))]
+/// The items of a list in front of its join `k`, and the item that this line begins there; nothing where it begins none.
+pub(crate) fn item_behind<'e>(
+    alloc: Global,
+    entities: &'e Entities,
+    limit: usize,
+    old: &Found,
+    k: usize,
+    text: &str,
+) -> Result<Option<OpenItem<'e>>, BlockFault>
+    requires short { 4 * length text.now < 2 ^ 64 }
+    ensures fault { IfErr result (λ fault. fault ≡ Failed → ⊥) }
+    ensures entities { IfOk result (λ behind. IfSome behind (λ item. item.gathering.entities.now ≡ entities.now)) }
+    ensures kept { IfOk result (λ behind. IfSome behind (λ item. LevelIn (length item.gathering.texts.items) item.level)) }
+    ensures there { IfOk result (λ behind. IfSome behind (λ item. k < length old.now.marks)) }
+    ensures resumed { IfOk result (λ behind. IfSome behind (IsResumedAt limit entities.now old.now k text.now)) }
+{
+    if k >= old.joins().len() {
+        return Ok(None);
+    }
+    let Some(kind) = list_kind(old.unit().blocks()) else {
+        return Ok(None);
+    };
+    let mut line = Line::new(text);
+    let Some(marker) = next_of(kind, &line, beginning(&line)) else {
+        return Ok(None);
+    };
+    let joins = copied_joins(alloc, before(old.joins(), k + 1))?;
+    let (mut gathering, items) = front_items(alloc, entities, old, k)?;
+    let needed = take_marker(&mut line, marker);
+    let list = OpenList::going_on(kind, items, is_loose(&joins), needed);
+    let mut inner = Level::new(alloc, true);
+    let opening = beginning(&line);
+    inner.begin(&mut line, opening, deeper(limit)?, &mut gathering)?;
+    Ok(Some(OpenItem {
+        level: Level::of_list(alloc, inner, list)?,
+        gathering,
+        joins,
+    }))
+}
+
+/// Copies of the items in front of a join, and of what they hand in.
+fn front_items<'e>(
+    alloc: Global,
+    entities: &'e Entities,
+    old: &Found,
+    k: usize,
+) -> Result<(Gathering<'e>, Vec<Item>), AllocError>
+    requires { k < length old.now.marks }
+    ensures entities { IfOk result (λ front. front.0.entities.now ≡ entities.now) }
+    ensures within { IfOk result (λ front. ItemsIn (length front.0.texts.items) (items_view front.1.items)) }
+    ensures items { IfOk result (λ front. items_view front.1.items ≡ copied_items 0 (take_items (k + 1) (first_items old.now.unit.blocks))) }
+    ensures texts { IfOk result (λ front. map string_bytes front.0.texts.items
+        ≡ texts_at old.now.unit.texts (items_positions (take_items (k + 1) (first_items old.now.unit.blocks)))) }
+    ensures definitions { IfOk result (λ front. map definition_of front.0.definitions.items ≡ take (mark_at old.now.marks k).definitions old.now.unit.definitions) }
+{
+    let join = join_at(old.joins(), k);
+    let unit = old.unit();
+    let mut texts = Vec::with_capacity(alloc, join.texts.saturating_add(1))?;
+    let items = before(list_items(unit.blocks()), k + 1);
+    let items = copied_items(alloc, items, unit.texts(), &mut texts)?;
+    let mut definitions = Vec::new(alloc);
+    push_definitions(
+        alloc,
+        before(unit.definitions(), join.definitions),
+        &mut definitions,
+    )?;
+    Ok((Gathering::of(alloc, entities, definitions, texts), items))
+}
+
+/// Whether a gap stands before one of these, or parts two blocks of the item before it.
+fn is_loose(joins: &[Join]) -> bool
+    ensures { result ≡ list_any (λ (mark : ItemMark). mark.loose) (map join_mark joins.now) }
+{
+    joins.iter().any(|join| join.loose)
+}
+
+fn copied_joins(alloc: Global, joins: &[Join]) -> Result<Vec<Join>, AllocError>
+    ensures { IfOk result (λ copies. copies.items ≡ joins.now) }
+{
+    let mut copies = Vec::with_capacity(alloc, joins.len())?;
+    for join in joins {
+        copies.push(*join)?;
+    }
+    Ok(copies)
+}
+
+/// What is before so many.
+fn before<T>(all: &[T], count: usize) -> &[T]
+    ensures { result.now ≡ take count all.now }
+{
+    all.get(..count).unwrap_or(all)
+}
