@@ -24,7 +24,7 @@ fresh_behind out [] e = ap fresh (append-nil out) ∙ fresh_alone out e ∙ sym 
 fresh_behind out (b ∷ x) e = ap (λ t. cond t (out ++ b ∷ x) ((out ++ b ∷ x) ++ codes "\n")) (last_stays out b x) ∙ fresh_choice out (b ∷ x) (ends_line (b ∷ x))
 
 -- what is written on a line of its own
-line_behind : (out x written : List ℕ) → ends_line out ≡ true → fresh (out ++ x) ++ written ≡ out ++ (fresh x ++ written)
+pub line_behind : (out x written : List ℕ) → ends_line out ≡ true → fresh (out ++ x) ++ written ≡ out ++ (fresh x ++ written)
 line_behind out x written e = ap (λ l. l ++ written) (fresh_behind out x e) ∙ append_assoc out (fresh x) written
 
 paragraph_behind : (out x inner : List ℕ) (tight : Bool) → ends_line out ≡ true → paragraph_html tight inner (out ++ x) ≡ out ++ paragraph_html tight inner x
@@ -53,12 +53,12 @@ mutual
       ∙ append_assoc out (items_html o ts t is (fresh x ++ list_open kind)) (list_close kind)
   block_behind o ts tight (table aligns head rows) out x e = line_behind out x (table_html ts aligns head rows) e
 
-  blocks_behind : (o : Options) (ts : List (List ℕ)) (tight : Bool) (bs : Blocks) (out x : List ℕ) → ends_line out ≡ true → blocks_html o ts tight bs (out ++ x) ≡ out ++ blocks_html o ts tight bs x
+  pub blocks_behind : (o : Options) (ts : List (List ℕ)) (tight : Bool) (bs : Blocks) (out x : List ℕ) → ends_line out ≡ true → blocks_html o ts tight bs (out ++ x) ≡ out ++ blocks_html o ts tight bs x
   blocks_behind o ts tight no_blocks out x e = refl
   blocks_behind o ts tight (block b bs) out x e =
       ap (blocks_html o ts tight bs) (block_behind o ts tight b out x e) ∙ blocks_behind o ts tight bs out (block_html o ts tight b x) e
 
-  items_behind : (o : Options) (ts : List (List ℕ)) (tight : Bool) (is : Items) (out x : List ℕ) → ends_line out ≡ true → items_html o ts tight is (out ++ x) ≡ out ++ items_html o ts tight is x
+  pub items_behind : (o : Options) (ts : List (List ℕ)) (tight : Bool) (is : Items) (out x : List ℕ) → ends_line out ≡ true → items_html o ts tight is (out ++ x) ≡ out ++ items_html o ts tight is x
   items_behind o ts tight no_items out x e = refl
   items_behind o ts tight (item bs is) out x e =
       let inner = blocks_html o ts tight bs (fresh x ++ codes "<li>") in

@@ -6,7 +6,7 @@ use Rattle.mdhtml.specs.declared.options.Options.{Options}
 use Rattle.mdhtml.specs.TableHtml.{head_html, body_html}
 use Rattle.mdhtml.specs.BlockHtml.{fresh, heading_tag, text_html, ends_line, block_html, blocks_html}
 
-ends_append : (xs ys : List ℕ) → 0 < length ys → ends_line ys ≡ true → ends_line (xs ++ ys) ≡ true
+pub ends_append : (xs ys : List ℕ) → 0 < length ys → ends_line ys ≡ true → ends_line (xs ++ ys) ≡ true
 ends_append xs ys some h = grind (arith, common_steps, length-append)
 
 -- by the last piece of what was written

@@ -4,5 +4,6 @@ pub mod InlineHtml
 pub mod InlineWriting
 pub mod TableHtml
 pub mod Limits
+pub mod ListEnds
 pub mod WrittenUnits
 pub mod held

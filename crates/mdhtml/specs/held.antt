@@ -1,3 +1,6 @@
+pub mod Alike
 pub mod CellTags
 pub mod InlineWriter
+pub mod LikeLists
+pub mod ListUnits
 pub mod UnitTexts

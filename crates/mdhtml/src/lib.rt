@@ -12,22 +12,29 @@ mod html_blocks;
 mod images;
 mod inline_writer;
 mod inlines;
+mod like_lists;
 mod line_breaks;
 mod links;
+mod list_ends;
 mod list_items;
 mod lists;
 mod options;
 mod paragraphs;
 mod pieces;
 mod raw_html;
+mod same_blocks;
 mod tables;
 mod thematic_breaks;
 mod unit_texts;
 mod unit_writer;
 
+pub use like_lists::{Like, append_unit_like};
+pub use list_ends::append_unit_ends;
 pub use options::{Breaks, Options};
 pub use pieces::{append_unit_html, unit_html};
 pub use unit_writer::UnitWriter;
 
+#[cfg(test)]
+mod like_tests;
 #[cfg(test)]
 mod tests;

@@ -34,7 +34,7 @@ pub(crate) fn write_list(
     close_list(kind, out)
 }
 
-fn open_list(kind: ListKind, out: &mut String) -> Result<(), NoMemory>
+pub(crate) fn open_list(kind: ListKind, out: &mut String) -> Result<(), NoMemory>
     ensures { OnOk result (string_bytes out.new
         ≡ string_bytes out.old ++ list_open (kind_view kind)) }
 {
@@ -56,7 +56,7 @@ fn open_numbered(start: u32, out: &mut String) -> Result<(), NoMemory>
     Ok(())
 }
 
-fn close_list(kind: ListKind, out: &mut String) -> Result<(), NoMemory>
+pub(crate) fn close_list(kind: ListKind, out: &mut String) -> Result<(), NoMemory>
     ensures { OnOk result (string_bytes out.new
         ≡ string_bytes out.old ++ list_close (kind_view kind)) }
 {

@@ -1,6 +1,6 @@
 -- What a text of a held unit reads as, by its number.
-use Rattle.std.proofs.Common.{◌≡◌, ℕ, zero, suc, Bool, true, false, List, [], ◌∷◌, Option, Some, None, String, map, option_map, string_bytes, refl, sym, subst, ◌∙◌, ap, arith}
-use Rattle.std.specs.Prelude.{IfSome, MatchOption, nat_eq, slice_get}
+use Rattle.std.proofs.Common.{◌≡◌, ◌+◌, ◌≤◌, ℕ, zero, suc, Bool, true, false, List, [], ◌∷◌, Option, Some, None, String, map, option_map, string_bytes, refl, sym, subst, ◌∙◌, ap, arith}
+use Rattle.std.specs.Prelude.{IfSome, MatchOption, if◌then◌else◌, nat_eq, slice_get, take}
 use Rattle.std.specs.Cmp.Lexicographic.{pointwise}
 use Rattle.std.proofs.lemmas.Bool.Decides.{nat_tests}
 use Rattle.std.specs.Global.{Global}
@@ -44,3 +44,33 @@ same_texts (x ∷ xs) (y ∷ ys) h =
     let p = and_parts (nat_eq x y) (pointwise nat_eq xs ys) (sym h) in
     let e : x ≡ y = grind (arith, nat_tests, p.0) in
     ap (λ z. z ∷ xs) e ∙ ap (λ z. y ∷ z) (same_texts xs ys (sym p.1))
+
+-- ---- texts at the front that a held unit has too
+
+take_grown : {A : Type 0} (n : ℕ) (xs ys : List A) (x : A) → take n xs ≡ take n ys → slice_get xs n ≡ Some x → slice_get ys n ≡ Some x → take (suc n) xs ≡ take (suc n) ys
+take_grown zero [] ys x e h k = absurd (let z : ⊥ = cc in z)
+take_grown zero (a ∷ xs) [] x e h k = absurd (let z : ⊥ = cc in z)
+take_grown zero (a ∷ xs) (b ∷ ys) x e h k = ap (λ z. z ∷ []) (same_some a x h ∙ sym (same_some b x k))
+take_grown (suc n) [] ys x e h k = absurd (let z : ⊥ = cc in z)
+take_grown (suc n) (a ∷ xs) [] x e h k = absurd (let z : ⊥ = cc in z)
+take_grown (suc n) (a ∷ xs) (b ∷ ys) x e h k =
+    let first : a ≡ b = cc in
+    let rest : take n xs ≡ take n ys = cc in
+    ap (λ z. z ∷ take (suc n) xs) first ∙ ap (λ z. b ∷ z) (take_grown n xs ys x rest h k)
+
+pub few_next : (b : Bool) (front i n : ℕ) → front ≤ i → n ≡ (if b then i + 1 else front) → n ≤ i + 1
+few_next true front i n low is = omega (arith, is)
+few_next false front i n low is = omega (arith, is, low)
+
+pub at_next : (b : Bool) (front i n : ℕ) → n ≡ (if b then i + 1 else front) → b ≡ true → n ≡ i + 1
+at_next true front i n is h = is
+at_next false front i n is h = absurd (let z : ⊥ = cc in z)
+
+pub fronts_next : {H : Type 0} (view : H → List (List ℕ)) (b : Bool) (front i n : ℕ) (held : Option H) (texts : List (List ℕ)) (x : List ℕ) → n ≡ (if b then i + 1 else front) → slice_get texts i ≡ Some x →
+    (b ≡ true → (front ≡ i) × IfSome held (λ u. slice_get (view u) i ≡ Some x)) → IfSome held (λ u. take front texts ≡ take front (view u)) → IfSome held (λ u. take n texts ≡ take n (view u))
+fronts_next view b front i n None texts x is at w same = tt
+fronts_next view true front i n (Some u) texts x is at w same =
+    let e = w refl in
+    let grown : suc i ≡ n = omega (arith, is) in
+    subst (λ z. take z texts ≡ take z (view u)) grown (take_grown i texts (view u) x (subst (λ z. take z texts ≡ take z (view u)) e.0 same) at e.1)
+fronts_next view false front i n (Some u) texts x is at w same = subst (λ z. take z texts ≡ take z (view u)) (sym is) same

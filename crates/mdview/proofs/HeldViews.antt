@@ -25,7 +25,7 @@ pieces_under : (setting : Setting) (labels : Table) (held : List HeldUnit) → A
     → map piece_of held ≡ map (λ (t : UnitTree). html_of setting.options t (readings_under setting.entities labels t)) (map unit_in held)
 pieces_under setting labels [] rendered read = refl
 pieces_under setting labels (u ∷ held) rendered read =
-    ap (λ p. p ∷ map piece_of held) (all_first (IsRendered setting.options) u held rendered ∙ ap (html_of setting.options u.read.unit) (all_first (IsReadUnder setting.entities labels) u held read))
+    ap (λ p. p ∷ map piece_of held) ((all_first (IsRendered setting.options) u held rendered).0 ∙ ap (html_of setting.options u.read.unit) (all_first (IsReadUnder setting.entities labels) u held read))
     ∙ ap (λ ps. html_of setting.options u.read.unit (readings_under setting.entities labels u.read.unit) ∷ ps)
     (pieces_under setting labels held (all_rest (IsRendered setting.options) u held rendered) (all_rest (IsReadUnder setting.entities labels) u held read))
 

@@ -1,5 +1,5 @@
 -- How many texts of found units are read where texts of the last one are held, and what these read as.
-use Rattle.std.proofs.Common.{◌≡◌, ℕ, ◌+◌, ◌-◌, ◌≤◌, Bool, true, false, ◌||◌, List, [], ◌∷◌, ◌++◌, Option, Some, None, String, length, map, take, drop, string_bytes, option_map, refl, sym, ◌∙◌, ap, subst, arith}
+use Rattle.std.proofs.Common.{◌≡◌, ℕ, zero, suc, ◌+◌, ◌-◌, ◌≤◌, Bool, true, false, ◌||◌, List, [], ◌∷◌, ◌++◌, Option, Some, None, String, length, map, take, drop, string_bytes, option_map, refl, sym, ◌∙◌, ap, subst, arith}
 use Rattle.std.specs.Prelude.{IfSome, fold, slice_get, sum_by}
 use Rattle.std.specs.Global.{Global}
 use Rattle.std.specs.List.{All, list_any}
@@ -9,6 +9,7 @@ use Rattle.std.proofs.lemmas.List.{drop_all, drop-map, length-drop, map-append, 
 use Rattle.std.proofs.lemmas.List.Folds.{list_any-append}
 use Rattle.std.proofs.lemmas.List.Sums.{fold-append, sum_by-cons, sum_by_push}
 use Rattle.mdtext.specs.EntityTable.{EntityTable}
+use Rattle.mdinline.specs.ParsedText.{ParsedText}
 use Rattle.blockspec.specs.UnitTree.{FoundUnit, UnitTree}
 use Rattle.inlinespec.specs.LinkTails.{Table}
 use Rattle.mdinline.specs.declared.faults.InlineFault.{InlineFault}
@@ -142,6 +143,15 @@ none_dropped : {A : Type 0} (p : A → Bool) (n : ℕ) (xs : List A) → list_an
 none_dropped p n xs h =
     (or_parts (list_any p (take n xs)) (list_any p (drop n xs)) (sym (list_any-append p (take n xs) (drop n xs)) ∙ ap (list_any p) (take-append-drop n xs) ∙ h)).1
 
+-- what is left behind some is told by how many there are
+drop_end : {A : Type 0} (n : ℕ) (xs : List A) → drop (length xs - length (drop n xs)) xs ≡ drop n xs
+drop_end zero xs = let z : length xs - length xs ≡ 0 = omega arith in ap (λ k. drop k xs) z
+drop_end (suc n) [] = refl
+drop_end (suc n) (x ∷ xs) =
+    let size = length-drop n xs in
+    let k : suc (length xs) - length (drop n xs) ≡ suc (length xs - length (drop n xs)) = omega (arith, size) in
+    ap (λ z. drop z (x ∷ xs)) k ∙ drop_end n xs
+
 number_or : ℕ → Option ℕ → ℕ
 number_or n None = n
 number_or n (Some k) = k
@@ -154,11 +164,15 @@ module _ (limit : ℕ) (e : EntityTable) (labels : Table) (units : List HeldUnit
       let here = read_member (IsReadUnder e labels) units part.unit w.unit w.held read in
       let none = read_member (IsShallow limit e labels) units part.unit w.unit w.held shallow in
       let texts = w.unit.read.unit.texts in
+      let all = readings.unit.now.read.readings in
+      let held_part : readings.readings.now ≡ drop part.from all = is readings.unit.now like in
       record {
         at = subst (λ n. n ≤ length (last_texts trees)) (sym at) w.at;
         readings = is w.unit w.held ∙ ap (drop part.from) here ∙ drop-map (reading_of e labels) part.from texts ∙ ap (map (reading_of e labels)) (sym w.texts)
             ∙ ap (λ n. map (reading_of e labels) (drop n (last_texts trees))) (sym at);
         shallow = ap (list_any (is_deep limit)) (is w.unit w.held) ∙ none_dropped (is_deep limit) part.from w.unit.read.readings (ap (list_any (is_deep limit)) here ∙ none);
+        part = held_part ∙ sym (drop_end part.from all) ∙ ap (λ (z : List ParsedText). drop (length all - length z) all) (sym held_part);
+        within = subst (λ (z : List ParsedText). length z ≤ length all) (sym held_part) (let z = length-drop part.from all in omega (arith, z));
         like = read_member (IsReadUnder e labels) units part.unit readings.unit.now like read;
         like_shallow = read_member (IsShallow limit e labels) units part.unit readings.unit.now like shallow;
       }

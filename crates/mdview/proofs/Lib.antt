@@ -49,6 +49,7 @@ pub mod LedByUnits
 pub mod LineWeights
 pub mod Ahead
 pub mod AlikeTexts
+pub mod AlikeUnits
 pub mod FewUnits
 pub mod WhereReading
 pub mod LabelMarkLaws

@@ -1,12 +1,14 @@
 -- Units whose inline texts were read, and their HTML.
-use Rattle.std.specs.Prelude.{◌≡◌, ℕ, Bool, ◌+◌, ◌-◌, ◌^◌, min, List, [], false, length, sum_by, take, refl}
-use Rattle.std.specs.Coded.{Coded, code_by, coded×, coded_ℕ, coded_bool, coded_list}
+use Rattle.std.specs.Prelude.{◌≡◌, ℕ, Bool, ◌+◌, ◌-◌, ◌^◌, min, List, [], Option, IfSome, false, length, sum_by, take, refl}
+use Rattle.std.specs.Coded.{Coded, code_by, coded×, coded_ℕ, coded_bool, coded_list, coded_option}
 use Rattle.blockspec.specs.UnitTree.{UnitTree, unit_code}
 use Rattle.itemspec.specs.ItemMarks.{ItemMark}
 use Rattle.mdblock.specs.FoundLists.{mark_code}
 use Rattle.mdinline.specs.ParsedText.{ParsedText, parsed_code}
 use Rattle.mdhtml.specs.declared.options.Options.{Options}
 use Rattle.mdhtml.specs.BlockHtml.{blocks_html, texts_html}
+use Rattle.mdhtml.specs.ListEnds.{unit_ends}
+use Rattle.blockspec.specs.BlockTree.{Blocks}
 use Rattle.mdwalk.specs.TreeEdges.{TreeEdge, blocks_edges}
 
 -- How many lines a unit has, the unit, and what each of its texts reads as; where it is a list its later items, and whether a gap parts two blocks of its last one.
@@ -17,10 +19,21 @@ pub record ReadUnit : Type 0 where
   pub items : List ItemMark
   pub parted : Bool
 
--- a unit that is held, with its piece
+-- a unit that is held, with its piece, and of a long list, where it was made again, with where its items end there
 pub record HeldUnit : Type 0 where
   pub read : ReadUnit
   pub piece : List ℕ
+  pub ends : Option (List ℕ)
+
+-- a piece, with the same
+pub record WrittenPiece : Type 0 where
+  pub html : List ℕ
+  pub ends : Option (List ℕ)
+
+abbrev pub written_piece_code : Coded WrittenPiece
+written_piece_code =
+    code_by (List ℕ × Option (List ℕ)) (coded× (coded_list coded_ℕ) (coded_option (coded_list coded_ℕ)))
+    (λ p. (p.html, p.ends)) (λ p. record { html = p.0; ends = p.1 }) (λ _. refl)
 
 abbrev pub read_unit_code : Coded ReadUnit
 read_unit_code =
@@ -30,8 +43,8 @@ read_unit_code =
 
 abbrev pub held_unit_code : Coded HeldUnit
 held_unit_code =
-    code_by (ReadUnit × List ℕ) (coded× read_unit_code (coded_list coded_ℕ))
-    (λ u. (u.read, u.piece)) (λ p. record { read = p.0; piece = p.1 }) (λ _. refl)
+    code_by (ReadUnit × (List ℕ × Option (List ℕ))) (coded× read_unit_code (coded× (coded_list coded_ℕ) (coded_option (coded_list coded_ℕ))))
+    (λ u. (u.read, (u.piece, u.ends))) (λ p. record { read = p.0; piece = p.1.0; ends = p.1.1 }) (λ _. refl)
 
 -- the HTML of a unit whose texts read so: that of its blocks with the trees of the texts
 abbrev pub html_of : Options → UnitTree → List ParsedText → List ℕ
@@ -51,9 +64,13 @@ piece_of u = u.piece
 abbrev pub shown_in : HeldUnit → UnitTree × List ParsedText
 shown_in u = (u.read.unit, u.read.readings)
 
--- what is held as the piece of a unit is its HTML
+-- the items of such blocks end there in their HTML, if that is told
+abbrev pub AreEnds : Options → List ParsedText → Blocks → Option (List ℕ) → Type 0
+AreEnds options readings blocks ends = IfSome ends (λ ns. ns ≡ unit_ends options (texts_html options readings) blocks)
+
+-- what is held as the piece of a unit is its HTML, and its items end where it says
 abbrev pub IsRendered : Options → HeldUnit → Type 0
-IsRendered options u = u.piece ≡ unit_piece options u.read
+IsRendered options u = (u.piece ≡ unit_piece options u.read) × AreEnds options u.read.readings u.read.unit.blocks u.ends
 
 -- the edges of a walk over a unit whose texts read so
 abbrev pub unit_edges : UnitTree × List ParsedText → List TreeEdge

@@ -42,6 +42,8 @@ pub record AreReadingsOf (limit : ℕ) (e : EntityTable) (labels : Table) (texts
   pub at : kept.at ≤ length texts
   pub readings : kept.readings.now ≡ map (reading_of e labels) (drop kept.at texts)
   pub shallow : list_any (is_deep limit) kept.readings.now ≡ false
+  pub part : kept.readings.now ≡ drop (length kept.unit.now.read.readings - length kept.readings.now) kept.unit.now.read.readings
+  pub within : length kept.readings.now ≤ length kept.unit.now.read.readings
   pub like : kept.unit.now.read.readings ≡ readings_under e labels kept.unit.now.read.unit
   pub like_shallow : is_deep_under limit e labels kept.unit.now.read.unit ≡ false
 

@@ -1,3 +1,4 @@
+pub mod AlikeUnits
 pub mod HeldUnit
 pub mod HeldLists
 pub mod KeptTexts

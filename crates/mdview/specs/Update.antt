@@ -1,11 +1,11 @@
 -- Units whose texts are read again, and what an edit changes.
-use Rattle.std.specs.Prelude.{◌≡◌, ℕ, ◌+◌, ◌-◌, ◌^◌, ◌≤◌, zero, suc, if◌then◌else◌, nat_lt, min, List, [], ◌∷◌, IfSome, length, map, slice_get, string_bytes}
+use Rattle.std.specs.Prelude.{◌≡◌, ℕ, ◌+◌, ◌-◌, ◌^◌, ◌≤◌, zero, suc, if◌then◌else◌, nat_lt, min, List, [], ◌∷◌, IfSome, length, map, slice_get}
 use Rattle.std.specs.List.{All}
 use Rattle.blockspec.specs.UnitTree.{UnitTree}
 use Rattle.mdhtml.specs.declared.options.Options.{Options}
 use Rattle.mdview.specs.declared.readings.Again.{Again}
 use Rattle.mdview.specs.declared.update.Update.{Update}
-use Rattle.mdview.specs.HeldUnit.{HeldUnit, IsRendered, html_of}
+use Rattle.mdview.specs.HeldUnit.{AreEnds, HeldUnit, IsRendered, html_of}
 use Rattle.viewspec.specs.ChangedPieces.{ChangedPieces}
 
 -- the list with its i-th member changed, if it has one
@@ -16,7 +16,7 @@ map_at f (suc i) (x ∷ xs) = x ∷ map_at f i xs
 
 -- a unit with other readings and another piece
 abbrev pub renewed : Again → HeldUnit → HeldUnit
-renewed again u = record { read = record u.read { readings = again.inlines.items }; piece = string_bytes again.piece }
+renewed again u = record { read = record u.read { readings = again.inlines.items }; piece = again.piece.html; ends = again.piece.ends }
 
 -- the units, of which these are read again
 unfoldable pub all_renewed : List HeldUnit → List Again → List HeldUnit
@@ -27,9 +27,9 @@ all_renewed units (one ∷ again) = all_renewed (map_at (renewed one) one.unit u
 abbrev pub Fits : List UnitTree → Again → Type 0
 Fits units again = IfSome (slice_get units again.unit) (λ u. length again.inlines.items ≡ length u.texts)
 
--- the piece is the HTML of the unit, read so
+-- the piece is the HTML of the unit, read so, and its items end where it says
 abbrev pub IsWritten : Options → List UnitTree → Again → Type 0
-IsWritten options units again = IfSome (slice_get units again.unit) (λ u. string_bytes again.piece ≡ html_of options u again.inlines.items)
+IsWritten options units again = IfSome (slice_get units again.unit) (λ u. (again.piece.html ≡ html_of options u again.inlines.items) × AreEnds options again.inlines.items u.blocks again.piece.ends)
 
 -- what an edit changes is fit for these units
 pub record IsFitFor (options : Options) (units : List UnitTree) (update : Update) : Type 0 where

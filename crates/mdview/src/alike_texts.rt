@@ -1,6 +1,6 @@
 //! What the inline texts of a unit read as where a held unit has the same ones.
 
-ghost use Rattle.std.specs.Prelude.{◌≡◌, ◌+◌, ◌≤◌, ◌++◌, ℕ, Bool, List, IfOk, IfSome, IsErrOf, OnOk, false, length, map, string_bytes, true};
+ghost use Rattle.std.specs.Prelude.{◌≡◌, ◌+◌, ◌<◌, ◌≤◌, ◌++◌, ℕ, Bool, List, if◌then◌else◌, IfOk, IfSome, IsErrOf, OnOk, Some, false, is_some, length, map, slice_get, string_bytes, take, true};
 ghost use Rattle.std.specs.List.{list_any};
 ghost use Rattle.mdhtml.specs.Limits.{HasLimits};
 ghost use Rattle.mdinline.specs.ParsedText.{ParsedText};
@@ -21,6 +21,7 @@ use mdtext::Count;
 fn same_reading<'b>(text: &str, held: &'b HeldUnit, i: usize) -> Option<&'b Parsed>
     ensures reading { IfSome result (λ r. (f : List ℕ → ParsedText) → held.now.read.readings ≡ map f held.now.read.unit.texts → r.now ≡ f text.now) }
     ensures shallow { IfSome result (λ r. (p : ParsedText → Bool) → list_any p held.now.read.readings ≡ false → p r.now ≡ false) }
+    ensures text { is_some result ≡ true → slice_get held.now.read.unit.texts i ≡ Some text.now }
 {
     let there = held.unit().texts().get(i)?;
     if there.as_str() == text {
@@ -41,6 +42,7 @@ fn kept_reading<'b>(
 ) -> Option<&'b Parsed>
     ensures reading { IfSome result (λ r. (f : List ℕ → ParsedText) → IfSome held.entry (λ u. u.now.read.readings ≡ map f u.now.read.unit.texts) → r.now ≡ f text.now) }
     ensures shallow { IfSome result (λ r. (p : ParsedText → Bool) → IfSome held.entry (λ u. list_any p u.now.read.readings ≡ false) → p r.now ≡ false) }
+    ensures front { in_front.new ≡ true → (in_front.old ≡ true) × IfSome held.entry (λ u. slice_get u.now.read.unit.texts i ≡ Some text.now) }
 {
     let held = held?;
     if *in_front {
@@ -51,10 +53,18 @@ fn kept_reading<'b>(
     same_reading(text, held, held.unit().texts().len().checked_sub(left)?)
 }
 
+/// How many texts from the front on are the same, where text number `i` still is one of them or not; before it so many were.
+fn same_up_to(before: usize, i: usize, in_front: bool) -> usize
+    requires { i < usize.MAX }
+    ensures { result ≡ (if in_front then i + 1 else before) }
+{
+    if in_front { i + 1 } else { before }
+}
+
 impl<'a> TextReader<'a> {
     /// Reads texts, behind which their unit has so many others, and puts their readings behind those that are there. A text that a held unit has at the same
     /// place, counted from the front up to the first that differs and from the end behind it, reads as it did, unless it asked for a label that leads
-    /// elsewhere: its reading is copied.
+    /// elsewhere: its reading is copied. Answers how many texts there are up to the first that differs.
     pub(crate) fn read_alike<C: Count>(
         &self,
         texts: &[String],
@@ -63,7 +73,7 @@ impl<'a> TextReader<'a> {
         inlines: &mut Vec<Parsed>,
         room: &mut TextRoom<'a>,
         count: &mut C,
-    ) -> Result<(), InlineFault>
+    ) -> Result<usize, InlineFault>
         requires limits { HasLimits self.now.options.now }
         requires elsewhere { IsElsewhere self.now.labels.now.held.now self.now.labels.now.changes.now }
         requires held { IfSome held (λ u. IsReadUnder (entities_in room.old) (labels_before self.now) u.now) }
@@ -74,18 +84,21 @@ impl<'a> TextReader<'a> {
             (map (reading_of (entities_in room.old) (labels_behind self.now)) (map string_bytes texts.now)) ≡ false) }
         ensures deep { IsErrOf result TooDeep → list_any (is_deep self.now.options.now.max_spans)
             (map (reading_of (entities_in room.old) (labels_behind self.now)) (map string_bytes texts.now)) ≡ true }
+        ensures front { IfOk result (λ front. (front ≤ length texts.now) × IfSome held.entry (λ u. take front (map string_bytes texts.now) ≡ take front u.now.read.unit.texts)) }
         ensures room { entities_in room.new ≡ entities_in room.old }
         ensures lines { C.lines count.new ≡ C.lines count.old }
         ensures inlines { C.inlines count.new ≤ C.inlines count.old + length texts.now }
     {
         let mut in_front = true;
+        let mut front = 0;
         for i in 0..texts.len() {
             let text = texts[i].as_str();
             let left = (texts.len() - i).saturating_add(behind);
             let kept = kept_reading(text, held, i, left, &mut in_front);
+            front = same_up_to(front, i, in_front);
             inlines.push(self.read_or_keep(text, kept, room, count)?)?;
         }
-        Ok(())
+        Ok(front)
     }
 
     /// Reads a text, or takes what it is known to have read as before the edit.

@@ -1,12 +1,13 @@
 //! A unit that is held: with what its texts read as, and its HTML.
 
-ghost use Rattle.std.specs.Prelude.{◌≡◌, ◌<◌, ◌≤◌, ◌+◌, ◌-◌, IfSome, Some, is_some, length, map, nat_eq, slice_get, string_bytes};
+ghost use Rattle.std.specs.Prelude.{◌≡◌, ◌<◌, ◌≤◌, ◌+◌, ◌-◌, IfSome, Some, is_some, length, map, nat_eq, option_map, slice_get};
 ghost use Rattle.std.specs.List.{list_any};
 ghost use Rattle.std.specs.List.Sorted.{IsNonDecreasing};
 ghost use Rattle.mdblock.specs.Spliced.{mark_at};
 ghost use Rattle.mdview.specs.HeldLists.{item_line, list_in, unplaced};
 ghost use Rattle.mdview.specs.LabelMarks.{held_marks};
 
+use crate::held_pieces::Piece;
 use crate::label_marks::marks_in;
 use mdblock::{Found, Unit};
 use mdchunks::Weighed;
@@ -18,12 +19,12 @@ use std::marker::Model;
 pub(crate) struct HeldUnit {
     found: Found,
     inlines: Vec<Parsed>,
-    piece: String,
+    piece: Piece,
     marks: u64,
 }
 
 impl Model for HeldUnit {
-    ghost use Rattle.std.specs.Prelude.{◌≡◌, length, string_bytes};
+    ghost use Rattle.std.specs.Prelude.{◌≡◌, length};
     ghost use Rattle.mdview.specs.HeldUnit.{HeldUnit, held_unit_code};
     ghost use Rattle.mdview.specs.LabelMarks.{unit_marks};
 
@@ -33,7 +34,8 @@ impl Model for HeldUnit {
 
     ghost view = { λ u. record {
       read = record { lines = u.found.lines; unit = u.found.unit; readings = u.inlines.items; items = u.found.marks; parted = u.found.parted };
-      piece = string_bytes u.piece;
+      piece = u.piece.html;
+      ends = u.piece.ends;
     } };
 
     ghost invariant = { λ u. (length u.inlines.items ≡ length u.found.unit.texts) × (u.marks ≡ unit_marks u.found.unit u.inlines.items) };
@@ -41,11 +43,12 @@ impl Model for HeldUnit {
 
 impl HeldUnit {
     /// A unit whose texts read so, with its piece.
-    pub(crate) fn new(found: Found, inlines: Vec<Parsed>, piece: String) -> HeldUnit
+    pub(crate) fn new(found: Found, inlines: Vec<Parsed>, piece: Piece) -> HeldUnit
         requires { length inlines.items ≡ length found.unit.texts }
         ensures { result ≡ record {
           read = record { lines = found.lines; unit = found.unit; readings = inlines.items; items = found.marks; parted = found.parted };
-          piece = string_bytes piece;
+          piece = piece.html;
+          ends = piece.ends;
         } }
     {
         let marks = marks_in(found.unit(), &inlines);
@@ -135,15 +138,23 @@ impl HeldUnit {
     pub(crate) fn piece(&self) -> &str
         ensures { result.now ≡ self.now.piece }
     {
-        &self.piece
+        self.piece.html()
+    }
+
+    /// Where the items of a list end in its piece, if that is known.
+    pub(crate) fn ends(&self) -> Option<&[usize]>
+        ensures { option_map (λ ends. ends.now) result ≡ self.now.ends }
+    {
+        self.piece.ends()
     }
 
     /// Takes other readings of the texts, and another piece. It takes no memory.
-    pub(crate) fn renew(&mut self, inlines: Vec<Parsed>, piece: String)
+    pub(crate) fn renew(&mut self, inlines: Vec<Parsed>, piece: Piece)
         requires { length inlines.items ≡ length self.old.read.unit.texts }
         ensures { self.new ≡ record {
           read = record self.old.read { readings = inlines.items };
-          piece = string_bytes piece;
+          piece = piece.html;
+          ends = piece.ends;
         } }
     {
         self.marks = marks_in(self.found.unit(), &inlines);

@@ -1,6 +1,6 @@
 //! What the inline texts of found units read as, where the last of these units has texts of a held one.
 
-ghost use Rattle.std.specs.Prelude.{◌≡◌, ◌+◌, ◌≤◌, ◌++◌, ◌∷◌, ℕ, List, [], None, Some, IfErr, IfOk, IfSome, IsErrOf, OnOk, drop, false, length, map, option_map, slice_get, true};
+ghost use Rattle.std.specs.Prelude.{◌≡◌, ◌+◌, ◌≤◌, ◌++◌, ◌∷◌, ℕ, List, [], None, Some, IfErr, IfOk, IfSome, IsErrOf, OnOk, drop, false, length, map, option_map, slice_get, take, true};
 ghost use Rattle.std.specs.List.{All};
 ghost use Rattle.blockspec.specs.UnitTree.{UnitTree};
 ghost use Rattle.mdblock.specs.FoundLists.{found_unit};
@@ -18,7 +18,7 @@ use crate::fault::EditFault;
 use crate::held_units::HeldUnit;
 use crate::readings::{TextReader, fault_in_unit};
 use crate::reparse::Kept;
-use crate::text_room::TextRoom;
+use crate::text_room::{Alike, TextRoom};
 use mdblock::{Found, Unit};
 use mdchunks::Chunks;
 use mdinline::{InlineFault, Parsed};
@@ -70,6 +70,8 @@ impl<'a> TextReader<'a> {
         requires first { first ≤ length held.now.items }
         requires held { All (IsReadUnder (entities_in room.old) (labels_before self.now)) held.now.items }
         requires held_shallow { All (IsShallow self.now.options.now.max_spans (entities_in room.old) (labels_before self.now)) held.now.items }
+        requires rendered { All (IsRendered self.now.options.now) held.now.items }
+        requires kept_rendered { IfSome kept (λ k. IsRendered self.now.options.now k.unit.now) }
         requires kept { IfSome kept (AreReadingsOf self.now.options.now.max_spans (entities_in room.old) (labels_before self.now) (last_texts (trees_in (map found_unit found.items)))) }
         ensures all { IfOk result (λ units. length units.items ≡ length found.items) }
         ensures lists { IfOk result (λ units. map list_in units.items ≡ map unplaced found.items) }
@@ -108,6 +110,7 @@ impl<'a> TextReader<'a> {
         requires limits { HasLimits self.now.options.now }
         requires elsewhere { IsElsewhere self.now.labels.now.held.now self.now.labels.now.changes.now }
         requires kept { AreReadingsOf self.now.options.now.max_spans (entities_in room.old) (labels_before self.now) found.unit.texts kept }
+        requires rendered { IsRendered self.now.options.now kept.unit.now }
         ensures unit { IfOk result (λ unit. unit.read.unit ≡ found.unit) }
         ensures list { IfOk result (λ unit. list_in unit ≡ unplaced found) }
         ensures piece { IfOk result (IsRendered self.now.options.now) }
@@ -119,9 +122,13 @@ impl<'a> TextReader<'a> {
         ensures inlines { C.inlines count.new ≤ C.inlines count.old
             + (kept.entry.at + asking_of (entities_in room.old) (labels_before self.now) (labels_behind self.now) (drop kept.entry.at found.unit.texts)) }
     {
-        let inlines = self.read_part(found.unit(), kept, room, count)?;
-        let like = kept.unit.piece().len();
-        let piece = room.unit_html(found.unit().blocks(), &inlines, self.options, like)?;
+        let (inlines, same) = self.read_part(found.unit(), kept, room, count)?;
+        let like = Alike {
+            unit: kept.unit,
+            front: self.read_alike_in(same),
+            behind: self.read_alike_in(kept.readings.len()),
+        };
+        let piece = room.piece_like(found.unit().blocks(), &inlines, self.options, like)?;
         Ok(HeldUnit::new(found, inlines, piece))
     }
 
@@ -132,12 +139,13 @@ impl<'a> TextReader<'a> {
         kept: KeptReadings<'_>,
         room: &mut TextRoom<'a>,
         count: &mut C,
-    ) -> Result<Vec<Parsed>, InlineFault>
+    ) -> Result<(Vec<Parsed>, usize), InlineFault>
         requires limits { HasLimits self.now.options.now }
         requires elsewhere { IsElsewhere self.now.labels.now.held.now self.now.labels.now.changes.now }
         requires kept { AreReadingsOf self.now.options.now.max_spans (entities_in room.old) (labels_before self.now) unit.now.texts kept }
-        ensures all { IfOk result (λ inlines. length inlines.items ≡ length unit.now.texts) }
-        ensures readings { IfOk result (λ inlines. inlines.items ≡ readings_under (entities_in room.old) (labels_behind self.now) unit.now) }
+        ensures front { IfOk result (λ read. (read.1 ≤ length unit.now.texts) × (take read.1 unit.now.texts ≡ take read.1 kept.entry.unit.now.read.unit.texts)) }
+        ensures all { IfOk result (λ read. length read.0.items ≡ length unit.now.texts) }
+        ensures readings { IfOk result (λ read. read.0.items ≡ readings_under (entities_in room.old) (labels_behind self.now) unit.now) }
         ensures shallow { OnOk result (is_deep_under self.now.options.now.max_spans (entities_in room.old) (labels_behind self.now) unit.now ≡ false) }
         ensures deep { IsErrOf result TooDeep → is_deep_under self.now.options.now.max_spans (entities_in room.old) (labels_behind self.now) unit.now ≡ true }
         ensures room { entities_in room.new ≡ entities_in room.old }
@@ -147,7 +155,7 @@ impl<'a> TextReader<'a> {
     {
         let texts = unit.texts();
         let mut inlines = Vec::with_capacity(self.alloc, texts.len())?;
-        self.read_alike(
+        let same = self.read_alike(
             &texts[..kept.at],
             kept.readings.len(),
             Some(kept.unit),
@@ -156,6 +164,6 @@ impl<'a> TextReader<'a> {
             count,
         )?;
         self.read_concerned(&texts[kept.at..], kept.readings, &mut inlines, room, count)?;
-        Ok(inlines)
+        Ok((inlines, same))
     }
 }

@@ -7,6 +7,7 @@ mod commit;
 mod defining;
 mod fault;
 mod held_labels;
+mod held_pieces;
 mod held_units;
 mod kept_texts;
 mod label_changes;

@@ -1,6 +1,6 @@
 //! What inline texts read as after an edit, and the HTML of units.
 
-ghost use Rattle.std.specs.Prelude.{◌≡◌, ◌+◌, ◌≤◌, ◌<◌, ◌^◌, ◌++◌, ◌∷◌, List, [], None, Some, IfOk, IfSome, IfErr, IsErrOf, OnOk, false, if◌then◌else◌, length, map, option_map, slice_get, string_bytes, sum_by, true};
+ghost use Rattle.std.specs.Prelude.{◌≡◌, ◌+◌, ◌≤◌, ◌<◌, ◌^◌, ◌++◌, ◌∷◌, ℕ, List, [], None, take, Some, IfOk, IfSome, IfErr, IsErrOf, OnOk, false, if◌then◌else◌, length, map, option_map, slice_get, string_bytes, sum_by, true};
 ghost use Rattle.std.specs.List.{All, list_any};
 ghost use Rattle.blockspec.specs.UnitTree.{UnitTree};
 ghost use Rattle.mdblock.specs.FoundLists.{found_unit};
@@ -12,19 +12,20 @@ ghost use Rattle.viewspec.specs.Refusals.{is_deep};
 ghost use Rattle.viewspec.specs.View.{reading_of};
 ghost use Rattle.viewlaws.specs.UnitTexts.{asking_in, asking_texts, asking_units, deep_found, deep_from, is_deep_under, readings_under, trees_in};
 ghost use Rattle.joinlaws.specs.LaterTexts.{asking_of};
-ghost use Rattle.mdview.specs.HeldUnit.{HeldUnit, IsRendered, html_of, unit_in, texts_in};
+ghost use Rattle.mdview.specs.HeldUnit.{AreEnds, HeldUnit, IsRendered, html_of, unit_in, texts_in};
 ghost use Rattle.mdview.specs.Update.{Fits, IsWritten};
 ghost use Rattle.mdview.specs.HeldLists.{list_in, unplaced};
 ghost use Rattle.mdview.specs.HeldBlocks.{held_tile, lines_in};
 ghost use Rattle.mdview.specs.HeldTexts.{IsReadUnder, IsReread, IsShallow, IsTextFault, between, entities_in, labels_before, labels_behind, line_on, number_again, text_fault_in};
-ghost use Rattle.mdview.specs.LabelTargets.{IsElsewhere};
+ghost use Rattle.mdview.specs.LabelTargets.{IsElsewhere, at};
 
 use crate::fault::EditFault;
 use crate::held_labels::LabelsAfter;
+use crate::held_pieces::Piece;
 use crate::held_units::HeldUnit;
 use crate::limits::SPLICE_ROOM;
 use crate::marked_units::{line_from, next_marked};
-use crate::text_room::TextRoom;
+use crate::text_room::{Alike, TextRoom};
 use mdblock::{Found, Unit};
 use mdchunks::{Change, Chunks};
 use mdhtml::Options;
@@ -45,7 +46,7 @@ pub(crate) struct TextReader<'a> {
 pub(crate) struct Again {
     pub(crate) unit: usize,
     pub(crate) inlines: Vec<Parsed>,
-    pub(crate) piece: String,
+    pub(crate) piece: Piece,
 }
 
 /// The unit takes its readings and its piece.
@@ -79,6 +80,7 @@ impl<'a> TextReader<'a> {
         requires elsewhere { IsElsewhere self.now.labels.now.held.now self.now.labels.now.changes.now }
         requires held { All (IsReadUnder (entities_in room.old) (labels_before self.now)) held.now.items }
         requires held_shallow { All (IsShallow self.now.options.now.max_spans (entities_in room.old) (labels_before self.now)) held.now.items }
+        requires rendered { All (IsRendered self.now.options.now) held.now.items }
         ensures all { IfOk result (λ units. length units.items ≡ length found.items) }
         ensures lists { IfOk result (λ units. map list_in units.items ≡ map unplaced found.items) }
         ensures pieces { IfOk result (λ units. All (IsRendered self.now.options.now) units.items) }
@@ -119,6 +121,7 @@ impl<'a> TextReader<'a> {
         requires elsewhere { IsElsewhere self.now.labels.now.held.now self.now.labels.now.changes.now }
         requires held { IfSome held (λ u. IsReadUnder (entities_in room.old) (labels_before self.now) u.now) }
         requires held_shallow { IfSome held (λ u. IsShallow self.now.options.now.max_spans (entities_in room.old) (labels_before self.now) u.now) }
+        requires rendered { IfSome held (λ u. IsRendered self.now.options.now u.now) }
         ensures unit { IfOk result (λ unit. unit.read.unit ≡ found.unit) }
         ensures list { IfOk result (λ unit. list_in unit ≡ unplaced found) }
         ensures piece { IfOk result (IsRendered self.now.options.now) }
@@ -129,12 +132,19 @@ impl<'a> TextReader<'a> {
         ensures lines { C.lines count.new ≡ C.lines count.old }
         ensures inlines { C.inlines count.new ≤ C.inlines count.old + texts_in found.unit }
     {
-        let inlines = self.read_texts(found.unit(), held, room, count)?;
-        let like = match held {
-            Some(unit) => unit.piece().len(),
-            None => 0,
+        let (inlines, same) = self.read_texts(found.unit(), held, room, count)?;
+        let blocks = found.unit().blocks();
+        let piece = match held {
+            Some(unit) => {
+                let like = Alike {
+                    unit,
+                    front: self.read_alike_in(same),
+                    behind: 0,
+                };
+                room.piece_like(blocks, &inlines, self.options, like)?
+            }
+            None => room.unit_piece(blocks, &inlines, self.options, 0)?,
         };
-        let piece = room.unit_html(found.unit().blocks(), &inlines, self.options, like)?;
         Ok(HeldUnit::new(found, inlines, piece))
     }
 
@@ -144,13 +154,14 @@ impl<'a> TextReader<'a> {
         held: Option<&HeldUnit>,
         room: &mut TextRoom<'a>,
         count: &mut C,
-    ) -> Result<Vec<Parsed>, InlineFault>
+    ) -> Result<(Vec<Parsed>, usize), InlineFault>
         requires limits { HasLimits self.now.options.now }
         requires elsewhere { IsElsewhere self.now.labels.now.held.now self.now.labels.now.changes.now }
         requires held { IfSome held (λ u. IsReadUnder (entities_in room.old) (labels_before self.now) u.now) }
         requires held_shallow { IfSome held (λ u. IsShallow self.now.options.now.max_spans (entities_in room.old) (labels_before self.now) u.now) }
-        ensures all { IfOk result (λ inlines. length inlines.items ≡ length unit.now.texts) }
-        ensures readings { IfOk result (λ inlines. inlines.items ≡ readings_under (entities_in room.old) (labels_behind self.now) unit.now) }
+        ensures all { IfOk result (λ read. length read.0.items ≡ length unit.now.texts) }
+        ensures readings { IfOk result (λ read. read.0.items ≡ readings_under (entities_in room.old) (labels_behind self.now) unit.now) }
+        ensures front { IfOk result (λ read. (read.1 ≤ length unit.now.texts) × IfSome held.entry (λ u. take read.1 unit.now.texts ≡ take read.1 u.now.read.unit.texts)) }
         ensures shallow { OnOk result (is_deep_under self.now.options.now.max_spans (entities_in room.old) (labels_behind self.now) unit.now ≡ false) }
         ensures deep { IsErrOf result TooDeep → is_deep_under self.now.options.now.max_spans (entities_in room.old) (labels_behind self.now) unit.now ≡ true }
         ensures room { entities_in room.new ≡ entities_in room.old }
@@ -159,8 +170,19 @@ impl<'a> TextReader<'a> {
     {
         let texts = unit.texts();
         let mut inlines = Vec::with_capacity(self.alloc, texts.len())?;
-        self.read_alike(texts, 0, held, &mut inlines, room, count)?;
-        Ok(inlines)
+        let same = self.read_alike(texts, 0, held, &mut inlines, room, count)?;
+        Ok((inlines, same))
+    }
+
+    /// Of so many texts that a held unit has too, how many read as they did for certain: all where no label leads elsewhere.
+    pub(crate) fn read_alike_in(&self, same: usize) -> usize
+        ensures { 0 < result → (result ≡ same) × ((label : List ℕ) → at label self.now.labels.now.changes.now.targets.entries ≡ None) }
+    {
+        if self.labels.changes.is_empty() {
+            same
+        } else {
+            0
+        }
     }
 
     pub(crate) fn read_text<C: Count>(
@@ -292,7 +314,8 @@ impl<'a> TextReader<'a> {
         requires shallow { IsShallow self.now.options.now.max_spans (entities_in room.old) (labels_before self.now) unit.now }
         ensures unit { IfOk result (λ again. again.unit ≡ number) }
         ensures all { IfOk result (λ again. length again.inlines.items ≡ length unit.now.read.unit.texts) }
-        ensures piece { IfOk result (λ again. string_bytes again.piece ≡ html_of self.now.options.now unit.now.read.unit again.inlines.items) }
+        ensures piece { IfOk result (λ again. again.piece.html ≡ html_of self.now.options.now unit.now.read.unit again.inlines.items) }
+        ensures ends { IfOk result (λ again. AreEnds self.now.options.now again.inlines.items unit.now.read.unit.blocks again.piece.ends) }
         ensures readings { IfOk result (λ again. again.inlines.items ≡ readings_under (entities_in room.old) (labels_behind self.now) unit.now.read.unit) }
         ensures shallow { OnOk result (IsShallow self.now.options.now.max_spans (entities_in room.old) (labels_behind self.now) unit.now) }
         ensures deep { IsErrOf result TooDeep → is_deep_under self.now.options.now.max_spans (entities_in room.old) (labels_behind self.now) unit.now.read.unit ≡ true }
@@ -302,7 +325,7 @@ impl<'a> TextReader<'a> {
     {
         let inlines = self.read_some(unit, room, count)?;
         let like = unit.piece().len();
-        let piece = room.unit_html(unit.unit().blocks(), &inlines, self.options, like)?;
+        let piece = room.unit_piece(unit.unit().blocks(), &inlines, self.options, like)?;
         Ok(Again {
             unit: number,
             inlines,

@@ -194,8 +194,13 @@ fn a_long_piece_is_made_again(rt: HostRuntime) -> Result<(), Fail> {
     for (at, line) in [
         (700, "- *another* item"),
         (1, "- i"),
+        (2, "- see [x] and *b*"),
+        (900, "- [x]: /u"),
+        (901, "  - inside"),
+        (902, "- c"),
         (1_499, "> quote"),
         (3, ""),
+        (4, "- d"),
     ] {
         if let Some(place) = lines.get_mut(at) {
             *place = line;

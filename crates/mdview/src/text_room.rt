@@ -1,13 +1,17 @@
 //! What the reading of texts and the writing of units use again.
 
-ghost use Rattle.std.specs.Prelude.{◌≡◌, [], false, IfOk, length, string_bytes};
+ghost use Rattle.std.specs.Prelude.{◌≡◌, [], false, IfOk, IfSome, Some, length, string_bytes};
 ghost use Rattle.mdblock.specs.BlockView.{blocks_view};
 ghost use Rattle.mdblock.specs.Positions.{BlocksIn};
 ghost use Rattle.mdhtml.specs.BlockHtml.{blocks_html, texts_html};
 ghost use Rattle.mdview.specs.HeldTexts.{entities_in};
+ghost use Rattle.mdview.specs.HeldUnit.{AreEnds, IsRendered};
+ghost use Rattle.mdview.specs.AlikeUnits.{AreAlike};
 
+use crate::held_pieces::Piece;
+use crate::held_units::HeldUnit;
 use mdblock::Block;
-use mdhtml::{Options, append_unit_html};
+use mdhtml::{Like, Options, append_unit_ends, append_unit_html, append_unit_like};
 use mdinline::{Parsed, TextReader};
 use mdtext::{Entities, NoMemory};
 use std::alloc::Global;
@@ -17,6 +21,14 @@ const HTML_ROOM: usize = 1_000;
 
 /// A piece that is made again in the place of a longer one is written where it stays, and not copied.
 const LONG: usize = 16_384;
+
+/// A unit that is held, in whose place another comes, and how many of its texts, from the front on and from the end on, read as those of the other.
+#[derive(Clone, Copy)]
+pub(crate) struct Alike<'a> {
+    pub(crate) unit: &'a HeldUnit,
+    pub(crate) front: usize,
+    pub(crate) behind: usize,
+}
 
 /// A reader of texts, and room for the HTML of a unit: both are used again for the next one.
 #[derive(Drop)]
@@ -38,44 +50,115 @@ impl<'a> TextRoom<'a> {
         }
     }
 
-    /// The HTML of a unit: of its blocks, whose texts read as `texts`. It takes as much memory as it has bytes; `like` is the length of the piece in whose
-    /// place it comes, and 0 where there is none.
-    pub(crate) fn unit_html(
+    /// The piece of a unit that comes in the place of a held one: where both are long lists, the HTML of items that are the same in both is taken over.
+    pub(crate) fn piece_like(
+        &mut self,
+        blocks: &[Block],
+        texts: &[Parsed],
+        options: &Options,
+        like: Alike<'_>,
+    ) -> Result<Piece, NoMemory>
+        requires within { BlocksIn (length texts.now) (blocks_view blocks.now) }
+        requires rendered { IsRendered options.now like.unit.now }
+        requires alike { AreAlike texts.now like }
+        ensures html { IfOk result (λ piece. piece.html
+            ≡ blocks_html options.now (texts_html options.now texts.now) false (blocks_view blocks.now) []) }
+        ensures ends { IfOk result (λ piece. AreEnds options.now texts.now (blocks_view blocks.now) piece.ends) }
+        ensures room { entities_in self.new ≡ entities_in self.old }
+    {
+        match like.unit.ends() {
+            Some(ends) => list_like(self.alloc, blocks, texts, options, like, ends),
+            None => self.unit_piece(blocks, texts, options, like.unit.piece().len()),
+        }
+    }
+
+    /// The piece of a unit: the HTML of its blocks, whose texts read as `texts`. It takes as much memory as it has bytes; `like` is the length of the piece in
+    /// whose place it comes, and 0 where there is none.
+    pub(crate) fn unit_piece(
         &mut self,
         blocks: &[Block],
         texts: &[Parsed],
         options: &Options,
         like: usize,
-    ) -> Result<String, NoMemory>
+    ) -> Result<Piece, NoMemory>
         requires { BlocksIn (length texts.now) (blocks_view blocks.now) }
-        ensures piece { IfOk result (λ piece. string_bytes piece
+        ensures html { IfOk result (λ piece. piece.html
             ≡ blocks_html options.now (texts_html options.now texts.now) false (blocks_view blocks.now) []) }
+        ensures ends { IfOk result (λ piece. AreEnds options.now texts.now (blocks_view blocks.now) piece.ends) }
         ensures room { entities_in self.new ≡ entities_in self.old }
     {
         if like > LONG {
-            return long_html(self.alloc, blocks, texts, options, like);
+            return long_piece(self.alloc, blocks, texts, options, like);
         }
         self.html.clear();
         self.html.reserve(HTML_ROOM)?;
         append_unit_html(blocks, texts, options, &mut self.html)?;
-        Ok(String::from_str(self.alloc, &self.html)?)
+        Ok(Piece::new(String::from_str(self.alloc, &self.html)?, None))
     }
 }
 
-/// The same in memory of its own, which is taken at once for a piece as long as the one before it, and cut to its length.
-fn long_html(
+/// The piece of a unit that comes in the place of a held one of which is known where its items end.
+fn list_like(
+    alloc: Global,
+    blocks: &[Block],
+    texts: &[Parsed],
+    options: &Options,
+    like: Alike<'_>,
+    like_ends: &[usize],
+) -> Result<Piece, NoMemory>
+    requires within { BlocksIn (length texts.now) (blocks_view blocks.now) }
+    requires rendered { IsRendered options.now like.unit.now }
+    requires like_ends { Some like_ends.now ≡ like.unit.now.ends }
+    requires alike { AreAlike texts.now like }
+    ensures html { IfOk result (λ piece. piece.html
+        ≡ blocks_html options.now (texts_html options.now texts.now) false (blocks_view blocks.now) []) }
+    ensures ends { IfOk result (λ piece. AreEnds options.now texts.now (blocks_view blocks.now) piece.ends) }
+{
+    let was = Like {
+        blocks: like.unit.unit().blocks(),
+        texts: like.unit.inlines(),
+        html: like.unit.piece(),
+        ends: like_ends,
+        front: like.front,
+        behind: like.behind,
+    };
+    let mut html = String::with_capacity(alloc, was.html.len().saturating_add(HTML_ROOM))?;
+    let mut ends = Vec::new(alloc);
+    append_unit_like(blocks, texts, options, &was, &mut html, &mut ends)?;
+    cut_piece(alloc, html, ends)
+}
+
+/// The same in memory of its own, which is taken at once for a piece as long as the one before it, and cut to its length; it tells where the items of a list
+/// end.
+fn long_piece(
     alloc: Global,
     blocks: &[Block],
     texts: &[Parsed],
     options: &Options,
     like: usize,
-) -> Result<String, NoMemory>
+) -> Result<Piece, NoMemory>
     requires { BlocksIn (length texts.now) (blocks_view blocks.now) }
-    ensures piece { IfOk result (λ piece. string_bytes piece
+    ensures html { IfOk result (λ piece. piece.html
         ≡ blocks_html options.now (texts_html options.now texts.now) false (blocks_view blocks.now) []) }
+    ensures ends { IfOk result (λ piece. AreEnds options.now texts.now (blocks_view blocks.now) piece.ends) }
 {
     let mut html = String::with_capacity(alloc, like.saturating_add(HTML_ROOM))?;
-    append_unit_html(blocks, texts, options, &mut html)?;
+    let mut ends = Vec::new(alloc);
+    append_unit_ends(blocks, texts, options, &mut html, &mut ends)?;
+    cut_piece(alloc, html, ends)
+}
+
+/// A piece, and where items end in it if there are any, in no more memory than they need.
+fn cut_piece(alloc: Global, html: String, ends: Vec<usize>) -> Result<Piece, NoMemory>
+    ensures html { IfOk result (λ piece. piece.html ≡ string_bytes html) }
+    ensures ends { IfOk result (λ piece. IfSome piece.ends (λ ns. ns ≡ ends.items)) }
+{
+    let mut html = html;
+    let mut ends = ends;
     html.shrink_to_fit();
-    Ok(html)
+    if ends.is_empty() {
+        return Ok(Piece::new(html, None));
+    }
+    ends.shrink_to_fit();
+    Ok(Piece::new(html, Some(Box::new(alloc, ends)?)))
 }

@@ -19,7 +19,7 @@ ghost use Rattle.mdview.specs.NewText.{lines_of};
 ghost use Rattle.mdview.specs.HeldTexts.{IsReadUnder, IsRefusedBy, IsReread, IsShallow, IsTextFault, asking_in_parts, deep_in_parts, head_read, number_again, setting_in, source_before, source_behind, texts_in_parts};
 ghost use Rattle.mdview.specs.LabelTargets.{IsElsewhere, Leads, LeadsAfter, led_after, led_by, target_held};
 ghost use Rattle.mdview.specs.HeldBlocks.{held_tile, lines_in};
-ghost use Rattle.mdview.specs.HeldUnit.{unit_in, read_of, texts_before, texts_of};
+ghost use Rattle.mdview.specs.HeldUnit.{IsRendered, unit_in, read_of, texts_before, texts_of};
 ghost use Rattle.mdview.specs.KeptTexts.{IsKept};
 ghost use Rattle.mdview.specs.StopLines.{stops_of};
 ghost use Rattle.mdview.specs.Update.{IsFitFor, IsPatchOf, number_after};
@@ -83,6 +83,7 @@ impl Update {
         requires led { Leads held.now.labels.now (map unit_in held.now.units.now.items) held.now.prelude.now }
         requires defined { IsDefinedBy held.now.entities.now held.now.prelude.now }
         requires read { All (IsReadUnder held.now.entities.now (target_held held.now.labels.now)) held.now.units.now.items }
+        requires rendered { All (IsRendered held.now.options.now) held.now.units.now.items }
         requires spans { inline_refusal (setting_in held.now) (source_before held.now text) ≡ None }
         ensures refused { IfErr result (IsRefusedBy (nesting_refusal (setting_in held.now) (source_behind held.now text.entry))) }
         ensures accepted { OnOk result (nesting_refusal (setting_in held.now) (source_behind held.now text.entry) ≡ None) }
@@ -116,6 +117,7 @@ impl Update {
         requires led { Leads held.now.labels.now (map unit_in held.now.units.now.items) held.now.prelude.now }
         requires read { All (IsReadUnder held.now.entities.now (target_held held.now.labels.now)) held.now.units.now.items }
         requires shallow { All (IsShallow held.now.options.now.max_spans held.now.entities.now (target_held held.now.labels.now)) held.now.units.now.items }
+        requires rendered { All (IsRendered held.now.options.now) held.now.units.now.items }
         requires near { held.now.head + sum_by lines_in held.now.units.now.items < 2 ^ 64 }
         ensures none { IfOk result (λ r. (r.first ≡ 0) × (r.next ≡ 0) × (r.units.items ≡ [])) }
         ensures led { IfOk result (λ r. LeadsAfter held.now.labels.now (map unit_in held.now.units.now.items) prelude.now r.changes) }
@@ -159,6 +161,7 @@ impl Update {
         requires shallow { All (IsShallow held.now.options.now.max_spans held.now.entities.now (target_held held.now.labels.now)) held.now.units.now.items }
         requires near { head_read held.now.head reparsed + sum_by lines_in held.now.units.now.items < 2 ^ 64 }
         requires far { reparsed.meet + sum_by lines_in held.now.units.now.items < 2 ^ 64 }
+        requires rendered { All (IsRendered held.now.options.now) held.now.units.now.items }
         requires kept { IfSome reparsed.kept (IsKept held.now.units.now.items (trees_in (map found_unit reparsed.found.items))) }
         ensures fit { IfOk result (IsFitFor held.now.options.now (map unit_in held.now.units.now.items)) }
         ensures place { IfOk result (λ r. (r.first ≡ reparsed.first) × (r.next ≡ reparsed.next)) }

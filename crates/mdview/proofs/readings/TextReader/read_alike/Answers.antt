@@ -1,12 +1,12 @@
-use Rattle.std.proofs.Common.{◌≡◌, ◌∷◌, ◌++◌, [], Err, false, append_assoc, arith, ap, map, refl, string_bytes, subst, take, ◌∙◌, sym}
+use Rattle.std.proofs.Common.{◌≡◌, ◌∷◌, ◌++◌, [], Err, Some, false, append_assoc, arith, ap, length, map, option_map, refl, string_bytes, subst, take, ◌∙◌, sym}
 use Rattle.std.specs.Prelude.{IfSome}
 use Rattle.std.specs.List.{list_any}
-use Rattle.std.proofs.lemmas.Option.{IfSome_then}
+use Rattle.std.proofs.lemmas.Option.{IfSome_then, slice_get-map, slice_get_read}
 use Rattle.viewspec.specs.Refusals.{is_deep}
 use Rattle.viewspec.specs.View.{reading_of}
 use Rattle.mdblock.proofs.LevelBegins.{err_is}
 use Rattle.mdview.specs.HeldTexts.{IsReadUnder, IsShallow, entities_in, labels_before, labels_behind}
-use Rattle.mdview.proofs.AlikeTexts.{of_both}
+use Rattle.mdview.proofs.AlikeTexts.{at_next, few_next, fronts_next, of_both}
 use Rattle.mdview.proofs.ReadTexts.{IsTextAt, none_next, one_passes, taken_next}
 use Rattle.mdview.proofs.readings.TextReader.read_alike.Goals as goal
 
@@ -55,4 +55,12 @@ loop-i-preserved g c =
       room = c.read_or_keep.ensures.room ∙ c.loop-i.invariant.room;
       lines = c.read_or_keep.ensures.lines ∙ c.loop-i.invariant.lines;
       inlines = omega (arith, c.read_or_keep.ensures.inlines, c.loop-i.invariant.inlines);
+      few = few_next c.kept_reading-kept.new.in_front c.loop-i.front c.loop-i.i c.same_up_to-front.result c.loop-i.invariant.few c.same_up_to-front.ensures;
+      at = at_next c.kept_reading-kept.new.in_front c.loop-i.front c.loop-i.i c.same_up_to-front.result c.same_up_to-front.ensures;
+      front = fronts_next (λ u. u.now.read.unit.texts) c.kept_reading-kept.new.in_front c.loop-i.front c.loop-i.i c.same_up_to-front.result c.args.held (map string_bytes c.args.texts.now) c.as_str-text.result.now c.same_up_to-front.ensures
+          (slice_get-map string_bytes c.args.texts.now c.loop-i.i
+          ∙ ap (option_map string_bytes) (slice_get_read c.args.texts.now (length c.args.texts.now) c.loop-i.i c.index-texts-i.result refl c.loop-i-test.true c.index-texts-i.is)
+          ∙ ap (λ z. Some z) (sym c.as_str-text.ensures.value))
+          (λ still. (c.loop-i.invariant.at (c.kept_reading-kept.ensures.front still).0, (c.kept_reading-kept.ensures.front still).1))
+          c.loop-i.invariant.front;
     })

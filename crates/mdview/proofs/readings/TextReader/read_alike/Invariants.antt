@@ -1,4 +1,4 @@
-use Rattle.std.proofs.Common.{◌≡◌, ◌+◌, ◌≤◌, ◌++◌, false, map, string_bytes, take}
+use Rattle.std.proofs.Common.{◌≡◌, ◌+◌, ◌≤◌, ◌++◌, IfSome, false, map, string_bytes, take, true}
 use Rattle.std.specs.List.{list_any}
 use Rattle.viewspec.specs.Refusals.{is_deep}
 use Rattle.viewspec.specs.View.{reading_of}
@@ -13,4 +13,7 @@ invariant-loop-i g l = record {
   room : entities_in l.room ≡ entities_in l.fn.room;
   lines : g.C.Count.lines l.count ≡ g.C.Count.lines l.fn.count;
   inlines : g.C.Count.inlines l.count ≤ g.C.Count.inlines l.fn.count + l.i;
+  few : l.front ≤ l.i;
+  at : l.in_front ≡ true → l.front ≡ l.i;
+  front : IfSome l.held (λ u. take l.front (map string_bytes l.texts) ≡ take l.front u.now.read.unit.texts);
 }

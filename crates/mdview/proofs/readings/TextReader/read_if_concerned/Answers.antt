@@ -36,7 +36,7 @@ pub returns-clause-written : goal.returns-clause-written
 returns-clause-written g c = λ trees at all.
     let options = c.args.self.now.options.now in
     let here : slice_get trees c.in_ok-one.one.unit ≡ Some c.args.unit.now.read.unit = ap (slice_get trees) c.in_ok-one.ensures.unit ∙ at in
-    let one : IsWritten options trees c.in_ok-one.one = rw here c.in_ok-one.ensures.piece in
+    let one : IsWritten options trees c.in_ok-one.one = rw here (c.in_ok-one.ensures.piece, c.in_ok-one.ensures.ends) in
     rw c.in_ok-push.ensures.items (all_more (IsWritten options trees) c.args.again.now.items c.in_ok-one.one all one)
 
 pub returns-clause-reread : goal.returns-clause-reread

@@ -27,6 +27,10 @@ read_unit-requires-clause-held_shallow g c =
     subst (λ z. IfSome c.next-was.result (λ u. IsShallow limit z (labels_before c.args.self.now) u.now)) (sym c.loop-one.invariant.room)
     (next_has (λ x. x.now) P c.next-was.result c.loop-one.like c.next-was.new.self c.next-was.ensures.steps c.loop-one.invariant.like_shallow)
 
+pub read_unit-requires-clause-rendered : goal.read_unit-requires-clause-rendered
+read_unit-requires-clause-rendered g c =
+    next_has (λ x. x.now) (IsRendered c.args.self.now.options.now) c.next-was.result c.loop-one.like c.next-was.new.self c.next-was.ensures.steps c.loop-one.invariant.like_rendered
+
 pub loop-one-preserved : goal.loop-one-preserved
 loop-one-preserved g c =
     let items = c.in_ok-push-in-Ok.ensures.items in
@@ -47,6 +51,7 @@ loop-one-preserved g c =
           ∙ deep_later limit e L (found_unit one) (map found_unit rest) (ap (λ z. is_deep_under limit z L one.unit) (sym c.loop-one.invariant.room) ∙ c.in-Ok.ensures.shallow);
       like = rest_have (λ x. x.now) (IsReadUnder e (labels_before c.args.self.now)) c.next-was.result c.loop-one.like c.next-was.new.self c.next-was.ensures.steps c.loop-one.invariant.like;
       like_shallow = rest_have (λ x. x.now) (IsShallow limit e (labels_before c.args.self.now)) c.next-was.result c.loop-one.like c.next-was.new.self c.next-was.ensures.steps c.loop-one.invariant.like_shallow;
+      like_rendered = rest_have (λ x. x.now) (IsRendered c.args.self.now.options.now) c.next-was.result c.loop-one.like c.next-was.new.self c.next-was.ensures.steps c.loop-one.invariant.like_rendered;
       room = c.read_unit.ensures.room ∙ c.loop-one.invariant.room;
       lines = c.read_unit.ensures.lines ∙ c.loop-one.invariant.lines;
       inlines = omega (arith, c.read_unit.ensures.inlines, c.loop-one.invariant.inlines, texts);

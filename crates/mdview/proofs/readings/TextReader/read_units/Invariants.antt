@@ -18,6 +18,7 @@ invariant-loop-one g l = record {
       ≡ deep_found l.fn.self.options.now.max_spans (entities_in l.fn.room) (labels_behind l.fn.self) (map found_unit l.one-iterator.rest.items);
   like : All (IsReadUnder (entities_in l.fn.room) (labels_before l.fn.self)) l.like;
   like_shallow : All (IsShallow l.fn.self.options.now.max_spans (entities_in l.fn.room) (labels_before l.fn.self)) l.like;
+  like_rendered : All (IsRendered l.fn.self.options.now) l.like;
   room : entities_in l.room ≡ entities_in l.fn.room;
   lines : g.C.Count.lines l.count ≡ g.C.Count.lines l.fn.count;
   inlines : g.C.Count.inlines l.count + sum_by texts_in (trees_in (map found_unit l.one-iterator.rest.items)) ≤ g.C.Count.inlines l.fn.count + sum_by texts_in (trees_in (map found_unit l.fn.found.items));
