@@ -92,8 +92,8 @@ impl<'e> Reader<'e> {
     }
 
     /// A reader that goes on inside a list that was found: it has read the list's lines up to its join `k`, and that line, which is `text`. So many containers, 1 to
-    /// 256, may be open inside one another. Nothing, where the line begins no item of the list. No line is counted. Takes memory for the items before that
-    /// one (CommonMark 5.3).
+    /// 256, may be open inside one another. Nothing, where the unit is no list or has no join `k`, and where the line begins no item of the list, or too many
+    /// containers. No line is counted. Takes memory for the items before that one (CommonMark 5.3).
     pub fn resume(
         alloc: Global,
         entities: &'e Entities,

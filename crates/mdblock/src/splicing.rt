@@ -1,4 +1,4 @@
-//! A list whose front was read anew, and whose later items were found before (CommonMark 5.3).
+//! A list whose front a reader holds, and whose later items were found before (CommonMark 5.3).
 
 ghost use Rattle.std.specs.Prelude.{◌≡◌, ◌+◌, ◌-◌, ◌<◌, ◌≤◌, ◌++◌, ◌∷◌, [], ℕ, List, IfOk, OnOk, Some, drop, length, map, option_map, string_bytes, true};
 ghost use Rattle.mdtext.specs.EntityTable.{EntityTable};

@@ -35,6 +35,7 @@ pub mod HeldItems
 pub mod PassedItems
 pub mod ReadStretches
 pub mod EditPlaces
+pub mod CountedLaws
 pub mod Reparses
 pub mod JoinedTexts
 pub mod NearReadings

@@ -4,6 +4,7 @@ pub mod HeldLists
 pub mod KeptTexts
 pub mod HeldTexts
 pub mod StopLines
+pub mod CountedLines
 pub mod ReadingFaults
 pub mod Lists
 pub mod Document

@@ -1,6 +1,6 @@
 //! Reads the lines again that an edit may have changed the blocks of.
 
-ghost use Rattle.std.specs.Prelude.{◌≡◌, ◌≤◌, ◌+◌, ◌<◌, ◌-◌, ◌^◌, ◌++◌, ◌&&◌, ◌∷◌, ℕ, List, None, Some, IfErr, IfOk, IfSome, OnOk, [], drop, is_some, length, map, min, sum_by, take, true};
+ghost use Rattle.std.specs.Prelude.{◌≡◌, ◌≤◌, ◌+◌, ◌<◌, ◌-◌, ◌^◌, ◌++◌, ◌&&◌, ◌∷◌, ℕ, List, None, Some, IfErr, IfOk, IfSome, OnErr, OnOk, [], drop, is_some, length, map, min, sum_by, take, true};
 ghost use Rattle.std.specs.Option.{option_to_list};
 ghost use Rattle.mdtext.specs.EntityTable.{EntityTable};
 ghost use Rattle.blockspec.specs.BlockUnits.{begins, units};
@@ -20,6 +20,7 @@ ghost use Rattle.mdview.specs.HeldLists.{list_in};
 ghost use Rattle.mdview.specs.HeldUnit.{read_of};
 ghost use Rattle.mdview.specs.KeptTexts.{IsKept};
 ghost use Rattle.mdview.specs.StopLines.{IsReadToStop, stops_of};
+ghost use Rattle.mdview.specs.CountedLines.{counted_by};
 ghost use Rattle.mdview.specs.Document.{size_of};
 ghost use Rattle.mdview.specs.NewText.{lines_of};
 ghost use Rattle.mdview.specs.ReadingFaults.{OfBlocks};
@@ -83,9 +84,8 @@ pub(crate) fn reparse<C: Count>(
     let first = start.unit;
     let mut cursor = UnitCursor::at(held.units, start);
     let mut found = Vec::new(held.alloc);
-    let mut reader = begun_reader(held, text, from, start)?;
+    let mut reader = begun_reader(held, text, from, start, count)?;
     let begun = from + reader.fed();
-    count_lines(reader.fed(), count);
     let mut ahead = text.lines_from(begun);
     for line in begun..text.len() {
         match reader.line(text.line(line, &mut ahead), count) {
@@ -130,12 +130,13 @@ pub(crate) fn reparse<C: Count>(
 }
 
 /// A reader that begins in line `from`. Where the unit `start` begins there, is a list and has a later item above the edit, it has read the lines up to the last
-/// such item, and that item's first line.
-fn begun_reader<'a>(
+/// such item, and that item's first line. Each of them is counted.
+fn begun_reader<'a, C: Count>(
     held: &HeldText<'a>,
     text: NewText<'a>,
     from: usize,
     start: UnitStart,
+    count: &mut C,
 ) -> Result<Reader<'a>, AllocError>
     requires limits { HasLimits held.now.options.now }
     requires few { length (lines_of text) ≤ 1000000 }
@@ -149,6 +150,9 @@ fn begun_reader<'a>(
     ensures reads { IfOk result (λ reader.
         Reads held.now.options.now.max_containers held.now.entities.now reader (drop from (take (from + reader.fed) (lines_of text.entry)))) }
     ensures none { IfOk result (λ reader. handed held.now.entities.now (drop from (take (from + reader.fed) (lines_of text.entry))) ≡ []) }
+    ensures lines { IfOk result (λ reader. C.lines count.new ≡ counted_by reader.fed (C.lines count.old)) }
+    ensures uncounted { OnErr result (C.lines count.new ≡ C.lines count.old) }
+    ensures inlines { C.inlines count.new ≡ C.inlines count.old }
 {
     let limit = held.options.max_containers;
     if let Some(item) = item_above(held.units, text, from, start) {
@@ -158,6 +162,7 @@ fn begun_reader<'a>(
         let line = text.line(number, &mut ahead);
         let resumed = Reader::resume(held.alloc, held.entities, limit, list, item.item, line)?;
         if let Some(reader) = resumed {
+            count_lines(reader.fed(), count);
             return Ok(reader);
         }
     }
@@ -190,7 +195,7 @@ fn item_above<'a>(
 
 /// Counts so many lines.
 fn count_lines<C: Count>(lines: usize, count: &mut C)
-    ensures lines { C.lines count.new ≤ C.lines count.old + lines }
+    ensures lines { C.lines count.new ≡ counted_by lines (C.lines count.old) }
     ensures inlines { C.inlines count.new ≡ C.inlines count.old }
 {
     for _ in 0..lines {

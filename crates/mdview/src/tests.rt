@@ -182,6 +182,20 @@ fn texts_that_stay_count(rt: HostRuntime) -> Result<(), Fail> {
     Ok(())
 }
 
+/// In a list the lines and the texts in front of the item that is read again count as read.
+#[test]
+fn items_in_front_count(rt: HostRuntime) -> Result<(), Fail> {
+    let alloc = rt.alloc();
+    let lines = ["- a", "- b", "- c", "- d", "- e"];
+    let mut preview = preview_of(alloc, lines.as_slice())?;
+    let mut count = Tally::new();
+    preview
+        .edit(3, 1, &["- D"], &mut count)
+        .map_err(|_| "refused")?;
+    assert_eq!(rt; (count.lines(), count.inlines()), (5, 4));
+    Ok(())
+}
+
 /// A piece of more than 16 KB that is made again, longer, shorter or short, is that of a preview made from nothing.
 #[test]
 fn a_long_piece_is_made_again(rt: HostRuntime) -> Result<(), Fail> {

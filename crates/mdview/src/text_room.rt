@@ -50,7 +50,7 @@ impl<'a> TextRoom<'a> {
         }
     }
 
-    /// The piece of a unit that comes in the place of a held one: where both are long lists, the HTML of items that are the same in both is taken over.
+    /// The piece of a unit that comes in the place of a held one: where it is known where the items of the held one end, the HTML of items that are the same in both is taken over.
     pub(crate) fn piece_like(
         &mut self,
         blocks: &[Block],

@@ -19,7 +19,7 @@ there None x P is h = cc
 there (Some y) x P is h = let same : y ≡ x = cc in subst P same h
 
 pub returns-in-Some-resumed-clause-reads : goal.returns-in-Some-resumed-clause-reads
-returns-in-Some-resumed-clause-reads c =
+returns-in-Some-resumed-clause-reads g c =
     let e = c.args.held.now.entities.now in
     let text = c.args.text in
     let item = c.in-Some.item in
@@ -36,7 +36,7 @@ returns-in-Some-resumed-clause-reads c =
     (there c.in_ok-resumed.resumed c.in-Some-resumed.reader _ c.in-Some-resumed.is c.in_ok-resumed.ensures.reads)).1
 
 pub returns-in-Some-resumed-clause-none : goal.returns-in-Some-resumed-clause-none
-returns-in-Some-resumed-clause-none c =
+returns-in-Some-resumed-clause-none g c =
     let e = c.args.held.now.entities.now in
     let text = c.args.text in
     let item = c.in-Some.item in
@@ -53,7 +53,7 @@ returns-in-Some-resumed-clause-none c =
     (there c.in_ok-resumed.resumed c.in-Some-resumed.reader _ c.in-Some-resumed.is c.in_ok-resumed.ensures.reads)).2
 
 pub returns-clause-none : goal.returns-clause-none
-returns-clause-none c =
+returns-clause-none g c =
     let e = c.args.held.now.entities.now in
     let text = c.args.text in
     (res_new e (old_lines text) (lines_of text) (places_of e text) (is_edit e text) c.args.held.now.options.now.max_containers c.new.result c.args.from c.requires.from c.new.ensures.fed c.new.ensures.reads).2

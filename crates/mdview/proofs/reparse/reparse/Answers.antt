@@ -18,6 +18,7 @@ use Rattle.mdchunks.specs.Sequences.{Sequence}
 use Rattle.mdview.specs.HeldLists.{StandsAt}
 use Rattle.mdview.specs.HeldUnit.{HeldUnit}
 use Rattle.mdview.specs.declared.resuming.UnitStart.{UnitStart}
+use Rattle.mdview.proofs.CountedLaws.{counted_within}
 use Rattle.mdview.proofs.EditPlaces.{begins_many}
 use Rattle.mdview.proofs.ListsStand.{stands_pushed}
 use Rattle.mdview.proofs.ReadStretches.{is_edit, stretch_next}
@@ -63,7 +64,7 @@ loop-line-init g c =
     record {
       rest = search rules;
       fed = search rules;
-      lines = search rules;
+      lines = let counted = counted_within reader.fed (g.C.Count.lines c.args.count.now) in let here = so_far.lines in omega (arith, counted, here, place);
       inlines = search rules;
       same = search rules;
       forward = search rules;
