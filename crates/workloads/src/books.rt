@@ -12,7 +12,7 @@ pub fn books(alloc: Global, count: u64, maker: &mut Maker<'_>, digest: &mut Dige
     let mut text = String::new(alloc);
     for i in 0..count {
         text.clear();
-        let size = maker.chance.size(1_000_000, 4_000_000);
+        let size = maker.size(1_000_000, 4_000_000);
         match i % 4 {
             0 => manual(maker, size, &mut text)?,
             1 => log(maker, size, &mut text)?,

@@ -1,5 +1,7 @@
 //! A digest of answers.
 
+use mdtext::Tally;
+use mdview::EditFault;
 use std::fmt;
 
 /// Takes in answers, and shows how many there were, of how many bytes, and a number that any change of them changes.
@@ -36,6 +38,18 @@ impl Digest {
     /// Takes in a number.
     pub fn number(&mut self, number: usize) {
         self.mix(number as u64);
+    }
+
+    /// Takes in a refusal: its name and its number.
+    pub fn refusal(&mut self, fault: &EditFault) {
+        self.text(fault.name().as_bytes());
+        self.number(fault.number());
+    }
+
+    /// Takes in how many lines and inline texts a call read.
+    pub fn tally(&mut self, tally: &Tally) {
+        self.mix(tally.lines());
+        self.mix(tally.inlines());
     }
 
     #[inline(always)]

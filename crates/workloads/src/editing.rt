@@ -36,21 +36,25 @@ impl Editor {
 
     /// Replaces lines, and takes in the pieces that changed.
     pub fn edit(&mut self, at: usize, del: usize, add: &[&str], digest: &mut Digest) -> Result<()> {
-        let answer = self.preview.edit(at, del, add, &mut Tally::new());
+        let mut tally = Tally::new();
+        let answer = self.preview.edit(at, del, add, &mut tally);
+        digest.tally(&tally);
         self.take_in(answer, digest)
     }
 
     /// Replaces the prelude, and takes in the pieces that changed.
     pub fn set_prelude(&mut self, lines: &[&str], digest: &mut Digest) -> Result<()> {
-        let answer = self.preview.set_prelude(lines, &mut Tally::new());
+        let mut tally = Tally::new();
+        let answer = self.preview.set_prelude(lines, &mut tally);
+        digest.tally(&tally);
         self.take_in(answer, digest)
     }
 
     fn take_in(&mut self, answer: Result<Patch, EditFault>, digest: &mut Digest) -> Result<()> {
         let patch = match answer {
             Ok(patch) => patch,
-            Err(_) => {
-                digest.text(b"refused");
+            Err(fault) => {
+                digest.refusal(&fault);
                 return Ok(());
             }
         };

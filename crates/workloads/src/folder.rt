@@ -4,7 +4,7 @@ use crate::digest::Digest;
 use crate::maker::Maker;
 use anyhow::Result;
 use mdbatch::Options;
-use mdtool::{MemoryFeed, MemoryOut, convert, entities_from, prelude_from};
+use mdtool::{MemoryFeed, MemoryOut, ToolFault, convert, entities_from, prelude_from};
 use std::alloc::{AllocError, Global};
 
 /// How many bytes a device gives or takes at a call.
@@ -17,7 +17,7 @@ pub fn folder(alloc: Global, count: u64, maker: &mut Maker<'_>, digest: &mut Dig
         let mut links = String::new(alloc);
         maker.guides(60, &mut links)?;
         let mut text = String::new(alloc);
-        let size = maker.chance.size(1_000, 10_000);
+        let size = maker.size(1_000, 10_000);
         maker.heading(&mut text)?;
         maker.sections(size, &mut text)?;
         process(alloc, &names, links.as_bytes(), text.as_bytes(), digest)?;
@@ -59,7 +59,11 @@ fn process(
         &prelude,
     ) {
         Ok(()) => digest.text(out.bytes()),
-        Err(_) => digest.text(b"refused"),
+        Err(ToolFault::Refused(fault)) => digest.refusal(&fault),
+        Err(fault) => {
+            let words = format!(in alloc; "{fault}")?;
+            digest.text(words.as_bytes());
+        }
     }
     Ok(())
 }

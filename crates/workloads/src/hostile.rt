@@ -17,7 +17,7 @@ pub fn hostile(
     let mut text = String::new(alloc);
     for i in 0..count {
         text.clear();
-        let size = maker.chance.size(50_000, 200_000);
+        let size = maker.size(50_000, 200_000);
         for _ in 0..size {
             if text.len() >= size {
                 break;

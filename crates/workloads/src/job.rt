@@ -38,4 +38,16 @@ impl Job {
             Job::Hostile => "hostile",
         }
     }
+
+    /// How many inputs reach each kind that it has.
+    pub fn kinds(self) -> u64 {
+        match self {
+            Job::Pages => 40,
+            Job::Books => 4,
+            Job::Folder => 4,
+            Job::Typing => 8,
+            Job::LongBlocks => 12,
+            Job::Hostile => 10,
+        }
+    }
 }

@@ -6,6 +6,11 @@ use crate::maker::Maker;
 use anyhow::Result;
 use std::alloc::Global;
 
+/// How many lines the long blocks have, by turns, and how many blocks name the labels: the same whatever the seed.
+const LINES: [usize; 5] = [2_000, 12_000, 5_000, 18_000, 8_000];
+
+const NAMED: [usize; 2] = [18_000, 1_200];
+
 /// So many texts, of six kinds by turns, each opened and then edited at places all over it.
 pub fn long_blocks(
     alloc: Global,
@@ -16,13 +21,13 @@ pub fn long_blocks(
     for i in 0..count {
         let mut text = String::new(alloc);
         if i % 6 == 5 {
-            let blocks = maker.chance.size(50, 20_000);
+            let blocks = maker.share_of(NAMED[(i / 6 % 2) as usize]);
             named(blocks, maker, &mut text)?;
             let mut editor = Editor::open(alloc, &text, digest)?;
             relabel(&mut editor, digest)?;
         } else {
-            let lines = maker.chance.size(1_000, 20_000);
-            block(i % 6, lines, maker, &mut text)?;
+            let lines = maker.share_of(LINES[(i % 5) as usize]);
+            block(i % 6, lines, i % 12 == 1, maker, &mut text)?;
             let mut editor = Editor::open(alloc, &text, digest)?;
             for _ in 0..4 {
                 let at = maker.chance.between(0, editor.len());
@@ -34,7 +39,13 @@ pub fn long_blocks(
 }
 
 /// One block of so many lines, more or less.
-fn block(kind: u64, lines: usize, maker: &mut Maker<'_>, out: &mut String) -> Result<()> {
+fn block(
+    kind: u64,
+    lines: usize,
+    is_loose: bool,
+    maker: &mut Maker<'_>,
+    out: &mut String,
+) -> Result<()> {
     match kind {
         0 => {
             for _ in 0..lines {
@@ -44,7 +55,7 @@ fn block(kind: u64, lines: usize, maker: &mut Maker<'_>, out: &mut String) -> Re
                 out.push('\n')?;
             }
         }
-        1 => maker.list(lines / 2, out)?,
+        1 => maker.list_of(lines / 2, is_loose, out)?,
         2 => maker.table(lines, out)?,
         3 => {
             out.push_str("```\n")?;

@@ -23,17 +23,18 @@ use anyhow::{Context, Result};
 use std::alloc::Global;
 use std::{env, fs};
 
-/// The words are the name of a job (`every` for each of them), the number that the inputs come of, and how many inputs there are.
+/// By what the sizes of a small run's texts are divided.
+const SMALL: usize = 20;
+
+/// The words are the name of a job, the number that the inputs come of, and how many inputs there are. No words make a small run of each job, with an input of each
+/// kind.
 fn main(rt: HostRuntime) -> Result<()> {
     let alloc = rt.alloc();
     let words: Vec<String> = env::args(&rt)?.collect(alloc)?;
-    let name = word(&words, 1);
-    let seed = word(&words, 2).parse::<u64>().context("the seed")?;
-    let count = word(&words, 3).parse::<u64>().context("how many inputs")?;
-    let sentences = fs::read_to_string(&rt, "sentences.txt")?;
-    let titles = fs::read_to_string(&rt, "titles.txt")?;
-    let code = fs::read_to_string(&rt, "code.txt")?;
-    let entities = fs::read(&rt, "entities.json")?;
+    let sentences = part(&rt, "sentences.txt", "data/sentences.txt")?;
+    let titles = part(&rt, "titles.txt", "data/titles.txt")?;
+    let code = part(&rt, "code.txt", "data/code.txt")?;
+    let entities = part(&rt, "entities.json", "data/entities.json")?;
     let sentences = lines_of_file(alloc, &sentences)?;
     let titles = lines_of_file(alloc, &titles)?;
     let code = lines_of_file(alloc, &code)?;
@@ -41,20 +42,43 @@ fn main(rt: HostRuntime) -> Result<()> {
         sentences: &sentences,
         titles: &titles,
         code: &code,
-        entities: &entities,
+        entities: entities.as_bytes(),
     };
-    run_named(&rt, name, seed, count, parts)
-}
-
-fn run_named(rt: &HostRuntime, name: &str, seed: u64, count: u64, parts: Parts<'_>) -> Result<()> {
+    let name = word(&words, 1);
+    if name.is_empty() {
+        return run_small(&rt, parts);
+    }
+    let seed = word(&words, 2).parse::<u64>().context("the seed")?;
+    let count = word(&words, 3).parse::<u64>().context("how many inputs")?;
     for job in job::ALL {
-        if name == "every" || name == job.name() {
-            let mut maker = Maker::new(parts, Chance::new(seed));
-            let mut digest = Digest::new();
-            run(rt.alloc(), *job, count, &mut maker, &mut digest)?;
-            println!(rt; "{}: {digest}", job.name())?;
+        if name == job.name() {
+            run_job(&rt, *job, count, Maker::new(parts, Chance::new(seed), 1))?;
         }
     }
+    Ok(())
+}
+
+/// A file of this folder; in the crate's own folder it lies in `data`.
+fn part(rt: &HostRuntime, name: &str, in_data: &str) -> Result<String> {
+    match fs::read_to_string(rt, name) {
+        Ok(text) => Ok(text),
+        Err(_) => Ok(fs::read_to_string(rt, in_data)?),
+    }
+}
+
+fn run_small(rt: &HostRuntime, parts: Parts<'_>) -> Result<()> {
+    for job in job::ALL {
+        let maker = Maker::new(parts, Chance::new(1), SMALL);
+        run_job(rt, *job, job.kinds(), maker)?;
+    }
+    Ok(())
+}
+
+/// Prints the digest of a job's answers.
+fn run_job(rt: &HostRuntime, job: Job, count: u64, mut maker: Maker<'_>) -> Result<()> {
+    let mut digest = Digest::new();
+    run(rt.alloc(), job, count, &mut maker, &mut digest)?;
+    println!(rt; "{}: {digest}", job.name())?;
     Ok(())
 }
 

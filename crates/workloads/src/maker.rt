@@ -9,11 +9,28 @@ use anyhow::Result;
 pub struct Maker<'a> {
     pub parts: Parts<'a>,
     pub chance: Chance,
+    /// By what the sizes of texts are divided: 1, or more for a small run.
+    pub share: usize,
 }
 
 impl<'a> Maker<'a> {
-    pub fn new(parts: Parts<'a>, chance: Chance) -> Maker<'a> {
-        Maker { parts, chance }
+    pub fn new(parts: Parts<'a>, chance: Chance, share: usize) -> Maker<'a> {
+        Maker {
+            parts,
+            chance,
+            share,
+        }
+    }
+
+    /// A size from `low` to `high`, of which half are nearer to `low` by their ratio, or the share of it.
+    pub fn size(&mut self, low: usize, high: usize) -> usize {
+        let size = self.chance.size(low, high);
+        self.share_of(size)
+    }
+
+    /// The share of a size.
+    pub fn share_of(&self, size: usize) -> usize {
+        size / self.share.max(1)
     }
 
     pub fn sentence(&mut self) -> &'a str {
@@ -92,6 +109,11 @@ impl<'a> Maker<'a> {
     /// A list of so many items; some have items of their own, in some lists each has a second paragraph.
     pub fn list(&mut self, count: usize, out: &mut String) -> Result<()> {
         let is_loose = self.chance.once_in(4);
+        self.list_of(count, is_loose, out)
+    }
+
+    /// A list of so many items, of which some have items of their own; in a loose one each has a second paragraph.
+    pub fn list_of(&mut self, count: usize, is_loose: bool, out: &mut String) -> Result<()> {
         for _ in 0..count {
             self.line("- ", out)?;
             if self.chance.once_in(4) {

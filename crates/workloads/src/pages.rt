@@ -30,7 +30,7 @@ impl Site {
         let options = Options::plain();
         match to_html(alloc, text, &self.entities, &options, &self.prelude) {
             Ok(html) => digest.text(html.as_bytes()),
-            Err(_) => digest.text(b"refused"),
+            Err(fault) => digest.refusal(&fault),
         }
     }
 }
@@ -41,7 +41,7 @@ pub fn pages(alloc: Global, count: u64, maker: &mut Maker<'_>, digest: &mut Dige
     let mut text = String::new(alloc);
     for _ in 0..count {
         text.clear();
-        let size = maker.chance.size(1_000, 50_000);
+        let size = maker.size(1_000, 50_000);
         maker.heading(&mut text)?;
         maker.sections(size, &mut text)?;
         site.render(alloc, &text, digest);

@@ -10,7 +10,7 @@ use std::alloc::Global;
 pub fn typing(alloc: Global, count: u64, maker: &mut Maker<'_>, digest: &mut Digest) -> Result<()> {
     for _ in 0..count {
         let mut text = String::new(alloc);
-        let size = maker.chance.size(10_000, 4_000_000);
+        let size = maker.size(10_000, 4_000_000);
         maker.guides(40, &mut text)?;
         out_line(&mut text)?;
         maker.sections(size, &mut text)?;
