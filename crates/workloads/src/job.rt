@@ -15,6 +15,8 @@ pub enum Job {
     LongBlocks,
     /// Texts that are made to be slow.
     Hostile,
+    /// Lines put in, taken out, indented, moved, pasted and undone.
+    Rework,
 }
 
 pub static ALL: &[Job] = &[
@@ -24,6 +26,7 @@ pub static ALL: &[Job] = &[
     Job::Typing,
     Job::LongBlocks,
     Job::Hostile,
+    Job::Rework,
 ];
 
 impl Job {
@@ -36,6 +39,7 @@ impl Job {
             Job::Typing => "typing",
             Job::LongBlocks => "long_blocks",
             Job::Hostile => "hostile",
+            Job::Rework => "rework",
         }
     }
 
@@ -48,6 +52,7 @@ impl Job {
             Job::Typing => 8,
             Job::LongBlocks => 12,
             Job::Hostile => 10,
+            Job::Rework => 5,
         }
     }
 }

@@ -12,6 +12,7 @@ mod long_blocks;
 mod maker;
 mod pages;
 mod parts;
+mod rework;
 mod typing;
 
 use crate::chance::Chance;
@@ -103,5 +104,6 @@ fn run(
         Job::Typing => typing::typing(alloc, count, maker, digest),
         Job::LongBlocks => long_blocks::long_blocks(alloc, count, maker, digest),
         Job::Hostile => hostile::hostile(alloc, count, maker, digest),
+        Job::Rework => rework::rework(alloc, count, maker, digest),
     }
 }
