@@ -31,8 +31,8 @@ INSTALL ?= install
 
 help:
 	@echo "make run                 runs mdrender on a page and mdpreview on a writer's few edits, and shows what goes in and out (from the sources, unproved, where bin/ is empty); PAGE=FILE and EDITS=FILE show files of yours"
-	@echo "make build               proves every crate and builds the programs and the library for C into bin/; a line a crate, the log in out/build.log"
-	@echo "make test                the gate: every proof from nothing, the tests and must-fail edits, the example files, endings and completions, the library from C, the client in Vim; the log in out/gate.log; MUST_FAIL=together tries several must-fail edits in one check"
+	@echo "make build               proves every crate and builds the programs and the library for C into bin/, side by side; a line a crate, the logs in out/NAME.log"
+	@echo "make test                the gate: every proof from nothing, the tests and must-fail edits, the example files, endings and completions, the library from C, the client in Vim; the log in out/gate.log"
 	@echo "make check               a quick check of every crate, over what earlier checks kept"
 	@echo "make fmt                 lays out the sources"
 	@echo "make picture             draws docs/preview.svg, the README's picture, from a run of bin/mdpreview"
