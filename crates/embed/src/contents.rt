@@ -1,14 +1,14 @@
-//! `embed_contents`: prints a table of contents of a Markdown file, as a program that walks over the trees does.
-#![tactic(auto)]
+//! A table of contents, by a walk over the trees.
 
 use anyhow::Result;
 use mdtext::{Tally, lines_of};
 use mdview::{Block, Edge, Entities, Inline, Node, Options, Preview, Walk};
 use std::fs;
 
-fn main(rt: HostRuntime) -> Result<()> {
+/// Prints the headings of `page.md` as a nested list, each with its line, counted from 1.
+pub fn show_contents(rt: &HostRuntime) -> Result<()> {
     let alloc = rt.alloc();
-    let text = fs::read_to_string(&rt, "page.md")?;
+    let text = fs::read_to_string(rt, "page.md")?;
     let lines = lines_of(alloc, &text)?;
     let mut lent = Vec::with_capacity(alloc, lines.len())?;
     for line in &lines {
@@ -23,7 +23,7 @@ fn main(rt: HostRuntime) -> Result<()> {
         if let Some(line) = preview.first_line(number)
             && let Some(walk) = preview.walk(number)?
         {
-            list_headings(&rt, walk, line)?;
+            list_headings(rt, walk, line)?;
         }
     }
     Ok(())

@@ -1,11 +1,11 @@
-//! `embed_preview`: holds a preview as an editor's pane does, tells it a few edits, and prints what changed.
-#![tactic(auto)]
+//! A preview held as an editor's pane does.
 
 use anyhow::Result;
 use mdtext::Tally;
 use mdview::{Entities, Options, Preview};
 
-fn main(rt: HostRuntime) -> Result<()> {
+/// Tells a preview a few edits, and prints what changed.
+pub fn show_edits(rt: &HostRuntime) -> Result<()> {
     let alloc = rt.alloc();
     let mut preview = Preview::new(alloc, Entities::builtin(alloc)?, Options::plain());
     let page = [
@@ -15,10 +15,10 @@ fn main(rt: HostRuntime) -> Result<()> {
         "",
         "A gull followed us.",
     ];
-    tell(&rt, &mut preview, 0, 0, &page)?;
-    tell(&rt, &mut preview, 0, 1, &["## A day at sea"])?;
-    tell(&rt, &mut preview, 5, 0, &["", "[ann]: /ann"])?;
-    tell(&rt, &mut preview, 9, 1, &[])?;
+    tell(rt, &mut preview, 0, 0, &page)?;
+    tell(rt, &mut preview, 0, 1, &["## A day at sea"])?;
+    tell(rt, &mut preview, 5, 0, &["", "[ann]: /ann"])?;
+    tell(rt, &mut preview, 9, 1, &[])?;
     println!(rt; "{} lines, {} blocks", preview.len(), preview.units())?;
     Ok(())
 }
