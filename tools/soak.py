@@ -30,7 +30,7 @@ class Failed(Exception):
 
 def own_texts():
     """The lines of each text of the repository that a person wrote as text."""
-    names = ["README.md", "CHANGELOG.md", *glob.glob("docs/*.md"), *glob.glob("examples/*"), *glob.glob("crates/*/src/*.rt")[:20]]
+    names = ["README.md", "CHANGELOG.md", *glob.glob("docs/*.md"), *glob.glob("examples/*.*"), *glob.glob("crates/*/src/*.rt")[:20]]
     texts = []
     for name in sorted(names):
         with open(os.path.join(ROOT, name), "rb") as file:
