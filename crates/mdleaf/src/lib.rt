@@ -11,5 +11,3 @@ pub use link_definitions::{Definition, Leading, is_only_definitions, leading_def
 pub use table_rows::{Header, begins_table, data_row, table_header};
 pub use task_list_items::task_mark;
 
-#[cfg(test)]
-mod tests;

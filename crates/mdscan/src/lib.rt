@@ -46,5 +46,3 @@ pub use table_rows::{cell_count, cells};
 pub use task_list_items::{TaskMark, task};
 pub use thematic_breaks::thematic;
 
-#[cfg(test)]
-mod tests;

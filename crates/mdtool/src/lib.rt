@@ -18,8 +18,6 @@ mod programs;
 mod replies;
 mod script;
 mod serving;
-#[cfg(test)]
-mod tests;
 mod tool_words;
 
 pub use converting::convert;

@@ -5,8 +5,6 @@ mod blocks;
 mod inlines;
 mod nodes;
 mod tables;
-#[cfg(test)]
-mod tests;
 mod walks;
 
 pub use nodes::{Edge, Node};

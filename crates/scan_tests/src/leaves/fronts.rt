@@ -1,4 +1,4 @@
-use crate::{Definition, Leading, is_only_definitions, leading_definitions};
+use mdleaf::{Definition, Leading, is_only_definitions, leading_definitions};
 use mdtext::Entities;
 use std::test::Fail;
 

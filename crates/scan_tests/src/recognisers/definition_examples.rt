@@ -1,7 +1,7 @@
 //! Each paragraph of the standard's examples of definitions, and those of links and images that begin with a bracket
 //! (CommonMark 4.7, 6.3, 6.4). What is wanted is from another program.
 
-use crate::*;
+use mdscan::*;
 use std::process::Abort;
 
 type Pair = (usize, usize);

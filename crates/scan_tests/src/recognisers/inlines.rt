@@ -3,7 +3,7 @@
 
 ghost use Rattle.std.specs.Str.{IsCharBoundary};
 
-use crate::*;
+use mdscan::*;
 use std::alloc::AllocError;
 
 type Pair = Option<(usize, usize)>;

@@ -9,11 +9,11 @@ mod worked_texts;
 ghost use Rattle.std.specs.Prelude.{◌<◌};
 ghost use Rattle.mdhtml.specs.Limits.{HasLimits};
 
-use crate::{
+use mdtext::Entities;
+use mdtool::{
     Breaks, EditFault, MemoryFeed, MemoryOut, Options, Stop, TableFault, ToolFault, WordFault,
     ending, serve,
 };
-use mdtext::Entities;
 use std::alloc::{AllocError, Global};
 use std::process::Abort;
 use std::test::Fail;

@@ -1,4 +1,4 @@
-use crate::{begins_table, data_row, table_header};
+use mdleaf::{begins_table, data_row, table_header};
 use mdscan::Align;
 use std::test::Fail;
 

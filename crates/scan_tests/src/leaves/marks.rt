@@ -1,4 +1,4 @@
-use crate::task_mark;
+use mdleaf::task_mark;
 
 static TASKS: [(&str, Option<(bool, usize)>); 24] = [
     ("[ ] foo", Some((false, 4))),

@@ -1,7 +1,7 @@
 //! Each `(` after a `]` of the standard's examples of links and images (CommonMark 6.3, 6.4). What is wanted is from
 //! another program.
 
-use crate::*;
+use mdscan::*;
 use std::process::Abort;
 
 type Pair = Option<(usize, usize)>;

@@ -1,6 +1,6 @@
 //! Borders of each recogniser of block structure. What is wanted is from the standards' texts and another program.
 
-use crate::*;
+use mdscan::*;
 use std::alloc::AllocError;
 
 static THEMATIC_BREAKS: [(&str, bool); 15] = [

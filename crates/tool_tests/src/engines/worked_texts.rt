@@ -1,7 +1,7 @@
 //! Worked texts with their HTML, seen through `serve`: CommonMark 0.31.2 and GFM 0.29, and our own profile of them.
 
-use crate::{Breaks, MemoryFeed, MemoryOut, Options, serve};
 use mdtext::{Entities, lines_of};
+use mdtool::{Breaks, MemoryFeed, MemoryOut, Options, serve};
 use std::alloc::{AllocError, Global};
 use std::process::Abort;
 use std::test::Fail;

@@ -1,9 +1,9 @@
 //! Walks over the units of small texts.
 
-use crate::{Edge, Node, Walk};
 use mdblock::{Block, Found, Reader};
 use mdinline::{Inline, LabelTable, Parsed, read};
 use mdtext::{Entities, Tally};
+use mdwalk::{Edge, Node, Walk};
 use std::alloc::{AllocError, Global};
 use std::test::Fail;
 

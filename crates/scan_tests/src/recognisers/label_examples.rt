@@ -1,7 +1,7 @@
 //! Each `[` of the standard's examples of links, images and definitions (CommonMark 4.7, 6.3, 6.4). What is wanted is
 //! from another program.
 
-use crate::*;
+use mdscan::*;
 use std::process::Abort;
 
 /// A place, and the end of the inside of the label there.

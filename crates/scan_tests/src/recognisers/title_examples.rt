@@ -1,7 +1,7 @@
 //! Each place of a title in the standard's examples of links, images and definitions (CommonMark 4.7, 6.3, 6.4): after
 //! a destination and the spacing behind it. What is wanted is from another program.
 
-use crate::*;
+use mdscan::*;
 use std::process::Abort;
 
 /// A place, and the start and the end of the inside of what stands there, and its own end.

@@ -3,8 +3,8 @@
 ghost use Rattle.std.specs.Prelude.{◌<◌};
 ghost use Rattle.mdhtml.specs.Limits.{HasLimits};
 
-use crate::{Breaks, MemoryFeed, MemoryOut, Options, convert, entities_from, read_words, serve};
 use mdtext::Entities;
+use mdtool::{Breaks, MemoryFeed, MemoryOut, Options, convert, entities_from, read_words, serve};
 use std::alloc::{AllocError, Global};
 use std::process::Abort;
 use std::test::Fail;

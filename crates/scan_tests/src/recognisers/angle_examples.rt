@@ -1,7 +1,7 @@
 //! Each `<` of the standard's examples of raw HTML and of autolinks (CommonMark 6.5, 6.6). What is wanted is from
 //! another program.
 
-use crate::*;
+use mdscan::*;
 use std::process::Abort;
 
 /// A place, the end of raw HTML there, and the end of an autolink there and whether it is of mail.

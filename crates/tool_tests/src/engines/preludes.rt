@@ -3,12 +3,12 @@
 ghost use Rattle.std.specs.Prelude.{◌<◌};
 ghost use Rattle.mdhtml.specs.Limits.{HasLimits};
 
-use crate::tests::{check, options};
-use crate::{
+use super::{check, options};
+use mdtext::Entities;
+use mdtool::{
     Breaks, EditFault, MemoryFeed, MemoryOut, Options, Stop, ToolFault, convert, ending,
     prelude_from, serve,
 };
-use mdtext::Entities;
 use std::alloc::{AllocError, Global};
 use std::process::Abort;
 use std::test::Fail;

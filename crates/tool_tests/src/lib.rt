@@ -1,0 +1,9 @@
+//! Tests that go through several crates: the engines on worked scripts and over devices that fail at each call in turn, and walks over trees.
+#![tactic(auto)]
+
+#[cfg(test)]
+mod devices;
+#[cfg(test)]
+mod engines;
+#[cfg(test)]
+mod walks;
