@@ -183,6 +183,61 @@ def writes(browser, name):
         server.wait()
 
 
+def refused_at_first(browser, name):
+    """A text that is refused when the page opens: the words stand there, behind a reload too, and are gone with the next text. A picture of its folder is shown."""
+    save(name, ">" * 100 + "\n")
+    server, address = started(name)
+    said = "document.getElementById('refused').textContent"
+    try:
+        browser.call("Page.navigate", url=address)
+        first = wait(lambda: "lies in too many others" in (browser.value(said) or ""))
+        browser.call("Page.reload")
+        again = wait(lambda: "lies in too many others" in (browser.value(said) or ""))
+        shutil.copy(os.path.join(ROOT, "docs", "pane.png"), os.path.join(os.path.dirname(name), "picture.png"))
+        save(name, "![a picture](picture.png)\n")
+        shown_now = wait(lambda: browser.value("document.images.length == 1 && document.images[0].naturalWidth > 0"))
+        return first and again and shown_now and browser.value(said) == ""
+    finally:
+        server.terminate()
+        server.wait()
+
+
+def ends(words, said):
+    """Whether a pane with these words ends at once, with this line and status 1."""
+    command = [sys.executable, os.path.join(ROOT, "clients", "pane", "pane.py"), *words]
+    ran = subprocess.run(command, stdout=subprocess.PIPE, stderr=subprocess.PIPE, text=True, timeout=30)
+    return ran.returncode == 1 and ran.stderr == "pane: " + said + "\n"
+
+
+def ends_with_a_line(address, name):
+    """What can't be begun: a file that is gone, programs that are not there or are another one, words that are refused, a port that is taken."""
+    program = ["--program", os.path.join(BIN, "mdpreview")]
+    port = address.rstrip("/").rsplit(":", 1)[1]
+    return all((
+        ends([*program, name + ".gone"], name + ".gone: No such file or directory"),
+        ends(["--program", "/nowhere/mdpreview", name], "/nowhere/mdpreview: No such file or directory"),
+        ends(["--program", "/bin/false", name], "/bin/false: it does not answer as mdpreview does"),
+        ends([*program, "--prelude", name + ".gone", name], f"mdpreview: cannot open {name}.gone"),
+        ends([*program, "--port", port, name], f"port {port}: Address already in use"),
+    ))
+
+
+def leaks(address, name):
+    """Whether a file that is neither an image nor a text, or that lies outside of the folder, is served."""
+    home = os.path.dirname(name)
+    for path in (os.path.join(home, "secret.html"), os.path.join(os.path.dirname(home), "secret.md")):
+        with open(path, "w", encoding="utf-8") as file:
+            file.write("secret")
+    for path in ("secret.html", "../secret.md", "..%2fsecret.md", "%2e%2e/secret.md"):
+        try:
+            urllib.request.urlopen(address + path)
+            return True
+        except urllib.error.HTTPError as fault:
+            if fault.code != 404:
+                return True
+    return False
+
+
 def answers_strangers(address):
     """Whether a request that names another host, or comes from another page, is answered."""
     for header, value in (("Host", "elsewhere.example"), ("Origin", "http://elsewhere.example")):
@@ -205,7 +260,8 @@ def main():
     if missing:
         return "pane_test: missing: " + ", ".join(missing)
     with tempfile.TemporaryDirectory() as home:
-        name = os.path.join(home, "page.md")
+        name = os.path.join(home, "pages", "page.md")
+        os.mkdir(os.path.dirname(name))
         shutil.copy(os.path.join(ROOT, "examples", "page.md"), name)
         server, address = started(name)
         browser = None
@@ -226,6 +282,9 @@ def main():
                 (said, "a refusal is not shown, or the page did not stay"),
                 (writes(browser, name), "what is written on the page is not shown, or the file was changed"),
                 (not answers_strangers(address), "a request from elsewhere was answered"),
+                (not leaks(address, name), "a file that is not to be served was"),
+                (ends_with_a_line(address, name), "a pane that can't be begun does not say why, or goes on"),
+                (refused_at_first(browser, os.path.join(home, "pages", "other.md")), "a text that is refused at first is not said to be, or a picture is not shown"),
             ):
                 passed += holds
                 failed += not holds

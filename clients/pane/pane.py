@@ -1,11 +1,13 @@
 #!/usr/bin/env python3
 """A preview of a Markdown file in the browser, kept up to date as the file changes.
 
-usage: pane.py [--port N] [--write] [--program PATH] FILE
+usage: pane.py [--port N] [--write] [--program PATH] [--unsafe] [--hardbreaks | --nobreaks] [--entities FILE] [--prelude FILE] FILE
 
-One mdpreview holds the text. When FILE changes, the lines that changed are sent to it as one edit, and the page puts in only the pieces that the reply names.
+The words behind --program are mdpreview's. One mdpreview holds the text. When FILE changes, the lines that changed are sent to it as one edit, and the page puts in only the pieces that the reply names.
 With --write the page has a text area beside the preview, for trying; FILE is then its first text and is never written.
+Images and texts of FILE's folder are served too, so that the page's own pictures are shown and its relative links open beside it; nothing outside of that folder is.
 The server listens on the loopback address alone, answers only requests that name it and come from its own page, and writes no file. Ctrl-C ends it and its child.
+What can't be begun (a file or a program that is not there, a port that is taken, words that the program refuses) ends it with one line and the status 1.
 """
 import argparse
 import http.server
@@ -19,6 +21,7 @@ import subprocess
 import sys
 import threading
 import time
+import urllib.parse
 
 HERE = os.path.dirname(os.path.abspath(__file__))
 
@@ -31,6 +34,16 @@ REASONS = {
     "InlineTooDeep": "Line {line}: emphasis or a link lies in too many others.",
     "NoMemory": "There is no memory for it.",
 }
+
+# What is served of the file's folder, and as what. A picture may hold scripts, which the policy below keeps from running.
+KINDS = {
+    ".avif": "image/avif", ".bmp": "image/bmp", ".gif": "image/gif", ".ico": "image/x-icon", ".jpeg": "image/jpeg", ".jpg": "image/jpeg", ".png": "image/png",
+    ".svg": "image/svg+xml", ".webp": "image/webp", ".markdown": "text/plain; charset=utf-8", ".md": "text/plain; charset=utf-8", ".txt": "text/plain; charset=utf-8",
+}
+
+
+class NotBegun(Exception):
+    """Why the program can't be used, in a line."""
 
 
 def lines_of(text):
@@ -56,13 +69,28 @@ def change(old, new):
 class Preview:
     """An mdpreview with the lines and the pieces that it holds."""
 
-    def __init__(self, program):
-        self.program = program
+    def __init__(self, program, words=()):
+        self.command = [program, *words]
         self.start()
 
     def start(self):
-        self.child = subprocess.Popen([self.program], stdin=subprocess.PIPE, stdout=subprocess.PIPE)
+        """Starts the program, and sees that it answers: the HTML of the empty text is empty."""
+        self.child = subprocess.Popen(self.command, stdin=subprocess.PIPE, stdout=subprocess.PIPE, stderr=subprocess.PIPE)
         self.lines, self.pieces = [], []
+        answer = b""
+        try:
+            self.child.stdin.write(b"html\n")
+            self.child.stdin.flush()
+            answer = self.child.stdout.readline()
+        except OSError:
+            pass
+        if answer != b"html 0\n":
+            self.child.kill()
+            said = self.child.stderr.read().decode(errors="replace").strip().split("\n")[0]
+            self.close()
+            raise NotBegun(said or f"{self.command[0]}: it does not answer as mdpreview does")
+        # What it says later is of no use here, and must not fill the pipe.
+        threading.Thread(target=self.child.stderr.read, daemon=True).start()
 
     def edit(self, new):
         """Brings the text to these lines. Answers which pieces changed, or why the text is refused; nothing where no line differs."""
@@ -77,7 +105,10 @@ class Preview:
         except (OSError, ValueError, IndexError):
             # The child has ended, as it does where there is no memory for a reply: another begins from the empty text.
             self.stop()
-            self.start()
+            try:
+                self.start()
+            except (NotBegun, OSError) as fault:
+                return {"refused": f"The program can't be started again: {fault}"}
             return {"refused": REASONS["NoMemory"]}
         if "refused" not in answer:
             self.lines = new
@@ -98,11 +129,17 @@ class Preview:
         _, number, size = self.child.stdout.readline().decode().split()
         return int(number), self.child.stdout.read(int(size)).decode()
 
-    def stop(self):
-        self.child.stdin.close()
-        self.child.stdout.close()
-        self.child.terminate()
+    def close(self):
+        for pipe in (self.child.stdin, self.child.stdout):
+            try:
+                pipe.close()
+            except OSError:
+                pass
         self.child.wait()
+
+    def stop(self):
+        self.child.terminate()
+        self.close()
 
 
 class Pane:
@@ -112,12 +149,18 @@ class Pane:
         self.preview = preview
         self.pages = []
         self.lock = threading.Lock()
+        # Why the text that came last is refused, if it is: a page that comes later is told too.
+        self.refused = None
 
     def show(self, lines):
         """Brings the preview to these lines, and tells every page what changed."""
         with self.lock:
             answer = self.preview.edit(lines)
+            if answer is None:
+                # The text is as the preview holds it, so a refusal of another text is over.
+                answer = {"refused": ""} if self.refused else None
             if answer is not None:
+                self.refused = answer.get("refused") or None
                 for page in self.pages:
                     page.put(answer)
 
@@ -127,6 +170,8 @@ class Pane:
         with self.lock:
             pieces = list(enumerate(self.preview.pieces))
             page.put({"first": 0, "removed": 0, "added": len(pieces), "pieces": pieces, "fresh": True})
+            if self.refused:
+                page.put({"refused": self.refused})
             self.pages.append(page)
         return page
 
@@ -156,8 +201,17 @@ def watch(pane, name):
             time.sleep(0.05)
 
 
+def served(folder, path):
+    """The file of this folder that a request's path names, and its kind; nothing where there is none, or it lies outside, or is neither an image nor a text."""
+    name = os.path.realpath(os.path.join(folder, urllib.parse.unquote(path.split("?")[0]).lstrip("/")))
+    kind = KINDS.get(os.path.splitext(name)[1].lower())
+    inside = name.startswith(os.path.join(os.path.realpath(folder), ""))
+    return (name, kind) if kind and inside and os.path.isfile(name) else None
+
+
 def handler(pane, options, secret):
     """Answers the requests of the page."""
+    folder = os.path.dirname(os.path.abspath(options.file))
 
     class Handler(http.server.BaseHTTPRequestHandler):
         protocol_version = "HTTP/1.1"
@@ -170,13 +224,15 @@ def handler(pane, options, secret):
             self.send_error(403)
             return False
 
-        def answer(self, kind, body):
+        def answer(self, kind, body, policy=None):
             self.send_response(200)
             self.send_header("Content-Type", kind)
             self.send_header("Content-Length", str(len(body)))
             self.send_header("Cache-Control", "no-store")
             # Nothing from elsewhere is run, and no form leaves the page.
-            self.send_header("Content-Security-Policy", f"default-src 'none'; img-src * data:; connect-src 'self'; style-src 'nonce-{secret}'; script-src 'nonce-{secret}'; base-uri 'none'; form-action 'none'")
+            own = f"default-src 'none'; img-src * data:; connect-src 'self'; style-src 'nonce-{secret}'; script-src 'nonce-{secret}'; base-uri 'none'; form-action 'none'"
+            self.send_header("Content-Security-Policy", policy or own)
+            self.send_header("X-Content-Type-Options", "nosniff")
             self.end_headers()
             self.wfile.write(body)
 
@@ -192,7 +248,21 @@ def handler(pane, options, secret):
             elif self.path == "/changes":
                 self.changes()
             else:
+                self.beside()
+
+        def beside(self):
+            """A file beside the one that is shown."""
+            found = served(folder, self.path)
+            if found is None:
                 self.send_error(404)
+                return
+            try:
+                with open(found[0], "rb") as file:
+                    body = file.read()
+            except OSError:
+                self.send_error(404)
+                return
+            self.answer(found[1], body, "default-src 'none'; style-src 'unsafe-inline'; sandbox")
 
         def changes(self):
             """Sends each change as an event, until the page goes."""
@@ -233,22 +303,42 @@ def handler(pane, options, secret):
     return Handler
 
 
+def said_of(fault, options):
+    """A fault at the beginning, in a line."""
+    if isinstance(fault, NotBegun):
+        return str(fault)
+    if isinstance(fault, OSError) and fault.filename is not None:
+        return f"{fault.filename}: {fault.strerror}"
+    return f"port {options.port}: {getattr(fault, 'strerror', None) or fault}"
+
+
 def main():
     parser = argparse.ArgumentParser(description="A preview of a Markdown file in the browser.")
     parser.add_argument("--port", type=int, default=0, help="the port; 0 takes a free one")
     parser.add_argument("--write", action="store_true", help="a text area beside the preview; FILE is not watched and never written")
     parser.add_argument("--program", default="mdpreview", help="which mdpreview to start")
+    parser.add_argument("--unsafe", action="store_true", help="raw HTML, and links of any scheme, as they stand")
+    breaks = parser.add_mutually_exclusive_group()
+    breaks.add_argument("--hardbreaks", action="store_true", help="each soft line break is a hard one")
+    breaks.add_argument("--nobreaks", action="store_true", help="each soft line break is a space")
+    parser.add_argument("--entities", metavar="FILE", help="the entity names of a JSON file")
+    parser.add_argument("--prelude", metavar="FILE", help="link reference definitions of a file, which stand below the text's own")
     parser.add_argument("file", metavar="FILE")
     options = parser.parse_args()
+    words = ["--" + name for name in ("unsafe", "hardbreaks", "nobreaks") if getattr(options, name)]
+    words += [word for name in ("entities", "prelude") if getattr(options, name) for word in ("--" + name, getattr(options, name))]
+    preview = None
     try:
-        preview = Preview(options.program)
         with open(options.file, encoding="utf-8", errors="replace", newline="") as file:
             first = lines_of(file.read())
-    except OSError as fault:
-        return f"pane: {fault.filename}: {fault.strerror}"
-    pane = Pane(preview)
-    pane.show(first)
-    server = http.server.ThreadingHTTPServer(("127.0.0.1", options.port), handler(pane, options, secrets.token_urlsafe(16)))
+        preview = Preview(options.program, words)
+        pane = Pane(preview)
+        pane.show(first)
+        server = http.server.ThreadingHTTPServer(("127.0.0.1", options.port), handler(pane, options, secrets.token_urlsafe(16)))
+    except (NotBegun, OSError, OverflowError) as fault:
+        if preview is not None:
+            preview.stop()
+        return "pane: " + said_of(fault, options)
     server.daemon_threads = True
     if not options.write:
         threading.Thread(target=watch, args=(pane, options.file), daemon=True).start()
