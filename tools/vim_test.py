@@ -1,6 +1,6 @@
 #!/usr/bin/env python3
 """Edits a buffer in Vim, and compares the HTML that clients/vim keeps beside it with mdrender's after each change; where the text is refused, the HTML is to
-be as it was. The last line is 'N passed, M failed'."""
+be as it was. Then programs that are not there, end at once or end later, words for the program, and what is said of a refused text. The last line is 'N passed, M failed'."""
 import os
 import random
 import shutil
@@ -29,6 +29,62 @@ Keep(0)
 {changes}
 qall!
 '''
+
+
+# What Vim is asked of programs that fail and of a refusal: what it said, and whether the window is open, a line each into a file.
+WORDS = '''vim9script
+set nomore
+source {root}/clients/vim/jirmoans.vim
+def Said(): string
+  var shown = execute('messages')->split("\\n")->filter((_, line) => line =~ '^jirmoans: ')
+  return (empty(shown) ? '' : shown[-1]) .. ' | ' .. string(bufexists('[HTML]'))
+enddef
+edit {folder}/words.md
+setline(1, ['<b>a</b>'])
+var said: list<string> = []
+for program in ['{root}/nowhere', '/bin/false', '{folder}/dies']
+  messages clear
+  g:jirmoans_program = program
+  Jirmoans
+  g:JirmoansSettle()
+  sleep 300m
+  said += [Said()]
+endfor
+messages clear
+g:jirmoans_program = '{root}/bin/mdpreview'
+g:jirmoans_options = ['--unsafe']
+Jirmoans
+g:JirmoansSettle()
+said += [getbufline('\\[HTML\\]', 1)[0]]
+append(1, [repeat('>', 65) .. 'm'])
+g:JirmoansSettle()
+said += [Said()]
+writefile(said, '{folder}/said')
+qall!
+'''
+SAID = ['jirmoans: {root}/nowhere is not there, or is no program; g:jirmoans_program names it | 0', 'jirmoans: /bin/false has ended with status 1 | 0',
+        'jirmoans: {folder}/dies has ended with status 3 | 0', '<p><b>a</b></p>',
+        'jirmoans: the text is refused: a quote or list item in line 2 lies in too many others | 1']
+
+
+def run_vim(script):
+    return subprocess.run(['vim', '-Nu', 'NONE', '-i', 'NONE', '-n', '-es', '-S', script], stdin=subprocess.DEVNULL, stdout=subprocess.PIPE,
+                          stderr=subprocess.STDOUT, timeout=120, env=dict(os.environ, TERM='xterm', LC_ALL='C.UTF-8'))
+
+
+def words(root, folder):
+    """How many of the lines of SAID Vim gave, and those that it did not give."""
+    script, dies, said = (os.path.join(folder, name) for name in ('words.vim', 'dies', 'said'))
+    with open(script, 'w', encoding='utf-8') as file:
+        file.write(WORDS.format(root=root, folder=folder))
+    with open(dies, 'w', encoding='utf-8') as file:
+        file.write('#!/bin/sh\nread line\nexit 3\n')
+    os.chmod(dies, 0o755)
+    run_vim(script)
+    got = contents(said).decode().split('\n') if os.path.exists(said) else []
+    wanted = [line.format(root=root, folder=folder) for line in SAID]
+    wrong = [(want, got[at] if at < len(got) else None) for at, want in enumerate(wanted) if at >= len(got) or got[at] != want]
+    return len(wanted) - len(wrong), wrong
 
 
 def change(draw):
@@ -64,8 +120,7 @@ def main():
         script = os.path.join(folder, 'script.vim')
         with open(script, 'w', encoding='utf-8') as file:
             file.write(FRAME.format(root=root, folder=folder, changes='\n'.join(steps)))
-        ran = subprocess.run(['vim', '-Nu', 'NONE', '-i', 'NONE', '-n', '-es', '-S', script], stdin=subprocess.DEVNULL,
-                             stdout=subprocess.PIPE, stderr=subprocess.STDOUT, timeout=120, env=dict(os.environ, TERM='xterm', LC_ALL='C.UTF-8'))
+        ran = run_vim(script)
         for number in range(CHANGES + 2):
             text, html = (os.path.join(folder, '%d.%s' % (number, end)) for end in ('md', 'html'))
             rendered = subprocess.run([os.path.join(root, 'bin', 'mdrender'), text], stdout=subprocess.PIPE, stderr=subprocess.DEVNULL)
@@ -78,6 +133,10 @@ def main():
                 print('FAILED after change %d: %s' % (number, steps[number - 1] if number else 'none'))
         if failed:
             print(ran.stdout.decode(errors='replace')[:2000])
+        right, wrong = words(root, folder)
+        passed, failed = passed + right, failed + len(wrong)
+        for want, got in wrong:
+            print('FAILED: wanted %s, Vim gave %s' % (want, got))
     print('%d passed, %d failed' % (passed, failed))
     return 1 if failed else 0
 

@@ -1,7 +1,8 @@
 #!/usr/bin/env python3
 """jirmoans.py LIBRARY FILE: writes the HTML of a Markdown file, by the library's shared object.
 
-The class Preview is all that a program in Python needs: it says in ctypes what include/jirmoans.h says in C. `make c_library` makes bin/libjirmoans.so.
+The class Preview is all that a program in Python needs: it says in ctypes what include/jirmoans.h says in C. `make c_library` makes bin/libjirmoans.so. What goes wrong
+is said in a line, with the status 1.
 """
 import ctypes
 import sys
@@ -118,11 +119,24 @@ class Preview:
 
 
 def main():
-    with open(sys.argv[2], 'rb') as file:
-        text = file.read()
-    with Preview(sys.argv[1]) as preview:
-        sys.stdout.buffer.write(preview.html(text))
+    """Answers nothing, or what went wrong in a line."""
+    if len(sys.argv) != 3:
+        return 'usage: jirmoans.py LIBRARY FILE'
+    library, name = sys.argv[1:]
+    try:
+        with open(name, 'rb') as file:
+            text = file.read()
+        with Preview(library) as preview:
+            sys.stdout.buffer.write(preview.html(text))
+            sys.stdout.flush()
+    except Refused as refused:
+        return f'jirmoans: {name}: {refused}'
+    except OSError as fault:
+        return f'jirmoans: {fault.filename}: {fault.strerror}' if fault.filename else f'jirmoans: {fault}'
+    except AttributeError as fault:
+        return f'jirmoans: {library} is another library: {fault}'
+    return None
 
 
 if __name__ == '__main__':
-    main()
+    sys.exit(main())

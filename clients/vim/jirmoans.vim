@@ -4,7 +4,8 @@ vim9script
 #   :source clients/vim/jirmoans.vim
 #   :Jirmoans                          opens the window, and closes it again
 #
-# g:jirmoans_program names the program, if it is not the mdpreview on the path. Each piece is a run of lines of the HTML's buffer, whose last line is always
+# g:jirmoans_program names the program, if it is not the mdpreview on the path, and g:jirmoans_options is a list of its words, as ['--unsafe']. A program that is not
+# there, or ends, is said so, and the window closes. Each piece is a run of lines of the HTML's buffer, whose last line is always
 # empty; after a change only the lines of the pieces that the reply names are replaced. One edit is under way at a time.
 
 var text = 0                     # the number of the Markdown buffer; 0 where no preview is open
@@ -19,7 +20,27 @@ var came = ''                    # what came of its reply
 var pieces = 0                   # how many pieces of the reply are still to come
 var behind = [0, 0]              # a piece, and how many lines of the HTML stand before it
 const NONE = ["\n\n"]            # what no text is
+const REASONS = {
+  OutOfRange: 'the edit names lines that are not there',
+  BreakInLine: 'a line holds a carriage return',
+  TooManyLines: 'the text has more than 1,000,000 lines',
+  TooLarge: 'the text is larger than 16 MB',
+  NestedTooDeep: 'a quote or list item in line %d lies in too many others',
+  InlineTooDeep: 'emphasis or a link of the block in line %d lies in too many others',
+  NoMemory: 'there is no memory for it'}
 var refused = NONE               # the text that was refused
+
+def Warn(words: string)
+  echohl WarningMsg
+  echomsg 'jirmoans: ' .. words
+  echohl None
+enddef
+
+# A refusal in words, with the line as Vim counts it.
+def Said(name: string, number: number): string
+  var words = get(REASONS, name, name)
+  return 'the text is refused: ' .. (words =~ '%d' ? printf(words, number + 1) : words)
+enddef
 
 def Lines(): list<string>
   var lines = getbufline(text, 1, '$')
@@ -44,7 +65,11 @@ def Send()
   # Vim keeps U+0000 as a line ending inside of a line.
   var lines = mapnew(added, (_, line) => substitute(line, '\n', '�', 'g'))
   [busy, sent] = [true, now]
-  ch_sendraw(job, join([printf('edit %d %d %d', front, len(held) - tail - front, len(added))] + lines, "\n") .. "\n")
+  try
+    ch_sendraw(job, join([printf('edit %d %d %d', front, len(held) - tail - front, len(added))] + lines, "\n") .. "\n")
+  catch /E630\|E631\|E906/
+    # It has ended, which its exit tells.
+  endtry
 enddef
 
 # How many lines of the HTML stand before a piece.
@@ -104,9 +129,7 @@ def Took(): bool
     [held, refused, pieces, behind] = [sent, NONE, numbers[2] + numbers[3], [0, 0]]
   else
     refused = sent
-    echohl WarningMsg
-    echomsg 'mdpreview: ' .. join(words)
-    echohl None
+    Warn(Said(words[1], numbers[1]))
   endif
   came = strpart(came, end + 1)
   if pieces == 0
@@ -124,16 +147,33 @@ enddef
 
 def Close()
   if text != 0
+    text = 0
+    busy = false
     listener_remove(listener)
     job_stop(job)
     execute 'silent! bwipeout!' html
-    text = 0
   endif
+enddef
+
+# The program has ended while the window is open.
+def Ended(ended: job, status: number)
+  if text != 0 && ended == job
+    Close()
+    Warn(printf('%s has ended with status %d', Program(), status))
+  endif
+enddef
+
+def Program(): string
+  return get(g:, 'jirmoans_program', 'mdpreview')
 enddef
 
 def Toggle()
   if text != 0
     Close()
+    return
+  endif
+  if !executable(Program())
+    Warn(Program() .. ' is not there, or is no program; g:jirmoans_program names it')
     return
   endif
   text = bufnr()
@@ -143,15 +183,17 @@ def Toggle()
   autocmd BufWipeout <buffer> Close()
   wincmd p
   [held, sizes, busy, came, pieces, behind, refused] = [[], [], false, '', 0, [0, 0], NONE]
-  job = job_start([get(g:, 'jirmoans_program', 'mdpreview')], {mode: 'raw', out_cb: Came})
+  job = job_start([Program()] + get(g:, 'jirmoans_options', []), {mode: 'raw', out_cb: Came, exit_cb: Ended})
   listener = listener_add((_, _, _, _, _) => Soon(), text)
   Send()
 enddef
 
-# For scripts: waits until the HTML is that of the text.
+# For scripts: waits until the HTML is that of the text, or the window is closed.
 def g:JirmoansSettle()
-  listener_flush(text)
-  while busy || held != Lines() && refused != Lines()
+  if text != 0
+    listener_flush(text)
+  endif
+  while text != 0 && (busy || held != Lines() && refused != Lines())
     sleep 1m
   endwhile
 enddef
