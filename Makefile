@@ -27,16 +27,21 @@ BASH_COMPLETION_DIR ?= $(PREFIX)/share/bash-completion/completions
 ZSH_COMPLETION_DIR ?= $(PREFIX)/share/zsh/site-functions
 INSTALL ?= install
 
-.PHONY: help run test build check fmt picture bench hostile soak fuzz memory pane_test vim_test c_library c_memory compare counts rows rows_inlines install uninstall
+# Ends a target that takes what is in bin/ where that is not there.
+need = @for made in $(1); do [ -e $$made ] || { echo "$$made is not there: make build first" >&2; exit 1; }; done
+BUILT_PROGRAMS := $(PROGRAMS:%=bin/%)
+
+.PHONY: help run test build programs check fmt picture bench hostile soak fuzz memory pane_test vim_test c_library c_memory compare counts rows rows_inlines install install-programs uninstall
 
 help:
 	@echo "make run                 runs mdrender on a page and mdpreview on a writer's few edits, and shows what goes in and out (from the sources, unproved, where bin/ is empty); PAGE=FILE and EDITS=FILE show files of yours"
 	@echo "make build               proves every crate and builds the programs and the library for C into bin/, side by side; a line a crate, the logs in out/NAME.log"
+	@echo "make programs            proves and builds the two programs alone"
 	@echo "make test                the gate: every proof from nothing, the tests and must-fail edits, the example files, endings and completions, the library from C, the client in Vim; the log in out/gate.log"
 	@echo "make check               a quick check of every crate, over what earlier checks kept"
 	@echo "make fmt                 lays out the sources"
 	@echo "make picture             draws docs/preview.svg, the README's picture, from a run of bin/mdpreview"
-	@echo "make install PREFIX=DIR  installs the programs, their man pages and completions for bash and zsh, and the library with its header below DIR ($(PREFIX)); DESTDIR is honoured"
+	@echo "make install PREFIX=DIR  installs what bin/ has of the programs, with their man pages and completions for bash and zsh, and of the library with its header, below DIR ($(PREFIX)), and names what it has not; DESTDIR is honoured; make install-programs leaves the library out"
 	@echo "make uninstall           removes what make install put there"
 	@echo "make bench               measures bin/mdrender beside cmark-gfm and md4c: instructions, times and memory on 22 kinds of texts, of which docs/SPEED.md has a run"
 	@echo "make pane_test           looks at clients/pane in a headless Chromium, and compares the page with mdrender's HTML after each change of a file"
@@ -53,10 +58,13 @@ help:
 	@echo "make rows_inlines ORACLE=DIR CORPUS=DIR   computes the definition of inlines at the examples of CORPUS, as DIR/oracle.py reads them"
 
 run:
-	@tools/show $(PAGE) $(EDITS)
+	@tools/show "$(PAGE)" "$(EDITS)"
 
 build:
 	@tools/build $(PROGRAMS) jirmoans
+
+programs:
+	@tools/build $(PROGRAMS)
 
 test:
 	@tools/gate
@@ -67,35 +75,44 @@ check:
 fmt:
 	@for crate in crates/*/; do (cd $$crate && $(RT) fmt) || exit 1; done
 
-picture: bin/mdpreview
+picture:
+	$(call need,bin/mdpreview)
 	@tools/picture examples/pane.script > docs/preview.svg
 
-bench: $(if $(BUILT),,build)
+bench:
+	$(call need,bin/mdrender)
 	@tools/bench.py
 
-hostile: $(if $(BUILT),,build)
+hostile:
+	$(call need,$(BUILT_PROGRAMS))
 	@tools/hostile.py bin
 
-soak: $(if $(BUILT),,build)
+soak:
+	$(call need,$(BUILT_PROGRAMS))
 	@tools/soak.py --seconds $(SECONDS) --seed $(SEED)
 
-fuzz: $(if $(BUILT),,build)
+fuzz:
+	$(call need,$(BUILT_PROGRAMS))
 	@tools/fuzz.py --seconds $(SECONDS) --seed $(SEED)
 
 memory:
 	@$(if $(BUILT),,$(MAKE) -s build PROGRAMS="$(PROGRAMS) refused_growths")
 	@tools/memory.py --seed $(SEED)
 
-pane_test: $(if $(BUILT),,build)
+pane_test:
+	$(call need,$(BUILT_PROGRAMS))
 	@tools/pane_test.py
 
-vim_test: $(if $(BUILT),,build)
+vim_test:
+	$(call need,$(BUILT_PROGRAMS))
 	@tools/vim_test.py
 
-c_library: $(if $(BUILT),,build)
+c_library:
+	$(call need,bin/mdpreview $(LIBRARY))
 	@tools/c_library
 
-c_memory: $(if $(BUILT),,build)
+c_memory:
+	$(call need,bin/mdpreview $(LIBRARY))
 	@tools/c_library --memory
 
 compare: $(if $(BUILT),,build)
@@ -105,21 +122,28 @@ counts:
 	@$(if $(BUILT),,$(MAKE) -s build PROGRAMS=edit_counts)
 	@tools/counts $(ORACLE) $(SCRIPTS)
 
-# What is not there yet; what is there is installed as it stands.
-$(PROGRAMS:%=bin/%) $(LIBRARY):
-	@$(MAKE) -s build
+install: install-programs
+	@if [ -e $(LIBRARY) ]; then \
+	  $(INSTALL) -d "$(DESTDIR)$(LIB_DIR)" "$(DESTDIR)$(INCLUDE_DIR)" "$(DESTDIR)$(PKG_CONFIG_DIR)" && \
+	  $(INSTALL) -m 644 $(LIBRARY) "$(DESTDIR)$(LIB_DIR)" && \
+	  $(INSTALL) -m 644 include/jirmoans.h "$(DESTDIR)$(INCLUDE_DIR)" && \
+	  sed -e 's|@PREFIX@|$(PREFIX)|; s|@LIB_DIR@|$(LIB_DIR)|; s|@INCLUDE_DIR@|$(INCLUDE_DIR)|' include/jirmoans.pc.in > "$(DESTDIR)$(PKG_CONFIG_DIR)/jirmoans.pc"; \
+	else \
+	  echo "$(LIBRARY) is not built, and so not installed (make build)"; \
+	fi
 
-install: $(PROGRAMS:%=bin/%) $(LIBRARY)
-	$(INSTALL) -d "$(DESTDIR)$(LIB_DIR)" "$(DESTDIR)$(INCLUDE_DIR)" "$(DESTDIR)$(PKG_CONFIG_DIR)"
-	$(INSTALL) -m 644 $(LIBRARY) "$(DESTDIR)$(LIB_DIR)"
-	$(INSTALL) -m 644 include/jirmoans.h "$(DESTDIR)$(INCLUDE_DIR)"
-	sed -e 's|@PREFIX@|$(PREFIX)|; s|@LIB_DIR@|$(LIB_DIR)|; s|@INCLUDE_DIR@|$(INCLUDE_DIR)|' include/jirmoans.pc.in > "$(DESTDIR)$(PKG_CONFIG_DIR)/jirmoans.pc"
-	$(INSTALL) -d "$(DESTDIR)$(BIN_DIR)" "$(DESTDIR)$(MAN_DIR)" "$(DESTDIR)$(BASH_COMPLETION_DIR)" "$(DESTDIR)$(ZSH_COMPLETION_DIR)"
-	$(INSTALL) -m 755 $(PROGRAMS:%=bin/%) "$(DESTDIR)$(BIN_DIR)"
-	$(INSTALL) -m 644 $(PROGRAMS:%=docs/man/%.1) "$(DESTDIR)$(MAN_DIR)"
-	@for program in $(PROGRAMS); do \
+# A program that is not built is named and left out; where none is, nothing is installed.
+install-programs:
+	@there=; for program in $(PROGRAMS); do \
+	  if [ -e bin/$$program ]; then there="$$there $$program"; else echo "bin/$$program is not built, and so not installed (make programs)"; fi; \
+	done; \
+	[ -n "$$there" ] || exit 1; \
+	$(INSTALL) -d "$(DESTDIR)$(BIN_DIR)" "$(DESTDIR)$(MAN_DIR)" "$(DESTDIR)$(BASH_COMPLETION_DIR)" "$(DESTDIR)$(ZSH_COMPLETION_DIR)" && \
+	for program in $$there; do \
+	  $(INSTALL) -m 755 bin/$$program "$(DESTDIR)$(BIN_DIR)" && \
+	  $(INSTALL) -m 644 docs/man/$$program.1 "$(DESTDIR)$(MAN_DIR)" && \
 	  $(INSTALL) -m 644 completions/mdrender.bash "$(DESTDIR)$(BASH_COMPLETION_DIR)/$$program" || exit 1; \
-	done
+	done && \
 	$(INSTALL) -m 644 completions/_mdrender "$(DESTDIR)$(ZSH_COMPLETION_DIR)"
 
 uninstall:
