@@ -1,3 +1,5 @@
+//! Where bytes come from and go to: any source and sink, and how they fail.
+
 ghost use Rattle.std.specs.Prelude.{◌≡◌, ℕ, ◌+◌, ◌-◌, ◌^◌, ◌<◌, ◌≤◌, List, [], Option, length, take, IfOk, OnOk, OnErr};
 ghost use Rattle.std.specs.Result.{is_ok};
 ghost use Rattle.mdtool.specs.Bytes.{Takes, AtEnd, Gains, Puts};

@@ -1,3 +1,5 @@
+//! Why an engine stopped, why words are refused, why a program stops.
+
 ghost use Rattle.std.specs.Prelude.{◌≡◌};
 ghost use Rattle.mdtool.specs.declared.fault.ToolFault.TheVariants.{NoMemory};
 

@@ -1,3 +1,5 @@
+//! Bytes in memory as a source and a sink, which fail at a chosen call.
+
 ghost use Rattle.std.specs.Prelude.{◌≡◌, ℕ, ◌+◌, ◌-◌, ◌^◌, ◌<◌, ◌≤◌, List, [], Option, Some, None, length, take, drop};
 
 use crate::device::{DeviceFault, Feed, Out};

@@ -1,3 +1,5 @@
+//! Why an edit or a new prelude is refused.
+
 ghost use Rattle.std.specs.Prelude.{◌≡◌};
 ghost use Rattle.mdview.specs.declared.fault.EditFault.TheVariants.{NoMemory};
 ghost use Rattle.mdview.specs.FaultNames.{name_of, number_of};

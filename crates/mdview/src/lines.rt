@@ -1,3 +1,5 @@
+//! The lines of a text, lent in order.
+
 ghost use Rattle.std.specs.Prelude.{◌≡◌, map, string_bytes};
 ghost use Rattle.std.specs.Iterator.{YieldsFirstRef, item_count};
 

@@ -1,3 +1,5 @@
+//! What an accepted edit answers: which pieces to replace.
+
 ghost use Rattle.std.specs.Prelude.{◌≡◌, [], None, IfOk, option_map, slice_get, if◌then◌else◌, not, nat_lt, ◌+◌, ◌&&◌};
 ghost use Rattle.viewspec.specs.Patch.{brings, brought};
 ghost use Rattle.mdview.specs.Document.{pieces_of};

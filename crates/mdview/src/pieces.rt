@@ -1,3 +1,5 @@
+//! The pieces of HTML, lent in order.
+
 ghost use Rattle.std.specs.Prelude.{◌≡◌, ◌≤◌, drop, length, map};
 ghost use Rattle.mdview.specs.HeldUnit.{HeldUnit, piece_of};
 ghost use Rattle.std.specs.Iterator.{YieldsFirstRef, item_count};

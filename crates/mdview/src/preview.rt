@@ -1,3 +1,5 @@
+//! `Preview`: a text that is edited by lines, and its HTML in pieces.
+
 ghost use Rattle.std.specs.Prelude.{◌≡◌, ◌≤◌, ◌+◌, List, None, Some, IfErr, IfOk, IsSome, OnOk, false, length, map, option_map, slice_get, true};
 ghost use Rattle.std.specs.List.{list_any};
 ghost use Rattle.mdhtml.specs.Limits.{HasLimits};

@@ -1,3 +1,5 @@
+//! What the front of a paragraph gives: definitions.
+
 use mdleaf::{Definition, Leading, is_only_definitions, leading_definitions};
 use mdtext::Entities;
 use std::test::Fail;

@@ -1,3 +1,5 @@
+//! Task marks.
+
 use mdleaf::task_mark;
 
 static TASKS: [(&str, Option<(bool, usize)>); 24] = [

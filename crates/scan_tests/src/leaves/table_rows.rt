@@ -1,3 +1,5 @@
+//! Rows of tables.
+
 use mdleaf::{begins_table, data_row, table_header};
 use mdscan::Align;
 use std::test::Fail;
