@@ -12,6 +12,8 @@ pub mod NamedPlaces
 pub mod MemberOrder
 pub mod Numerals
 pub mod PlainRuns
+pub mod ResortedTexts
+pub mod ShortNumerals
 pub mod Specials
 pub mod Strips
 pub mod Tables

@@ -1,5 +1,5 @@
 -- The members of an entity file, one after the other as they stand in it, give the table that they give in their names' order.
-use Rattle.std.proofs.Common.{◌≡◌, ℕ, suc, ◌+◌, ◌-◌, ◌<◌, List, [], ◌∷◌, ◌++◌, length, take, get_or, Bool, true, false, Option, Some, None, option_map, refl, sym, ap, ap₂, ◌∙◌, arith, Ordering, Less, Equal, Greater, ◌==◌, ◌&&◌, nat_lt}
+use Rattle.std.proofs.Common.{◌≡◌, ℕ, suc, ◌+◌, ◌-◌, ◌<◌, List, [], ◌∷◌, ◌++◌, length, map, take, get_or, Bool, true, false, Option, Some, None, option_map, refl, sym, ap, ap₂, ◌∙◌, arith, Ordering, Less, Equal, Greater, ◌==◌, ◌&&◌, nat_lt}
 use Rattle.std.proofs.lemmas.Bool.{eqb-true}
 use Rattle.std.proofs.lemmas.Bool.Decides.{nat_tests}
 use Rattle.std.proofs.lemmas.Cmp.{nat_list_cmp_total, tied_itself}
@@ -15,149 +15,159 @@ use Rattle.std.specs.Ordering.{nat_cmp, match_ordering, ordering_reverse}
 use Rattle.serde_json.specs.Data.{Data, Members, no_members, member, put}
 use Rattle.mdtext.specs.EntityFile.{counts, is_name, name_of, characters_of, with_member, with_members}
 use Rattle.mdtext.specs.EntityTable.{EntityTable}
+use Rattle.mdtext.specs.MemberTexts.{Given, Gathered, given_more, put_each, all_given, given_table}
+use Rattle.mdtext.proofs.Tables.{inserted}
 
--- ---- options in turn
+same_inside : {A : Type 0} (a b : A) → Some a ≡ Some b → a ≡ b
+same_inside a b e = ap (or_else a) e
+  where
+    or_else : {A : Type 0} → A → Option A → A
+    or_else d None = d
+    or_else d (Some x) = x
 
-module _ {A : Type 0} where
-  abbrev or_else : A → Option A → A
-  or_else d None = d
-  or_else d (Some x) = x
+-- ---- what is put into a table
 
-  same_inside : (a b : A) → Some a ≡ Some b → a ≡ b
-  same_inside a b e = ap (or_else a) e
+abbrev pub put_in : {V : Type 0} → List (List ℕ × V) → List ℕ → V → List (List ℕ × V)
+put_in table name value = insert_entry (slice_cmp nat_cmp) table name value
 
-  bind_some : (o : Option A) → option_and_then Some o ≡ o
-  bind_some None = refl
-  bind_some (Some x) = refl
-
-  bind_bind : (f g : A → Option A) (o : Option A) → option_and_then g (option_and_then f o) ≡ option_and_then (λ x. option_and_then g (f x)) o
-  bind_bind f g None = refl
-  bind_bind f g (Some x) = refl
-
-  bind_same : (f g : A → Option A) → ((x : A) → f x ≡ g x) → (o : Option A) → option_and_then f o ≡ option_and_then g o
-  bind_same f g h None = refl
-  bind_same f g h (Some x) = h x
-
-  between : (f : A → Option A) (o : Option A) (y : A) → option_and_then f o ≡ Some y → (x : A) × (o ≡ Some x) × (f x ≡ Some y)
-  between f None y e = absurd (cc)
-  between f (Some x) y e = (x, refl, e)
-
--- ---- texts that are put into a table
-
-abbrev put_in : EntityTable → List ℕ → List ℕ → EntityTable
-put_in table name text = insert_entry (slice_cmp nat_cmp) table name text
-
-same : (n : List ℕ) → slice_cmp nat_cmp n n ≡ Equal
+pub same : (n : List ℕ) → slice_cmp nat_cmp n n ≡ Equal
 same n = tied_itself nat_list_cmp_total n
 
 turned : (a b : List ℕ) (o : Ordering) → slice_cmp nat_cmp a b ≡ o → slice_cmp nat_cmp b a ≡ ordering_reverse o
 turned a b o h = nat_list_cmp_total.antisymm b a ∙ ap ordering_reverse h
 
--- the second text at a name stays
-absorbed_at : (e : List ℕ × List ℕ) (es : EntityTable) (n t u : List ℕ) (a : Ordering) → slice_cmp nat_cmp n e.0 ≡ a → put_in (put_in es n t) n u ≡ put_in es n u → put_in (put_in (e ∷ es) n t) n u ≡ put_in (e ∷ es) n u
-absorbed_at e es n t u Less h later = rw (h, same n) refl
-absorbed_at e es n t u Equal h later = rw (h, h) refl
-absorbed_at e es n t u Greater h later = rw (h, h) (ap (λ ts. e ∷ ts) later)
+module _ {V : Type 0} where
+  -- the second value at a name stays
+  absorbed_at : (e : List ℕ × V) (es : List (List ℕ × V)) (n : List ℕ) (t u : V) (a : Ordering) → slice_cmp nat_cmp n e.0 ≡ a → put_in (put_in es n t) n u ≡ put_in es n u → put_in (put_in (e ∷ es) n t) n u ≡ put_in (e ∷ es) n u
+  absorbed_at e es n t u Less h later = rw (h, same n) refl
+  absorbed_at e es n t u Equal h later = rw (h, h) refl
+  absorbed_at e es n t u Greater h later = rw (h, h) (ap (λ ts. e ∷ ts) later)
 
-absorbed : (table : EntityTable) (n t u : List ℕ) → put_in (put_in table n t) n u ≡ put_in table n u
-absorbed [] n t u = rw (same n) refl
-absorbed (e ∷ es) n t u = absorbed_at e es n t u (slice_cmp nat_cmp n e.0) refl (absorbed es n t u)
+  pub absorbed : (table : List (List ℕ × V)) (n : List ℕ) (t u : V) → put_in (put_in table n t) n u ≡ put_in table n u
+  absorbed [] n t u = rw (same n) refl
+  absorbed (e ∷ es) n t u = absorbed_at e es n t u (slice_cmp nat_cmp n e.0) refl (absorbed es n t u)
 
--- texts at two names may be put in either way
-module _ (n t m u : List ℕ) (apart : slice_cmp nat_cmp n m ≡ Equal → ⊥) where
-  in_turn : (c : Ordering) → slice_cmp nat_cmp n m ≡ c → put_in (put_in [] n t) m u ≡ put_in (put_in [] m u) n t
-  in_turn Less h = rw (h, turned n m Less h) refl
-  in_turn Equal h = absurd (apart h)
-  in_turn Greater h = rw (h, turned n m Greater h) refl
+  -- values at two names may be put in either way
+  module _ (n : List ℕ) (t : V) (m : List ℕ) (u : V) (apart : slice_cmp nat_cmp n m ≡ Equal → ⊥) where
+    in_turn : (c : Ordering) → slice_cmp nat_cmp n m ≡ c → put_in (put_in [] n t) m u ≡ put_in (put_in [] m u) n t
+    in_turn Less h = rw (h, turned n m Less h) refl
+    in_turn Equal h = absurd (apart h)
+    in_turn Greater h = rw (h, turned n m Greater h) refl
 
-  below : (e : List ℕ × List ℕ) (es : EntityTable) (c : Ordering) → slice_cmp nat_cmp n m ≡ c → slice_cmp nat_cmp n e.0 ≡ Less → slice_cmp nat_cmp m e.0 ≡ Less → put_in (put_in (e ∷ es) n t) m u ≡ put_in (put_in (e ∷ es) m u) n t
-  below e es Less h a b = rw (a, b, h, turned n m Less h) refl
-  below e es Equal h a b = absurd (apart h)
-  below e es Greater h a b = rw (a, b, h, turned n m Greater h, a) refl
+    below : (e : List ℕ × V) (es : List (List ℕ × V)) (c : Ordering) → slice_cmp nat_cmp n m ≡ c → slice_cmp nat_cmp n e.0 ≡ Less → slice_cmp nat_cmp m e.0 ≡ Less → put_in (put_in (e ∷ es) n t) m u ≡ put_in (put_in (e ∷ es) m u) n t
+    below e es Less h a b = rw (a, b, h, turned n m Less h) refl
+    below e es Equal h a b = absurd (apart h)
+    below e es Greater h a b = rw (a, b, h, turned n m Greater h, a) refl
 
-  swapped_at : (e : List ℕ × List ℕ) (es : EntityTable) (a b : Ordering) → slice_cmp nat_cmp n e.0 ≡ a → slice_cmp nat_cmp m e.0 ≡ b → put_in (put_in es n t) m u ≡ put_in (put_in es m u) n t
-      → put_in (put_in (e ∷ es) n t) m u ≡ put_in (put_in (e ∷ es) m u) n t
-  swapped_at e es Less Less a b later = below e es (slice_cmp nat_cmp n m) refl a b
-  swapped_at e es Less Equal a b later =
-      let d : slice_cmp nat_cmp m n ≡ Greater = nat_list_cmp_total.congr m e.0 n b ∙ turned n e.0 Less a in
-      rw (a, b, d, a) refl
-  swapped_at e es Less Greater a b later =
-      let c : slice_cmp nat_cmp n m ≡ Less = nat_list_cmp_total.trans n e.0 m a (turned m e.0 Greater b) in
-      rw (a, b, turned n m Less c, a) refl
-  swapped_at e es Equal Less a b later =
-      let c : slice_cmp nat_cmp n m ≡ Greater = nat_list_cmp_total.congr n e.0 m a ∙ turned m e.0 Less b in
-      rw (a, b, c, a) refl
-  swapped_at e es Equal Equal a b later = absurd (apart (nat_list_cmp_total.congr n e.0 m a ∙ turned m e.0 Equal b))
-  swapped_at e es Equal Greater a b later = rw (a, b, a) refl
-  swapped_at e es Greater Less a b later =
-      let d : slice_cmp nat_cmp m n ≡ Less = nat_list_cmp_total.trans m e.0 n b (turned n e.0 Greater a) in
-      rw (a, b, turned m n Less d, a) refl
-  swapped_at e es Greater Equal a b later = rw (a, b, a) refl
-  swapped_at e es Greater Greater a b later = rw (a, b, a) (ap (λ ts. e ∷ ts) later)
+    swapped_at : (e : List ℕ × V) (es : List (List ℕ × V)) (a b : Ordering) → slice_cmp nat_cmp n e.0 ≡ a → slice_cmp nat_cmp m e.0 ≡ b → put_in (put_in es n t) m u ≡ put_in (put_in es m u) n t
+        → put_in (put_in (e ∷ es) n t) m u ≡ put_in (put_in (e ∷ es) m u) n t
+    swapped_at e es Less Less a b later = below e es (slice_cmp nat_cmp n m) refl a b
+    swapped_at e es Less Equal a b later =
+        let d : slice_cmp nat_cmp m n ≡ Greater = nat_list_cmp_total.congr m e.0 n b ∙ turned n e.0 Less a in
+        rw (a, b, d, a) refl
+    swapped_at e es Less Greater a b later =
+        let c : slice_cmp nat_cmp n m ≡ Less = nat_list_cmp_total.trans n e.0 m a (turned m e.0 Greater b) in
+        rw (a, b, turned n m Less c, a) refl
+    swapped_at e es Equal Less a b later =
+        let c : slice_cmp nat_cmp n m ≡ Greater = nat_list_cmp_total.congr n e.0 m a ∙ turned m e.0 Less b in
+        rw (a, b, c, a) refl
+    swapped_at e es Equal Equal a b later = absurd (apart (nat_list_cmp_total.congr n e.0 m a ∙ turned m e.0 Equal b))
+    swapped_at e es Equal Greater a b later = rw (a, b, a) refl
+    swapped_at e es Greater Less a b later =
+        let d : slice_cmp nat_cmp m n ≡ Less = nat_list_cmp_total.trans m e.0 n b (turned n e.0 Greater a) in
+        rw (a, b, turned m n Less d, a) refl
+    swapped_at e es Greater Equal a b later = rw (a, b, a) refl
+    swapped_at e es Greater Greater a b later = rw (a, b, a) (ap (λ ts. e ∷ ts) later)
 
-  swapped : (table : EntityTable) → put_in (put_in table n t) m u ≡ put_in (put_in table m u) n t
-  swapped [] = in_turn (slice_cmp nat_cmp n m) refl
-  swapped (e ∷ es) = swapped_at e es (slice_cmp nat_cmp n e.0) (slice_cmp nat_cmp m e.0) refl refl (swapped es)
+    pub swapped : (table : List (List ℕ × V)) → put_in (put_in table n t) m u ≡ put_in (put_in table m u) n t
+    swapped [] = in_turn (slice_cmp nat_cmp n m) refl
+    swapped (e ∷ es) = swapped_at e es (slice_cmp nat_cmp n e.0) (slice_cmp nat_cmp m e.0) refl refl (swapped es)
 
--- ---- what a member does to a table
+-- ---- texts, and names without one
 
-data Effect : Type 0 where
+-- texts that are all given
+abbrev pub texted : EntityTable → List Given
+texted table = map (λ e. (e.0, Some e.1)) table
+
+pub texted_put : (table : EntityTable) (n t : List ℕ) → put_in (texted table) n (Some t) ≡ texted (put_in table n t)
+texted_put table n t = sym (inserted (λ k. k) Some table n t)
+
+pub all_texted : (table : EntityTable) → all_given (texted table) ≡ Some table
+all_texted [] = refl
+all_texted (e ∷ es) = ap (option_map (λ table. e ∷ table)) (all_texted es)
+
+lost : (e : Given) (es : List Given) (o : Option (List ℕ)) → e.1 ≡ o → all_given es ≡ None → all_given (e ∷ es) ≡ None
+lost e es None h none = rw h refl
+lost e es (Some t) h none = rw (h, none) refl
+
+-- a name that is given no text at last
+no_text_at : (e : Given) (es : List Given) (n : List ℕ) (o : Ordering) → slice_cmp nat_cmp n e.0 ≡ o → all_given (put_in es n None) ≡ None → all_given (put_in (e ∷ es) n None) ≡ None
+no_text_at e es n Less h later = rw h refl
+no_text_at e es n Equal h later = rw h refl
+no_text_at e es n Greater h later = rw h (lost e (put_in es n None) e.1 refl later)
+
+pub no_text : (table : List Given) (n : List ℕ) → all_given (put_in table n None) ≡ None
+no_text [] n = refl
+no_text (e ∷ es) n = no_text_at e es n (slice_cmp nat_cmp n e.0) refl (no_text es n)
+
+-- one more is put in behind the others
+pub put_last : (es : List Given) (e : Given) (table : List Given) → put_each (es ++ e ∷ []) table ≡ put_in (put_each es table) e.0 e.1
+put_last [] e table = refl
+put_last (x ∷ xs) e table = put_last xs e (put_in table x.0 x.1)
+
+-- ---- what a member does to what is gathered, seen as a table
+
+-- what is gathered, with the table so far
+abbrev pub tabled : Gathered → Gathered
+tabled g = (g.0, put_each g.1 [])
+
+pub data Effect : Type 0 where
   nothing : Effect
-  refusal : Effect
-  puts : List ℕ → List ℕ → Effect
+  spoils : Effect
+  puts : List ℕ → Option (List ℕ) → Effect
 
-abbrev apply : Effect → EntityTable → Option EntityTable
-apply nothing table = Some table
-apply refusal table = None
-apply (puts n t) table = Some (put_in table n t)
+abbrev pub apply : Effect → Gathered → Gathered
+apply nothing g = g
+apply spoils g = (true, g.1)
+apply (puts n t) g = (g.0, put_in g.1 n t)
 
-abbrev effect_by : Bool → Option (List ℕ) → Option (List ℕ) → Effect
-effect_by false found given = nothing
-effect_by true None given = refusal
-effect_by true (Some n) None = refusal
-effect_by true (Some n) (Some t) = puts n t
+abbrev pub effect_by : Bool → Option (List ℕ) → Option (List ℕ) → Effect
+effect_by false found text = nothing
+effect_by true None text = spoils
+effect_by true (Some n) text = puts n text
 
-abbrev effect : List ℕ → Data → Effect
-effect k d = effect_by (counts k) (name_of k) (characters_of d)
+abbrev pub effect : List ℕ → Option (List ℕ) → Effect
+effect k text = effect_by (counts k) (name_of k) text
 
-does_by : (counted : Bool) (found given : Option (List ℕ)) (table : EntityTable)
-    → (if counted then option_and_then (λ name. option_map (insert_entry (slice_cmp nat_cmp) table name) given) found else Some table) ≡ apply (effect_by counted found given) table
-does_by false found given table = refl
-does_by true None given table = refl
-does_by true (Some n) None table = refl
-does_by true (Some n) (Some t) table = refl
+gathers_by : (counted : Bool) (found text : Option (List ℕ)) (k : List ℕ) (g : Gathered) → counts k ≡ counted → name_of k ≡ found → tabled (given_more k text g) ≡ apply (effect_by counted found text) (tabled g)
+gathers_by false found text k g c f = rw c refl
+gathers_by true None text k g c f = rw (c, f) refl
+gathers_by true (Some n) text k g c f = rw (c, f) (ap (λ t. (g.0, t)) (put_last g.1 (n, text) []))
 
-does : (k : List ℕ) (d : Data) (table : EntityTable) → with_member k d table ≡ apply (effect k d) table
-does k d table = does_by (counts k) (name_of k) (characters_of d) table
+gathers : (k : List ℕ) (text : Option (List ℕ)) (g : Gathered) → tabled (given_more k text g) ≡ apply (effect k text) (tabled g)
+gathers k text g = gathers_by (counts k) (name_of k) text k g refl refl
 
 abbrev AreApart : Effect → Effect → Type 0
 AreApart nothing f = ⊤
-AreApart refusal f = ⊤
+AreApart spoils f = ⊤
 AreApart (puts n t) nothing = ⊤
-AreApart (puts n t) refusal = ⊤
+AreApart (puts n t) spoils = ⊤
 AreApart (puts n t) (puts m u) = slice_cmp nat_cmp n m ≡ Equal → ⊥
 
-commute : (e f : Effect) (table : EntityTable) → AreApart e f → option_and_then (apply f) (apply e table) ≡ option_and_then (apply e) (apply f table)
-commute nothing nothing table h = refl
-commute nothing refusal table h = refl
-commute nothing (puts m u) table h = refl
-commute refusal nothing table h = refl
-commute refusal refusal table h = refl
-commute refusal (puts m u) table h = refl
-commute (puts n t) nothing table h = refl
-commute (puts n t) refusal table h = refl
-commute (puts n t) (puts m u) table h = ap Some (swapped n t m u h table)
+commute : (e f : Effect) (g : Gathered) → AreApart e f → apply f (apply e g) ≡ apply e (apply f g)
+commute nothing f g h = refl
+commute spoils nothing g h = refl
+commute spoils spoils g h = refl
+commute spoils (puts m u) g h = refl
+commute (puts n t) nothing g h = refl
+commute (puts n t) spoils g h = refl
+commute (puts n t) (puts m u) g h = ap (λ x. (g.0, x)) (swapped n t m u h g.1)
 
 -- of two members of one name only the second counts
-replaces_by : (counted : Bool) (found : Option (List ℕ)) (given other : Option (List ℕ)) (table next : EntityTable) → apply (effect_by counted found given) table ≡ Some next
-    → apply (effect_by counted found other) next ≡ apply (effect_by counted found other) table
-replaces_by false found given other table next e = sym e
-replaces_by true None given other table next e = refl
-replaces_by true (Some n) None other table next e = absurd (cc)
-replaces_by true (Some n) (Some t) None table next e = refl
-replaces_by true (Some n) (Some t) (Some u) table next e =
-    let is : put_in table n t ≡ next = same_inside (put_in table n t) next e in
-    ap (λ x. Some (put_in x n u)) (sym is) ∙ ap Some (absorbed table n t u)
+replaces : (counted : Bool) (found text other : Option (List ℕ)) (g : Gathered) → apply (effect_by counted found other) (apply (effect_by counted found text) g) ≡ apply (effect_by counted found other) g
+replaces false found text other g = refl
+replaces true None text other g = refl
+replaces true (Some n) text other g = ap (λ x. (g.0, x)) (absorbed g.1 n text other)
 
 -- ---- a member's name tells the name of its reference
 
@@ -197,11 +207,9 @@ spelled (x ∷ xs) n c e =
 apart_by : (k l : List ℕ) (p q : Bool) (f g s t : Option (List ℕ)) → slice_cmp nat_cmp k l ≡ Less → counts k ≡ p → counts l ≡ q → name_of k ≡ f → name_of l ≡ g → AreApart (effect_by p f s) (effect_by q g t)
 apart_by k l false q f g s t less a b c d = tt
 apart_by k l true q None g s t less a b c d = tt
-apart_by k l true q (Some n) g None t less a b c d = tt
-apart_by k l true false (Some n) g (Some u) t less a b c d = tt
-apart_by k l true true (Some n) None (Some u) t less a b c d = tt
-apart_by k l true true (Some n) (Some m) (Some u) None less a b c d = tt
-apart_by k l true true (Some n) (Some m) (Some u) (Some v) less a b c d =
+apart_by k l true false (Some n) g s t less a b c d = tt
+apart_by k l true true (Some n) None s t less a b c d = tt
+apart_by k l true true (Some n) (Some m) s t less a b c d =
     λ e.
     let is : k ≡ l = spelled k n a c ∙ ap (λ x. 38 ∷ (x ++ 59 ∷ [])) (exact_bytes n m e) ∙ sym (spelled l m b d) in
     less_or_same (sym less ∙ ap (slice_cmp nat_cmp k) (sym is) ∙ same k)
@@ -209,8 +217,8 @@ apart_by k l true true (Some n) (Some m) (Some u) (Some v) less a b c d =
     less_or_same : Less ≡ Equal → ⊥
     less_or_same h = cc
 
-apart : (k l : List ℕ) (d e : Data) → slice_cmp nat_cmp k l ≡ Less → AreApart (effect k d) (effect l e)
-apart k l d e less = apart_by k l (counts k) (counts l) (name_of k) (name_of l) (characters_of d) (characters_of e) less refl refl refl refl
+apart : (k l : List ℕ) (s t : Option (List ℕ)) → slice_cmp nat_cmp k l ≡ Less → AreApart (effect k s) (effect l t)
+apart k l s t less = apart_by k l (counts k) (counts l) (name_of k) (name_of l) s t less refl refl refl refl
 
 -- ---- members in their names' order
 
@@ -246,41 +254,76 @@ pub in_order_put : (k : List ℕ) (d : Data) (ms : Members) → AreInOrder ms �
 in_order_put k d no_members o = (tt, tt)
 in_order_put k d (member l e ms) o = in_order_at k l d e ms (slice_cmp nat_cmp k l) refl o.0 o.1 (in_order_put k d ms o.1)
 
--- ---- a member that comes last
+-- ---- members in turn
 
-replaces : (k : List ℕ) (d e : Data) (table next : EntityTable) → with_member k e table ≡ Some next → with_member k d next ≡ with_member k d table
-replaces k d e table next h =
-    does k d next ∙ replaces_by (counts k) (name_of k) (characters_of e) (characters_of d) table next (sym (does k e table) ∙ h) ∙ sym (does k d table)
+abbrev pub with_each : Members → Gathered → Gathered
+with_each no_members g = g
+with_each (member k d ms) g = with_each ms (apply (effect k (characters_of d)) g)
 
-swaps : (k l : List ℕ) (d e : Data) (table : EntityTable) → slice_cmp nat_cmp k l ≡ Less → option_and_then (with_member l e) (with_member k d table) ≡ option_and_then (with_member k d) (with_member l e table)
-swaps k l d e table less =
-    bind_same (with_member l e) (apply (effect l e)) (does l e) (with_member k d table)
-    ∙ ap (option_and_then (apply (effect l e))) (does k d table)
-    ∙ commute (effect k d) (effect l e) table (apart k l d e less)
-    ∙ ap (option_and_then (apply (effect k d))) (sym (does l e table))
-    ∙ sym (bind_same (with_member k d) (apply (effect k d)) (does k d) (with_member l e table))
+-- before members of greater names a member does what it does behind them
+goes_first : (k : List ℕ) (text : Option (List ℕ)) (ms : Members) (g : Gathered) → IsBelow k ms → with_each ms (apply (effect k text) g) ≡ apply (effect k text) (with_each ms g)
+goes_first k text no_members g b = refl
+goes_first k text (member l e ms) g b =
+    ap (with_each ms) (commute (effect k text) (effect l (characters_of e)) g (apart k l text (characters_of e) b.0)) ∙ goes_first k text ms (apply (effect l (characters_of e)) g) b.1
 
--- before members of greater names it does what it does behind them
-goes_first : (k : List ℕ) (d : Data) (ms : Members) (table last next : EntityTable) → IsBelow k ms → with_members ms table ≡ Some last → with_member k d last ≡ Some next
-    → option_and_then (with_members ms) (with_member k d table) ≡ Some next
-goes_first k d no_members table last next b e f = bind_some (with_member k d table) ∙ ap (with_member k d) (same_inside table last e) ∙ f
-goes_first k d (member l x ms) table last next b e f =
-    let mid = between (with_members ms) (with_member l x table) last e in
-    sym (bind_bind (with_member l x) (with_members ms) (with_member k d table))
-    ∙ ap (option_and_then (with_members ms)) (swaps k l d x table b.0 ∙ ap (option_and_then (with_member k d)) mid.1)
-    ∙ goes_first k d ms mid.0 last next b.1 mid.2 f
+one_more_at : (k l : List ℕ) (d x : Data) (ms : Members) (g : Gathered) (o : Ordering) → slice_cmp nat_cmp k l ≡ o → IsBelow l ms
+    → ((h : Gathered) → with_each (put k d ms) h ≡ apply (effect k (characters_of d)) (with_each ms h))
+    → with_each (match_ordering o (member k d (member l x ms)) (member l d ms) (member l x (put k d ms))) g ≡ apply (effect k (characters_of d)) (with_each (member l x ms) g)
+one_more_at k l d x ms g Less h b later = goes_first k (characters_of d) (member l x ms) g (h, below_all k l ms h b)
+one_more_at k l d x ms g Equal h b later =
+    let again = replaces (counts l) (name_of l) (characters_of x) (characters_of d) g in
+    ap (with_each ms) (sym again) ∙ goes_first l (characters_of d) ms (apply (effect l (characters_of x)) g) b
+    ∙ ap (λ n. apply (effect n (characters_of d)) (with_each (member l x ms) g)) (sym (exact_bytes k l h))
+one_more_at k l d x ms g Greater h b later = later (apply (effect l (characters_of x)) g)
 
-comes_last_at : (k l : List ℕ) (d x : Data) (ms : Members) (table last next : EntityTable) (o : Ordering) → slice_cmp nat_cmp k l ≡ o → IsBelow l ms → with_members (member l x ms) table ≡ Some last → with_member k d last ≡ Some next
-    → ((mid : EntityTable) → with_members ms mid ≡ Some last → with_members (put k d ms) mid ≡ Some next) → with_members (match_ordering o (member k d (member l x ms)) (member l d ms) (member l x (put k d ms))) table ≡ Some next
-comes_last_at k l d x ms table last next Less h b e f later = goes_first k d (member l x ms) table last next (h, below_all k l ms h b) e f
-comes_last_at k l d x ms table last next Equal h b e f later =
-    let mid = between (with_members ms) (with_member l x table) last e in
-    ap (option_and_then (with_members ms)) (sym (replaces l d x table mid.0 mid.1)) ∙ goes_first l d ms mid.0 last next b mid.2 (ap (λ n. with_member n d last) (sym (exact_bytes k l h)) ∙ f)
-comes_last_at k l d x ms table last next Greater h b e f later =
-    let mid = between (with_members ms) (with_member l x table) last e in
-    ap (option_and_then (with_members (put k d ms))) mid.1 ∙ later mid.0 mid.2
+-- a member that comes last, at its place in the order
+one_more : (k : List ℕ) (d : Data) (found : Members) (g : Gathered) → AreInOrder found → with_each (put k d found) g ≡ apply (effect k (characters_of d)) (with_each found g)
+one_more k d no_members g o = refl
+one_more k d (member l x ms) g o = one_more_at k l d x ms g (slice_cmp nat_cmp k l) refl o.0 (λ h. one_more k d ms h o.1)
 
-pub comes_last : (k : List ℕ) (d : Data) (found : Members) (table last next : EntityTable) → AreInOrder found → with_members found table ≡ Some last → with_member k d last ≡ Some next → with_members (put k d found) table ≡ Some next
-comes_last k d no_members table last next o e f = goes_first k d no_members table last next tt e f
-comes_last k d (member l x ms) table last next o e f =
-    comes_last_at k l d x ms table last next (slice_cmp nat_cmp k l) refl o.0 e f (λ mid g. comes_last k d ms mid last next o.1 g f)
+-- what is gathered of members, in whatever order they came
+abbrev pub Gathers : Members → Gathered → Type 0
+Gathers found g = AreInOrder found × (tabled g ≡ with_each found (false, []))
+
+pub gathers_none : Gathers no_members (false, [])
+gathers_none = (tt, refl)
+
+pub gathers_more : (k : List ℕ) (d : Data) (found : Members) (g : Gathered) → Gathers found g → Gathers (put k d found) (given_more k (characters_of d) g)
+gathers_more k d found g h = (in_order_put k d found h.0, gathers k (characters_of d) g ∙ ap (apply (effect k (characters_of d))) h.1 ∙ sym (one_more k d found (false, []) h.0))
+
+-- ---- the table of the members
+
+abbrev verdict : Gathered → Option EntityTable
+verdict g = if g.0 then None else all_given g.1
+
+no_text_in : (b : Bool) (table : List Given) (n : List ℕ) → verdict (b, put_in table n None) ≡ None
+no_text_in true table n = refl
+no_text_in false table n = no_text table n
+
+told_by : (counted : Bool) (found : Option (List ℕ)) (k : List ℕ) (d : Data) (ms : Members) (table : EntityTable) → counts k ≡ counted → name_of k ≡ found → IsBelow k ms
+    → ((t : EntityTable) → with_members ms t ≡ verdict (with_each ms (false, texted t))) → (text : Option (List ℕ)) → characters_of d ≡ text
+    → with_members (member k d ms) table ≡ verdict (with_each (member k d ms) (false, texted table))
+told_by false found k d ms table c f b later text e =
+    let left : with_members (member k d ms) table ≡ with_members ms table = rw c refl in
+    let right : apply (effect k (characters_of d)) (false, texted table) ≡ (false, texted table) = ap (λ x. apply (effect_by x (name_of k) (characters_of d)) (false, texted table)) c in
+    left ∙ later table ∙ ap (λ g. verdict (with_each ms g)) (sym right)
+told_by true None k d ms table c f b later text e =
+    let left : with_members (member k d ms) table ≡ None = rw (c, f) refl in
+    let does : effect k (characters_of d) ≡ spoils = ap₂ (λ x o. effect_by x o (characters_of d)) c f in
+    left ∙ sym (ap verdict (goes_first k (characters_of d) ms (false, texted table) b ∙ ap (λ x. apply x (with_each ms (false, texted table))) does))
+told_by true (Some n) k d ms table c f b later None e =
+    let left : with_members (member k d ms) table ≡ None = rw (c, f, e) refl in
+    let does : effect k (characters_of d) ≡ puts n None = ap₂ (λ x o. effect_by x o (characters_of d)) c f ∙ ap (puts n) e in
+    let all = with_each ms (false, texted table) in
+    left ∙ sym (ap verdict (goes_first k (characters_of d) ms (false, texted table) b ∙ ap (λ x. apply x all) does) ∙ no_text_in all.0 all.1 n)
+told_by true (Some n) k d ms table c f b later (Some t) e =
+    let left : with_members (member k d ms) table ≡ with_members ms (put_in table n t) = rw (c, f, e) refl in
+    let does : effect k (characters_of d) ≡ puts n (Some t) = ap₂ (λ x o. effect_by x o (characters_of d)) c f ∙ ap (puts n) e in
+    left ∙ later (put_in table n t) ∙ ap (λ x. verdict (with_each ms (false, x))) (sym (texted_put table n t)) ∙ ap (λ x. verdict (with_each ms (apply x (false, texted table)))) (sym does)
+
+told : (found : Members) (table : EntityTable) → AreInOrder found → with_members found table ≡ verdict (with_each found (false, texted table))
+told no_members table o = sym (all_texted table)
+told (member k d ms) table o = told_by (counts k) (name_of k) k d ms table refl refl o.0 (λ t. told ms t o.1) (characters_of d) refl
+
+pub table_gathered : (found : Members) (g : Gathered) → Gathers found g → with_members found [] ≡ given_table g
+table_gathered found g h = told found [] h.0 ∙ ap verdict (sym h.1)

@@ -12,16 +12,6 @@ use Rattle.mdtext.specs.EntityTable.{EntityTable, put_all}
 -- ---- entries of any kind, seen as pairs of bytes and values
 
 module _ {K V W : Type 0} (key : K → List ℕ) (view : V → W) where
-  at_head : (b : Bool) (v : V) (w : Option V) (u : Option W) → option_map view w ≡ u → option_map view (cond b (Some v) w) ≡ cond b (Some (view v)) u
-  at_head true v w u h = refl
-  at_head false v w u h = h
-
-  pub looked_up : (name : List ℕ) (entries : List (K × V)) → option_map view (lookup (is_at (λ k. slice_cmp nat_cmp name (key k))) entries) ≡ lookup (bytes_eq name) (map (λ e. (key e.0, view e.1)) entries)
-  looked_up name [] = refl
-  looked_up name (e ∷ entries) =
-      at_head _ e.1 _ _ (looked_up name entries)
-      ∙ ap (λ b. cond b (Some (view e.1)) (lookup (bytes_eq name) (map (λ e. (key e.0, view e.1)) entries))) (is_eq-slice_cmp name (key e.0))
-
   by_order : (o : Ordering) (a b c : List (K × V)) (d : List (List ℕ × W)) → map (λ e. (key e.0, view e.1)) c ≡ d →
       map (λ e. (key e.0, view e.1)) (match_ordering o a b c) ≡ match_ordering o (map (λ e. (key e.0, view e.1)) a) (map (λ e. (key e.0, view e.1)) b) d
   by_order Less a b c d h = refl

@@ -1,14 +1,13 @@
 -- The entity file: a JSON object whose members are named as references, each with its characters.
-use Rattle.std.specs.Prelude.{ℕ, ◌-◌, Bool, List, [], codes, Option, Some, None, Result, Ok, Err, length, slice_index, slice_range, nat_lt, option_map, option_and_then, is_some, ◌==◌, ◌&&◌, if◌then◌else◌}
+use Rattle.std.specs.Prelude.{ℕ, ◌-◌, Bool, List, [], codes, Option, Some, None, Result, Ok, Err, length, slice_index, slice_range, nat_lt, option_map, option_and_then, ◌==◌, ◌&&◌, if◌then◌else◌}
 use Rattle.std.specs.Char.{is_ascii_alphanumeric}
 use Rattle.std.specs.BTreeMap.{insert_entry}
 use Rattle.std.specs.Cmp.Lexicographic.{slice_cmp}
 use Rattle.std.specs.List.{prefix_len}
-use Rattle.std.specs.Map.{lookup}
 use Rattle.std.specs.Ordering.{nat_cmp}
-use Rattle.std.specs.Str.{bytes_eq, is_utf8}
+use Rattle.std.specs.Str.{is_utf8}
 use Rattle.serde_json.specs.Data.{Data, Members, no_members, member}
-use Rattle.serde_json.specs.Find.{get, get_member, as_str, as_object}
+use Rattle.serde_json.specs.Find.{get, as_str, as_object}
 use Rattle.serde_json.specs.Read.{read}
 use Rattle.mdtext.specs.EntityTable.{EntityTable}
 use Rattle.mdtext.specs.declared.entity_file.TableFault.{TableFault}
@@ -31,18 +30,6 @@ name_of key =
 -- the text that a member's value gives
 abbrev pub characters_of : Data → Option (List ℕ)
 characters_of value = option_and_then as_str (get (codes "characters") value)
-
--- the text that an object's members give
-abbrev pub characters_among : Members → Option (List ℕ)
-characters_among ms = option_and_then as_str (get_member (codes "characters") ms)
-
--- the table has the name of a member that counts
-abbrev pub is_there : List ℕ → EntityTable → Bool
-is_there key table = counts key && is_some (option_and_then (λ name. lookup (bytes_eq name) table) (name_of key))
-
--- the table with one member more, by the text of its characters
-abbrev pub with_characters : List ℕ → Option (List ℕ) → EntityTable → Option EntityTable
-with_characters key given table = if counts key then option_and_then (λ name. option_map (insert_entry (slice_cmp nat_cmp) table name) given) (name_of key) else Some table
 
 -- the table with one member more, where it is no bad entry
 abbrev pub with_member : List ℕ → Data → EntityTable → Option EntityTable

@@ -10,6 +10,7 @@ pub mod EscapedUrl
 pub mod LabelFronts
 pub mod Labels
 pub mod Lines
+pub mod MemberTexts
 pub mod NamedTexts
 pub mod References
 pub mod Referents

@@ -1,18 +1,23 @@
 //! An entity file, read from its tokens with no tree of its values.
-ghost use Rattle.std.specs.Prelude.{◌≡◌, ◌<◌, [], IfOk, IsSome, Ok, OnOk, Some, length, option_map, false, true};
-ghost use Rattle.serde_json.specs.Data.{Data, Members};
-ghost use Rattle.serde_json.specs.Find.{as_object, as_str, get_member};
-ghost use Rattle.serde_json.specs.Read.{number_of};
-ghost use Rattle.mdtext.specs.EntityFile.{characters_of, characters_among, file_table, is_there, of_object, with_member, with_members};
-ghost use Rattle.mdtext.specs.EntityReading.{ReadsItems, ReadsMembers, ReadsValue};
+//!
+//! `pass_value` has the shape of `serde_json`'s reader of values, so that it takes and refuses the same tokens.
+ghost use Rattle.std.specs.Prelude.{◌≡◌, ◌≢◌, ◌<◌, [], IfErr, IfOk, IsErr, IsSome, None, Ok, Err, OnOk, Some, is_some, length, option_and_then, option_map, true};
+ghost use Rattle.serde_json.specs.Data.{Data, Items, Members};
+ghost use Rattle.serde_json.specs.Find.{as_object, as_str};
+ghost use Rattle.serde_json.specs.Read.{number_from, number_of};
+ghost use Rattle.mdtext.specs.EntityFile.{characters_of, file_table, with_members};
+ghost use Rattle.mdtext.specs.EntityReading.{characters_among, items_at, members_at, value_at, whole_at};
+ghost use Rattle.mdtext.specs.MemberTexts.{gathered, given_table};
 
-use crate::entity_file::{TableFault, put_member};
+use crate::entity_file::TableFault;
+use crate::member_texts::MemberTexts;
 use crate::named_texts::NamedTexts;
-use crate::references::digit_count;
+use crate::references::{byte_at, digit_count};
+use fast_float::Numeral;
 use json::{Invalid, Reader, Scratch, Token};
 use std::alloc::Global;
 
-// How deep the values of a file's members may nest.
+// How deep the values of a file's members may nest, as `serde_json` limits it.
 const DEPTH: usize = 126;
 
 // What is asked of a value that was passed.
@@ -24,72 +29,65 @@ struct Passed<'a> {
     characters: Option<&'a str>,
 }
 
-/// The table of a file. A fault other than `NoMemory` tells nothing of the file: it may have a table that is not read here.
-pub fn read_tokens(alloc: Global, bytes: &[u8]) -> Result<NamedTexts, TableFault>
-    ensures { IfOk result (λ texts. file_table bytes.now ≡ Ok texts) }
+const PLAIN: Passed<'static> = Passed {
+    text: None,
+    characters: None,
+};
+
+/// The table of a file.
+pub fn read_table(alloc: Global, text: &str) -> Result<NamedTexts, TableFault>
+    ensures ok { IfOk result (λ texts. file_table text.now ≡ Ok texts) }
+    ensures err { IfErr result (λ fault. fault ≢ TableFault.NoMemory → file_table text.now ≡ Err fault) }
 {
-    let Ok(text) = simdutf8::compat::from_utf8(bytes) else {
-        return Err(TableFault::NotJson);
-    };
     let mut scratch = Scratch::new(alloc);
     let mut reader = Reader::new(text, &mut scratch)?;
-    let mut texts = NamedTexts::new(alloc);
-    read_file(&mut reader, &mut texts)?;
-    texts.fit();
-    Ok(texts)
+    let members = read_file(alloc, &mut reader)?;
+    members.into_table(alloc)
 }
 
-fn read_file(reader: &mut Reader<'_>, texts: &mut NamedTexts) -> Result<(), TableFault>
-    requires { texts.old ≡ [] }
-    ensures { OnOk result ((d : Data) × ReadsValue 127 reader.old d [] × (of_object (as_object d) ≡ Ok texts.new)) }
+fn read_file<'a>(alloc: Global, reader: &mut Reader<'a>) -> Result<MemberTexts<'a>, TableFault>
+    ensures ok { IfOk result (λ members. (found : Members) × (option_and_then as_object (whole_at reader.old) ≡ Some found) × (with_members found [] ≡ given_table (gathered members))) }
+    ensures err { IfErr result (λ fault. fault ≢ TableFault.NoMemory → (fault ≡ TableFault.NotJson) × (option_and_then as_object (whole_at reader.old) ≡ None)) }
 {
-    let Some(Token::BeginObject) = reader.next() else {
+    let Some(token) = reader.next() else {
         return Err(TableFault::NotJson);
     };
-    read_members(reader, texts)?;
-    if reader.next().is_some() {
+    let Token::BeginObject = token else {
         return Err(TableFault::NotJson);
+    };
+    let members = read_members(alloc, reader)?;
+    match reader.next() {
+        Some(_) => Err(TableFault::NotJson),
+        None => Ok(members),
     }
-    Ok(())
 }
 
-fn read_members(reader: &mut Reader<'_>, texts: &mut NamedTexts) -> Result<(), TableFault>
-    requires { texts.old ≡ [] }
-    ensures { OnOk result ((found : Members) × ReadsMembers 126 reader.old found reader.new × (with_members found [] ≡ Some texts.new)) }
+fn read_members<'a>(alloc: Global, reader: &mut Reader<'a>) -> Result<MemberTexts<'a>, TableFault>
+    ensures ok { IfOk result (λ members. (found : Members) × (members_at 126 reader.old ≡ Some (found, reader.new)) × (with_members found [] ≡ given_table (gathered members))) }
+    ensures err { IfErr result (λ fault. fault ≢ TableFault.NoMemory → (fault ≡ TableFault.NotJson) × (members_at 126 reader.old ≡ None)) }
 {
+    let mut members = MemberTexts::new(alloc);
     while let Some(key) = reader.next_key().map_err(not_json)? {
-        read_member(key, reader, texts)?;
+        let Ok(passed) = pass_value(reader, DEPTH) else {
+            return Err(TableFault::NotJson);
+        };
+        members.add(key, passed.characters)?;
     }
-    Ok(())
+    Ok(members)
 }
 
-fn not_json(_invalid: Invalid) -> TableFault {
-    TableFault::NotJson
-}
-
-#[inline(always)]
-fn read_member(key: &str, reader: &mut Reader<'_>, texts: &mut NamedTexts) -> Result<(), TableFault>
-    ensures ok { OnOk result ((d : Data) × ReadsValue 126 reader.old d reader.new × (with_member key.now d texts.old ≡ Some texts.new)) }
-    ensures shorter { OnOk result (length reader.new < length reader.old) }
-    ensures once { OnOk result (is_there key.now texts.old ≡ false) }
+fn not_json(_invalid: Invalid) -> TableFault
+    ensures { result ≡ TableFault.NotJson }
 {
-    // A file in another order is read the old way, by a tree that puts names into order.
-    if texts.is_far_from_end(key.strip_prefix('&').unwrap_or(key)) {
-        return Err(TableFault::NotJson);
-    }
-    let passed = pass_value(reader, DEPTH).map_err(not_json)?;
-    // So is one that has a name twice: a text that was replaced would stay among the bytes.
-    if put_member(key, passed.characters, texts)? {
-        return Err(TableFault::NotJson);
-    }
-    Ok(())
+    TableFault::NotJson
 }
 
 #[cycle(pass_value)]
 #[inline(always)]
 fn pass_value<'a>(reader: &mut Reader<'a>, depth: usize) -> Result<Passed<'a>, Invalid>
-    ensures ok { IfOk result (λ passed. (d : Data) × ReadsValue depth reader.old d reader.new
+    ensures ok { IfOk result (λ passed. (d : Data) × (value_at depth reader.old ≡ Some (d, reader.new))
         × (option_map (λ s. s.now) passed.text ≡ as_str d) × (option_map (λ s. s.now) passed.characters ≡ characters_of d)) }
+    ensures err { IsErr result → value_at depth reader.old ≡ None }
     ensures shorter { OnOk result (length reader.new < length reader.old) }
 {
     let token = reader.next().ok_or(Invalid)?;
@@ -98,32 +96,20 @@ fn pass_value<'a>(reader: &mut Reader<'a>, depth: usize) -> Result<Passed<'a>, I
             text: Some(text),
             characters: None,
         }),
-        Token::Number(text) => if is_short_numeral(text) {
-            Ok(Passed {
-                text: None,
-                characters: None,
-            })
+        Token::Number(text) => if is_number(text) {
+            Ok(PLAIN)
         } else {
             Err(Invalid)
         },
-        Token::Bool(_) => Ok(Passed {
-            text: None,
-            characters: None,
-        }),
-        Token::Null => Ok(Passed {
-            text: None,
-            characters: None,
-        }),
+        Token::Bool(_) => Ok(PLAIN),
+        Token::Null => Ok(PLAIN),
         Token::EndObject | Token::EndArray | Token::Key(_) | Token::Bad => Err(Invalid),
         Token::BeginArray => {
             if depth == 0 {
                 return Err(Invalid);
             }
             pass_items(reader, depth - 1)?;
-            Ok(Passed {
-                text: None,
-                characters: None,
-            })
+            Ok(PLAIN)
         }
         Token::BeginObject => {
             if depth == 0 {
@@ -140,7 +126,8 @@ fn pass_value<'a>(reader: &mut Reader<'a>, depth: usize) -> Result<Passed<'a>, I
 #[cycle(pass_value)]
 #[inline(never)]
 fn pass_items(reader: &mut Reader<'_>, depth: usize) -> Result<(), Invalid>
-    ensures ok { OnOk result (ReadsItems depth reader.old reader.new) }
+    ensures ok { OnOk result ((ds : Items) × (items_at depth reader.old ≡ Some (ds, reader.new))) }
+    ensures err { IsErr result → items_at depth reader.old ≡ None }
     ensures shorter { OnOk result (length reader.new < length reader.old) }
 {
     while !reader.take_end_array() {
@@ -153,8 +140,8 @@ fn pass_items(reader: &mut Reader<'_>, depth: usize) -> Result<(), Invalid>
 #[cycle(pass_value)]
 #[inline(never)]
 fn pass_fields<'a>(reader: &mut Reader<'a>, depth: usize) -> Result<Option<&'a str>, Invalid>
-    ensures ok { IfOk result (λ text. (found : Members) × ReadsMembers depth reader.old found reader.new
-        × (option_map (λ s. s.now) text ≡ characters_among found)) }
+    ensures ok { IfOk result (λ text. (found : Members) × (members_at depth reader.old ≡ Some (found, reader.new)) × (option_map (λ s. s.now) text ≡ characters_among found)) }
+    ensures err { IsErr result → members_at depth reader.old ≡ None }
     ensures shorter { OnOk result (length reader.new < length reader.old) }
 {
     let mut characters = None;
@@ -167,7 +154,22 @@ fn pass_fields<'a>(reader: &mut Reader<'a>, depth: usize) -> Result<Option<&'a s
     Ok(characters)
 }
 
-// Whether a number is made of at most 19 digits.
+// Whether a number is an integer of 64 bits or nearest to a finite float.
+fn is_number(text: &str) -> bool
+    ensures { result ≡ is_some (number_of text.now) }
+{
+    if is_short_numeral(text) {
+        return true;
+    }
+    let bytes = text.as_bytes();
+    if byte_at(text, 0) == b'-' {
+        is_in_range(true, &Numeral::scan(&bytes[1..]))
+    } else {
+        is_in_range(false, &Numeral::scan(bytes))
+    }
+}
+
+// Whether a number is made of at most 19 digits, as most are.
 fn is_short_numeral(text: &str) -> bool
     ensures { result ≡ true → IsSome (number_of text.now) }
 {
@@ -179,4 +181,18 @@ fn is_short_numeral(text: &str) -> bool
         return false;
     }
     digit_count(text, 10) == len
+}
+
+fn is_in_range(negative: bool, numeral: &Numeral<'_>) -> bool
+    ensures { result ≡ is_some (number_from negative numeral.now) }
+{
+    let integer = if negative {
+        match numeral.to_i64(true) {
+            Some(number) => number < 0,
+            None => false,
+        }
+    } else {
+        numeral.to_u64().is_some()
+    };
+    integer || numeral.to_float::<f64>(negative).is_finite()
 }

@@ -1,14 +1,12 @@
 //! The names of entity references, and the texts that they stand for.
-ghost use Rattle.std.specs.Prelude.{◌≡◌, ◌≢◌, [], None, Ok, Err, Some, IfErr, IfOk, map, option_map};
-ghost use Rattle.serde_json.specs.View.{members_view};
-ghost use Rattle.mdtext.specs.EntityFile.{file_table, with_members};
+ghost use Rattle.std.specs.Prelude.{◌≡◌, ◌≢◌, [], Ok, Err, IfErr, IfOk, map, option_map};
+ghost use Rattle.mdtext.specs.EntityFile.{file_table};
 ghost use Rattle.mdtext.specs.EntityTable.{entity_text, put_all, builtin_table};
 
 use crate::NoMemory;
-use crate::entity_file::{TableFault, add_member, read_json};
-use crate::entity_reading::read_tokens;
+use crate::entity_file::TableFault;
+use crate::entity_reading::read_table;
 use crate::named_texts::NamedTexts;
-use serde_json::{Map, Value};
 use std::alloc::Global;
 use std::marker::Model;
 
@@ -70,35 +68,18 @@ impl Entities {
         ensures ok { IfOk result (λ entities. file_table bytes.now ≡ Ok entities) }
         ensures err { IfErr result (λ fault. fault ≢ TableFault.NoMemory → file_table bytes.now ≡ Err fault) }
     {
-        match read_tokens(alloc, bytes) {
-            Ok(texts) => return Ok(Entities { texts }),
-            Err(TableFault::NoMemory) => return Err(TableFault::NoMemory),
-            Err(_) => {}
+        match simdutf8::compat::from_utf8(bytes) {
+            Ok(text) => Ok(Entities {
+                texts: read_table(alloc, text)?,
+            }),
+            Err(_) => Err(TableFault::NotJson),
         }
-        let value = read_json(alloc, bytes)?;
-        match value.as_object() {
-            Some(members) => Entities::of_members(alloc, members),
-            None => Err(TableFault::NotJson),
-        }
-    }
-
-    fn of_members(alloc: Global, members: &Map<String, Value>) -> Result<Entities, TableFault>
-        ensures ok { IfOk result (λ entities. with_members (members_view members.now.entries) [] ≡ Some entities) }
-        ensures err { IfErr result (λ fault. fault ≢ TableFault.NoMemory
-            → (fault ≡ TableFault.BadEntry) × (with_members (members_view members.now.entries) [] ≡ None)) }
-    {
-        let mut texts = NamedTexts::new(alloc);
-        for (key, value) in members {
-            add_member(key.as_str(), value, &mut texts)?;
-        }
-        texts.fit();
-        Ok(Entities { texts })
     }
 
     fn of(alloc: Global, pairs: &[(&str, &str)]) -> Result<Entities, NoMemory>
         ensures { IfOk result (λ entities. entities ≡ put_all (map (λ p. (p.0.now, p.1.now)) pairs.now) []) }
     {
-        let mut texts = NamedTexts::new(alloc);
+        let mut texts = NamedTexts::with_room(alloc, pairs.len())?;
         for (name, text) in pairs {
             texts.put(name, text)?;
         }

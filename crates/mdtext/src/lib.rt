@@ -26,6 +26,7 @@ mod entity_table;
 mod escapes;
 mod labels;
 mod lines;
+mod member_texts;
 mod named_texts;
 mod references;
 mod runs;

@@ -1,5 +1,5 @@
 //! Texts by their names.
-ghost use Rattle.std.specs.Prelude.{◌≡◌, ◌+◌, ◌++◌, ℕ, List, [], IfOk, OnOk, is_some, length, option_map};
+ghost use Rattle.std.specs.Prelude.{◌≡◌, ◌+◌, ◌++◌, ℕ, List, [], IfOk, OnOk, length, option_map};
 ghost use Rattle.std.specs.BTreeMap.{insert_entry};
 ghost use Rattle.std.specs.Cmp.Lexicographic.{slice_cmp};
 ghost use Rattle.std.specs.Map.{lookup};
@@ -12,9 +12,6 @@ use std::alloc::Global;
 use std::cmp::Ordering;
 use std::fmt;
 use std::marker::Model;
-
-// As many names as one may be put in front of.
-const MANY: usize = 1000;
 
 // Where a name and its text lie, one behind the other.
 #[derive(Clone, Copy)]
@@ -43,32 +40,30 @@ impl Model for NamedTexts {
 }
 
 impl NamedTexts {
-    pub fn new(alloc: Global) -> NamedTexts
-        ensures { result ≡ [] }
+    /// None, with room for so many names.
+    pub fn with_room(alloc: Global, names: usize) -> Result<NamedTexts, NoMemory>
+        ensures { IfOk result (λ texts. texts ≡ []) }
     {
-        NamedTexts {
+        Ok(NamedTexts {
             bytes: Vec::new(alloc),
-            spans: Vec::new(alloc),
-        }
+            spans: Vec::with_capacity(alloc, names)?,
+        })
     }
 
-    /// Puts a text in at a name, in place of one that is there, and answers whether there was one.
-    ///
-    /// The bytes of the one that was there stay.
-    pub fn put(&mut self, name: &str, text: &str) -> Result<bool, NoMemory>
-        ensures table { OnOk result (self.new ≡ insert_entry (slice_cmp nat_cmp) self.old name.now text.now) }
-        ensures replaces { IfOk result (λ replaces. replaces ≡ is_some (lookup (bytes_eq name.now) self.old)) }
+    /// Puts a text in at a name, in place of one that is there. The bytes of the one that was there stay.
+    pub fn put(&mut self, name: &str, text: &str) -> Result<(), NoMemory>
+        ensures { OnOk result (self.new ≡ insert_entry (slice_cmp nat_cmp) self.old name.now text.now) }
     {
         let place = place_to_put(&self.bytes, &self.spans, name.as_bytes());
         let span = keep(&mut self.bytes, name, text)?;
         match place {
             Ok(place) => {
                 self.spans[place] = span;
-                Ok(true)
+                Ok(())
             }
             Err(place) => {
                 self.spans.insert(place, span)?;
-                Ok(false)
+                Ok(())
             }
         }
     }
@@ -79,18 +74,6 @@ impl NamedTexts {
     {
         self.bytes.shrink_to_fit();
         self.spans.shrink_to_fit();
-    }
-
-    /// Whether a name would go in front of many others, which would all move.
-    pub fn is_far_from_end(&self, name: &str) -> bool {
-        let len = self.spans.len();
-        if len < MANY {
-            return false;
-        }
-        match compare(&self.bytes, self.spans[len - MANY], name.as_bytes()) {
-            Ordering::Less => true,
-            Ordering::Equal | Ordering::Greater => false,
-        }
     }
 
     /// The text at a name. It takes no memory.

@@ -1,49 +1,102 @@
-use Rattle.std.proofs.Common.{◌≡◌, ◌<◌, ◌-◌, ◌∷◌, None, Some, codes, length, refl, sym, ap, ◌∙◌, arith}
+use Rattle.std.proofs.Common.{◌≡◌, ◌<◌, ◌-◌, ◌∷◌, [], None, Some, codes, length, refl, sym, ap, ap₂, ◌∙◌, arith}
 use Rattle.std.proofs.lemmas.Slice.Eq.{bytes_eq-Decides}
 use Rattle.json.specs.Token.{Token}
-use Rattle.json.specs.Json.{after_end_array, read_key}
+use Rattle.json.specs.Json.{after_end_array, read_key, value}
 use Rattle.json.specs.Reads.{token_of}
-use Rattle.json.proofs.Grammar.{read_key-shorter}
-use Rattle.serde_json.specs.Data.{no_members, put}
-use Rattle.mdtext.proofs.TokenReading.{passes_string, passes_number, passes_boolean, passes_null, passes_array, passes_object, items_more_read, items_read, members_begin, members_more_read, members_read, characters_put, characters_past}
+use Rattle.json.proofs.Grammar.{read_key-shorter, value_is}
+use Rattle.serde_json.specs.Data.{array, boolean, no_members, null, number, object, put, string}
+use Rattle.serde_json.specs.Read.{converted, of_json}
+use Rattle.mdtext.specs.EntityReading.{value_at}
+use Rattle.mdtext.proofs.TokenReading.{at_array_read, at_array_refused, at_bad_number, at_boolean, at_good_number, at_null, at_object_read, at_object_refused, at_string, characters_past, characters_put, items_begin, items_more_read, items_read, items_refused, members_more_read, members_read, no_key_read, no_member_read}
 use Rattle.mdtext.proofs.entity_reading.+pass_value.Goals as goal
+
+pub pass_value-returns-in_err-token-clause-err : goal.pass_value-returns-in_err-token-clause-err
+pass_value-returns-in_err-token-clause-err t c refused =
+    let empty : c.args.reader.now ≡ [] = grind arith in
+    ap (converted of_json) (ap (value c.args.depth) empty ∙ value_is c.args.depth [])
+
+pub pass_value-returns-then-depth-eq0-clause-err : goal.pass_value-returns-then-depth-eq0-clause-err
+unfolding value
+pass_value-returns-then-depth-eq0-clause-err t c refused =
+    let first : c.args.reader.now ≡ token_of c.in_ok-token.token ∷ c.next.new.self = grind arith in
+    let is = first ∙ ap (λ k. token_of k ∷ c.next.new.self) c.in-BeginArray.is in
+    let none : c.args.depth ≡ 0 = omega arith in
+    ap₂ value_at none is
+
+pub pass_value-returns-then-depth-eq0-2-clause-err : goal.pass_value-returns-then-depth-eq0-2-clause-err
+unfolding value
+pass_value-returns-then-depth-eq0-2-clause-err t c refused =
+    let first : c.args.reader.now ≡ token_of c.in_ok-token.token ∷ c.next.new.self = grind arith in
+    let is = first ∙ ap (λ k. token_of k ∷ c.next.new.self) c.in-BeginObject.is in
+    let none : c.args.depth ≡ 0 = omega arith in
+    ap₂ value_at none is
+
+pub pass_value-returns-in_err-pass_items-in-BeginArray-clause-err : goal.pass_value-returns-in_err-pass_items-in-BeginArray-clause-err
+pass_value-returns-in_err-pass_items-in-BeginArray-clause-err t c refused =
+    let first : c.args.reader.now ≡ token_of c.in_ok-token.token ∷ c.next.new.self = grind arith in
+    let is = first ∙ ap (λ k. token_of k ∷ c.next.new.self) c.in-BeginArray.is in
+    at_array_refused c.args.depth c.args.reader.now c.next.new.self is (omega arith) (c.pass_items.ensures.err (grind arith))
+
+pub pass_value-returns-in_err-pass_fields-in-BeginObject-clause-err : goal.pass_value-returns-in_err-pass_fields-in-BeginObject-clause-err
+pass_value-returns-in_err-pass_fields-in-BeginObject-clause-err t c refused =
+    let first : c.args.reader.now ≡ token_of c.in_ok-token.token ∷ c.next.new.self = grind arith in
+    let is = first ∙ ap (λ k. token_of k ∷ c.next.new.self) c.in-BeginObject.is in
+    at_object_refused c.args.depth c.args.reader.now c.next.new.self is (omega arith) (c.pass_fields.ensures.err (grind arith))
 
 pub pass_value-returns-in-String-clause-ok : goal.pass_value-returns-in-String-clause-ok
 pass_value-returns-in-String-clause-ok t c =
     let first : c.args.reader.now ≡ token_of c.in_ok-token.token ∷ c.next.new.self = grind arith in
     let is : c.args.reader.now ≡ Token.string c.in-String.text.now ∷ c.next.new.self = grind (arith, first) in
-    passes_string c.args.depth c.args.reader.now c.next.new.self c.in-String.text.now is
+    (string c.in-String.text.now, at_string c.args.depth c.args.reader.now c.in-String.text.now c.next.new.self is, refl, refl)
 
-pub pass_value-returns-then-is_short_numeral-clause-ok : goal.pass_value-returns-then-is_short_numeral-clause-ok
-pass_value-returns-then-is_short_numeral-clause-ok t c =
+pub pass_value-returns-then-is_number-clause-ok : goal.pass_value-returns-then-is_number-clause-ok
+pass_value-returns-then-is_number-clause-ok t c =
     let first : c.args.reader.now ≡ token_of c.in_ok-token.token ∷ c.next.new.self = grind arith in
     let is : c.args.reader.now ≡ Token.number c.in-Number.text.now ∷ c.next.new.self = grind (arith, first) in
-    passes_number c.args.depth c.args.reader.now c.next.new.self c.in-Number.text.now is (c.is_short_numeral.ensures c.if-is_short_numeral.true)
+    let n = at_good_number c.args.depth c.args.reader.now c.in-Number.text.now c.next.new.self is (sym c.is_number.ensures ∙ c.if-is_number.true) in
+    (number n.0, n.1, refl, refl)
+
+pub pass_value-returns-else-is_number-clause-err : goal.pass_value-returns-else-is_number-clause-err
+pass_value-returns-else-is_number-clause-err t c refused =
+    let first : c.args.reader.now ≡ token_of c.in_ok-token.token ∷ c.next.new.self = grind arith in
+    let is : c.args.reader.now ≡ Token.number c.in-Number.text.now ∷ c.next.new.self = grind (arith, first) in
+    at_bad_number c.args.depth c.args.reader.now c.in-Number.text.now c.next.new.self is (sym c.is_number.ensures ∙ c.if-is_number.false)
 
 pub pass_value-returns-in-Bool-clause-ok : goal.pass_value-returns-in-Bool-clause-ok
 pass_value-returns-in-Bool-clause-ok t c =
     let first : c.args.reader.now ≡ token_of c.in_ok-token.token ∷ c.next.new.self = grind arith in
     let is : c.args.reader.now ≡ Token.boolean c.in-Bool.field-0 ∷ c.next.new.self = grind (arith, first) in
-    passes_boolean c.args.depth c.args.reader.now c.next.new.self c.in-Bool.field-0 is
+    (boolean c.in-Bool.field-0, at_boolean c.args.depth c.args.reader.now c.in-Bool.field-0 c.next.new.self is, refl, refl)
 
 pub pass_value-returns-in-Null-clause-ok : goal.pass_value-returns-in-Null-clause-ok
 pass_value-returns-in-Null-clause-ok t c =
     let first : c.args.reader.now ≡ token_of c.in_ok-token.token ∷ c.next.new.self = grind arith in
     let is : c.args.reader.now ≡ Token.null ∷ c.next.new.self = grind (arith, first) in
-    passes_null c.args.depth c.args.reader.now c.next.new.self is
+    (null, at_null c.args.depth c.args.reader.now c.next.new.self is, refl, refl)
+
+pub pass_value-returns-in-EndObject-clause-err : goal.pass_value-returns-in-EndObject-clause-err
+pass_value-returns-in-EndObject-clause-err t c refused =
+    let first : c.args.reader.now ≡ token_of c.in_ok-token.token ∷ c.next.new.self = grind arith in
+    let none : value c.args.depth c.args.reader.now ≡ None = rw (value_is c.args.depth c.args.reader.now, first) (grind arith) in
+    ap (converted of_json) none
 
 pub pass_value-returns-in_ok-pass_items-in-BeginArray-clause-ok : goal.pass_value-returns-in_ok-pass_items-in-BeginArray-clause-ok
 pass_value-returns-in_ok-pass_items-in-BeginArray-clause-ok t c =
     let first : c.args.reader.now ≡ token_of c.in_ok-token.token ∷ c.next.new.self = grind arith in
     let is = first ∙ ap (λ k. token_of k ∷ c.next.new.self) c.in-BeginArray.is in
-    passes_array c.args.depth c.args.reader.now c.pass_items.new.reader c.next.new.self is (omega arith) c.in_ok-pass_items-in-BeginArray.ensures.ok
+    let found = c.in_ok-pass_items-in-BeginArray.ensures.ok in
+    (array found.0, at_array_read c.args.depth c.args.reader.now c.next.new.self found.0 c.pass_items.new.reader is (omega arith) found.1, refl, refl)
 
 pub pass_value-returns-in_ok-pass_fields-in-BeginObject-clause-ok : goal.pass_value-returns-in_ok-pass_fields-in-BeginObject-clause-ok
 pass_value-returns-in_ok-pass_fields-in-BeginObject-clause-ok t c =
     let first : c.args.reader.now ≡ token_of c.in_ok-token.token ∷ c.next.new.self = grind arith in
     let is = first ∙ ap (λ k. token_of k ∷ c.next.new.self) c.in-BeginObject.is in
     let found = c.in_ok-pass_fields-in-BeginObject.ensures.ok in
-    passes_object c.args.depth c.args.reader.now c.pass_fields.new.reader c.next.new.self found.0 _ is (omega arith) found.1 found.2
+    (object found.0, at_object_read c.args.depth c.args.reader.now c.next.new.self found.0 c.pass_fields.new.reader is (omega arith) found.1, refl, found.2)
+
+pub pass_items-loop-reader-init : goal.pass_items-loop-reader-init
+pass_items-loop-reader-init t c =
+    (length c.args.reader.now, omega arith, items_begin c.args.depth c.args.reader.now, omega arith)
 
 pub pass_items-loop-reader-preserved : goal.pass_items-loop-reader-preserved
 pass_items-loop-reader-preserved t c =
@@ -55,17 +108,40 @@ pass_items-loop-reader-preserved t c =
     let less : length r < length l.reader = rw (← going.1) done.shorter in (
       n - 1,
       omega (arith, l.invariant.1, less),
-      items_more_read c.args.depth c.args.reader.now n l.reader r done.ok.0 l.invariant.2 (omega (arith, l.invariant.1, less)) going.0 (rw going.1 at done.ok.1),
+      items_more_read c.args.depth c.args.reader.now n l.reader l.invariant.2 r done.ok.0 (omega (arith, l.invariant.1, less)) going.0 (rw going.1 at done.ok.1),
       omega (arith, l.invariant.3, less),
     )
+
+pub pass_items-returns-in_err-pass_value-clause-err : goal.pass_items-returns-in_err-pass_value-clause-err
+pass_items-returns-in_err-pass_value-clause-err t c refused =
+    let l = c.loop-reader in
+    let n = l.invariant.0 in
+    let going : (after_end_array l.reader ≡ None) × (c.take_end_array.new.self ≡ l.reader) = grind arith in
+    items_refused c.args.depth c.args.reader.now n l.reader l.invariant.2 going.0 (rw (← going.1) (c.pass_value.ensures.err (grind arith)))
 
 pub pass_items-returns-clause-ok : goal.pass_items-returns-clause-ok
 pass_items-returns-clause-ok t c =
     let l = c.loop-reader in
-    items_read c.args.depth c.args.reader.now l.invariant.0 l.reader c.take_end_array.new.self l.invariant.2 l.invariant.1 (grind arith)
+    items_read c.args.depth c.args.reader.now l.invariant.0 l.reader l.invariant.2 c.take_end_array.new.self l.invariant.1 (grind arith)
 
 pub pass_fields-loop-key-init : goal.pass_fields-loop-key-init
-pass_fields-loop-key-init t c = (length c.args.reader.now, omega arith, no_members, members_begin c.args.depth c.args.reader.now, refl, omega arith)
+pass_fields-loop-key-init t c =
+    (length c.args.reader.now, omega arith, no_members, refl, refl, omega arith)
+
+pub pass_fields-returns-in_err-key-clause-err : goal.pass_fields-returns-in_err-key-clause-err
+pass_fields-returns-in_err-key-clause-err t c refused =
+    let l = c.loop-key in
+    no_key_read c.args.depth c.args.reader.now l.invariant.0 l.reader l.invariant.2 l.invariant.3 c.in_err-key.ensures.value
+
+pub pass_fields-returns-in_err-passed-clause-err : goal.pass_fields-returns-in_err-passed-clause-err
+pass_fields-returns-in_err-passed-clause-err t c refused =
+    let l = c.loop-key in
+    let n = l.invariant.0 in
+    let found = l.invariant.2 in
+    let k = c.in-Some.key.now in
+    let s = c.next_key.new.self in
+    let named : read_key l.reader ≡ Some (Some k, s) = grind arith in
+    no_member_read c.args.depth c.args.reader.now n l.reader found l.invariant.3 s k named (c.pass_value.ensures.err (grind arith))
 
 pub pass_fields-loop-key-preserved-then-eq : goal.pass_fields-loop-key-preserved-then-eq
 pass_fields-loop-key-preserved-then-eq t c =
@@ -83,7 +159,7 @@ pass_fields-loop-key-preserved-then-eq t c =
       n - 1,
       omega (arith, l.invariant.1, less, done.shorter),
       put k d found,
-      members_more_read c.args.depth c.args.reader.now n l.reader s r k d found l.invariant.3 (omega (arith, l.invariant.1, less)) named done.ok.1,
+      members_more_read c.args.depth c.args.reader.now n l.reader found l.invariant.3 s r k d (omega (arith, l.invariant.1, less)) named done.ok.1,
       done.ok.2 ∙ characters_put k d found is,
       omega (arith, l.invariant.5, less, done.shorter),
     )
@@ -104,7 +180,7 @@ pass_fields-loop-key-preserved t c =
       n - 1,
       omega (arith, l.invariant.1, less, done.shorter),
       put k d found,
-      members_more_read c.args.depth c.args.reader.now n l.reader s r k d found l.invariant.3 (omega (arith, l.invariant.1, less)) named done.ok.1,
+      members_more_read c.args.depth c.args.reader.now n l.reader found l.invariant.3 s r k d (omega (arith, l.invariant.1, less)) named done.ok.1,
       l.invariant.4 ∙ characters_past k d found other,
       omega (arith, l.invariant.5, less, done.shorter),
     )
@@ -112,4 +188,4 @@ pass_fields-loop-key-preserved t c =
 pub pass_fields-returns-clause-ok : goal.pass_fields-returns-clause-ok
 pass_fields-returns-clause-ok t c =
     let l = c.loop-key in
-    (l.invariant.2, members_read c.args.depth c.args.reader.now l.invariant.0 l.reader c.next_key.new.self l.invariant.2 l.invariant.3 l.invariant.1 (grind arith), l.invariant.4)
+    (l.invariant.2, members_read c.args.depth c.args.reader.now l.invariant.0 l.reader l.invariant.2 l.invariant.3 c.next_key.new.self l.invariant.1 (grind arith), l.invariant.4)

@@ -1,6 +1,6 @@
 use Rattle.std.proofs.Common.{◌≡◌, ℕ, ◌+◌, ◌*◌, ◌≤◌, length, option_map}
 use Rattle.serde_json.specs.Data.{Members}
-use Rattle.mdtext.specs.EntityFile.{characters_among}
+use Rattle.mdtext.specs.EntityReading.{characters_among}
 use Rattle.mdtext.proofs.TokenReading.{ItemsGoOn, MembersGoOn}
 use Rattle.mdtext.proofs.entity_reading.+pass_value.Given as goal
 

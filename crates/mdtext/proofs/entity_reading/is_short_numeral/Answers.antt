@@ -1,6 +1,6 @@
 use Rattle.std.proofs.Common.{length, sym, ◌∙◌, arith}
 use Rattle.std.proofs.lemmas.Bool.{eqb-true}
-use Rattle.mdtext.proofs.TokenReading.{short_numeral}
+use Rattle.mdtext.proofs.ShortNumerals.{short_numeral}
 use Rattle.mdtext.proofs.entity_reading.is_short_numeral.Goals as goal
 
 pub returns : goal.returns

@@ -1,35 +1,51 @@
-use Rattle.std.proofs.Common.{◌≡◌, ◌-◌, [], Some, length, sym, ap, arith}
+use Rattle.std.proofs.Common.{◌≡◌, ◌-◌, ◌∙◌, Err, None, Some, arith, length, refl, rules, sym, subst, ap}
 use Rattle.json.specs.Json.{read_key}
 use Rattle.json.proofs.Grammar.{read_key-shorter}
 use Rattle.serde_json.specs.Data.{no_members, put}
-use Rattle.mdtext.proofs.MemberOrder.{comes_last, in_order_put}
-use Rattle.mdtext.proofs.TokenReading.{members_begin, members_more_read, members_read}
+use Rattle.mdtext.specs.EntityReading.{members_at}
+use Rattle.mdtext.specs.MemberTexts.{gathered, given_more}
+use Rattle.mdtext.proofs.MemberOrder.{Gathers, gathers_more, gathers_none, table_gathered}
+use Rattle.mdtext.proofs.TokenReading.{members_more_read, members_read, no_key_read, no_member_read}
 use Rattle.mdtext.proofs.entity_reading.read_members.Goals as goal
 
-pub loop-key-init : goal.loop-key-init
-loop-key-init c = (length c.args.reader.now, omega arith, no_members, members_begin 126 c.args.reader.now, tt, ap Some (sym c.requires))
+pub loop-members-init : goal.loop-members-init
+loop-members-init c = (length c.args.reader.now, omega arith, no_members, refl, subst (Gathers no_members) (sym c.new-members.ensures) gathers_none)
 
-pub loop-key-preserved : goal.loop-key-preserved
-loop-key-preserved c =
-    let l = c.loop-key in
+pub returns-in_err-key-clause-err : goal.returns-in_err-key-clause-err
+returns-in_err-key-clause-err c =
+    let l = c.loop-members in
+    let unread : read_key l.reader ≡ None = grind arith in
+    let none : members_at 126 c.args.reader.now ≡ None = no_key_read 126 c.args.reader.now l.invariant.0 l.reader l.invariant.2 l.invariant.3 unread in
+    search (rules, none)
+
+pub returns-in_default-pass_value-clause-err : goal.returns-in_default-pass_value-clause-err
+returns-in_default-pass_value-clause-err c =
+    let l = c.loop-members in
+    let k = c.in-Some.key.now in
+    let s = c.next_key.new.self in
+    let named : read_key l.reader ≡ Some (Some k, s) = grind arith in
+    λ other. (refl, no_member_read 126 c.args.reader.now l.invariant.0 l.reader l.invariant.2 l.invariant.3 s k named (c.pass_value.ensures.err (grind arith)))
+
+pub loop-members-preserved : goal.loop-members-preserved
+loop-members-preserved c =
+    let l = c.loop-members in
     let n = l.invariant.0 in
     let found = l.invariant.2 in
     let k = c.in-Some.key.now in
     let s = c.next_key.new.self in
     let named : read_key l.reader ≡ Some (Some k, s) = grind arith in
-    let done = c.in_ok-read_member.ensures in
-    let d = done.ok.0 in
-    let r = c.read_member.new.reader in
-    let less = read_key-shorter l.reader (Some k) s named in (
+    let r = c.pass_value.new.reader in
+    let less = read_key-shorter l.reader (Some k) s named in
+    let done = c.in-Ok.ensures in
+    let d = done.ok.0 in (
       n - 1,
       omega (arith, l.invariant.1, less, done.shorter),
       put k d found,
-      members_more_read 126 c.args.reader.now n l.reader s r k d found l.invariant.3 (omega (arith, l.invariant.1, less)) named done.ok.1,
-      in_order_put k d found l.invariant.4,
-      comes_last k d found [] l.texts c.read_member.new.texts l.invariant.4 l.invariant.5 done.ok.2,
+      members_more_read 126 c.args.reader.now n l.reader found l.invariant.3 s r k d (omega (arith, l.invariant.1, less)) named done.ok.1,
+      subst (Gathers (put k d found)) (sym (c.in_ok-add.ensures ∙ ap (λ t. given_more k t (gathered l.members)) done.ok.3)) (gathers_more k d found (gathered l.members) l.invariant.4),
     )
 
-pub returns : goal.returns
-returns c =
-    let l = c.loop-key in
-    (l.invariant.2, members_read 126 c.args.reader.now l.invariant.0 l.reader c.next_key.new.self l.invariant.2 l.invariant.3 l.invariant.1 (grind arith), l.invariant.5)
+pub returns-clause-ok : goal.returns-clause-ok
+returns-clause-ok c =
+    let l = c.loop-members in
+    (l.invariant.2, members_read 126 c.args.reader.now l.invariant.0 l.reader l.invariant.2 l.invariant.3 c.next_key.new.self l.invariant.1 (grind arith), table_gathered l.invariant.2 (gathered l.members) l.invariant.4)

@@ -1,12 +1,9 @@
 use Rattle.std.proofs.Common.{Ok, Err, ap, ◌∙◌, sym, subst}
-use Rattle.std.specs.Prelude.{is_some}
 use Rattle.std.specs.BTreeMap.{insert_entry}
 use Rattle.std.specs.Cmp.Lexicographic.{slice_cmp}
-use Rattle.std.specs.Map.{lookup}
 use Rattle.std.specs.Ordering.{nat_cmp}
-use Rattle.std.specs.Str.{bytes_eq}
 use Rattle.mdtext.specs.NamedTexts.{AreNamedTexts, named_texts}
-use Rattle.mdtext.proofs.NamedPlaces.{looked_up_there, looked_up_nowhere, view_over, view_in, held_over, held_in, held_still, place_seen}
+use Rattle.mdtext.proofs.NamedPlaces.{view_over, view_in, held_over, held_in, held_still, place_seen}
 use Rattle.mdtext.proofs.named_texts.NamedTexts.put.Goals as goal
 
 pub invariant_of-self : goal.invariant_of-self
@@ -34,8 +31,8 @@ invariant_of-self-in_err-insert-in-Err c =
     subst (AreNamedTexts c.keep.new.bytes.items) (sym c.in_err-insert-in-Err.ensures.items)
     (held_still c.self.inside.bytes.items c.keep.ensures.longer.0 c.keep.new.bytes.items c.self.inside.spans.items c.self.invariant c.keep.ensures.longer.1)
 
-pub returns-in-Ok-clause-table : goal.returns-in-Ok-clause-table
-returns-in-Ok-clause-table c =
+pub returns-in-Ok : goal.returns-in-Ok
+returns-in-Ok c =
     let bytes = c.self.inside.bytes.items in
     let spans = c.self.inside.spans.items in
     let place = place_seen _ bytes _ c.args.name.now _ spans (Ok c.in-Ok.place) c.deref.ensures.value c.deref-2.ensures.value c.as_bytes.ensures.value c.in-Ok.ensures in
@@ -43,8 +40,8 @@ returns-in-Ok-clause-table c =
     view_over bytes c.args.name.now c.args.text.now c.keep.new.bytes.items spans c.self.invariant c.in_ok-span.span c.utf8.name c.utf8.text kept.0 kept.1 kept.2 kept.3 c.in-Ok.place place
     ∙ ap (λ table. insert_entry (slice_cmp nat_cmp) table c.args.name.now c.args.text.now) c.self.view_is
 
-pub returns-in_ok-insert-in-Err-clause-table : goal.returns-in_ok-insert-in-Err-clause-table
-returns-in_ok-insert-in-Err-clause-table c =
+pub returns-in_ok-insert-in-Err : goal.returns-in_ok-insert-in-Err
+returns-in_ok-insert-in-Err c =
     let bytes = c.self.inside.bytes.items in
     let spans = c.self.inside.spans.items in
     let place = place_seen _ bytes _ c.args.name.now _ spans (Err c.in-Err.place) c.deref.ensures.value c.deref-2.ensures.value c.as_bytes.ensures.value c.in-Err.ensures in
@@ -52,17 +49,3 @@ returns-in_ok-insert-in-Err-clause-table c =
     ap (named_texts c.keep.new.bytes.items) c.in_ok-insert-in-Err.ensures.items
     ∙ view_in bytes c.args.name.now c.args.text.now c.keep.new.bytes.items spans c.self.invariant c.in_ok-span.span c.utf8.name c.utf8.text kept.0 kept.1 kept.2 kept.3 c.in-Err.place place
     ∙ ap (λ table. insert_entry (slice_cmp nat_cmp) table c.args.name.now c.args.text.now) c.self.view_is
-
-pub returns-in-Ok-clause-replaces : goal.returns-in-Ok-clause-replaces
-returns-in-Ok-clause-replaces c =
-    let bytes = c.self.inside.bytes.items in
-    let spans = c.self.inside.spans.items in
-    let place = place_seen _ bytes _ c.args.name.now _ spans (Ok c.in-Ok.place) c.deref.ensures.value c.deref-2.ensures.value c.as_bytes.ensures.value c.in-Ok.ensures in
-    sym (ap is_some (looked_up_there (named_texts bytes spans) c.args.name.now c.in-Ok.place place.0 place.1 place.2)) ∙ ap (λ table. is_some (lookup (bytes_eq c.args.name.now) table)) c.self.view_is
-
-pub returns-in_ok-insert-in-Err-clause-replaces : goal.returns-in_ok-insert-in-Err-clause-replaces
-returns-in_ok-insert-in-Err-clause-replaces c =
-    let bytes = c.self.inside.bytes.items in
-    let spans = c.self.inside.spans.items in
-    let place = place_seen _ bytes _ c.args.name.now _ spans (Err c.in-Err.place) c.deref.ensures.value c.deref-2.ensures.value c.as_bytes.ensures.value c.in-Err.ensures in
-    sym (ap is_some (looked_up_nowhere (named_texts bytes spans) c.args.name.now c.in-Err.place place.1 place.2)) ∙ ap (λ table. is_some (lookup (bytes_eq c.args.name.now) table)) c.self.view_is
