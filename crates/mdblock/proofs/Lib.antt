@@ -3,6 +3,7 @@ pub mod CloseLaws
 pub mod CloseLeafLaws
 pub mod ClosingLaws
 pub mod ContinuationLaws
+pub mod CountedLaws
 pub mod CopyLaws
 pub mod CopySteps
 pub mod EndedItemLaws
