@@ -28,6 +28,7 @@ pub mod NoDefinitions
 pub mod PartedLaws
 pub mod PlacedNodes
 pub mod ReadsLaws
+pub mod ResumedGiven
 pub mod ResumedItems
 pub mod ResumedLists
 pub mod ResumedReading

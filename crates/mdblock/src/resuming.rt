@@ -117,7 +117,15 @@ fn front_items<'e, C: Count>(
     let mut texts = Vec::with_capacity(alloc, join.texts.saturating_add(1))?;
     let items = before(list_items(unit.blocks()), k + 1);
     let joins = before(old.joins(), k + 1);
-    let items = taken_over(alloc, items, joins, join.line, unit.texts(), &mut texts, count)?;
+    let items = taken_over(
+        alloc,
+        items,
+        joins,
+        join.line,
+        unit.texts(),
+        &mut texts,
+        count,
+    )?;
     Ok((Gathering::of(alloc, entities, definitions, texts), items))
 }
 
@@ -156,10 +164,11 @@ fn count_up_to<C: Count>(counted: usize, end: usize, count: &mut C) -> usize
     ensures lines { (before : ℕ) → C.lines count.old ≡ counted_by counted before → C.lines count.new ≡ counted_by result before }
     ensures inlines { C.inlines count.new ≡ C.inlines count.old }
 {
+    let end = counted.max(end);
     for _ in counted..end {
         count.line();
     }
-    counted.max(end)
+    end
 }
 
 /// Whether a gap stands before one of these, or parts two blocks of the item before it.
