@@ -3,6 +3,7 @@ pub mod CloseLaws
 pub mod CloseLeafLaws
 pub mod ClosingLaws
 pub mod ContinuationLaws
+pub mod CountedLaws
 pub mod CopyLaws
 pub mod CopySteps
 pub mod EndedItemLaws
@@ -27,6 +28,7 @@ pub mod NoDefinitions
 pub mod PartedLaws
 pub mod PlacedNodes
 pub mod ReadsLaws
+pub mod ResumedGiven
 pub mod ResumedItems
 pub mod ResumedLists
 pub mod ResumedReading

@@ -1,5 +1,6 @@
 -- The items of a list in front of a later one are those of the lines before that one.
-use Rattle.std.proofs.Common.{◌≡◌, ℕ, suc, ◌+◌, List, [], ◌∷◌, ◌++◌, length, map, Some, refl, sym, ◌∙◌, ap, subst, arith, append-nil}
+use Rattle.std.proofs.Common.{◌≡◌, ◌<◌, ℕ, suc, ◌+◌, List, [], ◌∷◌, ◌++◌, length, map, Some, refl, sym, ◌∙◌, ap, subst, arith, append-nil}
+use Rattle.std.proofs.lemmas.List.{length-append}
 use Rattle.std.specs.Prelude.{Bool, true, take}
 use Rattle.mdleaf.specs.LinkDefinition.{LinkDefinition}
 use Rattle.mdtext.specs.EntityTable.{EntityTable}
@@ -48,6 +49,7 @@ pub record ListFront (e : EntityTable) (zs : List BlockLine) (l : BlockLine) (ol
   pub front : top_blocks e zs ≡ ItemList kind first later ∷ []
   pub one : IsOne (begins_in (units_of e zs))
   pub joins : joins_list zs l ≡ true
+  pub within : length zs < old.lines
   pub marks : take (k + 1) old.marks ≡ list_marks e zs ++ mark_behind e zs ∷ []
   pub kind_is : first_kind old.unit.blocks ≡ Some kind
   pub items : take_items (k + 1) (first_items old.unit.blocks) ≡ placed_items 0 (nodes_of_items first later)
@@ -85,6 +87,7 @@ list_front e zs l ys old k stands before behind cut size line =
       front = front;
       one = subst (λ z. IsOne (begins_in z)) (sym (unit_of_list e zs w.kind w.first w.later a.line front)) refl;
       joins = m.joins;
+      within = let size = same.0 in let whole = length-append zs (l ∷ ys) in omega (arith, size, whole);
       marks =
           ap (take (k + 1)) (stands.1 ∙ parted)
           ∙ ap (λ z. take z (list_marks e zs ++ mark_behind e zs ∷ item_marks 0 (mark_behind e zs).texts (mark_behind e zs).definitions (item_behind (gap_after zs) n w.item) (map (moved_item n) w.items))) count

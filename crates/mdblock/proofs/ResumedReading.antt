@@ -73,11 +73,11 @@ loose_is false true g = refl
 loose_is false false true = refl
 loose_is false false false = refl
 
-some_same : {A : Type 0} (a b : A) → Some a ≡ Some b → a ≡ b
+pub some_same : {A : Type 0} (a b : A) → Some a ≡ Some b → a ≡ b
 some_same a b e = cc
 
 -- the list's items before the one that is read on from
-front_of : (e : EntityTable) (k : ℕ) (old : FoundList) (text : List ℕ) (zs ys : List (List ℕ)) → k < length old.marks → StandsForUnit e old (zs ++ text ∷ ys) → (mark_at old.marks k).line ≡ length zs →
+pub front_of : (e : EntityTable) (k : ℕ) (old : FoundList) (text : List ℕ) (zs ys : List (List ℕ)) → k < length old.marks → StandsForUnit e old (zs ++ text ∷ ys) → (mark_at old.marks k).line ≡ length zs →
     ListFront e (map document_line zs) (document_line text) old k
 front_of e k old text zs ys small stands line =
     let X = map document_line zs in

@@ -1,5 +1,6 @@
 pub mod BlockView
 pub mod Copies
+pub mod CountedLines
 pub mod FoundLists
 pub mod Positions
 pub mod Spliced

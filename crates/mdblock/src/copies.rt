@@ -32,8 +32,9 @@ pub(crate) fn copied_items(
     Ok(copies)
 }
 
+/// A copy of one item, in the same way.
 #[cycle(block)]
-fn copied_item(
+pub(crate) fn copied_item(
     alloc: Global,
     item: &Item,
     texts: &[String],

@@ -8,6 +8,7 @@ ghost use Rattle.blockspec.specs.BlockLine.{document_line};
 ghost use Rattle.blockspec.specs.BlockUnits.{units};
 ghost use Rattle.blockspec.specs.Nesting.{first_too_deep};
 ghost use Rattle.blockspec.specs.SummaryDepth.{sinks};
+ghost use Rattle.mdblock.specs.CountedLines.{counted_by};
 ghost use Rattle.mdblock.specs.FoundLists.{AreJoinsOf, StandsForUnit, found_unit, join_mark};
 ghost use Rattle.mdblock.specs.Spliced.{mark_at};
 ghost use Rattle.mdblock.specs.held.Continuations.{IsBeginningOf, IsContinuationOf, ContinuesOpen, begins_item};
@@ -93,14 +94,16 @@ impl<'e> Reader<'e> {
 
     /// A reader that goes on inside a list that was found: it has read the list's lines up to its join `k`, and that line, which is `text`. So many containers, 1 to
     /// 256, may be open inside one another. Nothing, where the unit is no list or has no join `k`, and where the line begins no item of the list, or too many
-    /// containers. No line is counted. Takes memory for the items before that one (CommonMark 5.3).
-    pub fn resume(
+    /// containers. Counts each line that it takes over, and the line that it reads, as it is done; at an error, and where there is nothing, no others. Takes
+    /// memory for the items before that one (CommonMark 5.3).
+    pub fn resume<C: Count>(
         alloc: Global,
         entities: &'e Entities,
         limit: usize,
         old: &Found,
         k: usize,
         text: &str,
+        count: &mut C,
     ) -> Result<Option<Reader<'e>>, AllocError>
         requires some { 1 ≤ limit }
         requires few { limit ≤ 256 }
@@ -108,20 +111,27 @@ impl<'e> Reader<'e> {
         ensures fed { IfOk result (λ resumed. IfSome resumed (λ reader. reader.fed ≡ (mark_at old.now.marks k).line + 1)) }
         ensures reads { IfOk result (λ resumed. IfSome resumed (λ reader. (zs ys : List (List ℕ)) → StandsForUnit entities.now old.now (zs ++ text.now ∷ ys)
             → (mark_at old.now.marks k).line ≡ length zs → first_too_deep limit (zs ++ text.now ∷ ys) ≡ None → Reads limit entities.now reader (zs ++ text.now ∷ []))) }
+        ensures given { IfOk result (λ resumed. (zs ys : List (List ℕ)) → k < length old.now.marks → StandsForUnit entities.now old.now (zs ++ text.now ∷ ys)
+            → (mark_at old.now.marks k).line ≡ length zs → first_too_deep limit (zs ++ text.now ∷ ys) ≡ None → is_some resumed ≡ true) }
+        ensures lines { IfOk result (λ resumed. IfSome resumed (λ reader. C.lines count.new ≡ counted_by reader.fed (C.lines count.old))) }
+        ensures no_more { C.lines count.new ≤ C.lines count.old + ((mark_at old.now.marks k).line + 1) }
+        ensures inlines { C.inlines count.new ≡ C.inlines count.old }
     {
-        let item = match item_behind(alloc, entities, limit, old, k, text) {
-            Ok(Some(item)) => item,
-            Err(BlockFault::NoMemory) => return Err(AllocError),
-            _ => return Ok(None),
-        };
-        let Some(fed) = join_at(old.joins(), k).line.checked_add(1) else {
+        let line = join_at(old.joins(), k).line;
+        if line >= old.lines() {
             return Ok(None);
+        }
+        let item = match item_behind(alloc, entities, limit, old, k, text, count) {
+            Ok(Some(item)) => item,
+            Ok(None) => return Ok(None),
+            Err(BlockFault::NestedTooDeep) | Err(BlockFault::Failed) => return Ok(None),
+            Err(BlockFault::NoMemory) => return Err(AllocError),
         };
         Ok(Some(Reader {
             alloc,
             entities,
             limit,
-            fed,
+            fed: line + 1,
             held: Some(OpenUnit {
                 level: item.level,
                 gathering: item.gathering,

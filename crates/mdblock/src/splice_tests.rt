@@ -169,10 +169,14 @@ fn resume_all(
         if text.len() > usize::MAX / 4 {
             continue;
         }
-        let Some(mut reader) = Reader::resume(alloc, entities, LIMIT, &found, k, text)? else {
+        let mut count = Tally::new();
+        let resumed = Reader::resume(alloc, entities, LIMIT, &found, k, text, &mut count)?;
+        let Some(mut reader) = resumed else {
             assert!(rt; false);
             continue;
         };
+        assert_eq!(rt; Some(count.lines()), u64::try_from(reader.fed()).ok());
+        assert_eq!(rt; count.inlines(), 0);
         assert!(rt; reader.joined());
         assert_eq!(rt; reader.fed(), at.saturating_add(1));
         read_on(&mut reader, own.get(at.saturating_add(1)..).unwrap_or(&[]));
@@ -203,9 +207,11 @@ fn lists_are_read_on_from_each_item(rt: HostRuntime) -> Result<(), Fail> {
         return Ok(());
     };
     // A line that begins no item of the list, and a join that is not there.
-    assert!(rt; Reader::resume(a, &entities, LIMIT, &found, 0, "1. b")?.is_none());
-    assert!(rt; Reader::resume(a, &entities, LIMIT, &found, 0, "b")?.is_none());
-    assert!(rt; Reader::resume(a, &entities, LIMIT, &found, 1, "- b")?.is_none());
+    let mut none = Tally::new();
+    assert!(rt; Reader::resume(a, &entities, LIMIT, &found, 0, "1. b", &mut none)?.is_none());
+    assert!(rt; Reader::resume(a, &entities, LIMIT, &found, 0, "b", &mut none)?.is_none());
+    assert!(rt; Reader::resume(a, &entities, LIMIT, &found, 1, "- b", &mut none)?.is_none());
+    assert_eq!(rt; none.lines(), 0);
     assert!(rt; count > 500);
     Ok(())
 }

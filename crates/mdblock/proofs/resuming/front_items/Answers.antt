@@ -14,7 +14,7 @@ use Rattle.mdblock.proofs.ItemParts.{items_taken}
 use Rattle.mdblock.proofs.resuming.front_items.Goals as goal
 
 pub returns-clause-items : goal.returns-clause-items
-returns-clause-items c =
+returns-clause-items g c =
     let n = c.args.k + 1 in
     let taken = ap items_view c.before-items.ensures ∙ items_taken n c.list_items.result.now
     ∙ ap (take_items n) (c.list_items.ensures ∙ ap first_items (c.blocks-2.ensures.value ∙ ap (λ (u : UnitTree). u.blocks) c.unit-unit.ensures)) in
@@ -23,7 +23,7 @@ returns-clause-items c =
     ∙ ap (copied_items 0) taken
 
 pub returns-clause-texts : goal.returns-clause-texts
-returns-clause-texts c =
+returns-clause-texts g c =
     let n = c.args.k + 1 in
     let taken = ap items_view c.before-items.ensures ∙ items_taken n c.list_items.result.now
     ∙ ap (take_items n) (c.list_items.ensures ∙ ap first_items (c.blocks-2.ensures.value ∙ ap (λ (u : UnitTree). u.blocks) c.unit-unit.ensures)) in
@@ -35,7 +35,7 @@ returns-clause-texts c =
     ∙ ap (λ z. texts_at old.unit.texts (items_positions z)) taken
 
 pub returns-clause-definitions : goal.returns-clause-definitions
-returns-clause-definitions c =
+returns-clause-definitions g c =
     let old = c.args.old.now in
     let join = c.join_at-join.ensures ∙ ap (λ z. mark_at z c.args.k) c.joins.ensures in
     ap (λ z. map definition_of z.items) c.of.ensures.definitions
@@ -47,12 +47,12 @@ returns-clause-definitions c =
     ∙ ap (λ (z : ItemMark). take z.definitions old.unit.definitions) join
 
 pub returns-clause-within : goal.returns-clause-within
-returns-clause-within c =
+returns-clause-within g c =
     let one = c.in_ok-items.items.items in
     let K = items_view c.before-items.result.now in
     let T = map string_bytes c.texts.result.now in
-    let first = map string_bytes c.copied_items.new.copied.items in
+    let first = map string_bytes c.taken_over.new.copied.items in
     let items : items_view one ≡ copied_items 0 K = c.in_ok-items.ensures.copies ∙ ap (λ z. copied_items (length (map string_bytes z)) K) c.in_ok-texts.ensures.items in
     let texts : first ≡ texts_at T (items_positions K) = c.in_ok-items.ensures.texts ∙ ap (λ z. map string_bytes z ++ texts_at T (items_positions K)) c.in_ok-texts.ensures.items in
     copies_within one [] one K no_items first first T T _ (sym (append-nil one)) items refl texts (sym (append-nil first))
-    (ap (λ z. length z.items) c.of.ensures.texts ∙ sym (map_length string_bytes c.copied_items.new.copied.items))
+    (ap (λ z. length z.items) c.of.ensures.texts ∙ sym (map_length string_bytes c.taken_over.new.copied.items))
