@@ -47,6 +47,13 @@ pub(crate) fn same_behind(items: &[Item], like: &[Item], shared: SharedTexts) ->
     most
 }
 
+fn same_item(item: &Item, like: &Item, shared: SharedTexts) -> bool
+    ensures { result ≡ true → BlocksAlike shared (item_view item.now) (item_view like.now) }
+{
+    same_blocks(&item.blocks, &like.blocks, shared)
+}
+
+/// Whether the items are the same. The blocks of each are compared at once, so that a level of blocks takes no more calls here than where it is written.
 #[cycle(block)]
 fn same_items(items: &[Item], like: &[Item], shared: SharedTexts) -> bool
     ensures { result ≡ true → ItemsAlike shared (items_view items.now) (items_view like.now) }
@@ -55,7 +62,7 @@ fn same_items(items: &[Item], like: &[Item], shared: SharedTexts) -> bool
     for item in items {
         match rest {
             [other, behind @ ..] => {
-                if !same_item(item, other, shared) {
+                if !same_blocks(&item.blocks, &other.blocks, shared) {
                     return false;
                 }
                 rest = behind;
@@ -64,13 +71,6 @@ fn same_items(items: &[Item], like: &[Item], shared: SharedTexts) -> bool
         }
     }
     rest.is_empty()
-}
-
-#[cycle(block)]
-fn same_item(item: &Item, like: &Item, shared: SharedTexts) -> bool
-    ensures { result ≡ true → BlocksAlike shared (item_view item.now) (item_view like.now) }
-{
-    same_blocks(&item.blocks, &like.blocks, shared)
 }
 
 #[cycle(block)]
