@@ -39,6 +39,14 @@ fn readings_are_copied_whole(rt: HostRuntime) -> Result<(), Fail> {
             "Parsed { tree: [Text(\"t\"), Link(Target { url: \"/u\", title: \"v\" }, [Code(\"c\"), Hard])], asked: Asked { labels: [] } }",
         ),
         (
+            "`c`",
+            "Parsed { tree: [Code(\"c\")], asked: Asked { labels: [] } }",
+        ),
+        (
+            "*[t]*",
+            "Parsed { tree: [Emph([Text(\"[t]\")])], asked: Asked { labels: [Label { folded: \"t\" }] } }",
+        ),
+        (
             "![k][]",
             "Parsed { tree: [Image(Target { url: \"/k\", title: \"\" }, [Text(\"k\")])], asked: Asked { labels: [Label { folded: \"k\" }] } }",
         ),
