@@ -59,3 +59,17 @@ fn readings_are_copied_whole(rt: HostRuntime) -> Result<(), Fail> {
     }
     Ok(())
 }
+
+/// The value, of a type whose values may go to other threads and be looked at from several at once.
+fn across_threads<T: Send + Sync>(value: T) -> T {
+    value
+}
+
+#[test]
+fn readings_may_cross_threads(rt: HostRuntime) -> Result<(), Fail> {
+    let alloc = rt.alloc();
+    let parsed = across_threads(parsed_of(alloc, "`c`", &[])?);
+    let copy = across_threads(parsed.copy(alloc)?);
+    assert_eq!(rt; copy.tree().len(), 1);
+    Ok(())
+}
