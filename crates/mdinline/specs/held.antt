@@ -3,6 +3,7 @@ pub mod BacktickTable
 pub mod Brackets
 pub mod FoundLinks
 pub mod HeldReadings
+pub mod KeptRoom
 pub mod KnownText
 pub mod LeafEvents
 pub mod LimitedSinks

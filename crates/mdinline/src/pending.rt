@@ -4,6 +4,7 @@ ghost use Rattle.std.specs.Prelude.{◌≡◌, ◌+◌, ◌∷◌, ◌++◌, ◌
 ghost use Rattle.std.specs.Str.{IsCharBoundary};
 ghost use Rattle.mdtext.specs.EntityTable.{EntityTable};
 ghost use Rattle.mdpair.specs.Matches.{matches};
+ghost use Rattle.mdpair.specs.Pairings.{KeepsLittle};
 ghost use Rattle.inlinespec.specs.InlineEvents.{Event};
 ghost use Rattle.inlinespec.specs.LabelMap.{LinkTarget};
 ghost use Rattle.inlinespec.specs.Settled as settled;
@@ -13,6 +14,7 @@ ghost use Rattle.mdinline.specs.declared.tokens.PairedRun.{PairedRun as Left};
 ghost use Rattle.mdinline.specs.declared.tokens.Token.TheVariants as kept;
 ghost use Rattle.mdinline.specs.held.Brackets.{AreBracketsOf};
 ghost use Rattle.mdinline.specs.held.LeafEvents.{IsGoalOf, IsTokenOf, goal_target, leaf_events};
+ghost use Rattle.mdinline.specs.held.KeptRoom.{HasSmallRoom};
 ghost use Rattle.mdinline.specs.held.PairedRuns.{ArePaired};
 ghost use Rattle.mdinline.specs.held.ReadMarks.{marked, marks_back, ones};
 ghost use Rattle.mdinline.specs.held.ReadPending.{AreRunsAt, HasSpansOf, HoldsPieces, HoldsTaken, IsKept, IsPaired, IsSettled, IsSpanned};
@@ -178,6 +180,7 @@ impl<'a> Pending<'a> {
         ensures pieces { OnOk result ((entities : EntityTable) (text : List ℕ) (handed : List Event) (ps : List settled.Piece)
             → IsKept entities text self.old → HoldsTaken entities text handed opening self.old ps
             → HoldsPieces entities text handed self.new (linked (goal_target entities text goal.entry) ps (nearest_opener ps))) }
+        ensures room { HasSmallRoom self.old.pairing → HasSmallRoom self.new.pairing }
     {
         self.settle(opening.runs)?;
         let token = Token::Enter {
@@ -199,6 +202,7 @@ impl<'a> Pending<'a> {
         ensures runs { self.new.runs ≡ self.old.runs }
         ensures places { self.new.places ≡ self.old.places }
         ensures paired { self.new.paired ≡ self.old.paired }
+        ensures pairing { self.new.pairing ≡ self.old.pairing }
         ensures begun { self.new.begun ≡ self.old.begun }
     {
         if place < self.tokens.len() {
@@ -211,6 +215,7 @@ impl<'a> Pending<'a> {
         ensures openings { OnOk result (self.new.openings ≡ self.old.openings) }
         ensures tokens { OnOk result ((text : List ℕ) → All (IsTokenOf text) self.old.tokens.items → All (IsTokenOf text) self.new.tokens.items) }
         ensures pieces { OnOk result ((entities : EntityTable) (text : List ℕ) → IsKept entities text self.old → IsSettled entities text from self.old self.new) }
+        ensures room { HasSmallRoom self.old.pairing → HasSmallRoom self.new.pairing }
     {
         self.pair_and_mark(from)?;
         self.runs.truncate(from);
@@ -224,6 +229,7 @@ impl<'a> Pending<'a> {
         ensures runs { OnOk result (self.new.runs ≡ self.old.runs) }
         ensures places { OnOk result (self.new.places ≡ self.old.places) }
         ensures pieces { OnOk result ((entities : EntityTable) (text : List ℕ) → IsKept entities text self.old → IsPaired entities text from self.old self.new) }
+        ensures room { HasSmallRoom self.old.pairing → HasSmallRoom self.new.pairing }
     {
         if from >= self.runs.len() {
             return Ok(());
@@ -233,7 +239,7 @@ impl<'a> Pending<'a> {
         Ok(())
     }
 
-    /// What matches leave of the runs that are pending from one on.
+    /// What matches leave of the runs that are pending from one on. The room for the pairing of a large text is given back.
     fn pair_from(&mut self, from: usize) -> Result<(), AllocError>
         requires { from ≤ length self.old.runs.items }
         ensures paired { OnOk result (ArePaired self.new.begun.items (matches (drop from self.old.runs.items))
@@ -243,13 +249,28 @@ impl<'a> Pending<'a> {
         ensures runs { OnOk result (self.new.runs ≡ self.old.runs) }
         ensures places { OnOk result (self.new.places ≡ self.old.places) }
         ensures openings { OnOk result (self.new.openings ≡ self.old.openings) }
+        ensures room { HasSmallRoom self.old.pairing → HasSmallRoom self.new.pairing }
+    {
+        let taken = self.take_matches(from);
+        self.pairing.let_go();
+        taken
+    }
+
+    fn take_matches(&mut self, from: usize) -> Result<(), AllocError>
+        requires { from ≤ length self.old.runs.items }
+        ensures paired { OnOk result (ArePaired self.new.begun.items (matches (drop from self.old.runs.items))
+            (drop from self.old.runs.items) self.new.paired.items) }
+        ensures begun { OnOk result ((more : List Held) × (self.new.begun.items ≡ self.old.begun.items ++ more)) }
+        ensures tokens { OnOk result (self.new.tokens ≡ self.old.tokens) }
+        ensures runs { OnOk result (self.new.runs ≡ self.old.runs) }
+        ensures places { OnOk result (self.new.places ≡ self.old.places) }
+        ensures openings { OnOk result (self.new.openings ≡ self.old.openings) }
+        ensures little { KeepsLittle self.old.pairing → KeepsLittle self.new.pairing }
     {
         self.paired.clear();
         append_unpaired(&self.runs[from..], &mut self.paired)?;
         self.pairing.pair(&self.runs[from..])?;
-        let taken = take_all(&mut self.paired, &mut self.begun, self.pairing.matches());
-        self.pairing.let_go();
-        taken
+        take_all(&mut self.paired, &mut self.begun, self.pairing.matches())
     }
 
     /// Marks the tokens of these runs with what is left of them.
@@ -259,6 +280,7 @@ impl<'a> Pending<'a> {
         ensures runs { self.new.runs ≡ self.old.runs }
         ensures places { self.new.places ≡ self.old.places }
         ensures paired { self.new.paired ≡ self.old.paired }
+        ensures pairing { self.new.pairing ≡ self.old.pairing }
         ensures begun { self.new.begun ≡ self.old.begun }
         ensures value { (entities : EntityTable) (text : List ℕ) → AreRunsAt entities text from self.old
             → shown_pieces entities text self.new ≡ marked (shown_pieces entities text self.old) from (map (paired_piece self.old.begun.items) self.old.paired.items) }
@@ -277,6 +299,7 @@ impl<'a> Pending<'a> {
         ensures runs { self.new.runs ≡ self.old.runs }
         ensures places { self.new.places ≡ self.old.places }
         ensures paired { self.new.paired ≡ self.old.paired }
+        ensures pairing { self.new.pairing ≡ self.old.pairing }
         ensures begun { self.new.begun ≡ self.old.begun }
         ensures value { run < length self.old.places.items → paired < length self.old.paired.items → (d : ℕ) (p : Left)
             → self.new.tokens.items ≡ set self.old.tokens.items (slice_index_or self.old.places.items run d) (kept.Paired (slice_index_or self.old.paired.items paired p)) }

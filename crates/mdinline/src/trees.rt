@@ -88,8 +88,7 @@ impl TreeBuilder {
         }
     }
 
-    /// The tree, where no span is open, and the room. What stands in the room goes to a list of its own, which is no longer than it has to be; a long row
-    /// takes its room with it.
+    /// The tree, where no span is open, and the room.
     pub(crate) fn finish(mut self) -> Result<(Row, TreeRoom), AllocError>
         ensures { self.frames.items ≡ [] → IsJoined self → IfOk result (λ done. row_view done.0 ≡ tree_of (built self)) }
     {
@@ -97,13 +96,8 @@ impl TreeBuilder {
             return self.finish_text();
         }
         self.end_text()?;
-        if self.last.len() > LONG_ROW {
-            let row = mem::replace(&mut self.last, Vec::new(self.alloc));
-            return Ok((Row::Many(row), self.into_room()));
-        }
-        let mut row = Vec::with_capacity(self.alloc, self.last.len())?;
-        row.append(&mut self.last)?;
-        Ok((Row::Many(row), self.into_room()))
+        let row = take_row(self.alloc, &mut self.last)?;
+        Ok((row, self.into_room()))
     }
 
     fn into_room(self) -> TreeRoom {
@@ -247,6 +241,25 @@ impl InlineSink for TreeBuilder {
         let inside = mem::replace(&mut self.last, frame.before);
         push_inline(&mut self.last, span_of(frame.span, inside))?;
         Ok(())
+    }
+}
+
+/// Takes what stands in the room of a row. A lone inline needs no list, and more go to one of their own, which is no longer than it has to be; a long row takes
+/// its room with it.
+fn take_row(alloc: Global, last: &mut Vec<Inline>) -> Result<Row, AllocError>
+    ensures { IfOk result (λ row. row_view row ≡ inlines_view last.old.items) }
+{
+    if last.len() > LONG_ROW {
+        return Ok(Row::Many(mem::replace(last, Vec::new(alloc))));
+    }
+    if last.len() > 1 {
+        let mut row = Vec::with_capacity(alloc, last.len())?;
+        row.append(last)?;
+        return Ok(Row::Many(row));
+    }
+    match last.pop() {
+        Some(inline) => Ok(Row::One(inline)),
+        None => Ok(Row::Empty),
     }
 }
 

@@ -39,6 +39,14 @@ fn readings_are_copied_whole(rt: HostRuntime) -> Result<(), Fail> {
             "Parsed { tree: [Text(\"t\"), Link(Target { url: \"/u\", title: \"v\" }, [Code(\"c\"), Hard])], asked: Asked { labels: [] } }",
         ),
         (
+            "`c`",
+            "Parsed { tree: [Code(\"c\")], asked: Asked { labels: [] } }",
+        ),
+        (
+            "*[t]*",
+            "Parsed { tree: [Emph([Text(\"[t]\")])], asked: Asked { labels: [Label { folded: \"t\" }] } }",
+        ),
+        (
             "![k][]",
             "Parsed { tree: [Image(Target { url: \"/k\", title: \"\" }, [Text(\"k\")])], asked: Asked { labels: [Label { folded: \"k\" }] } }",
         ),
@@ -49,5 +57,19 @@ fn readings_are_copied_whole(rt: HostRuntime) -> Result<(), Fail> {
             assert_eq!(rt; shown.as_str(), want, "in {text:?}");
         }
     }
+    Ok(())
+}
+
+/// The value, of a type whose values may go to other threads and be looked at from several at once.
+fn across_threads<T: Send + Sync>(value: T) -> T {
+    value
+}
+
+#[test]
+fn readings_may_cross_threads(rt: HostRuntime) -> Result<(), Fail> {
+    let alloc = rt.alloc();
+    let parsed = across_threads(parsed_of(alloc, "`c`", &[])?);
+    let copy = across_threads(parsed.copy(alloc)?);
+    assert_eq!(rt; copy.tree().len(), 1);
     Ok(())
 }

@@ -12,6 +12,7 @@ invariant-loop-i l = record {
   runs : l.self.runs ≡ l.fn.self.runs;
   places : l.self.places ≡ l.fn.self.places;
   paired : l.self.paired ≡ l.fn.self.paired;
+  pairing : l.self.pairing ≡ l.fn.self.pairing;
   begun : l.self.begun ≡ l.fn.self.begun;
   value : (entities : EntityTable) (text : List ℕ) → AreRunsAt entities text l.fn.from l.fn.self →
       shown_by entities text l.fn.self.begun.items l.self.tokens.items ≡ marked (shown_pieces entities text l.fn.self) l.fn.from (map (paired_piece l.fn.self.begun.items) (take l.i l.fn.self.paired.items));
