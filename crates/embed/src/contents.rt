@@ -5,10 +5,10 @@ use mdtext::{Tally, lines_of};
 use mdview::{Block, Edge, Entities, Inline, Node, Options, Preview, Walk};
 use std::fs;
 
-/// Prints the headings of `page.md` as a nested list, each with its line, counted from 1.
+/// Prints the headings of `contents.md` as a nested list, each with its line, counted from 1.
 pub fn show_contents(rt: &HostRuntime) -> Result<()> {
     let alloc = rt.alloc();
-    let text = fs::read_to_string(rt, "page.md")?;
+    let text = fs::read_to_string(rt, "contents.md")?;
     let lines = lines_of(alloc, &text)?;
     let mut lent = Vec::with_capacity(alloc, lines.len())?;
     for line in &lines {
@@ -16,7 +16,7 @@ pub fn show_contents(rt: &HostRuntime) -> Result<()> {
     }
     let mut preview = Preview::new(alloc, Entities::builtin(alloc)?, Options::plain());
     if let Err(fault) = preview.edit(0, 0, &lent, &mut Tally::new()) {
-        println!(rt; "page.md is refused: {fault}")?;
+        println!(rt; "contents.md is refused: {fault}")?;
         return Ok(());
     }
     for number in 0..preview.units() {
