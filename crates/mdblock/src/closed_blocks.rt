@@ -44,29 +44,28 @@ pub(crate) fn push_found(over: &mut Vec<Block>, found: Option<Block>) -> Result<
     }
 }
 
-/// The same where another block comes behind it: an item with more than one block mostly has two, so at first there is room for both. Where there is none, as
-/// of a paragraph of definitions alone, no room is taken.
+/// The same, where another block may come right behind it: `more` says whether one does. Then there is room for it at once, as much as it would take.
 pub(crate) fn push_found_inside(
     over: &mut Vec<Block>,
     found: Option<Block>,
-    in_item: bool,
+    more: bool,
 ) -> Result<(), AllocError>
     ensures pushed { OnOk result (blocks_view over.new.items ≡ blocks_before (blocks_view over.old.items) (found_view found)) }
     ensures within { OnOk result ((n : ℕ) → BlocksIn n (blocks_view over.old.items) → IfSome found (λ block. BlockIn n (block_view block))
         → BlocksIn n (blocks_view over.new.items)) }
 {
-    if in_item && found.is_some() {
+    if more && found.is_some() {
         make_room_for_two(over)?;
     }
     push_found(over, found)
 }
 
-/// Room for two blocks, where there is none yet.
+/// Room for two blocks, where there is none yet, and for as many as a push behind one block would make room for.
 fn make_room_for_two(over: &mut Vec<Block>) -> Result<(), AllocError>
     ensures { over.new.items ≡ over.old.items }
 {
     if over.is_empty() {
-        over.reserve_exact(2)?;
+        over.reserve(2)?;
     }
     Ok(())
 }

@@ -199,8 +199,8 @@ impl Level {
         mem::replace(self, Level::new(alloc, false))
     }
 
-    /// Puts the open block among those that are over.
-    fn shut(&mut self, gathering: &mut Gathering) -> Result<(), AllocError>
+    /// Puts the open block among those that are over. `more`: whether another block comes right behind it.
+    fn shut(&mut self, more: bool, gathering: &mut Gathering) -> Result<(), AllocError>
         requires { LevelIn (length gathering.old.texts.items) self.old }
         ensures within { OnOk result (LevelIn (length gathering.new.texts.items) self.new) }
         ensures grows { length gathering.old.texts.items ≤ length gathering.new.texts.items }
@@ -208,7 +208,7 @@ impl Level {
         ensures ends { OnOk result (EndsAll self.old gathering.old self.new gathering.new) }
     {
         if self.is_open_leaf() {
-            return self.shut_leaf(self.in_item, gathering);
+            return self.shut_leaf(self.in_item && more, gathering);
         }
         self.shut_container(gathering)
     }
@@ -473,11 +473,11 @@ impl Level {
         ensures adds { OnOk result (AddsLine room self.old gathering.old line.old self.new gathering.new) }
         ensures deep { IsErrOf result NestedTooDeep → SinksLine room self.old gathering.old line.old }
     {
+        let blank = line.is_blank();
         if let Continuation::Outside(opening) = continuation {
-            self.shut(gathering)?;
+            self.shut(!blank, gathering)?;
             return self.begin(line, opening, room, gathering);
         }
-        let blank = line.is_blank();
         self.go_on(line, continuation, room, gathering)?;
         self.mark_blank(blank);
         Ok(())
