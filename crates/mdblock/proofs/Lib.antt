@@ -45,6 +45,7 @@ pub mod TakenBlocks
 pub mod TextOrder
 pub mod TipLaws
 pub mod Views
+pub mod Unfollowed
 pub mod Within
 pub mod LevelBegins
 pub mod LevelContainers

@@ -13,7 +13,6 @@ use crate::container::lists::OpenList;
 use std::alloc::AllocError;
 
 /// Puts a block behind those that are over.
-#[inline(always)]
 pub(crate) fn push_block(over: &mut Vec<Block>, block: Block) -> Result<(), AllocError>
     ensures pushed { OnOk result (blocks_view over.new.items ≡ blocks_before (blocks_view over.old.items) (tree.block (block_view block) no_blocks)) }
     ensures within { OnOk result ((n : ℕ) → BlocksIn n (blocks_view over.old.items) → BlockIn n (block_view block) → BlocksIn n (blocks_view over.new.items)) }
@@ -34,7 +33,6 @@ fn make_room(over: &mut Vec<Block>) -> Result<(), AllocError>
 }
 
 /// The same of a block, where there is one.
-#[inline(always)]
 pub(crate) fn push_found(over: &mut Vec<Block>, found: Option<Block>) -> Result<(), AllocError>
     ensures pushed { OnOk result (blocks_view over.new.items ≡ blocks_before (blocks_view over.old.items) (found_view found)) }
     ensures within { OnOk result ((n : ℕ) → BlocksIn n (blocks_view over.old.items) → IfSome found (λ block. BlockIn n (block_view block))
@@ -46,36 +44,33 @@ pub(crate) fn push_found(over: &mut Vec<Block>, found: Option<Block>) -> Result<
     }
 }
 
-/// The same where another block comes behind it: an item with more than one block mostly has two, so at first there is room for both. Where there is none, as
-/// of a paragraph of definitions alone, no room is taken.
-#[inline(always)]
+/// The same, where another block may come right behind it: `more` says whether one does. Then there is room for it at once, as much as it would take.
 pub(crate) fn push_found_inside(
     over: &mut Vec<Block>,
     found: Option<Block>,
-    in_item: bool,
+    more: bool,
 ) -> Result<(), AllocError>
     ensures pushed { OnOk result (blocks_view over.new.items ≡ blocks_before (blocks_view over.old.items) (found_view found)) }
     ensures within { OnOk result ((n : ℕ) → BlocksIn n (blocks_view over.old.items) → IfSome found (λ block. BlockIn n (block_view block))
         → BlocksIn n (blocks_view over.new.items)) }
 {
-    if in_item && found.is_some() {
+    if more && found.is_some() {
         make_room_for_two(over)?;
     }
     push_found(over, found)
 }
 
-/// Room for two blocks, where there is none yet.
+/// Room for two blocks, where there is none yet, and for as many as a push behind one block would make room for.
 fn make_room_for_two(over: &mut Vec<Block>) -> Result<(), AllocError>
     ensures { over.new.items ≡ over.old.items }
 {
     if over.is_empty() {
-        over.reserve_exact(2)?;
+        over.reserve(2)?;
     }
     Ok(())
 }
 
 /// The blocks with one more, where there is one.
-#[inline(always)]
 pub(crate) fn with_found(
     mut over: Vec<Block>,
     found: Option<Block>,
@@ -89,7 +84,6 @@ pub(crate) fn with_found(
 }
 
 /// The blocks with a block quote of these behind them.
-#[inline(always)]
 pub(crate) fn with_quote(mut over: Vec<Block>, blocks: Vec<Block>) -> Result<Vec<Block>, AllocError>
     ensures pushed { IfOk result (λ all. blocks_view all.items
         ≡ blocks_before (blocks_view over.items) (tree.block (block_quote (blocks_view blocks.items)) no_blocks)) }
@@ -101,7 +95,6 @@ pub(crate) fn with_quote(mut over: Vec<Block>, blocks: Vec<Block>) -> Result<Vec
 }
 
 /// The blocks with a list behind them.
-#[inline(always)]
 pub(crate) fn with_list(mut over: Vec<Block>, list: OpenList) -> Result<Vec<Block>, AllocError>
     ensures pushed { IfOk result (λ all. blocks_view all.items ≡ blocks_before (blocks_view over.items) (tree.block (list_view list) no_blocks)) }
     ensures within { IfOk result (λ all. (n : ℕ) → BlocksIn n (blocks_view over.items) → ItemsIn n (items_view list.items.items)
@@ -112,7 +105,6 @@ pub(crate) fn with_list(mut over: Vec<Block>, list: OpenList) -> Result<Vec<Bloc
 }
 
 /// The blocks with a list behind them that ends with an item of these.
-#[inline(always)]
 pub(crate) fn with_item(
     over: Vec<Block>,
     mut list: OpenList,

@@ -122,7 +122,6 @@ impl Leaf {
     }
 
     /// Reads a line that the leaf takes. `first`: whether it may be the first block of a list item.
-    #[inline(always)]
     pub(crate) fn add(
         self,
         continuation: Continuation,
@@ -150,7 +149,6 @@ impl Leaf {
     }
 
     /// What the leaf is at its end. `first`: whether it may be the first block of a list item.
-    #[inline(always)]
     pub(crate) fn end(
         self,
         first: bool,

@@ -199,8 +199,8 @@ impl Level {
         mem::replace(self, Level::new(alloc, false))
     }
 
-    /// Puts the open block among those that are over.
-    fn shut(&mut self, gathering: &mut Gathering) -> Result<(), AllocError>
+    /// Puts the open block among those that are over. `more`: whether another block comes right behind it.
+    fn shut(&mut self, more: bool, gathering: &mut Gathering) -> Result<(), AllocError>
         requires { LevelIn (length gathering.old.texts.items) self.old }
         ensures within { OnOk result (LevelIn (length gathering.new.texts.items) self.new) }
         ensures grows { length gathering.old.texts.items ≤ length gathering.new.texts.items }
@@ -208,7 +208,7 @@ impl Level {
         ensures ends { OnOk result (EndsAll self.old gathering.old self.new gathering.new) }
     {
         if self.is_open_leaf() {
-            return self.shut_leaf(self.in_item, gathering);
+            return self.shut_leaf(self.in_item && more, gathering);
         }
         self.shut_container(gathering)
     }
@@ -246,7 +246,8 @@ impl Level {
     }
 
     #[tactic(auto, using(crate::proofs::Within::growing))]
-    /// The same of any block.
+    /// The same of any block. It stands by itself so that what a line goes down through takes less of the stack.
+    #[inline(never)]
     fn shut_container(&mut self, gathering: &mut Gathering) -> Result<(), AllocError>
         requires { LevelIn (length gathering.old.texts.items) self.old }
         ensures within { OnOk result (LevelIn (length gathering.new.texts.items) self.new) }
@@ -324,7 +325,6 @@ impl Level {
     }
 
     /// Reads one line more, where at most `room` containers may be open inside one another.
-    #[cycle(reading)]
     fn read(
         &mut self,
         line: &mut Line,
@@ -348,7 +348,6 @@ impl Level {
     }
 
     /// The same, told by a word: it ends with the reading inside the open container, which makes it a loop.
-    #[cycle(reading)]
     #[tactic(auto, using(crate::proofs::Within::growing))]
     fn read_inside(&mut self, line: &mut Line, room: usize, gathering: &mut Gathering) -> Reading
         requires { LevelIn (length gathering.old.texts.items) self.old }
@@ -389,7 +388,6 @@ impl Level {
 
     /// The same of a line that has neither the marker nor the indentation of the open container.
     #[inline(never)]
-    #[cycle(reading)]
     fn read_unfollowed(
         &mut self,
         line: &mut Line,
@@ -475,11 +473,11 @@ impl Level {
         ensures adds { OnOk result (AddsLine room self.old gathering.old line.old self.new gathering.new) }
         ensures deep { IsErrOf result NestedTooDeep → SinksLine room self.old gathering.old line.old }
     {
+        let blank = line.is_blank();
         if let Continuation::Outside(opening) = continuation {
-            self.shut(gathering)?;
+            self.shut(!blank, gathering)?;
             return self.begin(line, opening, room, gathering);
         }
-        let blank = line.is_blank();
         self.go_on(line, continuation, room, gathering)?;
         self.mark_blank(blank);
         Ok(())
@@ -496,7 +494,7 @@ impl Level {
         }
     }
 
-    /// Reads a line that the open block takes.
+    /// Reads a line that the open block takes. Inside it no container has the line's marker or indentation, since the line is lazy or blank there.
     #[cycle(reading)]
     #[tactic(auto, using(crate::proofs::Within::growing))]
     fn go_on(
@@ -523,12 +521,17 @@ impl Level {
             OpenBlock::Leaf(_) => Ok(self.add_to_leaf(line, continuation, gathering)?),
             OpenBlock::Quote(inner) => {
                 line.make_lazy();
-                inner.read(line, deeper(room)?, gathering)
+                let room = deeper(room)?;
+                let continuation = inner.continuation(line);
+                inner.add(line, continuation, room, gathering)
             }
             OpenBlock::List(inner, list) => {
                 let room = deeper(room)?;
                 match enter_item(inner, list, self.blank, line, continuation, gathering)? {
-                    Entry::Goes => inner.read(line, room, gathering),
+                    Entry::Goes => {
+                        let continuation = inner.continuation(line);
+                        inner.add(line, continuation, room, gathering)
+                    }
                     Entry::Begins => inner.begin(line, beginning(line), room, gathering),
                     Entry::Stays => Ok(()),
                 }
@@ -549,7 +552,8 @@ impl Level {
     }
 
     #[tactic(auto, using(crate::proofs::Within::growing))]
-    /// Reads a line that the open leaf takes.
+    /// Reads a line that the open leaf takes. It stands by itself for the same reason.
+    #[inline(never)]
     fn add_to_leaf(
         &mut self,
         line: &mut Line,
@@ -626,7 +630,6 @@ impl Level {
     }
 
     /// Whether a line ends the open leaf and is a line of it: a closing fence, and what ends an HTML block.
-    #[inline(always)]
     fn ends_with(&self, line: &Line) -> bool
         ensures ends { result ≡ true → EndsLeaf self.now.last line.now }
         ensures goes_on { result ≡ false → KeepsLeaf self.now.last line.now }

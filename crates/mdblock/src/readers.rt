@@ -185,10 +185,11 @@ impl<'e> Reader<'e> {
         }
     }
 
-    /// The last unit. After a fault the answer is `Failed`.
+    /// The last unit. After a fault the answer is `Failed`; that containers lie too deep is answered by `line` alone.
     pub fn finish(self) -> Result<Option<Found>, BlockFault>
         ensures failed { self.entry.held ≡ None → IsErrOf result Failed }
         ensures failed_before { IsErrOf result Failed → self.entry.held ≡ None }
+        ensures shallow { IsErrOf result NestedTooDeep → ⊥ }
         ensures hands { IfOk result (λ found. (limit : ℕ) (e : EntityTable) (ls : List (List ℕ)) → Reads limit e self.entry ls
             → units e ls ≡ handed e ls ++ option_to_list (option_map found_unit found)) }
         ensures joins { IfOk result (λ found. (limit : ℕ) (e : EntityTable) (ls : List (List ℕ)) → Reads limit e self.entry ls → IfSome found (AreJoinsOf e ls)) }

@@ -71,11 +71,21 @@ ContinuesLeaf (leaf.Html h) l c = Unit {0}
 ContinuesLeaf (leaf.Code k) l c = Unit {0}
 ContinuesLeaf (leaf.Table t) l c = Unit {0}
 
+-- An item goes on with a lazy line, or with a blank one, where a line has not its columns.
+abbrev pub ContinuesList : BlockLine → Continuation → Type 0
+ContinuesList l continuation.Matched = is_blank_line l ≡ true
+ContinuesList l (continuation.Underlines level) = ⊥
+ContinuesList l continuation.Delimits = ⊥
+ContinuesList l continuation.Lazy = Unit {0}
+ContinuesList l continuation.Between = Unit {0}
+ContinuesList l (continuation.Next marker) = Unit {0}
+ContinuesList l (continuation.Outside opening) = Unit {0}
+
 abbrev pub ContinuesOpen : OpenBlock → BlockLine → Continuation → Type 0
 ContinuesOpen open_block.Shut l c = Unit {0}
 ContinuesOpen (open_block.Leaf held) l c = ContinuesLeaf held l c
 ContinuesOpen (open_block.Quote' p over last in_item begun blank spaced) l c = Unit {0}
-ContinuesOpen (open_block.List' p over last in_item begun blank spaced list) l c = Unit {0}
+ContinuesOpen (open_block.List' p over last in_item begun blank spaced list) l c = ContinuesList l c
 
 -- what a line of no open block begins
 abbrev pub opening_of : Continuation → Option BlockStart

@@ -117,7 +117,6 @@ impl OpenList {
     }
 
     /// Ends the open item, which holds these blocks; a gap between two of them makes the list loose.
-    #[inline(always)]
     pub(crate) fn push(&mut self, blocks: Vec<Block>, gap: bool) -> Result<(), AllocError>
         ensures pushed { OnOk result (list_view self.new ≡ list_view_with self.old blocks.items gap) }
         ensures ended { OnOk result (self.new.item_open ≡ false) }
@@ -134,7 +133,6 @@ impl OpenList {
     }
 
     /// What the list is at its end.
-    #[inline(always)]
     pub(crate) fn end(self) -> Block
         ensures value { block_view result ≡ list_view self }
         ensures within { (n : ℕ) → ItemsIn n (items_view self.items.items) → BlockIn n (block_view result) }

@@ -177,7 +177,6 @@ impl Level {
     }
 
     /// Puts what a line leaves of a leaf in place.
-    #[inline(always)]
     pub(crate) fn put(&mut self, step: LeafAfter) -> Result<(), AllocError>
         ensures within { OnOk result ((n : ℕ) → BlocksIn n (blocks_view self.old.over.items) → LeafAfterIn n step → LevelIn n self.new) }
         ensures over { OnOk result (blocks_view self.new.over.items ≡ blocks_before (blocks_view self.old.over.items) (found_view step.over)) }
@@ -193,7 +192,6 @@ impl Level {
     }
 
     /// Holds an open block quote of these blocks.
-    #[inline(always)]
     fn hold_quote(&mut self, alloc: Global, inner: Level) -> Result<(), AllocError>
         ensures within { OnOk result ((n : ℕ) → BlocksIn n (blocks_view self.old.over.items) → LevelIn n inner → LevelIn n self.new) }
         ensures over { OnOk result (self.new.over ≡ self.old.over) }
@@ -205,7 +203,6 @@ impl Level {
     }
 
     /// Holds an open list whose last item has these blocks.
-    #[inline(always)]
     fn hold_list(&mut self, alloc: Global, inner: Level, list: OpenList) -> Result<(), AllocError>
         ensures within { OnOk result ((n : ℕ) → BlocksIn n (blocks_view self.old.over.items) → LevelIn n inner → ItemsIn n (items_view list.items.items)
             → LevelIn n self.new) }

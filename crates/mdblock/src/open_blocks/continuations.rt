@@ -1,7 +1,7 @@
 //! How a line continues what is open: it is one of its lines, or it ends it (CommonMark 4, 5.1, 5.2; GFM Tables (extension)).
 
 ghost use Rattle.std.specs.Prelude.{◌≡◌, true};
-ghost use Rattle.mdblock.specs.held.Continuations.{IsContinuationOf, ContinuesOpen, begins_block, begins_item, opening_of};
+ghost use Rattle.mdblock.specs.held.Continuations.{IsContinuationOf, ContinuesList, ContinuesOpen, begins_block, begins_item, opening_of};
 ghost use Rattle.mdblock.specs.held.ContainerContinuations.{ContinuesBetween, ContinuesInItem, ContinuesInQuote, ContinuesShut};
 ghost use Rattle.mdblock.specs.held.EndedItems.{IsNextIn, IsNextOf};
 ghost use Rattle.mdblock.specs.held.LinesAdded.{ContinuesLevel, IsUnfollowed};
@@ -115,6 +115,7 @@ impl Level {
         ensures item { ContinuesInItem self.now list.now line.now result }
         ensures between { ContinuesBetween list.now line.now result }
         ensures next { IsNextOf list.now line.now result }
+        ensures step { ContinuesList line.now result }
     {
         if line.is_lazy() {
             return Continuation::Lazy;
