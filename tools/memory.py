@@ -5,7 +5,8 @@ A program runs as often as it asks for memory; in each run one of these growths 
 needed). refused_growths makes each call of the libraries that takes memory: it must write what it always does, and where the growth was refused inside a call a line
 more, that all was as before. Then come the examples' texts and scripts, and N random scripts of edits (3, of 40 edits each). mdpreview must
 answer `refused NoMemory 0` to one command, and all others as if that command had not been sent; or end with status 1 and `no memory`, with a beginning of its replies
-written; or go on as ever. mdrender must write all or nothing, and say `no memory`. The last line is 'N passed, M failed', over the growths."""
+written; or go on as ever. An edit of a few bytes, beside a long unit or in its place, must be done though a large block of memory is refused. mdrender must write all
+or nothing, and say `no memory`. The last line is 'N passed, M failed', over the growths."""
 import argparse
 import concurrent.futures
 import glob
@@ -19,6 +20,7 @@ import soak
 
 ROOT = soak.ROOT
 NO_MEMORY = b"refused NoMemory 0\n"
+LARGE = 1 << 18
 AS_BEFORE = b"refused, and all is as before\n"
 
 
@@ -30,8 +32,8 @@ def library(folder):
     return made
 
 
-def run(program, data, loaded, number, counts=None):
-    env = dict(os.environ, LD_PRELOAD=loaded, REFUSED_GROWTH=str(number), **({"GROWTHS_FILE": counts} if counts else {}))
+def run(program, data, loaded, number, counts=None, least=0):
+    env = dict(os.environ, LD_PRELOAD=loaded, REFUSED_GROWTH=str(number), LEAST_GROWTH=str(least), **({"GROWTHS_FILE": counts} if counts else {}))
     ran = subprocess.run(program, input=data, capture_output=True, env=env, timeout=60)
     return ran.returncode, ran.stdout, ran.stderr
 
@@ -67,6 +69,8 @@ def replies_of(out):
 class Preview:
     """A script through mdpreview, with what it answers where a command is left out."""
 
+    least = 0
+
     def __init__(self, programs, words, script, loaded):
         self.program, self.loaded = [os.path.join(programs, "mdpreview"), *words], loaded
         self.script, self.commands, self.without = script, commands_of(script), {}
@@ -99,8 +103,21 @@ class Preview:
         return self.whole.startswith(out) or (self.refused_once(out) or b"").startswith(out)
 
 
+class ShortEdit(Preview):
+    """A script that ends with an edit of a few bytes, beside a long unit or in its place. Only large growths are refused, and this edit asks for none."""
+
+    least = LARGE
+
+    def judge(self, status, out, error):
+        if status == 1 or out.startswith(NO_MEMORY):
+            return "the long unit is refused", error in (b"", b"mdpreview: no memory\n")
+        return "the short edit is done", (status, error) == (0, b"") and replies_of(out)[-1] == replies_of(self.whole)[-1]
+
+
 class Render:
     """A text through mdrender."""
+
+    least = 0
 
     def __init__(self, programs, words, text, loaded):
         self.program, self.script, self.loaded = [os.path.join(programs, "mdrender"), *words], text, loaded
@@ -114,6 +131,8 @@ class Render:
 
 class Calls:
     """The program that makes each call, and makes it again where it was refused."""
+
+    least = 0
 
     def __init__(self, programs, loaded):
         self.program, self.script, self.loaded = [os.path.join(programs, "refused_growths")], b"", loaded
@@ -145,6 +164,20 @@ def random_script(seed, edits):
     return b"".join(script)
 
 
+def edit(at, gone, add):
+    """The command that puts lines in the place of so many others."""
+    return b"edit %d %d %d\n" % (at, gone, len(add)) + b"".join(line + b"\n" for line in add)
+
+
+def short_edits():
+    """Scripts that end with an edit of a few bytes: in front of a long fence, and one that leaves the first item of a long list. At the second change of an item
+    it is known where the items end."""
+    size = 40_000
+    yield "a line in front of a long fence", edit(0, 0, [b"```"] + [b"a line of code"] * size) + edit(0, 0, [b"y", b""])
+    changes = b"".join(edit(1, 1, [item]) for item in (b"- b", b"- c", b"- d"))
+    yield "a long list cut to an item", edit(0, 0, [b"- an item"] * size) + changes + edit(1, size - 1, [])
+
+
 def subjects(options, loaded):
     """What is run: a name and a program with its input."""
     yield "each call", Calls(options.bin, loaded)
@@ -152,6 +185,8 @@ def subjects(options, loaded):
         if not os.path.exists(name.removesuffix(".script") + ".status"):
             with open(name, "rb") as file:
                 yield os.path.relpath(name, ROOT), Preview(options.bin, [], file.read(), loaded)
+    for name, script in short_edits():
+        yield name, ShortEdit(options.bin, [], script, loaded)
     for number in range(options.scripts):
         yield f"random script {number}", Preview(options.bin, [], random_script(f"{options.seed}:{number}", options.edits), loaded)
     for name in sorted(glob.glob(os.path.join(ROOT, "examples", "*.md"))):
@@ -162,7 +197,7 @@ def subjects(options, loaded):
 def growths(subject, folder):
     """How many growths a run asks for."""
     counts = os.path.join(folder, "growths")
-    run(subject.program, subject.script, subject.loaded, 0, counts)
+    run(subject.program, subject.script, subject.loaded, 0, counts, subject.least)
     with open(counts, encoding="utf-8") as file:
         return int(file.read())
 
@@ -180,7 +215,7 @@ def main():
         for name, subject in subjects(options, library(folder)):
             ends = {}
             numbers = range(1, growths(subject, folder) + 1)
-            runs = pool.map(lambda number: run(subject.program, subject.script, subject.loaded, number), numbers)
+            runs = pool.map(lambda number: run(subject.program, subject.script, subject.loaded, number, None, subject.least), numbers)
             for number, (status, out, error) in zip(numbers, runs):
                 end, good = subject.judge(status, out, error)
                 ends[end] = ends.get(end, 0) + 1
