@@ -10,4 +10,3 @@ mod task_list_items;
 pub use link_definitions::{Definition, Leading, is_only_definitions, leading_definitions};
 pub use table_rows::{Header, begins_table, data_row, table_header};
 pub use task_list_items::task_mark;
-

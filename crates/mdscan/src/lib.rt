@@ -45,4 +45,3 @@ pub use spans::Span;
 pub use table_rows::{cell_count, cells};
 pub use task_list_items::{TaskMark, task};
 pub use thematic_breaks::thematic;
-
