@@ -3,6 +3,7 @@ pub mod BareBrackets
 pub mod EvenIndents
 pub mod FirstPlaces
 pub mod Lanes
+pub mod HeldMembers
 pub mod Indents
 pub mod LabelFronts
 pub mod LabelWords

@@ -125,7 +125,7 @@ behind_equal table name i s h e =
 
 -- ---- the bytes grow
 
-part_kept : (bytes more : List ℕ) (a b : ℕ) → a ≤ b → b ≤ length bytes → slice_range (bytes ++ more) a b ≡ slice_range bytes a b
+pub part_kept : (bytes more : List ℕ) (a b : ℕ) → a ≤ b → b ≤ length bytes → slice_range (bytes ++ more) a b ≡ slice_range bytes a b
 part_kept bytes more a b le within =
     let enough : b - a ≤ length (drop a bytes) = omega (arith, le, within, length-drop a bytes) in
     ap (take (b - a)) (drop-append-le a bytes more (omega (arith, le, within))) ∙ take-append-le (b - a) (drop a bytes) more enough

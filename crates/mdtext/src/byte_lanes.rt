@@ -1,4 +1,4 @@
-//! The first place of one of many bytes, 32 places at a time.
+//! The first place of one of many bytes: 32 places at a time, 16 where there are fewer, and one by one where there are fewer than 16.
 
 ghost use Rattle.std.specs.Prelude.{◌≡◌, ◌≤◌, ◌+◌, ◌==◌, length, map, slice_range};
 ghost use Rattle.std.specs.List.{position_or_len};

@@ -2,18 +2,18 @@
 ghost use Rattle.std.specs.Prelude.{◌≡◌, ℕ};
 ghost use Rattle.mdtext.specs.Counted.{counted};
 
-/// Counts the lines and the inline texts that are read, or are taken over from what was read before. A number stays at its greatest value, 2^64 - 1.
+/// Counts the lines and the inline texts that are read. A number stays at its greatest value, 2^64 - 1.
 pub trait Count {
     ghost lines: { Self → ℕ };
 
     ghost inlines: { Self → ℕ };
 
-    /// One more line was read, or was taken over with what it was read as before.
+    /// One more line was read.
     fn line(&mut self)
         ensures line { lines self.new ≡ counted (lines self.old) }
         ensures inline { inlines self.new ≡ inlines self.old };
 
-    /// One more inline text was read, or was found to be one that was read before.
+    /// One more inline text was read.
     fn inline(&mut self)
         ensures inline { inlines self.new ≡ counted (inlines self.old) }
         ensures line { lines self.new ≡ lines self.old };

@@ -7,7 +7,7 @@ ghost use Rattle.serde_json.specs.Find.{as_object, as_str};
 ghost use Rattle.serde_json.specs.Read.{number_from, number_of};
 ghost use Rattle.mdtext.specs.EntityFile.{characters_of, file_table, with_members};
 ghost use Rattle.mdtext.specs.EntityReading.{characters_among, items_at, members_at, value_at, whole_at};
-ghost use Rattle.mdtext.specs.MemberTexts.{gathered, given_table};
+ghost use Rattle.mdtext.specs.MemberTexts.{AreHeld, gathered, given_table};
 
 use crate::entity_file::TableFault;
 use crate::member_texts::MemberTexts;
@@ -45,7 +45,8 @@ pub fn read_table(alloc: Global, text: &str) -> Result<NamedTexts, TableFault>
     members.into_table(alloc)
 }
 
-fn read_file<'a>(alloc: Global, reader: &mut Reader<'a>) -> Result<MemberTexts<'a>, TableFault>
+fn read_file(alloc: Global, reader: &mut Reader<'_>) -> Result<MemberTexts, TableFault>
+    ensures held { IfOk result AreHeld }
     ensures ok { IfOk result (λ members. (found : Members) × (option_and_then as_object (whole_at reader.old) ≡ Some found) × (with_members found [] ≡ given_table (gathered members))) }
     ensures err { IfErr result (λ fault. fault ≢ TableFault.NoMemory → (fault ≡ TableFault.NotJson) × (option_and_then as_object (whole_at reader.old) ≡ None)) }
 {
@@ -62,7 +63,8 @@ fn read_file<'a>(alloc: Global, reader: &mut Reader<'a>) -> Result<MemberTexts<'
     }
 }
 
-fn read_members<'a>(alloc: Global, reader: &mut Reader<'a>) -> Result<MemberTexts<'a>, TableFault>
+fn read_members(alloc: Global, reader: &mut Reader<'_>) -> Result<MemberTexts, TableFault>
+    ensures held { IfOk result AreHeld }
     ensures ok { IfOk result (λ members. (found : Members) × (members_at 126 reader.old ≡ Some (found, reader.new)) × (with_members found [] ≡ given_table (gathered members))) }
     ensures err { IfErr result (λ fault. fault ≢ TableFault.NoMemory → (fault ≡ TableFault.NotJson) × (members_at 126 reader.old ≡ None)) }
 {

@@ -13,12 +13,12 @@ use std::cmp::Ordering;
 use std::fmt;
 use std::marker::Model;
 
-// Where a name and its text lie, one behind the other.
+/// Where a name and its text lie, one behind the other.
 #[derive(Clone, Copy)]
 pub struct Span {
-    name: usize,
-    text: usize,
-    end: usize,
+    pub name: usize,
+    pub text: usize,
+    pub end: usize,
 }
 
 /// Names, each once, with their texts: all bytes in one block, as they came, and where they lie in the names' order.
@@ -48,6 +48,14 @@ impl NamedTexts {
             bytes: Vec::new(alloc),
             spans: Vec::with_capacity(alloc, names)?,
         })
+    }
+
+    /// The texts that lie at spans, which stand in the names' order.
+    pub fn of_spans(bytes: Vec<u8>, spans: Vec<Span>) -> NamedTexts
+        requires { AreNamedTexts bytes.items spans.items }
+        ensures { result ≡ named_texts bytes.items spans.items }
+    {
+        NamedTexts { bytes, spans }
     }
 
     /// Puts a text in at a name, in place of one that is there. The bytes of the one that was there stay.
@@ -102,7 +110,8 @@ impl fmt::Debug for NamedTexts {
     }
 }
 
-fn named_text(bytes: &[u8], span: Span) -> (&str, &str)
+/// The name and the text that lie at a span.
+pub fn named_text(bytes: &[u8], span: Span) -> (&str, &str)
     requires within { LiesWithin (length bytes.now) span }
     requires name { IsUtf8 (named_text bytes.now span).0 }
     requires text { IsUtf8 (named_text bytes.now span).1 }
@@ -118,8 +127,8 @@ fn named_text(bytes: &[u8], span: Span) -> (&str, &str)
     }
 }
 
-// Appends a name and its text to the bytes.
-fn keep(bytes: &mut Vec<u8>, name: &str, text: &str) -> Result<Span, NoMemory>
+/// Appends a name and its text to the bytes.
+pub fn keep(bytes: &mut Vec<u8>, name: &str, text: &str) -> Result<Span, NoMemory>
     ensures longer { (more : List ℕ) × (bytes.new.items ≡ bytes.old.items ++ more) }
     ensures ok { IfOk result (λ span. (bytes.new.items ≡ bytes.old.items ++ name.now ++ text.now)
         × (span.name ≡ length bytes.old.items) × (span.text ≡ length bytes.old.items + length name.now) × (span.end ≡ length bytes.new.items)) }

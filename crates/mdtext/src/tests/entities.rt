@@ -47,10 +47,12 @@ fn files_of_other_shapes(rt: HostRuntime) -> Result<(), Fail> {
         "{\"&a;\":{\"characters\":\"0\"},\"&a1;\":{\"characters\":\"3\"},\"&b;\":{\"characters\":\"2\"},\"&\\u0061;\":{\"characters\":\"1\"}}",
         // A bad member that a later one takes the place of.
         "{\"&a;\":7,\"&a1;\":{\"characters\":\"3\"},\"&b;\":{\"characters\":\"2\"},\"&a;\":{\"characters\":\"1\"}}",
+        // Members with no text that later ones take the place of, and their texts once more.
+        "{\"&b;\":{},\"&a;\":7,\"&a1;\":{\"characters\":\"3\"},\"&b;\":{\"characters\":\"0\"},\"&a;\":{\"characters\":\"1\"},\"&b;\":null,\"&b;\":{\"characters\":\"2\"}}",
         // `characters` twice.
         "{\"&a;\":{\"characters\":7,\"characters\":\"1\"},\"&a1;\":{\"characters\":\"3\"},\"&b;\":{\"characters\":\"0\",\"characters\":\"2\"}}",
         // Values of each kind.
-        "{\"&a;\":{\"x\":[-1.5e3,{\"characters\":\"0\"},[[]],null,true],\"characters\":\"1\"},\"&a1;\":{\"characters\":\"3\",\"y\":12345678901234567890},\"&b;\":{\"characters\":\"2\"},\"z\":[{}]}",
+        "{\"&a;\":{\"x\":[-1.5e3,{\"characters\":\"0\"},[[]],null,true],\"characters\":\"1\"},\"&a1;\":{\"characters\":\"3\",\"y\":[12345678901234567890,123456789012345678901234567890,-9223372036854775809,-0,0.5e-7]},\"&b;\":{\"characters\":\"2\"},\"z\":[{}]}",
     ] {
         let entities = Entities::from_json(rt.alloc(), bytes.as_bytes())?;
         for (name, want) in [
@@ -124,7 +126,7 @@ fn file_of(alloc: Global, count: usize, flipped: usize) -> Result<String, AllocE
 
 #[test]
 fn many_names_in_any_order(rt: HostRuntime) -> Result<(), Fail> {
-    for count in [999, 1000, 1001, 1500] {
+    for count in [20, 21, 65, 1500] {
         for flipped in [0, 63, 1023, 2047] {
             let file = file_of(rt.alloc(), count, flipped)?;
             let entities = Entities::from_json(rt.alloc(), file.as_bytes())?;
@@ -154,6 +156,9 @@ fn files_that_are_refused(rt: HostRuntime) {
         "{\"&a;\":{\"characters\":\"x\",\"y\":1e999}}",
         "{\"&a;\":5,\"&b;\":{\"characters\":\"x\"}",
         "{\"&a;\":{\"characters\":\"x\",\"y\":01}}",
+        "{\"&a;\":{\"characters\":\"x\",\"y\":-1e999}}",
+        "{\"a;\":{\"characters\":\"x\"}} {}",
+        "{\"&a;\":5,\"b\":[1,]}",
     ] {
         assert_eq!(rt;
             refusal(&rt, bytes.as_bytes()),
@@ -176,6 +181,9 @@ fn files_that_are_refused(rt: HostRuntime) {
         "{\"&a;\":{\"characters\":5}}",
         "{\"&a;\":{\"characters\":[\"x\"]}}",
         "{\"&a;\":{\"characters\":\"x\"},\"&b;\":null}",
+        "{\"&a;\":{\"characters\":\"x\"},\"&a;\":{}}",
+        "{\"&a;\":[],\"&b;\":{\"characters\":\"x\"},\"&a;\":{\"characters\":null}}",
+        "{\"a;\":{\"characters\":\"x\"},\"a;\":{\"characters\":\"x\"}}",
     ] {
         assert_eq!(rt;
             refusal(&rt, bytes.as_bytes()),
@@ -201,5 +209,17 @@ fn a_refused_file_says_why(rt: HostRuntime) -> Result<(), Fail> {
     ] {
         assert_eq!(rt; reason(rt.alloc(), &fault)?.as_str(), want);
     }
+    Ok(())
+}
+
+/// Hands a value on as one that may go to another thread, and be seen by more than one.
+fn shared<T: Send + Sync>(value: T) -> T {
+    value
+}
+
+#[test]
+fn entities_may_go_to_another_thread(rt: HostRuntime) -> Result<(), Fail> {
+    let entities = shared(Entities::builtin(rt.alloc())?);
+    assert_eq!(rt; entities.get("amp"), Some("&"));
     Ok(())
 }

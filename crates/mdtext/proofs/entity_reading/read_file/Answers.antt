@@ -13,6 +13,7 @@ pub returns-in_default-token : goal.returns-in_default-token
 returns-in_default-token c =
     let first : c.args.reader.now ≡ token_of c.in-Some.token ∷ c.next.new.self = c.in-Some.ensures.value in
     record {
+      held = tt;
       ok = tt;
       err = λ other. (refl, other_value c.args.reader.now (λ inner e. c.in_default-token.not-BeginObject (opens_object c.in-Some.token c.next.new.self inner (sym first ∙ e))));
     }
@@ -29,8 +30,8 @@ returns-in-Some-next-clause-err c =
     let found = c.in_ok-members.ensures.ok in
     λ other. (refl, object_and_more c.args.reader.now c.next.new.self found.0 (token_of c.in-Some-next.field-0) c.next-2.new.self first (found.1 ∙ ap (λ r. Some (found.0, r)) c.in-Some-next.ensures.value))
 
-pub returns-clause-ok : goal.returns-clause-ok
-returns-clause-ok c =
+pub returns-in-None-clause-ok : goal.returns-in-None-clause-ok
+returns-in-None-clause-ok c =
     let first : c.args.reader.now ≡ Token.begin_object ∷ c.next.new.self = grind arith in
     let over : c.read_members.new.reader ≡ [] = grind arith in
     let found = c.in_ok-members.ensures.ok in

@@ -9,7 +9,7 @@ use Rattle.mdtext.proofs.TokenReading.{members_more_read, members_read, no_key_r
 use Rattle.mdtext.proofs.entity_reading.read_members.Goals as goal
 
 pub loop-members-init : goal.loop-members-init
-loop-members-init c = (length c.args.reader.now, omega arith, no_members, refl, subst (Gathers no_members) (sym c.new-members.ensures) gathers_none)
+loop-members-init c = (length c.args.reader.now, omega arith, no_members, refl, subst (Gathers no_members) (sym c.new-members.ensures.none) gathers_none, c.new-members.ensures.held)
 
 pub returns-in_err-key-clause-err : goal.returns-in_err-key-clause-err
 returns-in_err-key-clause-err c =
@@ -42,7 +42,8 @@ loop-members-preserved c =
       omega (arith, l.invariant.1, less, done.shorter),
       put k d found,
       members_more_read 126 c.args.reader.now n l.reader found l.invariant.3 s r k d (omega (arith, l.invariant.1, less)) named done.ok.1,
-      subst (Gathers (put k d found)) (sym (c.in_ok-add.ensures ∙ ap (λ t. given_more k t (gathered l.members)) done.ok.3)) (gathers_more k d found (gathered l.members) l.invariant.4),
+      subst (Gathers (put k d found)) (sym (c.in_ok-add.ensures.more ∙ ap (λ t. given_more k t (gathered l.members)) done.ok.3)) (gathers_more k d found (gathered l.members) l.invariant.4),
+      c.in_ok-add.ensures.held,
     )
 
 pub returns-clause-ok : goal.returns-clause-ok
