@@ -1,6 +1,7 @@
 -- The bars of a row, one search after the other.
-use Rattle.std.proofs.Common.{◌≡◌, ℕ, zero, suc, ◌+◌, ◌-◌, ◌<◌, ◌≤◌, Bool, true, false, List, ◌++◌, None, Some, length, length-take, take, drop, get_or, get_or-take, refl, ap, sym, ◌∙◌, arith}
+use Rattle.std.proofs.Common.{◌≡◌, ℕ, zero, suc, ◌+◌, ◌-◌, ◌<◌, ◌≤◌, Bool, true, false, List, ◌++◌, None, Some, length, length-take, take, drop, get_or, get_or-take, refl, ap, sym, ◌∙◌, ⊎_elim, arith}
 use Rattle.std.specs.Prelude.{◌==◌}
+use Rattle.std.proofs.lemmas.Bool.{cases_order, eqb-true}
 use Rattle.std.proofs.lemmas.List.{get_or-drop, length-drop}
 use Rattle.memchr.specs.Find.{IsFirstByte, is_byte}
 use Rattle.mdscan.specs.declared.spans.Span.{Span}
@@ -58,3 +59,10 @@ pub no_bar_found : (row : List ℕ) (from end : ℕ) → from ≤ end → end �
 no_bar_found row from end ordered within h =
     let size = part_length row from end ordered within in
     whole_up_to row from end end (omega arith) (λ k less. h k (omega arith) (omega (arith, size)))
+
+-- one place more that is no bar
+pub whole_more : (row : List ℕ) (from at : ℕ) → (get_or row at 0 ≡ 124 → ⊥) → IsWholeBetween row from at → IsWholeBetween row from (at + 1)
+whole_more row from at other whole = λ i low high. ⊎_elim
+    (λ same. ap (splits row) same ∙ no_split row at (fails (get_or row at 0 == 124) (λ bar. other (eqb-true (get_or row at 0) 124 bar))))
+    (λ apart. ⊎_elim (λ less. whole i low less) (λ more. absurd (omega (arith, high, more))) apart)
+    (cases_order i at)

@@ -8,6 +8,9 @@ use crate::spans::{Span, trimmed_bytes};
 use memchr::memchr;
 use std::alloc::{AllocError, Global};
 
+// So many bytes are looked at before a bar is searched for.
+const NEAR: usize = 8;
+
 /// The cells of a table's row, without the spaces and tabs at their ends (GFM Tables (extension)). A backslash before a bar
 /// is still there.
 pub fn cells(alloc: Global, row: &str) -> Result<Vec<Span>, AllocError>
@@ -75,8 +78,23 @@ pub(crate) fn inner(row: &[u8]) -> Span
     Span { start, end }
 }
 
-/// The first bar from one place on and before another.
+/// The first bar from one place on and before another. One that stands near is found byte by byte.
 fn bar_from(row: &[u8], from: usize, end: usize) -> Option<usize>
+    requires ordered { from ≤ end }
+    requires within { end ≤ length row.now }
+    ensures found { IfSome result (λ bar. (from ≤ bar) × (bar < end) × IsWholeBetween row.now from bar) }
+    ensures none { IfNone result (IsWholeBetween row.now from end) }
+{
+    let near = from + (end - from).min(NEAR);
+    for at in from..near {
+        if row[at] == b'|' {
+            return Some(at);
+        }
+    }
+    far_bar(row, near, end)
+}
+
+fn far_bar(row: &[u8], from: usize, end: usize) -> Option<usize>
     requires ordered { from ≤ end }
     requires within { end ≤ length row.now }
     ensures found { IfSome result (λ bar. (from ≤ bar) × (bar < end) × IsWholeBetween row.now from bar) }

@@ -10,10 +10,9 @@ use Rattle.std.specs.Bool.{if◌then◌else◌}
 use Rattle.std.specs.Cmp.Lexicographic.{slice_cmp}
 use Rattle.std.specs.List.{slice_range, slice_index}
 use Rattle.std.specs.Prelude.{⊤}
-use Rattle.std.specs.Option.{option_and_then}
 use Rattle.std.specs.Ordering.{nat_cmp, match_ordering, ordering_reverse}
 use Rattle.serde_json.specs.Data.{Data, Members, no_members, member, put}
-use Rattle.mdtext.specs.EntityFile.{counts, is_name, name_of, characters_of, with_member, with_members}
+use Rattle.mdtext.specs.EntityFile.{counts, is_name, name_of, characters_of, with_members}
 use Rattle.mdtext.specs.EntityTable.{EntityTable}
 use Rattle.mdtext.specs.MemberTexts.{Given, Gathered, given_more, put_each, all_given, given_table}
 use Rattle.mdtext.proofs.Tables.{inserted}

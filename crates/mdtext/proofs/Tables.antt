@@ -1,12 +1,9 @@
 -- Pairs that are put into a table of entities in turn, and entries of any kind that are seen as pairs.
-use Rattle.std.proofs.Common.{◌≡◌, ℕ, ◌+◌, ◌<◌, List, [], ◌∷◌, map, refl, ap, ◌∙◌, sym, Bool, true, false, cond, Option, Some, option_map, Ordering, Less, Equal, Greater, Bor, drop, length, get_or}
+use Rattle.std.proofs.Common.{◌≡◌, ℕ, ◌+◌, ◌<◌, List, [], ◌∷◌, map, refl, ap, ◌∙◌, sym, Ordering, Less, Equal, Greater, Bor, drop, length, get_or}
 use Rattle.std.proofs.lemmas.List.{drop_more}
-use Rattle.std.proofs.lemmas.Map.Text.{is_eq-slice_cmp}
-use Rattle.std.specs.BTreeMap.{is_at, insert_entry}
+use Rattle.std.specs.BTreeMap.{insert_entry}
 use Rattle.std.specs.Cmp.Lexicographic.{slice_cmp}
-use Rattle.std.specs.Map.{lookup}
 use Rattle.std.specs.Ordering.{nat_cmp, match_ordering}
-use Rattle.std.specs.Str.{bytes_eq}
 use Rattle.mdtext.specs.EntityTable.{EntityTable, put_all}
 
 -- ---- entries of any kind, seen as pairs of bytes and values

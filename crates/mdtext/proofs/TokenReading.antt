@@ -1,5 +1,5 @@
 -- An entity file read from its tokens: each value as it is passed, and the loops over items and members.
-use Rattle.std.proofs.Common.{◌≡◌, ℕ, ◌-◌, ◌<◌, ◌≤◌, List, [], ◌∷◌, length, true, false, Option, Some, None, Ok, Err, codes, option_map, zero, suc, refl, sym, ap, ◌∙◌, is_some, arith}
+use Rattle.std.proofs.Common.{◌≡◌, ℕ, ◌-◌, ◌<◌, ◌≤◌, List, [], ◌∷◌, length, true, false, Option, Some, None, codes, option_map, zero, suc, refl, sym, ap, ◌∙◌, is_some, arith}
 use Rattle.std.specs.Bool.{if◌then◌else◌}
 use Rattle.std.specs.Prelude as prelude
 use Rattle.std.specs.Option.{option_and_then}

@@ -1,4 +1,4 @@
-use Rattle.std.proofs.Common.{◌≡◌, ◌-◌, ◌∙◌, Err, None, Some, arith, length, refl, rules, sym, subst, ap}
+use Rattle.std.proofs.Common.{◌≡◌, ◌-◌, ◌∙◌, None, Some, arith, length, refl, rules, sym, subst, ap}
 use Rattle.json.specs.Json.{read_key}
 use Rattle.json.proofs.Grammar.{read_key-shorter}
 use Rattle.serde_json.specs.Data.{no_members, put}

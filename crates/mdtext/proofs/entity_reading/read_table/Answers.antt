@@ -1,9 +1,9 @@
-use Rattle.std.proofs.Common.{◌≡◌, ◌≢◌, ◌∙◌, Err, None, Ok, Some, ap, sym}
+use Rattle.std.proofs.Common.{◌≡◌, ◌∙◌, Err, ap, sym}
 use Rattle.std.proofs.lemmas.Result.{IfErr-weaker, IfOk-weaker}
 use Rattle.std.proofs.lemmas.Str.{is_utf8-from_IsUtf8}
 use Rattle.mdtext.specs.EntityFile.{file_table, of_object, or_fault}
 use Rattle.mdtext.specs.MemberTexts.{gathered, given_table}
-use Rattle.mdtext.specs.declared.entity_file.TableFault.TheVariants.{BadEntry, NoMemory}
+use Rattle.mdtext.specs.declared.entity_file.TableFault.TheVariants.{BadEntry}
 use Rattle.mdtext.proofs.TokenReading.{file_is}
 use Rattle.mdtext.proofs.entity_reading.read_table.Goals as goal
 

@@ -1,5 +1,5 @@
 use Rattle.std.proofs.Common.{◌≡◌, ◌≢◌, ◌∙◌, [], All, IfErr, IfOk, None, Some, ap, map, subst, sym}
-use Rattle.mdtext.specs.MemberTexts.{IsHeld, IsTable, StandInOrder, all_given, gathered, given, given_table, put_each}
+use Rattle.mdtext.specs.MemberTexts.{IsHeld, IsTable, StandInOrder, all_given, given, put_each}
 use Rattle.mdtext.specs.declared.entity_file.TableFault.TheVariants.{BadEntry, NoMemory}
 use Rattle.mdtext.proofs.HeldMembers.{are_texts, gathered_in_order, moved_held, table_is}
 use Rattle.mdtext.proofs.member_texts.MemberTexts.into_table.Goals as goal

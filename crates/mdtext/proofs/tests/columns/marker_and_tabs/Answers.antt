@@ -1,4 +1,4 @@
-use Rattle.std.proofs.Common.{refl, rules}
+use Rattle.std.proofs.Common.{rules}
 use Rattle.mdtext.specs.Columns.{unindented}
 use Rattle.mdtext.proofs.tests.columns.marker_and_tabs.Goals as goal
 
