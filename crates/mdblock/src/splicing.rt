@@ -23,8 +23,9 @@ use std::alloc::Global;
 /// line: what the reader would hold if it had read the old list's lines behind that one too.
 ///
 /// Asks that the reader's `joined` is true, that `k`, from 0 on, is the number of one of the old list's `joins`, and that the reader's lines with the old
-/// ones behind that join are no more than `usize::MAX`. Where the two lines differ nothing is said of the answer. Takes memory for the whole list, and spends
-/// the reader in each case. No line is read or counted again, and where the old list began does not matter.
+/// ones behind that join are no more than `usize::MAX`. Where the two lines differ nothing is said of the answer. Moves what the reader holds, takes memory for
+/// copies of the old list's items from there on, and spends the reader in each case. No line is read or counted again, and where the old list began does not
+/// matter.
 pub fn splice(front: Reader, old: &Found, k: usize) -> Result<Found, NoMemory>
     requires joined { held_joined front.held ≡ true }
     requires join { k < length old.now.marks }
