@@ -20,14 +20,7 @@ use mdhtml::{Options, UnitWriter};
 use mdinline::{InlineFault, LabelTable};
 use mdtext::{Entities, NoMemory, Tally};
 use mdview::{EditFault, Prelude};
-use memchr::memmem;
 use std::alloc::{AllocError, Global};
-
-/// Whether it is worth while to wait for the labels of a text: a definition has `]:` behind its label (CommonMark 4.7). This is a guess, on which no answer
-/// depends.
-pub(crate) fn may_define(text: &str) -> bool {
-    memmem::find(text.as_bytes(), b"]:").is_some()
-}
 
 /// The HTML of a text in which no U+0000 stands and which defines no label: so where labels lead is known before its first line. Nothing where a unit
 /// defines one, or where spans lie too deep: a container may begin too deep further on, which is the answer then.
