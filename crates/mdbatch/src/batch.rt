@@ -14,8 +14,9 @@ ghost use Rattle.mdbatch.specs.GatheredUnits.{EndsLine, Gathers, HasGathered, Is
 ghost use Rattle.mdbatch.specs.TextLabels.{page_table, target_on_page};
 ghost use Rattle.mdbatch.specs.ViewHtml.{ViewHtml};
 
-use crate::at_once::{html_at_once, may_define};
+use crate::at_once::html_at_once;
 use crate::gathered::{Gathered, Waiting};
+use crate::guesses::is_written_at_once;
 use crate::limits::within_limits;
 use crate::page_labels::PageLabels;
 use crate::units::gathered_units;
@@ -68,7 +69,7 @@ fn clean_html(
     ensures fault { IfErr result (IsFaultOf (first_too_deep options.now.max_containers (split_lines text.now))
         (deep_on_page (record { entities = entities.now; options = options.now }) prelude.now (split_lines text.now))) }
 {
-    if !may_define(text) {
+    if is_written_at_once(text, options.max_containers) {
         if let Some(html) = html_at_once(alloc, text, entities, options, prelude)? {
             return Ok(html);
         }

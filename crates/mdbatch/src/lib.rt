@@ -4,6 +4,7 @@
 mod at_once;
 mod batch;
 mod gathered;
+mod guesses;
 mod labels;
 mod limits;
 mod page_labels;

@@ -1,4 +1,7 @@
 //! The batch way beside the preview: the same HTML, and the same refusals.
+
+mod both_ways;
+
 ghost use Rattle.mdhtml.specs.Limits.{HasLimits};
 
 use super::*;

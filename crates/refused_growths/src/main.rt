@@ -8,6 +8,7 @@ mod pages;
 mod reports;
 mod scripts;
 mod texts;
+mod threads;
 mod trees;
 mod views;
 
