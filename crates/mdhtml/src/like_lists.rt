@@ -19,6 +19,9 @@ use mdblock::Block;
 use mdinline::Parsed;
 use mdtext::NoMemory;
 
+/// Room for the items that are written between those that are taken over, so that it need not grow for a few of them.
+const WRITTEN_ROOM: usize = 1_000;
+
 /// A unit that was written before, with what a unit like it takes over.
 #[derive(Clone, Copy, Drop)]
 pub struct Like<'a> {
@@ -104,7 +107,8 @@ fn append_list_like(
         }
         Some(kept) => {
             ends.reserve(list.items.len())?;
-            out.reserve(like.html.len())?;
+            let taken_over = kept.front.len().saturating_add(kept.tail.len());
+            out.reserve(taken_over.saturating_add(WRITTEN_ROOM))?;
             append_kept(list, texts, options, like, &same, &kept, out, ends)?;
             close_list(list.kind, out)?;
             Ok(true)

@@ -28,13 +28,18 @@ of_both P Q R f None p q = tt
 of_both P Q R f (Some x) p q = f x p q
 
 -- what is told of all members of a walk is told of the next one, and of those behind it
-pub next_has : {A B : Type 0} (view : A → B) (P : B → Type 0) (r : Option A) (old new : List B) → MatchOption r ((old ≡ []) × (new ≡ [])) (λ x. old ≡ view x ∷ new) → All P old → IfSome r (λ x. P (view x))
+pub next_has : {A B : Type 0} (view : A → B) (P : B → Type 0) (r : Option A) (old new : List B) → MatchOption r (new ≡ old) (λ x. old ≡ view x ∷ new) → All P old → IfSome r (λ x. P (view x))
 next_has view P None old new w all = tt
 next_has view P (Some x) old new w all = all_first P (view x) new (subst (All P) w all)
 
-pub rest_have : {A B : Type 0} (view : A → B) (P : B → Type 0) (r : Option A) (old new : List B) → MatchOption r ((old ≡ []) × (new ≡ [])) (λ x. old ≡ view x ∷ new) → All P old → All P new
-rest_have view P None old new w all = subst (All P) (sym w.1) (λ k d below. absurd (omega (arith, below)))
+pub rest_have : {A B : Type 0} (view : A → B) (P : B → Type 0) (r : Option A) (old new : List B) → MatchOption r (new ≡ old) (λ x. old ≡ view x ∷ new) → All P old → All P new
+rest_have view P None old new w all = subst (All P) (sym w) all
 rest_have view P (Some x) old new w all = all_rest P (view x) new (subst (All P) w all)
+
+-- of a walk that has ended none is left
+pub walk_ends : {A B : Type 0} (view : A → B) (r : Option A) (old new : List B) → MatchOption r ((old ≡ []) × (new ≡ [])) (λ x. old ≡ view x ∷ new) → MatchOption r (new ≡ old) (λ x. old ≡ view x ∷ new)
+walk_ends view None old new w = w.1 ∙ sym w.0
+walk_ends view (Some x) old new w = w
 
 pub same_texts : (xs ys : List ℕ) → true ≡ pointwise nat_eq xs ys → xs ≡ ys
 same_texts [] [] h = refl

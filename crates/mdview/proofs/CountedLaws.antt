@@ -1,6 +1,6 @@
 -- A count that grows by several lines.
 use Rattle.std.proofs.Common.{ℕ, zero, suc, ◌+◌, ◌≤◌, arith}
-use Rattle.mdview.specs.CountedLines.{counted_by}
+use Rattle.mdblock.specs.CountedLines.{counted_by}
 
 -- it grows by no more than these
 pub counted_within : (lines count : ℕ) → counted_by lines count ≤ count + lines

@@ -1,5 +1,5 @@
 -- A reader that goes on inside a list that is held: the lines that it has read are those of the new text up to an item above the edit, and that item's first line.
-use Rattle.std.proofs.Common.{◌≡◌, ℕ, false, ◌&&◌, ◌+◌, ◌-◌, ◌^◌, ◌<◌, ◌≤◌, inl, inr, List, [], ◌∷◌, ◌++◌, Some, None, length, map, take, drop, get_or, refl, ap, ◌∙◌, sym, subst, append_assoc, arith}
+use Rattle.std.proofs.Common.{◌≡◌, ℕ, Bool, false, true, ◌&&◌, ◌+◌, ◌-◌, ◌^◌, ◌<◌, ◌≤◌, inl, inr, List, [], ◌∷◌, ◌++◌, Some, None, length, map, take, drop, get_or, refl, ap, ◌∙◌, sym, subst, append_assoc, arith}
 use Rattle.std.specs.Prelude.{Contains, nat_eq, nat_le, slice_get}
 use Rattle.std.specs.List.{list_any}
 use Rattle.std.proofs.lemmas.Bool.Decides.{nat_tests}
@@ -16,15 +16,16 @@ use Rattle.mdblock.specs.Spliced.{mark_at}
 use Rattle.mdblock.specs.held.ReaderState.{ReaderState}
 use Rattle.mdblock.specs.held.Reads.{Reads, handed}
 use Rattle.joinspec.specs.MetInside.{first_line as first_begin}
-use Rattle.joinspec.specs.Stops.{Stops, near_line}
+use Rattle.joinspec.specs.Stops.{Stops, lines_to_stop, near_line}
 use Rattle.joinspec.specs.UnitItems.{own_lines}
 use Rattle.joinlaws.proofs.NearLines.{IsStop, NearBehind, near_behind}
+use Rattle.joinlaws.proofs.NearStretch.{stop_high}
 use Rattle.joinlaws.proofs.UnitCuts.{next_cut, split_behind, unit_alone, unit_ends, units_parted}
-use Rattle.viewspec.specs.Stretch.{Places, from_line, is_meeting, old_line}
+use Rattle.viewspec.specs.Stretch.{Places, from_line, is_meeting, meeting_line, old_line}
 use Rattle.viewlaws.proofs.Cuts.{IsCut, begins_before_end, begins_in, beginning_kept}
 use Rattle.viewlaws.proofs.Depths.{deep_cut, neither}
 use Rattle.viewlaws.proofs.ReadLines.{none_handed}
-use Rattle.viewlaws.proofs.Splices.{IsEdit}
+use Rattle.viewlaws.proofs.Splices.{IsEdit, MeetsBehind, meets_behind}
 use Rattle.viewlaws.proofs.StretchReadings.{Ascends, begins_ascend}
 use Rattle.mdview.specs.HeldBlocks.{HoldsUnits}
 use Rattle.mdview.specs.HeldLists.{list_in, unplaced}
@@ -120,6 +121,17 @@ res_near e old new s w = by (near_behind e old new s w)
     by (inl h) = let fits = w.edit_there.fits in let sizes = w.edit_there.sizes in omega (arith, h, fits, sizes)
     by (inr h) = let behind = h.0 in omega (arith, behind)
 
+-- Reading stops behind the edit, so what stands above it is read.
+meets_low : (e : EntityTable) (old new : List (List ℕ)) (p : Places) → IsEdit e old new p → p.at ≤ meeting_line p
+meets_low e old new p w = by (meets_behind e old new p w)
+  where
+    by : MeetsBehind e old new p → p.at ≤ meeting_line p
+    by (inl h) = let fits = w.fits in let sizes = w.sizes in omega (arith, h, fits, sizes)
+    by (inr h) = let behind = h.0 in omega (arith, behind)
+
+pub few_above : (e : EntityTable) (old new : List (List ℕ)) (s : Stops) → IsStop e old new s → s.places.at - from_line s.places ≤ lines_to_stop s
+few_above e old new s w = let high = stop_high s s.places.at (res_near e old new s w) (meets_low e old new s.places w.edit_there) in omega (arith, high)
+
 -- ---- a later item of a unit that is held, above the edit
 
 module _ (e : EntityTable) (limit : ℕ) (old new : List (List ℕ)) (p : Places) (w : IsEdit e old new p) (head : ℕ) (held : List HeldUnit) (holds : HoldsUnits e old head (map read_of held))
@@ -182,20 +194,44 @@ module _ (e : EntityTable) (limit : ℕ) (old new : List (List ℕ)) (p : Places
   none : handed e (zs ++ l ∷ []) ≡ []
   none = res_handed e (zs ++ l ∷ []) ys (ap (begins e) (sym own) ∙ ap begins_in (unit_alone e old one.before one.one one.back one.is))
 
+  -- the list stands for the lines of the new text up to that item, and for those behind it as before
+  record Found (list : FoundList) (text : List ℕ) : Type 0 where
+    joined : k < length list.marks
+    placed : (mark_at list.marks k).line ≡ length zs
+    mark_is : (mark_at list.marks k).line ≡ mark
+    stands : StandsForUnit e list (zs ++ text ∷ ys)
+    fit : first_too_deep limit (zs ++ text ∷ ys) ≡ None
+
+  as_found : (list : FoundList) → unplaced list ≡ list_in u → (text : List ℕ) → text ≡ l → Found list text
+  as_found list same text is =
+      let marks : list.marks ≡ u.read.items = ap (λ (f : FoundList). f.marks) same in
+      let placed : (mark_at list.marks k).line ≡ mark = ap (λ (ms : List ItemMark). (mark_at ms k).line) marks in
+      record {
+        joined = subst (λ (ms : List ItemMark). k < length ms) (sym marks) within;
+        placed = placed ∙ sym size;
+        mark_is = placed;
+        stands = stands_placed e list (zs ++ text ∷ ys) (subst (λ f. StandsForUnit e f (zs ++ text ∷ ys)) (sym same)
+            (subst (StandsForUnit e (list_in u)) (lines ∙ ap (λ t. zs ++ t ∷ ys) (sym is)) one.stands));
+        fit = ap (first_too_deep limit) (ap (λ t. zs ++ t ∷ ys) is ∙ sym lines) ∙ own_fits e limit old one.before one.one one.back one.is fits;
+      }
+
+  pub res_given : (list : FoundList) → unplaced list ≡ list_in u → (resumed : Bool) (text : List ℕ) → text ≡ get_or new (from + (mark_at u.read.items k).line) []
+      → ((zs ys : List (List ℕ)) → k < length list.marks → StandsForUnit e list (zs ++ text ∷ ys) → (mark_at list.marks k).line ≡ length zs → first_too_deep limit (zs ++ text ∷ ys) ≡ None → resumed ≡ true)
+      → resumed ≡ true
+  res_given list same resumed text is given =
+      let f = as_found list same text is in given zs ys f.joined f.stands f.placed f.fit
+
   pub res_read : (list : FoundList) → unplaced list ≡ list_in u → (reader : ReaderState) (text : List ℕ) → text ≡ get_or new (from + (mark_at u.read.items k).line) []
       → reader.fed ≡ (mark_at list.marks k).line + 1
       → ((zs ys : List (List ℕ)) → StandsForUnit e list (zs ++ text ∷ ys) → (mark_at list.marks k).line ≡ length zs → first_too_deep limit (zs ++ text ∷ ys) ≡ None
       → Reads limit e reader (zs ++ text ∷ []))
       → (from + reader.fed ≤ p.at) × Reads limit e reader (drop from (take (from + reader.fed) new)) × (handed e (drop from (take (from + reader.fed) new)) ≡ [])
   res_read list same reader text is fed reads =
-      let marks : mark_at list.marks k ≡ mark_at u.read.items k = ap (λ (f : FoundList). mark_at f.marks k) same in
-      let placed : (mark_at list.marks k).line ≡ mark = ap (λ (m : ItemMark). m.line) marks in
-      let stands = stands_placed e list (zs ++ text ∷ ys) (subst (λ f. StandsForUnit e f (zs ++ text ∷ ys)) (sym same)
-      (subst (StandsForUnit e (list_in u)) (lines ∙ ap (λ t. zs ++ t ∷ ys) (sym is)) one.stands)) in
-      let deep = ap (first_too_deep limit) (ap (λ t. zs ++ t ∷ ys) is ∙ sym lines) ∙ own_fits e limit old one.before one.one one.back one.is fits in
+      let f = as_found list same text is in
+      let placed = f.mark_is in
       let at : from + reader.fed ≡ line + 1 = omega (arith, fed, placed) in
       let read : drop from (take (from + reader.fed) new) ≡ zs ++ text ∷ [] = ap (λ n. drop from (take n new)) at ∙ next ∙ ap (λ t. zs ++ t ∷ []) (sym is) in (
         omega (arith, at, above),
-        subst (Reads limit e reader) (sym read) (reads zs ys stands (placed ∙ sym size) deep),
+        subst (Reads limit e reader) (sym read) (reads zs ys f.stands f.placed f.fit),
         ap (handed e) (read ∙ ap (λ t. zs ++ t ∷ []) is) ∙ none,
       )

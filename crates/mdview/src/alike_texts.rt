@@ -64,7 +64,7 @@ fn same_up_to(before: usize, i: usize, in_front: bool) -> usize
 impl<'a> TextReader<'a> {
     /// Reads texts, behind which their unit has so many others, and puts their readings behind those that are there. A text that a held unit has at the same
     /// place, counted from the front up to the first that differs and from the end behind it, reads as it did, unless it asked for a label that leads
-    /// elsewhere: its reading is copied. Answers how many texts there are up to the first that differs.
+    /// elsewhere: its reading is shared. Each text counts as read. Answers how many texts there are up to the first that differs.
     pub(crate) fn read_alike<C: Count>(
         &self,
         texts: &[String],
@@ -126,7 +126,7 @@ impl<'a> TextReader<'a> {
         }
     }
 
-    /// What a text reads as that read so before the edit. It is counted as one that is read.
+    /// What a text reads as that read so before the edit. It counts as read.
     fn keep_one<C: Count>(
         &self,
         text: &str,

@@ -61,6 +61,7 @@ impl<'a> TextReader<'a> {
         kept: Option<KeptReadings<'_>>,
         held: &Chunks<HeldUnit>,
         first: usize,
+        next: usize,
         from: usize,
         room: &mut TextRoom<'a>,
         count: &mut C,
@@ -85,13 +86,13 @@ impl<'a> TextReader<'a> {
             + texts_with_kept (entities_in room.old) (labels_before self.now) (labels_behind self.now) (option_map number_read kept.entry) (trees_in (map found_unit found.items)) }
     {
         let Some(kept) = kept else {
-            return self.read_units(found, held, first, from, room, count);
+            return self.read_units(found, held, first, next, from, room, count);
         };
         let mut front = found;
         let Some(last) = front.pop() else {
             return Ok(Vec::new(self.alloc));
         };
-        let mut units = self.read_units(front, held, first, from, room, count)?;
+        let mut units = self.read_units(front, held, first, next, from, room, count)?;
         let begin = from.saturating_add(last.begin());
         match self.read_last(last, kept, room, count) {
             Ok(unit) => units.push(unit)?,
@@ -132,7 +133,8 @@ impl<'a> TextReader<'a> {
         Ok(HeldUnit::new(found, inlines, piece))
     }
 
-    /// Reads the texts of a unit up to those that are kept, and of these the ones that are concerned.
+    /// What the texts of a unit read as: those in front of the kept ones are read, or taken over where the held unit has them too, and of the kept ones those
+    /// that are concerned are read. Answers also how many texts both units have from the front on, in front of the kept ones.
     fn read_part<C: Count>(
         &self,
         unit: &Unit,

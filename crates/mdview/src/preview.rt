@@ -276,6 +276,9 @@ impl Preview {
     /// `NestedTooDeep`, `InlineTooDeep`; `NoMemory` at any point. After each the preview is as before, and after the first
     /// four the counter too. U+0000 in an added line is
     /// replaced by U+FFFD before its size is counted (CommonMark 2.3).
+    ///
+    /// A line or a text that is taken over in place of being read counts as read, when it is taken over: the lines of a list in
+    /// front of the item at which reading begins, and the texts that a unit which goes has too.
     pub fn edit<C: Count>(
         &mut self,
         at: usize,

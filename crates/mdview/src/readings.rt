@@ -1,6 +1,6 @@
 //! What inline texts read as after an edit, and the HTML of units.
 
-ghost use Rattle.std.specs.Prelude.{◌≡◌, ◌+◌, ◌≤◌, ◌<◌, ◌^◌, ◌++◌, ◌∷◌, ℕ, List, [], None, take, Some, IfOk, IfSome, IfErr, IsErrOf, OnOk, false, if◌then◌else◌, length, map, option_map, slice_get, string_bytes, sum_by, true};
+ghost use Rattle.std.specs.Prelude.{◌≡◌, ◌+◌, ◌≤◌, ◌<◌, ◌^◌, ◌++◌, ◌∷◌, ℕ, List, [], None, take, Some, IfOk, IfSome, IfErr, IsErrOf, OnOk, false, if◌then◌else◌, length, map, option_map, slice_get, string_bytes, sum_by, true, MatchOption};
 ghost use Rattle.std.specs.List.{All, list_any};
 ghost use Rattle.blockspec.specs.UnitTree.{UnitTree};
 ghost use Rattle.mdblock.specs.FoundLists.{found_unit};
@@ -27,7 +27,7 @@ use crate::limits::SPLICE_ROOM;
 use crate::marked_units::{line_from, next_marked};
 use crate::text_room::{Alike, TextRoom};
 use mdblock::{Found, Unit};
-use mdchunks::{Change, Chunks};
+use mdchunks::{Change, Chunks, Iter};
 use mdhtml::Options;
 use mdinline::{InlineFault, Parsed};
 use mdtext::Count;
@@ -65,12 +65,13 @@ impl Change<HeldUnit> for Again {
 
 impl<'a> TextReader<'a> {
     /// Reads the texts of the units that were found in the lines from `from` on. They may have texts of the held units from
-    /// number `first` on, in whose place they stand, one by one: the readings of those are copied.
+    /// number `first` up to `next`, in whose place they come, one by one: the readings of those are shared.
     pub(crate) fn read_units<C: Count>(
         &self,
         found: Vec<Found>,
         held: &Chunks<HeldUnit>,
         first: usize,
+        next: usize,
         from: usize,
         room: &mut TextRoom<'a>,
         count: &mut C,
@@ -99,9 +100,10 @@ impl<'a> TextReader<'a> {
         };
         let mut units = Vec::with_capacity(self.alloc, wanted)?;
         let mut like = held.iter_from(first);
+        let mut left = next.saturating_sub(first);
         for one in found {
             let begin = from.saturating_add(one.begin());
-            let was = like.next();
+            let was = next_gone(&mut like, &mut left);
             match self.read_unit(one, was, room, count) {
                 Ok(unit) => units.push(unit)?,
                 Err(fault) => return Err(fault_in_unit(fault, begin)),
@@ -178,11 +180,10 @@ impl<'a> TextReader<'a> {
     pub(crate) fn read_alike_in(&self, same: usize) -> usize
         ensures { 0 < result → (result ≡ same) × ((label : List ℕ) → at label self.now.labels.now.changes.now.targets.entries ≡ None) }
     {
-        if self.labels.changes.is_empty() {
-            same
-        } else {
-            0
+        if !self.labels.changes.is_empty() {
+            return 0;
         }
+        same
     }
 
     pub(crate) fn read_text<C: Count>(
@@ -412,6 +413,14 @@ impl<'a> TextReader<'a> {
             Ok(held.copy(self.alloc)?)
         }
     }
+}
+
+/// The next of the held units that go, of which so many are left. One that stays has its piece and its memory still, so none comes in its place.
+fn next_gone<'b>(held: &mut Iter<'b, HeldUnit>, left: &mut usize) -> Option<&'b HeldUnit>
+    ensures { MatchOption result (held.new ≡ held.old) (λ unit. held.old ≡ unit.now ∷ held.new) }
+{
+    *left = left.checked_sub(1)?;
+    held.next()
 }
 
 pub(crate) fn fault_in_unit(fault: InlineFault, begin: usize) -> EditFault

@@ -20,7 +20,7 @@ ghost use Rattle.mdview.specs.HeldLists.{list_in};
 ghost use Rattle.mdview.specs.HeldUnit.{read_of};
 ghost use Rattle.mdview.specs.KeptTexts.{IsKept};
 ghost use Rattle.mdview.specs.StopLines.{IsReadToStop, stops_of};
-ghost use Rattle.mdview.specs.CountedLines.{counted_by};
+ghost use Rattle.mdblock.specs.CountedLines.{counted_by};
 ghost use Rattle.mdview.specs.Document.{size_of};
 ghost use Rattle.mdview.specs.NewText.{lines_of};
 ghost use Rattle.mdview.specs.ReadingFaults.{OfBlocks};
@@ -57,7 +57,7 @@ pub(crate) struct Reparsed {
 }
 
 /// Reads blocks from the last unit that begins above the edit up to where a unit begins behind it that is held, or a later item of a list is held that begins
-/// there in both texts, or to the end. Each line that is read is counted, and so is each that a reader takes over from a held list.
+/// there in both texts, or to the end. Each line that is read is counted.
 pub(crate) fn reparse<C: Count>(
     held: &HeldText<'_>,
     text: NewText<'_>,
@@ -129,8 +129,8 @@ pub(crate) fn reparse<C: Count>(
     })
 }
 
-/// A reader that begins in line `from`. Where the unit `start` begins there, is a list and has a later item above the edit, it has read the lines up to the last
-/// such item, and that item's first line. Each of them is counted.
+/// A reader that begins in line `from`. Where the unit `start` begins there, is a list and has a later item above the edit, it stands for the lines up to the last
+/// such item, which it takes over, and it has read that item's first line. Each of them is counted.
 fn begun_reader<'a, C: Count>(
     held: &HeldText<'a>,
     text: NewText<'a>,
@@ -151,22 +151,28 @@ fn begun_reader<'a, C: Count>(
         Reads held.now.options.now.max_containers held.now.entities.now reader (drop from (take (from + reader.fed) (lines_of text.entry)))) }
     ensures none { IfOk result (λ reader. handed held.now.entities.now (drop from (take (from + reader.fed) (lines_of text.entry))) ≡ []) }
     ensures lines { IfOk result (λ reader. C.lines count.new ≡ counted_by reader.fed (C.lines count.old)) }
-    ensures uncounted { OnErr result (C.lines count.new ≡ C.lines count.old) }
+    ensures no_more { OnErr result (C.lines count.new ≤ C.lines count.old + (text.entry.at - from)) }
     ensures inlines { C.inlines count.new ≡ C.inlines count.old }
 {
     let limit = held.options.max_containers;
-    if let Some(item) = item_above(held.units, text, from, start) {
-        let list = item.unit.found();
-        let number = from + list.joins()[item.item].line;
-        let mut ahead = text.lines_from(number);
-        let line = text.line(number, &mut ahead);
-        let resumed = Reader::resume(held.alloc, held.entities, limit, list, item.item, line)?;
-        if let Some(reader) = resumed {
-            count_lines(reader.fed(), count);
-            return Ok(reader);
-        }
-    }
-    Ok(Reader::new(held.alloc, held.entities, limit))
+    let Some(item) = item_above(held.units, text, from, start) else {
+        return Ok(Reader::new(held.alloc, held.entities, limit));
+    };
+    let list = item.unit.found();
+    let number = from + list.joins()[item.item].line;
+    let mut ahead = text.lines_from(number);
+    let line = text.line(number, &mut ahead);
+    let resumed = Reader::resume(
+        held.alloc,
+        held.entities,
+        limit,
+        list,
+        item.item,
+        line,
+        count,
+    )?;
+    // Above the edit the line begins that item as it did.
+    Ok(resumed.unwrap())
 }
 
 /// Where the unit `start` begins in line `from` and is a list, the last of its later items above the edit.
@@ -191,16 +197,6 @@ fn item_above<'a>(
         number: start.unit,
         item,
     })
-}
-
-/// Counts so many lines.
-fn count_lines<C: Count>(lines: usize, count: &mut C)
-    ensures lines { C.lines count.new ≡ counted_by lines (C.lines count.old) }
-    ensures inlines { C.inlines count.new ≡ C.inlines count.old }
-{
-    for _ in 0..lines {
-        count.line();
-    }
 }
 
 /// A list that goes on in one that is held: what was read, of which the last line begins that item, and the held list's items from there on.

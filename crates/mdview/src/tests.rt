@@ -161,7 +161,7 @@ fn an_edit_reads_its_stretch(rt: HostRuntime) -> Result<(), Fail> {
     Ok(())
 }
 
-/// A text that stays is counted as one that is read, in front of the edit and behind it; where it asked for a label that leads elsewhere then it is read.
+/// A text that stays counts as read, in front of the edit and behind it; where it asked for a label that leads elsewhere then it is read.
 #[test]
 fn texts_that_stay_count(rt: HostRuntime) -> Result<(), Fail> {
     let alloc = rt.alloc();
@@ -225,6 +225,30 @@ fn a_long_piece_is_made_again(rt: HostRuntime) -> Result<(), Fail> {
         let fresh = preview_of(alloc, &lines)?;
         assert_eq!(rt; preview.piece(0), fresh.piece(0), "{line:?}");
     }
+    Ok(())
+}
+
+/// A short unit beside a long one that stays, and one in the place of a long one.
+#[test]
+fn a_short_piece_comes_where_a_long_one_is(rt: HostRuntime) -> Result<(), Fail> {
+    let alloc = rt.alloc();
+    let mut code = vec![in alloc; "a line of code"; 2_000]?;
+    code[0] = "```";
+    let mut preview = preview_of(alloc, &code)?;
+    preview.edit(0, 0, &["y", ""], &mut Tally::new())?;
+    assert_eq!(rt;
+        (preview.units(), preview.piece(0)),
+        (2, Some("<p>y</p>\n"))
+    );
+    let items = vec![in alloc; "- item"; 2_000]?;
+    let mut preview = preview_of(alloc, &items)?;
+    // At the second of these it is known where the items of the long list end.
+    for line in ["- b", "- c", "- d"] {
+        preview.edit(1, 1, &[line], &mut Tally::new())?;
+    }
+    preview.edit(1, 1_999, &[], &mut Tally::new())?;
+    let cut = "<ul>\n<li>item</li>\n</ul>\n";
+    assert_eq!(rt; (preview.units(), preview.piece(0)), (1, Some(cut)));
     Ok(())
 }
 

@@ -19,10 +19,10 @@ use std::alloc::Global;
 /// Room for the HTML of most units, so that it need not grow bit by bit.
 const HTML_ROOM: usize = 1_000;
 
-/// A piece that is made again in the place of a longer one is written where it stays, and not copied.
+/// Of a longer piece in the place of a longer one it is told where the items of a list end.
 const LONG: usize = 16_384;
 
-/// A unit that is held, in whose place another comes, and how many of its texts, from the front on and from the end on, read as those of the other.
+/// A held unit that goes, in whose place another comes, and how many texts, from the front on and from the end on, are known to read the same in both.
 #[derive(Clone, Copy)]
 pub(crate) struct Alike<'a> {
     pub(crate) unit: &'a HeldUnit,
@@ -67,9 +67,41 @@ impl<'a> TextRoom<'a> {
         ensures room { entities_in self.new ≡ entities_in self.old }
     {
         match like.unit.ends() {
-            Some(ends) => list_like(self.alloc, blocks, texts, options, like, ends),
+            Some(ends) => self.list_like(blocks, texts, options, like, ends),
             None => self.unit_piece(blocks, texts, options, like.unit.piece().len()),
         }
+    }
+
+    /// The piece of a unit that comes in the place of a held one of which is known where its items end.
+    fn list_like(
+        &mut self,
+        blocks: &[Block],
+        texts: &[Parsed],
+        options: &Options,
+        like: Alike<'_>,
+        like_ends: &[usize],
+    ) -> Result<Piece, NoMemory>
+        requires within { BlocksIn (length texts.now) (blocks_view blocks.now) }
+        requires rendered { IsRendered options.now like.unit.now }
+        requires like_ends { Some like_ends.now ≡ like.unit.now.ends }
+        requires alike { AreAlike texts.now like }
+        ensures html { IfOk result (λ piece. piece.html
+            ≡ blocks_html options.now (texts_html options.now texts.now) false (blocks_view blocks.now) []) }
+        ensures ends { IfOk result (λ piece. AreEnds options.now texts.now (blocks_view blocks.now) piece.ends) }
+        ensures room { entities_in self.new ≡ entities_in self.old }
+    {
+        let was = Like {
+            blocks: like.unit.unit().blocks(),
+            texts: like.unit.inlines(),
+            html: like.unit.piece(),
+            ends: like_ends,
+            front: like.front,
+            behind: like.behind,
+        };
+        self.html.clear();
+        let mut ends = Vec::new(self.alloc);
+        append_unit_like(blocks, texts, options, &was, &mut self.html, &mut ends)?;
+        self.written(ends)
     }
 
     /// The piece of a unit: the HTML of its blocks, whose texts read as `texts`. It takes as much memory as it has bytes; `like` is the length of the piece in
@@ -88,77 +120,43 @@ impl<'a> TextRoom<'a> {
         ensures room { entities_in self.new ≡ entities_in self.old }
     {
         if like > LONG {
-            return long_piece(self.alloc, blocks, texts, options, like);
+            return self.long_piece(blocks, texts, options);
         }
         self.html.clear();
         self.html.reserve(HTML_ROOM)?;
         append_unit_html(blocks, texts, options, &mut self.html)?;
         Ok(Piece::new(String::from_str(self.alloc, &self.html)?, None))
     }
-}
 
-/// The piece of a unit that comes in the place of a held one of which is known where its items end.
-fn list_like(
-    alloc: Global,
-    blocks: &[Block],
-    texts: &[Parsed],
-    options: &Options,
-    like: Alike<'_>,
-    like_ends: &[usize],
-) -> Result<Piece, NoMemory>
-    requires within { BlocksIn (length texts.now) (blocks_view blocks.now) }
-    requires rendered { IsRendered options.now like.unit.now }
-    requires like_ends { Some like_ends.now ≡ like.unit.now.ends }
-    requires alike { AreAlike texts.now like }
-    ensures html { IfOk result (λ piece. piece.html
-        ≡ blocks_html options.now (texts_html options.now texts.now) false (blocks_view blocks.now) []) }
-    ensures ends { IfOk result (λ piece. AreEnds options.now texts.now (blocks_view blocks.now) piece.ends) }
-{
-    let was = Like {
-        blocks: like.unit.unit().blocks(),
-        texts: like.unit.inlines(),
-        html: like.unit.piece(),
-        ends: like_ends,
-        front: like.front,
-        behind: like.behind,
-    };
-    let mut html = String::with_capacity(alloc, was.html.len().saturating_add(HTML_ROOM))?;
-    let mut ends = Vec::new(alloc);
-    append_unit_like(blocks, texts, options, &was, &mut html, &mut ends)?;
-    cut_piece(alloc, html, ends)
-}
-
-/// The same in memory of its own, which is taken at once for a piece as long as the one before it, and cut to its length; it tells where the items of a list
-/// end.
-fn long_piece(
-    alloc: Global,
-    blocks: &[Block],
-    texts: &[Parsed],
-    options: &Options,
-    like: usize,
-) -> Result<Piece, NoMemory>
-    requires { BlocksIn (length texts.now) (blocks_view blocks.now) }
-    ensures html { IfOk result (λ piece. piece.html
-        ≡ blocks_html options.now (texts_html options.now texts.now) false (blocks_view blocks.now) []) }
-    ensures ends { IfOk result (λ piece. AreEnds options.now texts.now (blocks_view blocks.now) piece.ends) }
-{
-    let mut html = String::with_capacity(alloc, like.saturating_add(HTML_ROOM))?;
-    let mut ends = Vec::new(alloc);
-    append_unit_ends(blocks, texts, options, &mut html, &mut ends)?;
-    cut_piece(alloc, html, ends)
-}
-
-/// A piece, and where items end in it if there are any, in no more memory than they need.
-fn cut_piece(alloc: Global, html: String, ends: Vec<usize>) -> Result<Piece, NoMemory>
-    ensures html { IfOk result (λ piece. piece.html ≡ string_bytes html) }
-    ensures ends { IfOk result (λ piece. IfSome piece.ends (λ ns. ns ≡ ends.items)) }
-{
-    let mut html = html;
-    let mut ends = ends;
-    html.shrink_to_fit();
-    if ends.is_empty() {
-        return Ok(Piece::new(html, None));
+    /// The piece of a unit that comes in the place of a long one.
+    fn long_piece(
+        &mut self,
+        blocks: &[Block],
+        texts: &[Parsed],
+        options: &Options,
+    ) -> Result<Piece, NoMemory>
+        requires { BlocksIn (length texts.now) (blocks_view blocks.now) }
+        ensures html { IfOk result (λ piece. piece.html
+            ≡ blocks_html options.now (texts_html options.now texts.now) false (blocks_view blocks.now) []) }
+        ensures ends { IfOk result (λ piece. AreEnds options.now texts.now (blocks_view blocks.now) piece.ends) }
+        ensures room { entities_in self.new ≡ entities_in self.old }
+    {
+        self.html.clear();
+        self.html.reserve(HTML_ROOM)?;
+        let mut ends = Vec::new(self.alloc);
+        append_unit_ends(blocks, texts, options, &mut self.html, &mut ends)?;
+        self.written(ends)
     }
-    ends.shrink_to_fit();
-    Ok(Piece::new(html, Some(Box::new(alloc, ends)?)))
+
+    /// The piece that was written; of a long one with where items end in it, if there are any.
+    fn written(&self, ends: Vec<usize>) -> Result<Piece, NoMemory>
+        ensures html { IfOk result (λ piece. piece.html ≡ string_bytes self.now.html) }
+        ensures ends { IfOk result (λ piece. IfSome piece.ends (λ ns. ns ≡ ends.items)) }
+    {
+        let html = String::from_str(self.alloc, &self.html)?;
+        if html.len() <= LONG || ends.is_empty() {
+            return Ok(Piece::new(html, None));
+        }
+        Ok(Piece::new(html, Some(Box::new(self.alloc, ends)?)))
+    }
 }

@@ -203,7 +203,9 @@ impl Update {
         let mut again = Vec::new(held.alloc);
         reader.read_again(held.units, 0, first, head, &mut room, &mut again, count)?;
         let kept = kept_readings(held.units, kept);
-        let units = reader.read_found(found, kept, held.units, first, from, &mut room, count)?;
+        let units = reader.read_found(
+            found, kept, held.units, first, next, from, &mut room, count,
+        )?;
         reader.read_again(
             held.units,
             next,

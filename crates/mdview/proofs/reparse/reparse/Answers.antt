@@ -23,7 +23,7 @@ use Rattle.mdview.proofs.EditPlaces.{begins_many}
 use Rattle.mdview.proofs.ListsStand.{stands_pushed}
 use Rattle.mdview.proofs.ReadStretches.{is_edit, stretch_next}
 use Rattle.mdview.proofs.Reparses.{ReadAbove, begin_told, begins_reading, deep_at, deep_told, ended, found_all, met_all, met_told, new_fits, next_ends, next_is, in_new, read_next, stands_read, units_pushed, unmet_told}
-use Rattle.mdview.proofs.ResumedReading.{res_above, res_near}
+use Rattle.mdview.proofs.ResumedReading.{few_above, res_above, res_near}
 use Rattle.joinspec.specs.Stops.{near_line}
 use Rattle.joinlaws.proofs.NearStretch.{near_told}
 use Rattle.std.specs.Prelude.{IfOk}
@@ -76,6 +76,22 @@ loop-line-init g c =
           (subst (λ n. IsAhead (map lines_in c.args.held.now.units.now.items) p.old_begins r.start.unit r.start.line n) was s.2);
       stands = subst (All (StandsAt e (drop (from_line p) (take begun new)))) (sym c.new-found.ensures.items) (All-nil (StandsAt e (drop (from_line p) (take begun new))));
     }
+
+pub returns-in_err-reader-clause-stretch : goal.returns-in_err-reader-clause-stretch
+returns-in_err-reader-clause-stretch g c =
+    let e = c.args.held.now.entities.now in
+    let text = c.args.text in
+    let r = c.resume_at-from.result in
+    let s = begins_reading e text c.args.held.now.head c.args.held.now.units.now.items c.at.result r.from r.start.unit r.start.line c.requires.held c.requires.old c.at.ensures.at c.resume_at-from.ensures.resumed in
+    let few = few_above e (old_lines text) (lines_of text) (stops_of e text) (is_stop e text) in
+    omega (arith, few, c.in_err-reader.ensures.no_more, s.0)
+
+pub returns-in_err-reader-clause-lines : goal.returns-in_err-reader-clause-lines
+returns-in_err-reader-clause-lines g c =
+    let e = c.args.held.now.entities.now in
+    let text = c.args.text in
+    let within = in_new c.args.held.now.options.now.max_containers e (old_lines text) (lines_of text) (places_of e text) (is_edit e text) in
+    omega (arith, within, c.in_err-reader.ensures.no_more)
 
 pub returns-in_err-push_some-in-Ok-clause-stretch : goal.returns-in_err-push_some-in-Ok-clause-stretch
 returns-in_err-push_some-in-Ok-clause-stretch g c =

@@ -17,19 +17,19 @@ use Rattle.mdview.proofs.readings.TextReader.read_units.Goals as goal
 pub read_unit-requires-clause-held : goal.read_unit-requires-clause-held
 read_unit-requires-clause-held g c =
     let P = IsReadUnder (entities_in c.args.room.now) (labels_before c.args.self.now) in
-    subst (λ z. IfSome c.next-was.result (λ u. IsReadUnder z (labels_before c.args.self.now) u.now)) (sym c.loop-one.invariant.room)
-    (next_has (λ x. x.now) P c.next-was.result c.loop-one.like c.next-was.new.self c.next-was.ensures.steps c.loop-one.invariant.like)
+    subst (λ z. IfSome c.next_gone-was.result (λ u. IsReadUnder z (labels_before c.args.self.now) u.now)) (sym c.loop-one.invariant.room)
+    (next_has (λ x. x.now) P c.next_gone-was.result c.loop-one.like c.next_gone-was.new.held c.next_gone-was.ensures c.loop-one.invariant.like)
 
 pub read_unit-requires-clause-held_shallow : goal.read_unit-requires-clause-held_shallow
 read_unit-requires-clause-held_shallow g c =
     let limit = c.args.self.now.options.now.max_spans in
     let P = IsShallow limit (entities_in c.args.room.now) (labels_before c.args.self.now) in
-    subst (λ z. IfSome c.next-was.result (λ u. IsShallow limit z (labels_before c.args.self.now) u.now)) (sym c.loop-one.invariant.room)
-    (next_has (λ x. x.now) P c.next-was.result c.loop-one.like c.next-was.new.self c.next-was.ensures.steps c.loop-one.invariant.like_shallow)
+    subst (λ z. IfSome c.next_gone-was.result (λ u. IsShallow limit z (labels_before c.args.self.now) u.now)) (sym c.loop-one.invariant.room)
+    (next_has (λ x. x.now) P c.next_gone-was.result c.loop-one.like c.next_gone-was.new.held c.next_gone-was.ensures c.loop-one.invariant.like_shallow)
 
 pub read_unit-requires-clause-rendered : goal.read_unit-requires-clause-rendered
 read_unit-requires-clause-rendered g c =
-    next_has (λ x. x.now) (IsRendered c.args.self.now.options.now) c.next-was.result c.loop-one.like c.next-was.new.self c.next-was.ensures.steps c.loop-one.invariant.like_rendered
+    next_has (λ x. x.now) (IsRendered c.args.self.now.options.now) c.next_gone-was.result c.loop-one.like c.next_gone-was.new.held c.next_gone-was.ensures c.loop-one.invariant.like_rendered
 
 pub loop-one-preserved : goal.loop-one-preserved
 loop-one-preserved g c =
@@ -49,9 +49,9 @@ loop-one-preserved g c =
       read = all_more (IsReadUnder e L) c.loop-one.units.items c.in-Ok.unit c.loop-one.invariant.read (subst (λ z. IsReadUnder z L c.in-Ok.unit) c.loop-one.invariant.room c.in-Ok.ensures.read);
       shallow = c.loop-one.invariant.shallow ∙ ap (λ xs. deep_found limit e L (map found_unit xs)) step
           ∙ deep_later limit e L (found_unit one) (map found_unit rest) (ap (λ z. is_deep_under limit z L one.unit) (sym c.loop-one.invariant.room) ∙ c.in-Ok.ensures.shallow);
-      like = rest_have (λ x. x.now) (IsReadUnder e (labels_before c.args.self.now)) c.next-was.result c.loop-one.like c.next-was.new.self c.next-was.ensures.steps c.loop-one.invariant.like;
-      like_shallow = rest_have (λ x. x.now) (IsShallow limit e (labels_before c.args.self.now)) c.next-was.result c.loop-one.like c.next-was.new.self c.next-was.ensures.steps c.loop-one.invariant.like_shallow;
-      like_rendered = rest_have (λ x. x.now) (IsRendered c.args.self.now.options.now) c.next-was.result c.loop-one.like c.next-was.new.self c.next-was.ensures.steps c.loop-one.invariant.like_rendered;
+      like = rest_have (λ x. x.now) (IsReadUnder e (labels_before c.args.self.now)) c.next_gone-was.result c.loop-one.like c.next_gone-was.new.held c.next_gone-was.ensures c.loop-one.invariant.like;
+      like_shallow = rest_have (λ x. x.now) (IsShallow limit e (labels_before c.args.self.now)) c.next_gone-was.result c.loop-one.like c.next_gone-was.new.held c.next_gone-was.ensures c.loop-one.invariant.like_shallow;
+      like_rendered = rest_have (λ x. x.now) (IsRendered c.args.self.now.options.now) c.next_gone-was.result c.loop-one.like c.next_gone-was.new.held c.next_gone-was.ensures c.loop-one.invariant.like_rendered;
       room = c.read_unit.ensures.room ∙ c.loop-one.invariant.room;
       lines = c.read_unit.ensures.lines ∙ c.loop-one.invariant.lines;
       inlines = omega (arith, c.read_unit.ensures.inlines, c.loop-one.invariant.inlines, texts);
