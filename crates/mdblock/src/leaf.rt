@@ -149,6 +149,7 @@ impl Leaf {
     }
 
     /// What the leaf is at its end. `first`: whether it may be the first block of a list item.
+    #[inline(always)]
     pub(crate) fn end(
         self,
         first: bool,
