@@ -1,4 +1,4 @@
-use Rattle.std.proofs.Common.{◌++◌, ◌∙◌, [], ◌∷◌, Err, None, ap, arith, eqb-true, refl, rules, subst, sym}
+use Rattle.std.proofs.Common.{◌++◌, ◌∙◌, [], ◌∷◌, Err, ap, arith, eqb-true, refl, rules, string_bytes, subst, sym}
 use Rattle.std.proofs.lemmas.List.{nil_from_length}
 use Rattle.std.specs.Option.{option_map, option_to_list}
 use Rattle.mdtext.specs.Lines.{split_lines}
@@ -6,35 +6,33 @@ use Rattle.blockspec.specs.BlockUnits.{units}
 use Rattle.blockspec.specs.Nesting.{first_too_deep}
 use Rattle.mdblock.specs.held.ReaderState.{ReaderState}
 use Rattle.mdblock.specs.held.Reads.{handed}
-use Rattle.mdblock.specs.FoundLists.{found_unit}
 use Rattle.mdview.specs.Document.{size_of}
+use Rattle.mdblock.specs.FoundLists.{found_unit}
 use Rattle.viewspec.specs.Setting.{Setting}
-use Rattle.mdbatch.specs.declared.at_once.Written.{Written}
 use Rattle.mdbatch.specs.BatchHtml.{IsReadFault}
 use Rattle.mdbatch.specs.GatheredUnits.{setting_of}
 use Rattle.mdbatch.specs.TextLabels.{target_on_page}
-use Rattle.mdbatch.specs.UnitsAtOnce.{GivesUnits}
+use Rattle.mdbatch.specs.UnitsAtOnce.{AddsUnits}
 use Rattle.viewlaws.proofs.ReadLines.{lines_fed, none_deep, none_handed}
 use Rattle.mdbatch.proofs.ReadLines.{all_fed, fault_is, next_fed}
 use Rattle.mdbatch.proofs.SplitText.{size_next}
-use Rattle.mdbatch.proofs.UnitsAtOnce.{deep_page, none_given, page_given}
-use Rattle.mdbatch.proofs.WholeTexts.{of_reading}
+use Rattle.mdbatch.proofs.UnitsAtOnce.{added_behind, none_added}
 use Rattle.mdbatch.proofs.at_once.written_units.Goals as goal
 
 pub loop-rest-init : goal.loop-rest-init
 loop-rest-init c =
+    let setting : Setting = record { entities = c.args.entities.now; options = c.args.options.now } in
     let table = target_on_page c.args.labels.now in
-    let written : Written = record { html = c.in_ok-html.html; too_deep = None } in
     record {
       text = c.utf8.text;
       few = search rules;
       small = c.requires.small;
-      gives = (
+      adds = (
         [],
         refl,
         c.new-reader.ensures.reads,
-        subst (λ units. GivesUnits (setting_of c.new-writer.result) table units written) (sym (none_handed c.args.entities.now))
-            (none_given (setting_of c.new-writer.result) table written refl c.in_ok-html.ensures.bytes),
+        subst (λ html. AddsUnits setting table (handed c.args.entities.now []) [] html) (sym c.in_ok-html.ensures.bytes)
+            (subst (λ units. AddsUnits setting table units [] []) (sym (none_handed c.args.entities.now)) (none_added setting table)),
       );
       setting = ap (λ o. record { entities = (setting_of c.new-writer.result).entities; options = o }) c.new-writer.ensures.options
           ∙ ap (λ e. record { entities = e; options = c.args.options.now }) c.new-writer.ensures.entities;
@@ -42,83 +40,67 @@ loop-rest-init c =
 
 pub returns-in-Err-clause-fault : goal.returns-in-Err-clause-fault
 returns-in-Err-clause-fault c =
-    let before = c.loop-rest.invariant.gives in
+    let before = c.loop-rest.invariant.adds in
     let limit = c.args.options.now.max_containers in
     let rest = split_lines c.loop-rest.rest.now in
     let line = c.next_line.result.0.now in
     let later = split_lines c.next_line.result.1.now in
     let fed = c.fed.ensures ∙ ap (λ (r : ReaderState). r.fed) c.in-Err.ensures.fault ∙ lines_fed limit c.args.entities.now c.loop-rest.reader before.0 before.2 in
-    of_reading _ _ _
-    (subst (IsReadFault _) (sym c.fault_in_line.ensures)
+    subst (IsReadFault _) (sym c.fault_in_line.ensures)
     (fault_is limit (split_lines c.args.text.now) before.0 rest line later c.in-Err.fault c.fed.result before.1 c.next_line.ensures.lines fed
-    (λ is. c.in-Err.ensures.deep (ap Err is) limit c.args.entities.now before.0 before.2)))
+    (λ is. c.in-Err.ensures.deep (ap Err is) limit c.args.entities.now before.0 before.2))
 
 pub loop-rest-preserved : goal.loop-rest-preserved
 loop-rest-preserved c =
-    let before = c.loop-rest.invariant.gives in
+    let before = c.loop-rest.invariant.adds in
     let limit = c.args.options.now.max_containers in
     let e = c.args.entities.now in
     let ls = before.0 in
     let line = c.next_line.result.0.now in
     let later = split_lines c.next_line.result.1.now in
     let size = size_next line later in
+    let same = c.loop-rest.invariant.setting in
+    let setting : Setting = record { entities = e; options = c.args.options.now } in
     let table = target_on_page c.args.labels.now in
-    let given = c.take.new.self in
+    let mid = string_bytes c.loop-rest.html in
+    let new = string_bytes c.write_found.new.html in
     let more = option_to_list (option_map found_unit c.in-Ok.found) in
-    let taken = c.in_ok-take-in-Ok.ensures.gives (handed e ls) before.3 c.if-not-branch.false in
+    let added = subst (λ (s : Setting). AddsUnits s table more mid new) same (c.in_ok-write_found-in-Ok.ensures.adds c.if-not-branch.false) in
     record {
       text = search rules;
       few = search rules;
       small = omega (arith, size, ap size_of c.next_line.ensures.lines, c.loop-rest.invariant.small);
-      gives = (
+      adds = (
         ls ++ line ∷ [],
         next_fed (split_lines c.args.text.now) ls (split_lines c.loop-rest.rest.now) line later before.1 c.next_line.ensures.lines,
         c.in-Ok.ensures.reads limit e ls before.2,
-        subst (λ units. GivesUnits (setting_of c.take.new.writer) table units given) (sym (c.in-Ok.ensures.hands limit e ls before.2))
-            (subst (λ (s : Setting). GivesUnits s table (handed e ls ++ more) given) (sym c.take.ensures.setting) taken),
+        subst (λ units. AddsUnits setting table units [] new) (sym (c.in-Ok.ensures.hands limit e ls before.2))
+            (added_behind setting table (handed e ls) more [] mid new before.3 added),
       );
-      setting = c.take.ensures.setting ∙ c.loop-rest.invariant.setting;
+      setting = c.write_found.ensures.setting ∙ same;
     }
 
-pub returns-in-Some-clause-fault : goal.returns-in-Some-clause-fault
-returns-in-Some-clause-fault c =
-    let before = c.loop-rest.invariant.gives in
+pub returns-in-Ok-finish-clause-adds : goal.returns-in-Ok-finish-clause-adds
+returns-in-Ok-finish-clause-adds c =
+    let before = c.loop-rest.invariant.adds in
     let limit = c.args.options.now.max_containers in
     let e = c.args.entities.now in
     let ls = before.0 in
+    let same = c.loop-rest.invariant.setting in
     let setting : Setting = record { entities = e; options = c.args.options.now } in
     let table = target_on_page c.args.labels.now in
-    let given = c.take-in-Ok-finish.new.self in
+    let mid = string_bytes c.loop-rest.html in
+    let new = string_bytes c.write_found-in-Ok-finish.new.html in
     let more = option_to_list (option_map found_unit c.in-Ok-finish.last) in
     let all = all_fed c.args.text.now ls c.loop-rest.rest.now (nil_from_length c.loop-rest.rest.now (eqb-true _ _ (sym c.is_empty.ensures ∙ c.loop-rest-test.false))) before.1 in
-    let taken = c.in_ok-take-in-Ok-finish.ensures.gives (handed e ls) before.3 c.if-not-branch-2.false in
-    let gives = subst (λ lines. GivesUnits setting table (units e lines) given) (sym all)
-    (subst (λ units. GivesUnits setting table units given) (sym (c.in-Ok-finish.ensures.hands limit e ls before.2))
-    (subst (λ (s : Setting). GivesUnits s table (handed e ls ++ more) given) c.loop-rest.invariant.setting taken)) in (
-      ap (first_too_deep limit) all ∙ none_deep limit e c.loop-rest.reader ls before.2,
-      deep_page setting c.args.labels.now.own.now c.args.labels.now.prelude.now (units e (split_lines c.args.text.now)) given c.requires.none gives c.in-Some.line c.in-Some.is,
-    )
+    let added = subst (λ (s : Setting). AddsUnits s table more mid new) same (c.in_ok-write_found-in-Ok-finish.ensures.adds c.if-not-branch-2.false) in
+    subst (λ lines. AddsUnits setting table (units e lines) [] new) (sym all)
+    (subst (λ units. AddsUnits setting table units [] new) (sym (c.in-Ok-finish.ensures.hands limit e ls before.2))
+    (added_behind setting table (handed e ls) more [] mid new before.3 added))
 
-pub returns-in-None-clause-html : goal.returns-in-None-clause-html
-returns-in-None-clause-html c =
-    let before = c.loop-rest.invariant.gives in
-    let limit = c.args.options.now.max_containers in
-    let e = c.args.entities.now in
-    let ls = before.0 in
-    let setting : Setting = record { entities = e; options = c.args.options.now } in
-    let table = target_on_page c.args.labels.now in
-    let given = c.take-in-Ok-finish.new.self in
-    let more = option_to_list (option_map found_unit c.in-Ok-finish.last) in
-    let all = all_fed c.args.text.now ls c.loop-rest.rest.now (nil_from_length c.loop-rest.rest.now (eqb-true _ _ (sym c.is_empty.ensures ∙ c.loop-rest-test.false))) before.1 in
-    let taken = c.in_ok-take-in-Ok-finish.ensures.gives (handed e ls) before.3 c.if-not-branch-2.false in
-    let gives = subst (λ lines. GivesUnits setting table (units e lines) given) (sym all)
-    (subst (λ units. GivesUnits setting table units given) (sym (c.in-Ok-finish.ensures.hands limit e ls before.2))
-    (subst (λ (s : Setting). GivesUnits s table (handed e ls ++ more) given) c.loop-rest.invariant.setting taken)) in
-    page_given setting c.args.labels.now.own.now c.args.labels.now.prelude.now (units e (split_lines c.args.text.now)) given c.requires.none gives c.in-None.is
-
-pub returns-in-None-clause-nesting : goal.returns-in-None-clause-nesting
-returns-in-None-clause-nesting c =
-    let before = c.loop-rest.invariant.gives in
+pub returns-in-Ok-finish-clause-nesting : goal.returns-in-Ok-finish-clause-nesting
+returns-in-Ok-finish-clause-nesting c =
+    let before = c.loop-rest.invariant.adds in
     let limit = c.args.options.now.max_containers in
     let all = all_fed c.args.text.now before.0 c.loop-rest.rest.now (nil_from_length c.loop-rest.rest.now (eqb-true _ _ (sym c.is_empty.ensures ∙ c.loop-rest-test.false))) before.1 in
     ap (first_too_deep limit) all ∙ none_deep limit c.args.entities.now c.loop-rest.reader before.0 before.2

@@ -1,22 +1,22 @@
 use denote.Shadow.{shadow}
 use denote.Text.{Utf8}
-use Rattle.std.proofs.Common.{◌≡◌, ◌+◌, ◌≤◌, ℕ, List, ◌++◌, length}
+use Rattle.std.proofs.Common.{◌≡◌, ◌+◌, ◌≤◌, ℕ, List, [], ◌++◌, length, string_bytes}
 use Rattle.mdtext.specs.Lines.{split_lines}
 use Rattle.mdview.specs.Document.{size_of}
 use Rattle.mdblock.specs.held.Reads.{Reads, handed}
 use Rattle.mdbatch.specs.GatheredUnits.{setting_of}
 use Rattle.mdbatch.specs.TextLabels.{target_on_page}
-use Rattle.mdbatch.specs.UnitsAtOnce.{GivesUnits}
+use Rattle.mdbatch.specs.UnitsAtOnce.{AddsUnits}
 use Rattle.mdbatch.proofs.at_once.written_units.Given as goal
 
--- the lines that were fed and those to come are within the limits; the units so far are taken
+-- the lines that were fed and those to come are within the limits; the units so far are written
 abbrev pub invariant-loop-rest : goal.invariant-loop-rest
 invariant-loop-rest l = record {
   text : shadow (Utf8 l.rest);
   few : l.reader.fed + length (split_lines l.rest) ≤ 1000000;
   small : size_of (split_lines l.rest) ≤ 16777216;
-  gives : (lines : List (List ℕ)) × (split_lines l.text ≡ lines ++ split_lines l.rest) × Reads l.options.max_containers l.entities l.reader lines
-      × GivesUnits (setting_of l.writer) (target_on_page l.labels) (handed l.entities lines) l.written;
+  adds : (lines : List (List ℕ)) × (split_lines l.text ≡ lines ++ split_lines l.rest) × Reads l.options.max_containers l.entities l.reader lines
+      × AddsUnits (record { entities = l.entities; options = l.options }) (target_on_page l.labels) (handed l.entities lines) [] (string_bytes l.html);
   setting : setting_of l.writer ≡ record { entities = l.entities; options = l.options };
 }
 

@@ -7,7 +7,7 @@ use Rattle.mdbatch.proofs.batch.clean_html.Goals as goal
 pub returns-in_err-html-clause-fault : goal.returns-in_err-html-clause-fault
 returns-in_err-html-clause-fault c =
     let p = err_from_is_err_and c.from_residual.result c.from_residual.ensures.1 in
-    rw (p.1, p.2) c.in_err-html.ensures.fault
+    rw (p.1, p.2) (of_reading _ _ c.in_err-html.field-0.0 c.in_err-html.ensures.fault)
 
 pub returns-in_err-gathered-clause-fault : goal.returns-in_err-gathered-clause-fault
 returns-in_err-gathered-clause-fault c =
