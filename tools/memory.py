@@ -185,7 +185,7 @@ def subjects(options, loaded):
         if not os.path.exists(name.removesuffix(".script") + ".status"):
             with open(name, "rb") as file:
                 yield os.path.relpath(name, ROOT), Preview(options.bin, [], file.read(), loaded)
-    for name, script in short_edits():
+    for name, script in short_edits() if options.scripts else []:
         yield name, ShortEdit(options.bin, [], script, loaded)
     for number in range(options.scripts):
         yield f"random script {number}", Preview(options.bin, [], random_script(f"{options.seed}:{number}", options.edits), loaded)

@@ -1,7 +1,6 @@
 //! The reader of blocks.
 
 use crate::reports::{say_failed, say_refused};
-use crate::threads::across_threads;
 use mdblock::{BlockFault, Found, Reader};
 use mdtext::{Entities, Tally};
 use std::alloc::{AllocError, Global};
@@ -59,7 +58,7 @@ fn read_text(alloc: Global, entities: &Entities) -> Result<Reading, AllocError> 
         }
         let fed = reader.fed();
         match reader.line(line, &mut Tally::new()) {
-            Ok(found) => say_found(&mut units, across_threads(found))?,
+            Ok(found) => say_found(&mut units, found)?,
             Err(BlockFault::NoMemory) => return Ok(Reading::Refused(stays_failed(reader, fed))),
             Err(_) => return Ok(Reading::Refused(false)),
         }

@@ -8,7 +8,6 @@ mod pages;
 mod reports;
 mod scripts;
 mod texts;
-mod threads;
 mod trees;
 mod views;
 

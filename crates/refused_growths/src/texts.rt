@@ -1,7 +1,6 @@
 //! The calls on characters, references, labels and rows of tables.
 
 use crate::reports::{say, say_failed, say_refused};
-use crate::threads::across_threads;
 use mdscan::cells;
 use mdtext::{Entities, TableFault, escape_text, escape_url, fold_label, lines_of, unescape};
 use std::alloc::{AllocError, Global};
@@ -120,10 +119,7 @@ fn try_builtin(alloc: Global, said: &mut String) -> Result<(), AllocError> {
         answer = Entities::builtin(alloc);
     }
     match answer {
-        Ok(entities) => {
-            let entities = across_threads(entities);
-            say(said, "builtin", entities.get("auml").unwrap_or("none"))
-        }
+        Ok(entities) => say(said, "builtin", entities.get("auml").unwrap_or("none")),
         Err(_) => say_failed(said, "builtin"),
     }
 }

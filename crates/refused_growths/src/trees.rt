@@ -1,7 +1,6 @@
 //! The reading of an inline text, a copy of what it reads as, and the HTML of blocks.
 
 use crate::reports::{say, say_failed, say_refused};
-use crate::threads::across_threads;
 use mdblock::{Align, Block};
 use mdhtml::{Options, unit_html};
 use mdinline::{InlineFault, LabelTable, Parsed, read};
@@ -23,7 +22,7 @@ pub fn try_trees(alloc: Global, said: &mut String) -> Result<(), AllocError> {
             Ok(parsed) => {
                 say_asked(said, &parsed)?;
                 try_copy(alloc, &parsed, said)?;
-                texts.push(across_threads(parsed))?;
+                texts.push(parsed)?;
             }
             Err(_) => say_failed(said, "read")?,
         }

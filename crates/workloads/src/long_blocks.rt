@@ -6,10 +6,21 @@ use crate::maker::Maker;
 use anyhow::Result;
 use std::alloc::Global;
 
-/// How many lines the long blocks have, by turns, and how many blocks name the labels: the same whatever the seed.
-const LINES: [usize; 5] = [2_000, 12_000, 5_000, 18_000, 8_000];
+/// How many lines the long block of this number has: the same whatever the seed.
+fn lines_of(i: u64) -> usize {
+    match i % 5 {
+        0 => 2_000,
+        1 => 12_000,
+        2 => 5_000,
+        3 => 18_000,
+        _ => 8_000,
+    }
+}
 
-const NAMED: [usize; 2] = [18_000, 1_200];
+/// How many blocks name the labels: the same whatever the seed.
+fn named_of(i: u64) -> usize {
+    if i % 12 == 5 { 18_000 } else { 1_200 }
+}
 
 /// So many texts, of six kinds by turns, each opened and then edited at places all over it.
 pub fn long_blocks(
@@ -21,12 +32,12 @@ pub fn long_blocks(
     for i in 0..count {
         let mut text = String::new(alloc);
         if i % 6 == 5 {
-            let blocks = maker.share_of(NAMED[(i / 6 % 2) as usize]);
+            let blocks = maker.share_of(named_of(i));
             named(blocks, maker, &mut text)?;
             let mut editor = Editor::open(alloc, &text, digest)?;
             relabel(&mut editor, digest)?;
         } else {
-            let lines = maker.share_of(LINES[(i % 5) as usize]);
+            let lines = maker.share_of(lines_of(i));
             block(i % 6, lines, i % 12 == 1, maker, &mut text)?;
             let mut editor = Editor::open(alloc, &text, digest)?;
             for _ in 0..4 {

@@ -30,7 +30,10 @@ impl<'a> Maker<'a> {
 
     /// The share of a size.
     pub fn share_of(&self, size: usize) -> usize {
-        size / self.share.max(1)
+        if self.share == 0 {
+            return size;
+        }
+        size / self.share
     }
 
     pub fn sentence(&mut self) -> &'a str {
