@@ -23,27 +23,31 @@ LIB_DIR ?= $(PREFIX)/lib
 INCLUDE_DIR ?= $(PREFIX)/include
 PKG_CONFIG_DIR ?= $(LIB_DIR)/pkgconfig
 MAN_DIR ?= $(PREFIX)/share/man/man1
+DATA_DIR ?= $(PREFIX)/share/jirmoans
 BASH_COMPLETION_DIR ?= $(PREFIX)/share/bash-completion/completions
 ZSH_COMPLETION_DIR ?= $(PREFIX)/share/zsh/site-functions
 INSTALL ?= install
+# The version stands in one place, which --version prints too.
+VERSION = $(shell sed -nE 's/^pub const VERSION: &str = "(.*)";$$/\1/p' crates/mdtool/src/tool_words.rt)
 
 # Ends a target that takes what is in bin/ where that is not there.
 need = @for made in $(1); do [ -e $$made ] || { echo "$$made is not there: make build first" >&2; exit 1; }; done
 BUILT_PROGRAMS := $(PROGRAMS:%=bin/%)
 
-.PHONY: help run test build programs check fmt picture bench hostile soak fuzz memory pane_test vim_test c_library c_memory compare counts rows rows_inlines install install-programs uninstall
+.PHONY: help run test build programs check more_edits fmt picture bench hostile soak fuzz memory pane_test vim_test c_library c_memory compare counts rows rows_inlines install install-programs uninstall
 
 help:
 	@echo "make run                 runs mdrender on a page and mdpreview on a writer's few edits, and shows what goes in and out (from the sources, unproved, where bin/ is empty); PAGE=FILE and EDITS=FILE show files of yours"
 	@echo "make build               proves every crate and builds the programs and the library for C into bin/, side by side; a line a crate, the logs in out/NAME.log"
 	@echo "make programs            proves and builds the two programs alone"
-	@echo "make test                the gate: every proof from nothing, the tests and must-fail edits, the example files, endings and completions, the library from C, the client in Vim; the log in out/gate.log"
+	@echo "make test                the gate: every proof from nothing, the tests and must-fail edits, the pages with their listings, links and spelling, the example files, endings and completions, the library from C, the client in Vim; the log in out/gate.log"
 	@echo "make check               a quick check of every crate, over what earlier checks kept"
+	@echo "make more_edits NAMES=\"mdtext mdview\"  tries the must-fail edits that the gate leaves out, of these crates or of all (a minute each)"
 	@echo "make fmt                 lays out the sources"
 	@echo "make picture             draws docs/preview.svg, the README's picture, from a run of bin/mdpreview"
-	@echo "make install PREFIX=DIR  installs what bin/ has of the programs, with their man pages and completions for bash and zsh, and of the library with its header, below DIR ($(PREFIX)), and names what it has not; DESTDIR is honoured; make install-programs leaves the library out"
+	@echo "make install PREFIX=DIR  installs what bin/ has of the programs, with their man pages, completions for bash and zsh and HTML's file of entities (share/jirmoans), and of the library with its header, below DIR ($(PREFIX)), and names what it has not; DESTDIR is honoured; make install-programs leaves the library out"
 	@echo "make uninstall           removes what make install put there"
-	@echo "make bench               measures bin/mdrender beside cmark-gfm and md4c: instructions, times and memory on 22 kinds of texts, of which docs/SPEED.md has a run"
+	@echo "make bench               measures bin/mdrender beside cmark-gfm and md4c: instructions, times and memory on 22 kinds of texts, of which docs/PERF.md has a run"
 	@echo "make pane_test           looks at clients/pane in a headless Chromium, and compares the page with mdrender's HTML after each change of a file"
 	@echo "make vim_test            edits a buffer in Vim with clients/vim, and compares the HTML beside it with mdrender's after each change"
 	@echo "make c_library           compiles clients/c and tools/c_calls.c against the library, and runs them beside mdpreview; makes bin/libjirmoans.so, and tries clients/python"
@@ -71,6 +75,9 @@ test:
 
 check:
 	@$(RT) all check
+
+more_edits:
+	@tools/more_edits $(NAMES)
 
 fmt:
 	@for crate in crates/*/; do (cd $$crate && $(RT) fmt) || exit 1; done
@@ -127,7 +134,7 @@ install: install-programs
 	  $(INSTALL) -d "$(DESTDIR)$(LIB_DIR)" "$(DESTDIR)$(INCLUDE_DIR)" "$(DESTDIR)$(PKG_CONFIG_DIR)" && \
 	  $(INSTALL) -m 644 $(LIBRARY) "$(DESTDIR)$(LIB_DIR)" && \
 	  $(INSTALL) -m 644 include/jirmoans.h "$(DESTDIR)$(INCLUDE_DIR)" && \
-	  sed -e 's|@PREFIX@|$(PREFIX)|; s|@LIB_DIR@|$(LIB_DIR)|; s|@INCLUDE_DIR@|$(INCLUDE_DIR)|' include/jirmoans.pc.in > "$(DESTDIR)$(PKG_CONFIG_DIR)/jirmoans.pc"; \
+	  sed -e 's|@PREFIX@|$(PREFIX)|; s|@LIB_DIR@|$(LIB_DIR)|; s|@INCLUDE_DIR@|$(INCLUDE_DIR)|; s|@VERSION@|$(VERSION)|' include/jirmoans.pc.in > "$(DESTDIR)$(PKG_CONFIG_DIR)/jirmoans.pc"; \
 	else \
 	  echo "$(LIBRARY) is not built, and so not installed (make build)"; \
 	fi
@@ -138,7 +145,8 @@ install-programs:
 	  if [ -e bin/$$program ]; then there="$$there $$program"; else echo "bin/$$program is not built, and so not installed (make programs)"; fi; \
 	done; \
 	[ -n "$$there" ] || exit 1; \
-	$(INSTALL) -d "$(DESTDIR)$(BIN_DIR)" "$(DESTDIR)$(MAN_DIR)" "$(DESTDIR)$(BASH_COMPLETION_DIR)" "$(DESTDIR)$(ZSH_COMPLETION_DIR)" && \
+	$(INSTALL) -d "$(DESTDIR)$(BIN_DIR)" "$(DESTDIR)$(MAN_DIR)" "$(DESTDIR)$(DATA_DIR)" "$(DESTDIR)$(BASH_COMPLETION_DIR)" "$(DESTDIR)$(ZSH_COMPLETION_DIR)" && \
+	$(INSTALL) -m 644 bench/entities.json "$(DESTDIR)$(DATA_DIR)" && \
 	for program in $$there; do \
 	  $(INSTALL) -m 755 bin/$$program "$(DESTDIR)$(BIN_DIR)" && \
 	  $(INSTALL) -m 644 docs/man/$$program.1 "$(DESTDIR)$(MAN_DIR)" && \
@@ -150,7 +158,8 @@ uninstall:
 	@for program in $(PROGRAMS); do \
 	  rm -f "$(DESTDIR)$(BIN_DIR)/$$program" "$(DESTDIR)$(MAN_DIR)/$$program.1" "$(DESTDIR)$(BASH_COMPLETION_DIR)/$$program" || exit 1; \
 	done
-	rm -f "$(DESTDIR)$(ZSH_COMPLETION_DIR)/_mdrender"
+	rm -f "$(DESTDIR)$(ZSH_COMPLETION_DIR)/_mdrender" "$(DESTDIR)$(DATA_DIR)/entities.json"
+	[ ! -d "$(DESTDIR)$(DATA_DIR)" ] || rmdir --ignore-fail-on-non-empty "$(DESTDIR)$(DATA_DIR)"
 	rm -f "$(DESTDIR)$(LIB_DIR)/libjirmoans.a" "$(DESTDIR)$(INCLUDE_DIR)/jirmoans.h" "$(DESTDIR)$(PKG_CONFIG_DIR)/jirmoans.pc"
 
 rows:

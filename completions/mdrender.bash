@@ -1,5 +1,5 @@
-# Completion of mdrender's and mdpreview's words for bash: each option once, one kind of line breaks, a file behind --entities
-# and --prelude, nothing behind a limit, and one file to read.
+# Completion of mdrender's and mdpreview's words for bash: each option once but --extension, one kind of line breaks, a file behind
+# --entities and --prelude, the words that --to and --extension may have, nothing behind a number, and one file to read.
 
 # The files that begin as the word does, folders among them.
 _mdrender_files() {
@@ -13,8 +13,10 @@ _mdrender_files() {
 # The options that may still be given after those in $given.
 _mdrender_options() {
     local option
-    for option in --unsafe --hardbreaks --nobreaks --entities --prelude --max-containers --max-spans --help; do
+    for option in --unsafe --hardbreaks --nobreaks --entities --prelude --max-containers --max-spans --explain --to --extension \
+        --validate-utf8 --width --help --version; do
         case "$option $given" in
+            --extension*) echo "$option" ;;
             *" $option "*) ;;
             --hardbreaks*" --nobreaks "* | --nobreaks*" --hardbreaks "*) ;;
             *) echo "$option" ;;
@@ -36,7 +38,9 @@ _mdrender() {
             case $word in
                 --) ended=1 ;;
                 --entities | --prelude) given+="$word " value=file ;;
-                --max-containers | --max-spans) given+="$word " value=number ;;
+                --max-containers | --max-spans | --width) given+="$word " value=number ;;
+                --to | -t) given+="--to " value=html ;;
+                --extension | -e) value='table strikethrough tasklist' ;;
                 -?*) given+="$word " ;;
                 *) named=1 ;;
             esac
@@ -44,8 +48,12 @@ _mdrender() {
     done
     if [ "$value" = number ]; then
         return
-    elif [ -n "$value" ]; then
+    elif [ "$value" = file ]; then
         _mdrender_files "${current#=}"
+    elif [ -n "$value" ]; then
+        while IFS= read -r word; do
+            COMPREPLY+=("$word")
+        done < <(compgen -W "$value" -- "${current#=}")
     elif [ -z "$ended" ] && [[ $current == -* ]]; then
         while IFS= read -r word; do
             COMPREPLY+=("$word")

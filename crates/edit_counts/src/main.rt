@@ -1,43 +1,51 @@
 //! `edit_counts`: how many lines and inline texts each edit of a script reads, a line for each command.
 #![tactic(auto)]
 
+ghost use Rattle.mdhtml.specs.Limits.{HasLimits};
+
 use mdtool::{
-    ReadFeed, Stop, WriteOut, ended, entities_of, opened, prelude_of, serve_counts, words_of,
+    Halt, ReadFeed, Source, Words, WriteOut, ended, entities_of, opened, prelude_of, serve_counts,
+    text_end, words_of, words_refused,
 };
 use std::process::ExitCode;
 
 fn main(rt: HostRuntime) -> ExitCode {
-    ended(&rt, "edit_counts", run(&rt))
+    match words_of(&rt, "edit_counts") {
+        Ok(words) => ended(&rt, "edit_counts", &words, run(&rt, &words)),
+        Err(stop) => words_refused(&rt, "edit_counts", &stop),
+    }
 }
 
-fn run(rt: &HostRuntime) -> Result<(), Stop> {
-    let words = words_of(rt, "edit_counts")?;
-    let entities = entities_of(rt, &words)?;
-    let prelude = prelude_of(rt, &words)?;
+fn run(rt: &HostRuntime, words: &Words) -> Result<(), Halt>
+    requires { HasLimits words.now.options }
+{
+    let entities = entities_of(rt, words)?;
+    let prelude = prelude_of(rt, words)?;
     let mut out = WriteOut::new(rt.stdout());
-    let end = match &words.file {
+    match &words.file {
         Some(name) => {
-            let mut feed = opened(rt, name)?;
-            serve_counts(
+            let mut feed = opened(rt, name, Source::Text)?;
+            let end = serve_counts(
                 rt.alloc(),
                 &mut feed,
                 &mut out,
                 entities,
                 words.options,
                 &prelude,
-            )
+            );
+            text_end(end, &feed)
         }
         None => {
             let mut feed = ReadFeed::new(rt.stdin());
-            serve_counts(
+            let end = serve_counts(
                 rt.alloc(),
                 &mut feed,
                 &mut out,
                 entities,
                 words.options,
                 &prelude,
-            )
+            );
+            text_end(end, &feed)
         }
-    };
-    end.map_err(Stop::Tool)
+    }
 }

@@ -44,7 +44,7 @@ pub(crate) fn push_found(over: &mut Vec<Block>, found: Option<Block>) -> Result<
     }
 }
 
-/// The same, where another block may come right behind it: `more` says whether one does. Then there is room for it at once, as much as it would take.
+/// The same. `more`: whether another block comes right behind it; then room for that one is taken at once, as much as a push behind one block would take.
 pub(crate) fn push_found_inside(
     over: &mut Vec<Block>,
     found: Option<Block>,

@@ -24,8 +24,3 @@ pub use mdscan::Align;
 pub use readers::Reader;
 pub use splicing::splice;
 pub use units::{Found, Join, Unit};
-
-#[cfg(test)]
-mod splice_tests;
-#[cfg(test)]
-mod tests;

@@ -347,7 +347,7 @@ impl Level {
         }
     }
 
-    /// The same, told by a word: it ends with the reading inside the open container, which makes it a loop.
+    /// The same, told by a word: it ends with the reading inside the open container, of which the compiler makes a loop.
     #[tactic(auto, using(crate::proofs::Within::growing))]
     fn read_inside(&mut self, line: &mut Line, room: usize, gathering: &mut Gathering) -> Reading
         requires { LevelIn (length gathering.old.texts.items) self.old }
@@ -552,7 +552,7 @@ impl Level {
     }
 
     #[tactic(auto, using(crate::proofs::Within::growing))]
-    /// Reads a line that the open leaf takes. It stands by itself for the same reason.
+    /// Reads a line that the open leaf takes. It stands by itself so that what a line goes down through takes less of the stack.
     #[inline(never)]
     fn add_to_leaf(
         &mut self,

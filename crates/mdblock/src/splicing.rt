@@ -24,8 +24,8 @@ use std::alloc::Global;
 ///
 /// Asks that the reader's `joined` is true, that `k`, from 0 on, is the number of one of the old list's `joins`, and that the reader's lines with the old
 /// ones behind that join are no more than `usize::MAX`. Where the two lines differ nothing is said of the answer. Moves what the reader holds, takes memory for
-/// copies of the old list's items from there on, and spends the reader in each case. No line is read or counted again, and where the old list began does not
-/// matter.
+/// copies of what the old list has from there on, items, texts, definitions and joins, and spends the reader in each case. No line is read or counted again, and
+/// where the old list began does not matter.
 pub fn splice(front: Reader, old: &Found, k: usize) -> Result<Found, NoMemory>
     requires joined { held_joined front.held ≡ true }
     requires join { k < length old.now.marks }

@@ -131,7 +131,8 @@ impl<T: Weighed + Drop> Chunks<T> {
         find(&self.blocks, weight)
     }
 
-    /// Makes all the room that a splice of these members may need. Where that fails no member has changed.
+    /// Makes all the room that a splice of these members may need. Where that fails no member has changed. It fails too where there would be more members than
+    /// `usize::MAX`, which only members of no bytes could be.
     pub fn reserve_splice(&mut self, added: &mut Vec<T>) -> Result<(), AllocError>
         ensures items { self.new.items ≡ self.old.items }
         ensures added { added.new.items ≡ added.old.items }

@@ -19,6 +19,3 @@ mod weights;
 pub use chunks::Chunks;
 pub use iters::Iter;
 pub use weights::{Change, Weighed, WeightPlace};
-
-#[cfg(test)]
-mod tests;

@@ -37,8 +37,8 @@ pub struct Like<'a> {
     pub behind: usize,
 }
 
-/// Writes what `append_unit_ends` does. Where the unit is one list and the one that was written before is one of the same kind, the bytes of the items that are
-/// the same in both, at the front and at the end, are taken from there.
+/// Writes what `append_unit_ends` does. Where the unit is one list and the one that was written before is one of the same kind, tight or loose as it is, the bytes
+/// of the items that are the same in both, at the front and at the end, are taken from there.
 pub fn append_unit_like(
     blocks: &[Block],
     texts: &[Parsed],

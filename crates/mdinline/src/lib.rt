@@ -36,6 +36,3 @@ pub use parsed::Parsed;
 pub use readers::TextReader;
 pub use reading::read;
 pub use sinks::{InlineSink, SpanKind};
-
-#[cfg(test)]
-mod tests;

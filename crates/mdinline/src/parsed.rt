@@ -80,7 +80,7 @@ impl Parsed {
         }
     }
 
-    /// An equal reading.
+    /// An equal reading, which shares its tree with this one. `NoMemory` also where 2^63 readings share it.
     pub fn copy(&self, alloc: Global) -> Result<Parsed, NoMemory>
         ensures { IfOk result (λ copy. copy ≡ self.now) }
     {

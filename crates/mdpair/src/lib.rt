@@ -13,6 +13,3 @@ mod searches;
 pub use emphasis::{Match, Pairing, pair};
 pub use flanking::delimiter_run;
 pub use runs::{DelimiterChar, DelimiterRun};
-
-#[cfg(test)]
-mod tests;

@@ -1,43 +1,51 @@
 //! `mdpreview`: answers a script of line edits with the pieces of HTML that changed.
 #![tactic(auto)]
 
+ghost use Rattle.mdhtml.specs.Limits.{HasLimits};
+
 use mdtool::{
-    ReadFeed, Stop, WriteOut, ended, entities_of, opened, prelude_of, serve_to_the_end, words_of,
+    Halt, ReadFeed, Source, Words, WriteOut, ended, entities_of, opened, prelude_of,
+    serve_to_the_end, text_end, words_of, words_refused,
 };
 use std::process::ExitCode;
 
 fn main(rt: HostRuntime) -> ExitCode {
-    ended(&rt, "mdpreview", run(&rt))
+    match words_of(&rt, "mdpreview") {
+        Ok(words) => ended(&rt, "mdpreview", &words, run(&rt, &words)),
+        Err(stop) => words_refused(&rt, "mdpreview", &stop),
+    }
 }
 
-fn run(rt: &HostRuntime) -> Result<(), Stop> {
-    let words = words_of(rt, "mdpreview")?;
-    let entities = entities_of(rt, &words)?;
-    let prelude = prelude_of(rt, &words)?;
+fn run(rt: &HostRuntime, words: &Words) -> Result<(), Halt>
+    requires { HasLimits words.now.options }
+{
+    let entities = entities_of(rt, words)?;
+    let prelude = prelude_of(rt, words)?;
     let mut out = WriteOut::new(rt.stdout());
-    let end = match &words.file {
+    match &words.file {
         Some(name) => {
-            let mut feed = opened(rt, name)?;
-            serve_to_the_end(
+            let mut feed = opened(rt, name, Source::Text)?;
+            let end = serve_to_the_end(
                 rt.alloc(),
                 &mut feed,
                 &mut out,
                 entities,
                 words.options,
                 &prelude,
-            )
+            );
+            text_end(end, &feed)
         }
         None => {
             let mut feed = ReadFeed::new(rt.stdin());
-            serve_to_the_end(
+            let end = serve_to_the_end(
                 rt.alloc(),
                 &mut feed,
                 &mut out,
                 entities,
                 words.options,
                 &prelude,
-            )
+            );
+            text_end(end, &feed)
         }
-    };
-    end.map_err(Stop::Tool)
+    }
 }

@@ -35,6 +35,3 @@ mod urls;
 
 /// A growth was refused.
 pub type NoMemory = AllocError;
-
-#[cfg(test)]
-mod tests;

@@ -1,5 +1,5 @@
 -- Bytes that a device takes or gives in several calls.
-use Rattle.std.proofs.Common.{◌≡◌, ℕ, ◌+◌, ◌-◌, List, [], ◌++◌, take, drop, length, length-drop, Option, Some, None, refl, ap, sym, ◌∙◌, append_assoc, arith}
+use Rattle.std.proofs.Common.{◌≡◌, ℕ, ◌+◌, ◌-◌, List, [], ◌++◌, take, drop, length, length-drop, Option, Some, None, refl, ap, sym, subst, ◌∙◌, append_assoc, arith}
 use Rattle.std.proofs.Math.Seq.{take-add}
 use Rattle.std.proofs.lemmas.List.{take_all}
 use Rattle.std.specs.Prelude.{Bool, true, false}
@@ -15,6 +15,10 @@ gains_on (Some a) (Some b) c front more first second =
 
 pub gains_more : (a b c : Option (List ℕ)) (front more : List ℕ) → Gains a front b → Gains b more c → Gains a (front ++ more) c
 gains_more = gains_on
+
+-- where nothing more was written
+pub gains_same : (a b c : Option (List ℕ)) (front : List ℕ) → Gains a front b → c ≡ b → Gains a front c
+gains_same a b c front first same = subst (λ (w : Option (List ℕ)). Gains a front w) (sym same) first
 
 -- the next n of the rest go on from the first
 pub take_on : (at n : ℕ) (bytes : List ℕ) → take (at + n) bytes ≡ take at bytes ++ take n (take (length bytes - at) (drop at bytes))
@@ -37,7 +41,7 @@ pub takes_more : (a b c : Option (List ℕ)) (x y : List ℕ) → Takes a x b �
 takes_more = takes_on
 
 -- what one call wrote and then a beginning of what another was to write is a beginning of both
-front_more : (a b c : Option (List ℕ)) (front more : List ℕ) → Gains a front b → GainsFront b more c → GainsFront a (front ++ more) c
+pub front_more : (a b c : Option (List ℕ)) (front more : List ℕ) → Gains a front b → GainsFront b more c → GainsFront a (front ++ more) c
 front_more a b c front more first second = (
   front ++ second.0,
   second.1,
@@ -46,7 +50,7 @@ front_more a b c front more first second = (
 )
 
 -- a beginning of the first part is one of the whole
-front_of_first : (a b : Option (List ℕ)) (front more : List ℕ) → GainsFront a front b → GainsFront a (front ++ more) b
+pub front_of_first : (a b : Option (List ℕ)) (front more : List ℕ) → GainsFront a front b → GainsFront a (front ++ more) b
 front_of_first a b front more first = (
   first.0,
   first.1 ++ more,

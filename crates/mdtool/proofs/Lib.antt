@@ -11,6 +11,7 @@ pub mod CommandReading
 pub mod PatchLine
 pub mod ServeRuns
 pub mod ServeEnds
+pub mod CountRuns
 pub mod Rows
 pub mod PreludeEnds
 pub mod PreludeDue

@@ -8,7 +8,7 @@ use Rattle.mdtool.specs.Commands.{Command, Stop, Leads, first_command, script_li
 use Rattle.mdtool.specs.Replies.{ScriptTurn, replies, reply, held_behind}
 use Rattle.mdtool.specs.Pending.{Pending, MayFollow, Reads, Draws, fresh}
 use Rattle.mdtool.specs.Steps.{StopsAt, ReadsCommand}
-use Rattle.mdtool.specs.Serve.{Answered, Broken, Replied, commands_of}
+use Rattle.mdtool.specs.Serve.{Answered, Begins, Broken, Ends, Replied, commands_of}
 use Rattle.mdtool.proofs.Devices.{takes_more, gains_more}
 use Rattle.mdtool.proofs.Readings.{reads_nothing, reads_on, draws_nothing}
 
@@ -24,7 +24,7 @@ replies_more old (first ∷ turns) turn =
     ap (λ bs. reply old first.command first.starved ++ bs) (replies_more (held_behind old first.command first.starved) turns turn)
     ∙ sym (append_assoc (reply old first.command first.starved) (replies (held_behind old first.command first.starved) turns) (reply (held_after (held_behind old first.command first.starved) turns) turn.command turn.starved))
 
-held_more : (old : Document) (turns : List ScriptTurn) (turn : ScriptTurn) → held_after old (turns ++ turn ∷ []) ≡ held_behind (held_after old turns) turn.command turn.starved
+pub held_more : (old : Document) (turns : List ScriptTurn) (turn : ScriptTurn) → held_after old (turns ++ turn ∷ []) ≡ held_behind (held_after old turns) turn.command turn.starved
 held_more old [] turn = refl
 held_more old (first ∷ turns) turn = held_more (held_behind old first.command first.starved) turns turn
 
@@ -54,24 +54,27 @@ pub record Run (old : Document) (left left' : Option (List ℕ)) (script : Pendi
   pub holds : held ≡ held_after old turns
   pub replied : Gains written (replies old turns) written'
 
-gains_nothing : (written : Option (List ℕ)) → Gains written [] written
+pub gains_nothing : (written : Option (List ℕ)) → Gains written [] written
 gains_nothing None = refl
 gains_nothing (Some bytes) = ap Some (sym (append-nil bytes))
+
+pub progress_start : (old : Document) (left : Option (List ℕ)) (script : Pending) → script ≡ fresh → Progress old left left script []
+progress_start old left script script_is = record {
+  lines = [];
+  reads = subst (λ (p : Pending). Reads left fresh [] left p) (sym script_is) (reads_nothing left fresh);
+  leads = λ rest. leads_none 1 _ rest (ap (λ (p : Pending). capped (p.lines + 1)) script_is);
+}
 
 pub run_start : (old : Document) (left written : Option (List ℕ)) (script : Pending) (held : Document) → script ≡ fresh → held ≡ old → Run old left left script written written held
 unfolding replies
 run_start old left written script held script_is held_is = record {
   turns = [];
-  progress = record {
-    lines = [];
-    reads = subst (λ (p : Pending). Reads left fresh [] left p) (sym script_is) (reads_nothing left fresh);
-    leads = λ rest. leads_none 1 _ rest (ap (λ (p : Pending). capped (p.lines + 1)) script_is);
-  };
+  progress = progress_start old left script script_is;
   holds = held_is;
   replied = gains_nothing written;
 }
 
-progress_more : (old : Document) (a b c : Option (List ℕ)) (script script' : Pending) (turns : List ScriptTurn) (turn : ScriptTurn)
+pub progress_more : (old : Document) (a b c : Option (List ℕ)) (script script' : Pending) (turns : List ScriptTurn) (turn : ScriptTurn)
     → Progress old a b script turns → ReadsCommand b script c script' turn.command → Progress old a c script' (turns ++ turn ∷ [])
 progress_more old a b c script script' turns turn progress read = record {
   lines = progress.lines ++ read.lines;
@@ -114,23 +117,25 @@ all_lines : (old : Document) (a b : Option (List ℕ)) (script : Pending) (turns
     → script_lines ended (progress.reads.taken ++ taken) ≡ progress.lines ++ script_lines ended (script.bytes ++ taken)
 all_lines old a b script turns progress taken ended may = progress.reads.reads taken ended may
 
+pub progress_stops : (old : Document) (a b c : Option (List ℕ)) (script : Pending) (turns : List ScriptTurn) (stop : Stop) → Progress old a b script turns → StopsAt b script c stop → Ends a c turns stop
+progress_stops old a b c script turns stop progress stops =
+    let may : MayFollow script stops.taken stops.ended = record { follows = stops.stays } in
+    let lines = all_lines old a b script turns progress stops.taken stops.ended may in
+    let rest = script_lines stops.ended (script.bytes ++ stops.taken) in
+    let leads : Leads 1 (script_lines stops.ended (progress.reads.taken ++ stops.taken)) (commands_of turns) (capped (script.lines + 1)) rest =
+    subst (λ (ls : List (List ℕ)). Leads 1 ls (commands_of turns) (capped (script.lines + 1)) rest) (sym lines) (progress.leads rest) in
+    record {
+      bytes = progress.reads.taken ++ stops.taken;
+      ended = stops.ended;
+      taken = takes_more a b c progress.reads.taken stops.taken progress.reads.takes stops.takes;
+      at_end = stops.at_end (progress.reads.at_end (never_ended a));
+      script = (capped (script.lines + 1), rest, leads, stops.none, stops.stop_is);
+    }
+
 pub run_stops : (old : Document) (a b c : Option (List ℕ)) (script : Pending) (w w' : Option (List ℕ)) (held : Document) (stop : Stop)
     → Run old a b script w w' held → StopsAt b script c stop → Answered old a c w w' stop
 run_stops old a b c script w w' held stop run stops =
-    let may : MayFollow script stops.taken stops.ended = record { follows = stops.stays } in
-    let lines = all_lines old a b script run.turns run.progress stops.taken stops.ended may in
-    let rest = script_lines stops.ended (script.bytes ++ stops.taken) in
-    let leads : Leads 1 (script_lines stops.ended (run.progress.reads.taken ++ stops.taken)) (commands_of run.turns) (capped (script.lines + 1)) rest =
-    subst (λ (ls : List (List ℕ)). Leads 1 ls (commands_of run.turns) (capped (script.lines + 1)) rest) (sym lines) (run.progress.leads rest) in
-    record {
-      bytes = run.progress.reads.taken ++ stops.taken;
-      ended = stops.ended;
-      turns = run.turns;
-      taken = takes_more a b c run.progress.reads.taken stops.taken run.progress.reads.takes stops.takes;
-      at_end = stops.at_end (run.progress.reads.at_end (never_ended a));
-      script = (capped (script.lines + 1), rest, leads, stops.none, stops.stop_is);
-      replied = run.replied;
-    }
+    record { turns = run.turns; ends = progress_stops old a b c script run.turns stop run.progress stops; replied = run.replied }
 
 end_stays : (b c : Option (List ℕ)) (taken : List ℕ) → taken ≡ [] → Takes b taken c → AtEnd b → AtEnd c
 end_stays None None taken e takes end = tt
@@ -141,24 +146,26 @@ end_stays (Some left) (Some left') taken e takes end =
     let none : [] ++ takes.0 ≡ [] = sym (takes.2 ∙ ap (λ bs. bs ++ takes.0) e) ∙ end in
     same ∙ none
 
--- what was written where the work breaks off behind these turns
-breaks : (old : Document) (a b c : Option (List ℕ)) (script : Pending) (turns : List ScriptTurn) (w w' : Option (List ℕ))
-    → Progress old a b script turns → Draws b script.is_ended c → GainsFront w (replies old turns) w' → Broken old a c w w'
-breaks old a b c script turns w w' progress draws front =
+-- what was taken where the work breaks off behind these turns
+pub progress_breaks : (old : Document) (a b c : Option (List ℕ)) (script : Pending) (turns : List ScriptTurn) → Progress old a b script turns → Draws b script.is_ended c → Begins a c turns
+progress_breaks old a b c script turns progress draws =
     let may : MayFollow script draws.taken script.is_ended = record { follows = λ e. (draws.stays e, e) } in
     let lines = all_lines old a b script turns progress draws.taken script.is_ended may in
     let rest = script_lines script.is_ended (script.bytes ++ draws.taken) in
     record {
       bytes = progress.reads.taken ++ draws.taken;
       ended = script.is_ended;
-      turns = turns;
       next = capped (script.lines + 1);
       rest = rest;
       taken = takes_more a b c progress.reads.taken draws.taken progress.reads.takes draws.takes;
       at_end = λ e. end_stays b c draws.taken (draws.stays e) draws.takes (progress.reads.at_end (never_ended a) e);
       leads = subst (λ (ls : List (List ℕ)). Leads 1 ls (commands_of turns) (capped (script.lines + 1)) rest) (sym lines) (progress.leads rest);
-      replied = front;
     }
+
+-- what was written then
+breaks : (old : Document) (a b c : Option (List ℕ)) (script : Pending) (turns : List ScriptTurn) (w w' : Option (List ℕ))
+    → Progress old a b script turns → Draws b script.is_ended c → GainsFront w (replies old turns) w' → Broken old a c w w'
+breaks old a b c script turns w w' progress draws front = record { turns = turns; begins = progress_breaks old a b c script turns progress draws; replied = front }
 
 -- memory ended the work before the next reply
 pub run_starves : (old : Document) (a b c : Option (List ℕ)) (script : Pending) (w w' : Option (List ℕ)) (held : Document)

@@ -9,11 +9,16 @@ use Rattle.mdtool.specs.declared.fault.ToolFault.{ToolFault}
 use Rattle.mdtool.specs.declared.fault.ToolFault.TheVariants.{Read, Write, Refused, BadCommand, Truncated, Table}
 use Rattle.mdtool.specs.declared.fault.ToolFault.TheVariants.{NoMemory as ToolNoMemory}
 use Rattle.mdtool.specs.declared.fault.WordFault.{WordFault}
-use Rattle.mdtool.specs.declared.fault.WordFault.TheVariants.{Help, NotUnderstood}
+use Rattle.mdtool.specs.declared.fault.WordFault.TheVariants.{Help, Version, NotUnderstood}
 use Rattle.mdtool.specs.declared.fault.WordFault.TheVariants.{NoMemory as WordNoMemory}
 use Rattle.mdtool.specs.declared.fault.Stop.{Stop}
 use Rattle.mdtool.specs.declared.fault.Stop.TheVariants.{Words, NotOpened, Tool}
+use Rattle.mdtool.specs.declared.halt.Halt.{Halt}
 use Rattle.mdtool.specs.RefusalText.{fault_text}
+
+-- what `--version` tells behind the program's name
+abbrev pub version : List ℕ
+version = codes "0.1.0"
 
 abbrev pub no_memory : List ℕ
 no_memory = codes "no memory"
@@ -42,6 +47,7 @@ tool_reason_of ToolNoMemory = no_memory
 
 abbrev pub words_reason_of : WordFault → List ℕ
 words_reason_of (Help text) = string_bytes text
+words_reason_of Version = version
 words_reason_of NotUnderstood = codes "words not understood"
 words_reason_of WordNoMemory = no_memory
 
@@ -54,9 +60,14 @@ reason_of (Tool fault) = tool_reason_of fault
 abbrev pub line_of : List ℕ → Stop → List ℕ
 line_of program stop = program ++ codes ": " ++ reason_of stop ++ 10 ∷ []
 
--- the line, or the help that was asked for
+-- the program's name and its version
+abbrev pub version_line : List ℕ → List ℕ
+version_line program = program ++ (32 ∷ (version ++ 10 ∷ []))
+
+-- the line, or the help or the version that was asked for
 abbrev pub text_of : List ℕ → Stop → List ℕ
 text_of program (Words (Help text)) = string_bytes text
+text_of program (Words Version) = version_line program
 text_of program (Words NotUnderstood) = line_of program (Words NotUnderstood)
 text_of program (Words WordNoMemory) = line_of program (Words WordNoMemory)
 text_of program (NotOpened name) = line_of program (NotOpened name)
@@ -74,15 +85,23 @@ tool_status_of ToolNoMemory = 1
 -- 2 where the words or the script are wrong, 1 where the program could not go on
 abbrev pub status_of : Stop → ℕ
 status_of (Words (Help text)) = 0
+status_of (Words Version) = 0
 status_of (Words NotUnderstood) = 2
 status_of (Words WordNoMemory) = 1
 status_of (NotOpened name) = 1
 status_of (Tool fault) = tool_status_of fault
 
 -- the status of a program that came to its end or stopped so
-abbrev pub end_status : {T : Type 0} → Result T Stop → ℕ
+abbrev pub end_status : {T : Type 0} → Result T Halt → ℕ
 end_status (Ok done) = 0
-end_status (Err stop) = status_of stop
+end_status (Err halt) = status_of halt.stop
+
+-- an engine came to its end, or stopped, and so did the program
+abbrev pub EndsBy : {S T : Type 0} → Result S ToolFault → Result T Halt → Type 0
+EndsBy (Ok answer) (Ok done) = Unit {0}
+EndsBy (Ok answer) (Err halt) = ⊥
+EndsBy (Err fault) (Ok done) = ⊥
+EndsBy (Err fault) (Err halt) = halt.stop ≡ Tool fault
 
 -- a file of this name was not opened, or there was no memory to say so
 abbrev pub IsNotOpened : List ℕ → Stop → Type 0

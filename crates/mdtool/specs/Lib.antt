@@ -5,11 +5,14 @@ pub mod ToolRefusals
 pub mod PreludeSet
 pub mod Replies
 pub mod Endings
+pub mod Explanations
 pub mod Views
 pub mod Pending
 pub mod Steps
 pub mod Serve
+pub mod Counts
 pub mod Drained
 pub mod EntityTables
 pub mod Convert
 pub mod ToolWords
+pub mod NamedFiles

@@ -11,26 +11,34 @@ use Rattle.mdtool.specs.Replies.{ScriptTurn, replies, reply, held_behind}
 abbrev pub commands_of : List ScriptTurn → List Command
 commands_of turns = map (λ (turn : ScriptTurn). turn.command) turns
 
--- each whole command of the bytes that were taken was answered, and behind these the script goes on so
-pub record Answered (document : Document) (left left' written written' : Option (List ℕ)) (stop : Stop) : Type 0 where
+-- the whole commands of the bytes that were taken are those of these turns, and behind these the script goes on so
+pub record Ends (left left' : Option (List ℕ)) (turns : List ScriptTurn) (stop : Stop) : Type 0 where
   pub bytes : List ℕ
   pub ended : Bool
-  pub turns : List ScriptTurn
   pub taken : Takes left bytes left'
   pub at_end : ended ≡ true → AtEnd left'
   pub script : Script bytes ended (commands_of turns) stop
-  pub replied : Gains written (replies document turns) written'
 
--- of the replies to some whole commands, at the front of the bytes that were taken, a beginning was written
-pub record Broken (document : Document) (left left' written written' : Option (List ℕ)) : Type 0 where
+-- the commands of these turns stand at the front of the bytes that were taken
+pub record Begins (left left' : Option (List ℕ)) (turns : List ScriptTurn) : Type 0 where
   pub bytes : List ℕ
   pub ended : Bool
-  pub turns : List ScriptTurn
   pub next : ℕ
   pub rest : List (List ℕ)
   pub taken : Takes left bytes left'
   pub at_end : ended ≡ true → AtEnd left'
   pub leads : Leads 1 (script_lines ended bytes) (commands_of turns) next rest
+
+-- each whole command of the bytes that were taken was answered, and behind these the script goes on so
+pub record Answered (document : Document) (left left' written written' : Option (List ℕ)) (stop : Stop) : Type 0 where
+  pub turns : List ScriptTurn
+  pub ends : Ends left left' turns stop
+  pub replied : Gains written (replies document turns) written'
+
+-- of the replies to some whole commands, at the front of the bytes that were taken, a beginning was written
+pub record Broken (document : Document) (left left' written written' : Option (List ℕ)) : Type 0 where
+  pub turns : List ScriptTurn
+  pub begins : Begins left left' turns
   pub replied : GainsFront written (replies document turns) written'
 
 -- what each end says, where this is held at the beginning; there is no other

@@ -1,8 +1,10 @@
 -- The words of the programs, and what they say.
-use Rattle.std.specs.Prelude.{◌≡◌, ◌==◌, ℕ, Bool, true, false, List, Option, Some, None, codes, drop, option_map, string_bytes}
-use Rattle.std.specs.List.{prefix_len}
-use Rattle.clap.specs.Words.{App, Rule, Text, new_app, new_rule, with_rule, rows_of, matches_of, found_of, one_text, first_value}
-use Rattle.clap.specs.declared.builder.action.ArgAction.TheVariants.{SetTrue}
+use Rattle.std.specs.Prelude.{◌≡◌, ◌==◌, ◌||◌, ◌∷◌, [], ℕ, Bool, true, false, List, Option, Some, None, IfSome, IsSome, codes, drop, option_map, string_bytes}
+use Rattle.std.specs.List.{list_all, prefix_len}
+use Rattle.std.specs.Option.{option_map_or}
+use Rattle.std.specs.Str.{bytes_eq}
+use Rattle.clap.specs.Words.{App, Rule, Text, new_app, new_rule, with_rule, rows_of, matches_of, matched_of, found_of, first_value, raw_values}
+use Rattle.clap.specs.declared.builder.action.ArgAction.TheVariants.{SetTrue, Append}
 use Rattle.clap.specs.declared.parser.matches.ArgMatches.{ArgMatches}
 use Rattle.mdhtml.specs.declared.options.Breaks.{Breaks}
 use Rattle.mdhtml.specs.declared.options.Breaks.TheVariants.{Soft, Hard, Space}
@@ -18,21 +20,49 @@ flag_rule name = record (new_rule name) { long = Some name; action = Some SetTru
 abbrev pub valued_rule : Text → Rule
 valued_rule name = record (new_rule name) { long = Some name; value_names = 1 }
 
+-- the same, which has a letter too
+abbrev pub lettered_rule : ℕ → Rule → Rule
+lettered_rule letter rule = record rule { short = Some letter }
+
+-- the same, which may stand several times
+abbrev pub repeated_rule : Rule → Rule
+repeated_rule rule = record rule { action = Some Append }
+
 abbrev pub file_rule : Rule
 file_rule = record (new_rule (codes "file")) { value_names = 1 }
 
+-- the program tells its version
+abbrev pub with_version : App → App
+with_version app = record app { top = record app.top { has_version = true } }
+
+-- the options of how HTML is written
+abbrev pub with_writing : App → App
+with_writing app = with_rule (with_rule (with_rule app (flag_rule (codes "unsafe"))) (flag_rule (codes "hardbreaks"))) (flag_rule (codes "nobreaks"))
+
+-- the options of how a text is read, and what a stop says
+abbrev pub with_reading : App → App
+with_reading app =
+    with_rule (with_rule (with_rule (with_rule (with_rule app
+    (valued_rule (codes "entities"))) (valued_rule (codes "prelude"))) (valued_rule (codes "max-containers"))) (valued_rule (codes "max-spans"))) (flag_rule (codes "explain"))
+
+-- the options of cmark-gfm that say what is done anyway
+abbrev pub with_done_anyway : App → App
+with_done_anyway app =
+    with_rule (with_rule (with_rule (with_rule app
+    (lettered_rule 116 (valued_rule (codes "to")))) (repeated_rule (lettered_rule 101 (valued_rule (codes "extension"))))) (flag_rule (codes "validate-utf8"))) (valued_rule (codes "width"))
+
 -- the words that a program of this name understands, in the order that its help has them
 abbrev pub tool_app : Text → App
-tool_app name =
-    with_rule (with_rule (with_rule (with_rule (with_rule (with_rule (with_rule (with_rule (new_app name)
-    (flag_rule (codes "unsafe"))) (flag_rule (codes "hardbreaks"))) (flag_rule (codes "nobreaks"))) (valued_rule (codes "entities"))) (valued_rule (codes "prelude")))
-    (valued_rule (codes "max-containers"))) (valued_rule (codes "max-spans"))) file_rule
+tool_app name = with_version (with_rule (with_done_anyway (with_reading (with_writing (new_app name)))) file_rule)
 
--- the option is on where it was given
-pub record ToolFlag (matches : ArgMatches) (name : Text) (on : Bool) : Type 0 where
-  pub absent : one_text (found_of matches) name ≡ None → on ≡ false
-  pub given : one_text (found_of matches) name ≡ Some (codes "true") → on ≡ true
-  pub default : one_text (found_of matches) name ≡ Some (codes "false") → on ≡ false
+-- the program's name is the first word
+abbrev pub program_of : List Text → Text
+program_of [] = codes "mdrender"
+program_of (word ∷ words) = word
+
+-- the option is on where the value of its match is `true`, as it is where it was given
+abbrev pub is_on : ArgMatches → Text → Bool
+is_on matches name = option_map_or (λ value. bytes_eq value (codes "true")) (first_value (found_of matches) name) false
 
 -- how line breaks are written, where the two options are not both on
 abbrev pub IsBreaks : Bool → Bool → Breaks → Type 0
@@ -51,21 +81,31 @@ IsLimit (Some word) limit = number (drop (prefix_len is_zero word) word) ≡ Som
 
 -- the options that these matches give
 pub record OptionsRead (matches : ArgMatches) (options : Options) : Type 0 where
-  pub hard : Bool
-  pub space : Bool
-  pub raw : ToolFlag matches (codes "unsafe") options.unsafe_html
-  pub hard_is : ToolFlag matches (codes "hardbreaks") hard
-  pub space_is : ToolFlag matches (codes "nobreaks") space
-  pub breaks : IsBreaks hard space options.breaks
+  pub raw : options.unsafe_html ≡ is_on matches (codes "unsafe")
+  pub breaks : IsBreaks (is_on matches (codes "hardbreaks")) (is_on matches (codes "nobreaks")) options.breaks
   pub containers : IsLimit (first_value (found_of matches) (codes "max-containers")) options.max_containers
   pub spans : IsLimit (first_value (found_of matches) (codes "max-spans")) options.max_spans
 
+-- the values of an option that may stand several times
+abbrev pub values_of : ArgMatches → Text → List Text
+values_of matches name = option_map_or raw_values (matched_of (found_of matches) name) []
+
+abbrev pub is_extension : Text → Bool
+is_extension name = bytes_eq name (codes "table") || bytes_eq name (codes "strikethrough") || bytes_eq name (codes "tasklist")
+
+-- what cmark-gfm is asked for by these matches is what is done anyway
+pub record IsDoneAnyway (matches : ArgMatches) : Type 0 where
+  pub format : IfSome (first_value (found_of matches) (codes "to")) (λ name. name ≡ codes "html")
+  pub extensions : list_all is_extension (values_of matches (codes "extension")) ≡ true
+  pub width : IfSome (first_value (found_of matches) (codes "width")) (λ word. IsSome (number word))
+
 -- these are clap's matches of the words, and what was read is what they say
 pub record WordsRead (words : List Text) (read : Words) : Type 0 where
-  pub program : Text
   pub matches : ArgMatches
-  pub rows : rows_of (found_of matches) ≡ matches_of (tool_app program) words
+  pub rows : rows_of (found_of matches) ≡ matches_of (tool_app (program_of words)) words
   pub options : OptionsRead matches read.options
   pub entities : option_map string_bytes read.entities ≡ first_value (found_of matches) (codes "entities")
   pub prelude : option_map string_bytes read.prelude ≡ first_value (found_of matches) (codes "prelude")
   pub file : option_map string_bytes read.file ≡ first_value (found_of matches) (codes "file")
+  pub explains : read.explains ≡ is_on matches (codes "explain")
+  pub anyway : IsDoneAnyway matches

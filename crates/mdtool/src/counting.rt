@@ -1,8 +1,11 @@
 //! Answers a script of edits and preludes with what was read for each, so that it can be compared with what an edit may read.
-ghost use Rattle.std.specs.Prelude.{◌≡◌, ◌-◌, ◌^◌, ◌<◌};
+ghost use Rattle.std.specs.Prelude.{◌≡◌, ◌-◌, ◌^◌, ◌<◌, IfOk, map, string_bytes};
 ghost use Rattle.mdhtml.specs.Limits.{HasLimits};
+ghost use Rattle.mdtool.specs.Counts.{Counting, Counts, CountsBeside, count_line};
 ghost use Rattle.mdtool.specs.Serve.{out_failures_after};
 ghost use Rattle.mdtool.specs.Steps.{failures_after};
+ghost use Rattle.mdtool.specs.Views.{command_view};
+ghost use Rattle.mdview.specs.Document.{empty};
 
 use crate::command::Command;
 use crate::device::{Feed, Out};
@@ -10,11 +13,12 @@ use crate::fault::ToolFault;
 use crate::script::Script;
 use crate::serving::{lent, preview_with, send};
 use mdhtml::Options;
-use mdtext::{Entities, Tally};
+use mdtext::{Count, Entities, Tally};
 use mdview::Preview;
 use std::alloc::{AllocError, Global};
 
-/// Writes a line for each command of a script: how many lines and how many inline texts were read for it. The script is read, and ends, as `serve` says.
+/// Writes a line for each command of a script: how many lines and how many inline texts were read for it, no more than it may.
+/// The script is read, carried out, and ends, as `serve` says.
 pub fn serve_counts<R: Feed, W: Out>(
     alloc: Global,
     feed: &mut R,
@@ -26,14 +30,31 @@ pub fn serve_counts<R: Feed, W: Out>(
     requires limits { HasLimits options }
     requires feed { R.failures feed.old < 2 ^ 64 - 1 }
     requires out { W.failures out.old < 2 ^ 64 - 1 }
+    ensures counts { CountsBeside result (empty entities options) (map string_bytes prelude.now) (R.left feed.old) (R.left feed.new) (W.written out.old) (W.written out.new) }
     // `Read` is answered where the feed failed, and `Write` where the out did.
     ensures feed { R.failures feed.new ≡ failures_after result (R.failures feed.old) }
     ensures out { W.failures out.new ≡ out_failures_after result (W.failures out.old) }
 {
     let mut preview = preview_with(alloc, entities, options, prelude)?;
+    count_each(alloc, feed, out, &mut preview)
+}
+
+/// Writes a line for each command of a script, as it comes.
+fn count_each<R: Feed, W: Out>(
+    alloc: Global,
+    feed: &mut R,
+    out: &mut W,
+    preview: &mut Preview,
+) -> Result<(), ToolFault>
+    requires feed { R.failures feed.old < 2 ^ 64 - 1 }
+    requires out { W.failures out.old < 2 ^ 64 - 1 }
+    ensures counts { Counts result preview.old (R.left feed.old) (R.left feed.new) (W.written out.old) (W.written out.new) }
+    ensures feed { R.failures feed.new ≡ failures_after result (R.failures feed.old) }
+    ensures out { W.failures out.new ≡ out_failures_after result (W.failures out.old) }
+{
     let mut script = Script::new(alloc);
     while let Some(command) = script.next_command(alloc, feed)? {
-        let count = counted(alloc, &mut preview, &command)?;
+        let count = counted(alloc, preview, &command)?;
         let line = count_line(alloc, &count)?;
         if send(out, line.as_str().as_bytes()).is_err() {
             return Err(ToolFault::Write);
@@ -43,23 +64,28 @@ pub fn serve_counts<R: Feed, W: Out>(
 }
 
 /// Carries out one command, and answers what was read for it.
-fn counted(alloc: Global, preview: &mut Preview, command: &Command) -> Result<Tally, AllocError> {
+fn counted(alloc: Global, preview: &mut Preview, command: &Command) -> Result<Tally, AllocError>
+    ensures { IfOk result (λ count. Counting preview.old (command_view command.now) (⟦<Tally as Count>⟧.lines count) (⟦<Tally as Count>⟧.inlines count) preview.new) }
+{
     let mut count = Tally::new();
     match command {
-        Command::Html => {}
+        Command::Html => Ok(count),
         Command::Prelude { lines } => {
             let lines = lent(alloc, lines)?;
-            let _ = preview.set_prelude(&lines, &mut count);
+            let _answer = preview.set_prelude(&lines, &mut count);
+            Ok(count)
         }
         Command::Edit { at, del, add } => {
             let lines = lent(alloc, add)?;
-            let _ = preview.edit(*at, *del, &lines, &mut count);
+            let _answer = preview.edit(*at, *del, &lines, &mut count);
+            Ok(count)
         }
     }
-    Ok(count)
 }
 
-fn count_line(alloc: Global, count: &Tally) -> Result<String, AllocError> {
+fn count_line(alloc: Global, count: &Tally) -> Result<String, AllocError>
+    ensures { IfOk result (λ line. string_bytes line ≡ count_line (⟦<Tally as Count>⟧.lines count.now) (⟦<Tally as Count>⟧.inlines count.now)) }
+{
     let lines = count.lines();
     let inlines = count.inlines();
     format!(in alloc; "{lines} {inlines}\n")

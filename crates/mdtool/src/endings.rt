@@ -2,17 +2,18 @@
 ghost use Rattle.std.specs.Prelude.{◌≡◌, ◌-◌, ◌^◌, ◌<◌, ◌++◌, [], ◌∷◌, codes, decimal, string_bytes};
 ghost use Rattle.std.specs.Result.{is_ok};
 ghost use Rattle.mdtool.specs.Bytes.{Gains, GainsFront, Puts};
-ghost use Rattle.mdtool.specs.Endings.{text_of, line_of, reason_of, tool_reason_of, refusal_reason_of, words_reason_of, status_of};
+ghost use Rattle.mdtool.specs.Endings.{text_of, line_of, reason_of, tool_reason_of, refusal_reason_of, version_line, words_reason_of, status_of};
 ghost use Rattle.mdtool.specs.RefusalText.{fault_text};
 
 use crate::device::{DeviceFault, Out, put_all};
 use crate::fault::{Stop, ToolFault, WordFault};
+use crate::tool_words::VERSION;
 use itoa::Buffer;
 use mdtext::TableFault;
 use mdview::EditFault;
 
-/// Writes why the program of this name stopped, as one line, or the help that was asked for, and answers the exit
-/// status. A fault of `err` ends the writing alone. Takes no memory.
+/// Writes why the program of this name stopped, as one line, or the help or the version that was asked for, and answers the
+/// exit status. A fault of `err` ends the writing alone. Takes no memory.
 pub fn ending<W: Out>(program: &str, stop: &Stop, err: &mut W) -> u8
     requires { W.failures err.old < 2 ^ 64 - 1 }
     ensures status { result ≡ status_of stop.now }
@@ -23,15 +24,27 @@ pub fn ending<W: Out>(program: &str, stop: &Stop, err: &mut W) -> u8
     status(stop)
 }
 
-/// Writes the help that was asked for, or the line of the program.
-fn put_text<W: Out>(program: &str, stop: &Stop, err: &mut W) -> Result<(), DeviceFault>
+/// Writes the help or the version that was asked for, or the line of the program.
+pub(crate) fn put_text<W: Out>(program: &str, stop: &Stop, err: &mut W) -> Result<(), DeviceFault>
     requires { W.failures err.old < 2 ^ 64 - 1 }
     ensures { Puts (W.written err.old) (W.failures err.old) (text_of program.now stop.now) (is_ok result) (W.written err.new) (W.failures err.new) }
 {
     match stop {
         Stop::Words(WordFault::Help(text)) => put_all(err, text.as_bytes()),
+        Stop::Words(WordFault::Version) => put_version(program, err),
         _ => put_line(program, stop, err),
     }
+}
+
+/// Writes the program's name and its version.
+fn put_version<W: Out>(program: &str, err: &mut W) -> Result<(), DeviceFault>
+    requires { W.failures err.old < 2 ^ 64 - 1 }
+    ensures { Puts (W.written err.old) (W.failures err.old) (version_line program.now) (is_ok result) (W.written err.new) (W.failures err.new) }
+{
+    put_all(err, program.as_bytes())?;
+    put_all(err, b" ")?;
+    put_all(err, VERSION.as_bytes())?;
+    put_all(err, b"\n")
 }
 
 /// Writes the program's name, the reason and LF.
@@ -65,6 +78,7 @@ fn words_reason(fault: &WordFault) -> &str
 {
     match fault {
         WordFault::Help(text) => text.as_str(),
+        WordFault::Version => VERSION,
         WordFault::NotUnderstood => "words not understood",
         WordFault::NoMemory => NO_MEMORY,
     }
@@ -123,11 +137,12 @@ fn put_numbered<W: Out>(err: &mut W, text: &[u8], number: u64) -> Result<(), Dev
 }
 
 /// The exit status of a program that stops: 2 where its words or its script are wrong, 1 where it could not go on.
-fn status(stop: &Stop) -> u8
+pub(crate) fn status(stop: &Stop) -> u8
     ensures { result ≡ status_of stop.now }
 {
     match stop {
         Stop::Words(WordFault::Help(_)) => 0,
+        Stop::Words(WordFault::Version) => 0,
         Stop::Words(WordFault::NotUnderstood) => 2,
         Stop::Words(WordFault::NoMemory) => 1,
         Stop::NotOpened(_) => 1,

@@ -56,6 +56,9 @@ pub enum WordFault {
     /// The help was asked for; this is its text.
     #[error("{0}")]
     Help(String),
+    /// The version was asked for.
+    #[error("the version was asked for")]
+    Version,
     /// They are not understood, or not UTF-8.
     #[error("words not understood")]
     NotUnderstood,

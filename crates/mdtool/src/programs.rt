@@ -1,14 +1,16 @@
 //! What the programs do around their engines: words, files, endings.
-ghost use Rattle.std.specs.Prelude.{◌≡◌, [], IfErr, IfOk, None};
+ghost use Rattle.std.specs.Prelude.{◌≡◌, ◌-◌, ◌^◌, ◌==◌, IfErr, IfOk, if◌then◌else◌};
 ghost use Rattle.std.specs.Process.{exit_status};
 ghost use Rattle.mdhtml.specs.Limits.{HasLimits};
-ghost use Rattle.mdtext.specs.EntityTable.{builtin_table};
-ghost use Rattle.mdtool.specs.Endings.{IsNotOpened, end_status, status_of};
+ghost use Rattle.mdtool.specs.Endings.{EndsBy, IsNotOpened, end_status, status_of};
+ghost use Rattle.mdtool.specs.NamedFiles.{EntitiesOf, PreludeOf};
 
 use crate::device::Feed;
 use crate::endings::ending;
 use crate::entity_tables::entities_from;
+use crate::explaining::explained_ending;
 use crate::fault::{Stop, ToolFault, WordFault};
+use crate::halt::{Cause, Halt, Source, cause_of};
 use crate::io_devices::{ReadFeed, WriteOut};
 use crate::preludes::prelude_from;
 use crate::tool_words::{Words, read_words};
@@ -16,7 +18,7 @@ use mdtext::Entities;
 use std::alloc::{AllocError, Global};
 use std::env::{self, Args};
 use std::fs::File;
-use std::io::ErrorKind;
+use std::io::{ErrorKind, Read};
 use std::process::ExitCode;
 
 /// The words that the process was started with, read as those of the program of this name.
@@ -67,39 +69,68 @@ fn renamed<'a>(
 }
 
 /// The entities of the file that the words name, or the usual ones.
-pub fn entities_of(rt: &HostRuntime, words: &Words) -> Result<Entities, Stop>
-    ensures { IfOk result (λ entities. words.now.entities ≡ None → entities ≡ builtin_table) }
+pub fn entities_of(rt: &HostRuntime, words: &Words) -> Result<Entities, Halt>
+    ensures read { EntitiesOf words.now.entities result }
+    ensures source { IfErr result (λ halt. halt.source ≡ Source.Entities) }
 {
+    let source = Source::Entities;
     match &words.entities {
         Some(name) => {
-            let mut feed = opened(rt, name)?;
-            entities_from(rt.alloc(), &mut feed).map_err(Stop::Tool)
+            let mut feed = opened(rt, name, source)?;
+            match entities_from(rt.alloc(), &mut feed) {
+                Ok(entities) => Ok(entities),
+                Err(fault) => Err(halted(fault, source, feed.cause())),
+            }
         }
-        None => Entities::builtin(rt.alloc()).map_err(|_| Stop::Tool(ToolFault::NoMemory)),
+        None => match Entities::builtin(rt.alloc()) {
+            Ok(entities) => Ok(entities),
+            Err(_) => Err(halted(ToolFault::NoMemory, source, Cause::Other)),
+        },
     }
 }
 
 /// The lines of the prelude's file that the words name, or none.
-pub fn prelude_of(rt: &HostRuntime, words: &Words) -> Result<Vec<String>, Stop>
-    ensures { IfOk result (λ lines. words.now.prelude ≡ None → lines.items ≡ []) }
+pub fn prelude_of(rt: &HostRuntime, words: &Words) -> Result<Vec<String>, Halt>
+    ensures read { PreludeOf words.now.prelude result }
+    ensures source { IfErr result (λ halt. halt.source ≡ Source.Prelude) }
 {
+    let source = Source::Prelude;
     match &words.prelude {
         Some(name) => {
-            let mut feed = opened(rt, name)?;
-            prelude_from(rt.alloc(), &mut feed).map_err(Stop::Tool)
+            let mut feed = opened(rt, name, source)?;
+            match prelude_from(rt.alloc(), &mut feed) {
+                Ok(lines) => Ok(lines),
+                Err(fault) => Err(halted(fault, source, feed.cause())),
+            }
         }
         None => Ok(Vec::new(rt.alloc())),
     }
 }
 
+/// A stop by an engine.
+fn halted(fault: ToolFault, source: Source, cause: Cause) -> Halt
+    ensures { result ≡ record { stop = Stop.Tool fault; source = source; cause = cause } }
+{
+    Halt {
+        stop: Stop::Tool(fault),
+        source,
+        cause,
+    }
+}
+
 /// The file of this name, as a feed.
-pub fn opened(rt: &HostRuntime, name: &str) -> Result<ReadFeed<File>, Stop>
+pub fn opened(rt: &HostRuntime, name: &str, source: Source) -> Result<ReadFeed<File>, Halt>
     ensures feed { IfOk result (λ feed. ⟦<ReadFeed<File> as Feed>⟧.failures feed ≡ 0) }
-    ensures stop { IfErr result (IsNotOpened name.now) }
+    ensures stop { IfErr result (λ halt. IsNotOpened name.now halt.stop) }
+    ensures source { IfErr result (λ halt. halt.source ≡ source) }
 {
     match File::open(rt, name) {
         Ok(file) => Ok(ReadFeed::new(file)),
-        Err(_) => Err(not_opened(rt, name)),
+        Err(error) => Err(Halt {
+            stop: not_opened(rt, name),
+            source,
+            cause: cause_of(error.kind()),
+        }),
     }
 }
 
@@ -112,24 +143,48 @@ fn not_opened(rt: &HostRuntime, name: &str) -> Stop
     }
 }
 
-/// Writes why the program of this name stopped, if it did not come to its end, and answers its status. Help goes to
-/// standard output, all else to standard error.
-pub fn ended(rt: &HostRuntime, program: &str, end: Result<(), Stop>) -> ExitCode
+/// How an engine came to its end that reads a text or a script. Where nothing was read of it, it stopped for the prelude.
+pub fn text_end<R: Read>(end: Result<(), ToolFault>, feed: &ReadFeed<R>) -> Result<(), Halt>
+    ensures end { EndsBy end result }
+    ensures source { IfErr result (λ halt. halt.source ≡ (if feed.now.calls_left == 2 ^ 64 - 1 then Source.Prelude else Source.Text)) }
+{
+    match end {
+        Ok(()) => Ok(()),
+        Err(fault) => {
+            let source = if feed.is_unread() {
+                Source::Prelude
+            } else {
+                Source::Text
+            };
+            Err(halted(fault, source, feed.cause()))
+        }
+    }
+}
+
+/// Writes on standard error why the program of this name stopped, if it did not come to its end, explained where the words
+/// ask for it, and answers its status.
+pub fn ended(rt: &HostRuntime, program: &str, words: &Words, end: Result<(), Halt>) -> ExitCode
     ensures { exit_status result ≡ end_status end }
 {
     match end {
         Ok(()) => ExitCode::from(0),
-        Err(stop) => ExitCode::from(stopped(rt, program, &stop)),
+        Err(halt) => {
+            let mut err = WriteOut::new(rt.stderr());
+            ExitCode::from(explained_ending(rt.alloc(), program, words, &halt, &mut err))
+        }
     }
 }
 
-fn stopped(rt: &HostRuntime, program: &str, stop: &Stop) -> u8
-    ensures { result ≡ status_of stop.now }
+/// Writes why the words were not followed, and answers the status. The help and the version go to standard output, all else
+/// to standard error.
+pub fn words_refused(rt: &HostRuntime, program: &str, stop: &Stop) -> ExitCode
+    ensures { exit_status result ≡ status_of stop.now }
 {
-    match stop {
-        Stop::Words(WordFault::Help(_)) => {
+    let status = match stop {
+        Stop::Words(WordFault::Help(_)) | Stop::Words(WordFault::Version) => {
             ending(program, stop, &mut WriteOut::new(rt.stdout()))
         }
         _ => ending(program, stop, &mut WriteOut::new(rt.stderr())),
-    }
+    };
+    ExitCode::from(status)
 }

@@ -1,10 +1,12 @@
 //! The words that a program is started with.
-ghost use Rattle.std.specs.Prelude.{◌≡◌, ◌≤◌, IfOk, IfSome, Some, drop, length, map, option_map, string_bytes, true, false};
-ghost use Rattle.std.specs.List.{prefix_len};
-ghost use Rattle.clap.specs.Words.{app_of, rule_of};
+ghost use Rattle.std.specs.Prelude.{◌≡◌, ◌≤◌, IfOk, IfSome, IsSome, OnOk, Some, codes, drop, length, map, option_map, string_bytes, true, false};
+ghost use Rattle.std.specs.List.{list_all, prefix_len};
+ghost use Rattle.clap.specs.Words.{app_of, first_value, found_of, rule_of};
 ghost use Rattle.mdhtml.specs.Limits.{HasLimits};
 ghost use Rattle.mdtool.specs.Commands.{number};
-ghost use Rattle.mdtool.specs.ToolWords.{IsBreaks, IsLimit, OptionsRead, WordsRead, flag_rule, is_zero, tool_app, valued_rule};
+ghost use Rattle.mdtool.specs.ToolWords.{IsBreaks, IsDoneAnyway, IsLimit, OptionsRead, WordsRead, flag_rule, is_extension, is_on, is_zero};
+ghost use Rattle.mdtool.specs.ToolWords.{lettered_rule, program_of, repeated_rule, tool_app, valued_rule, values_of, with_done_anyway, with_reading, with_version, with_writing};
+ghost use Rattle.mdtool.specs.Endings.{version};
 
 use crate::fault::WordFault;
 use crate::header::number;
@@ -24,16 +26,27 @@ pub struct Words {
     pub prelude: Option<String>,
     /// The name of the file to read.
     pub file: Option<String>,
+    /// Whether a stop is explained in a second line.
+    pub explains: bool,
 }
+
+/// What `--version` tells behind the program's name.
+pub const VERSION: &str = "0.1.0";
 
 const RENDER_ABOUT: &str =
     "Writes the HTML of a Markdown text (CommonMark 0.31.2 with GFM's tables, task items and strikethrough).";
 
-const RENDER_EXAMPLE: &str = "Example:
+const RENDER_EXAMPLE: &str = "Not there, of cmark-gfm's words:
+  other formats (-t xml, commonmark, latex, man, plaintext, ..), other extensions (-e autolink, tagfilter, footnotes, ..),
+  --footnotes, --smart, --sourcepos, --github-pre-lang, --full-info-string, --strikethrough-double-tilde,
+  --table-prefer-style-attributes, --list-extensions, and more than one FILE
+
+Example:
   mdrender --hardbreaks notes.md > notes.html";
 
 const PREVIEW_ABOUT: &str =
-    "Holds a Markdown text that is edited by lines, and answers each edit with the pieces of HTML that changed.";
+    "Holds a Markdown text that is edited by lines, and answers each edit with the pieces of HTML that changed.
+FILE is a script of edits, and no Markdown text: of that mdrender writes the HTML, and a pane or an editor shows it.";
 
 const PREVIEW_EXAMPLE: &str = "A script has three commands:
   edit AT DEL ADD  at line AT (counted from 0) DEL lines go, and the ADD lines below the command come
@@ -45,8 +58,9 @@ Example:
 
 /// Reads the words of `mdrender` or `mdpreview`, the program's name first.
 ///
-/// `Help` has the text that `--help` asks for. `NotUnderstood` where a word is unknown, a value is missing, an option is given
-/// twice, a limit is no whole number from 1 to 256, or both `--hardbreaks` and `--nobreaks` are given.
+/// `Help` has the text that `--help` asks for, and `Version` answers `--version`. `NotUnderstood` where a word is unknown, a
+/// value is missing, an option is given twice that may stand once, a limit is no whole number from 1 to 256, both
+/// `--hardbreaks` and `--nobreaks` are given, or another format or extension than what is done anyway.
 pub fn read_words<'a>(alloc: Global, words: &'a [&'a str]) -> Result<Words, WordFault>
     ensures read { IfOk result (WordsRead (map (λ word. word.now) words.entry.now)) }
     ensures limits { IfOk result (λ words. HasLimits words.options) }
@@ -57,6 +71,7 @@ pub fn read_words<'a>(alloc: Global, words: &'a [&'a str]) -> Result<Words, Word
         Err(error) => return Err(fault_of(alloc, &error)),
     };
     let options = options_of(&matches)?;
+    require_done_anyway(&matches)?;
     let entities = copied(alloc, matches.get_str("entities"))?;
     let prelude = copied(alloc, matches.get_str("prelude"))?;
     let file = copied(alloc, matches.get_str("file"))?;
@@ -65,10 +80,14 @@ pub fn read_words<'a>(alloc: Global, words: &'a [&'a str]) -> Result<Words, Word
         entities,
         prelude,
         file,
+        explains: is_on(&matches, "explain"),
     })
 }
 
-fn program_of<'a>(words: &'a [&'a str]) -> &'a str {
+/// The program's name, which is the first word.
+fn program_of<'a>(words: &'a [&'a str]) -> &'a str
+    ensures { result.now ≡ program_of (map (λ word. word.now) words.entry.now) }
+{
     match words.first() {
         Some(program) => program,
         None => "mdrender",
@@ -79,7 +98,21 @@ fn program_of<'a>(words: &'a [&'a str]) -> &'a str {
 fn command<'a>(alloc: Global, program: &'a str) -> Result<Command<'a>, AllocError>
     ensures { IfOk result (λ command. app_of command ≡ tool_app program.entry.now) }
 {
-    let command = Command::new(alloc, program)
+    let command = with_writing(alloc, Command::new(alloc, program))?;
+    let command = with_reading(alloc, command)?;
+    let command = with_done_anyway(alloc, command)?.arg(
+        Arg::new(alloc, "file")
+            .value_name("FILE")
+            .help("Read this file in place of standard input"),
+    )?;
+    Ok(versioned(described(command, program)))
+}
+
+/// The options of how HTML is written.
+fn with_writing<'a>(alloc: Global, command: Command<'a>) -> Result<Command<'a>, AllocError>
+    ensures { IfOk result (λ all. app_of all ≡ with_writing (app_of command.entry)) }
+{
+    let all = command
         .arg(flag(
             alloc,
             "unsafe",
@@ -94,7 +127,15 @@ fn command<'a>(alloc: Global, program: &'a str) -> Result<Command<'a>, AllocErro
             alloc,
             "nobreaks",
             "Write each line break of a paragraph as a space",
-        ))?
+        ))?;
+    Ok(all)
+}
+
+/// The options of how a text is read, and what a stop says.
+fn with_reading<'a>(alloc: Global, command: Command<'a>) -> Result<Command<'a>, AllocError>
+    ensures { IfOk result (λ all. app_of all ≡ with_reading (app_of command.entry)) }
+{
+    let all = command
         .arg(valued(
             alloc,
             "entities",
@@ -119,12 +160,59 @@ fn command<'a>(alloc: Global, program: &'a str) -> Result<Command<'a>, AllocErro
             "N",
             "Let so many spans (emphasis, links, ..) lie in one another, 1 to 256; 64 if not given",
         ))?
-        .arg(
-            Arg::new(alloc, "file")
-                .value_name("FILE")
-                .help("Read this file in place of standard input"),
-        )?;
-    Ok(described(command, program))
+        .arg(flag(
+            alloc,
+            "explain",
+            "Say in a second line, in plain words, why the program stops",
+        ))?;
+    Ok(all)
+}
+
+/// The options of cmark-gfm that say what is done anyway.
+fn with_done_anyway<'a>(alloc: Global, command: Command<'a>) -> Result<Command<'a>, AllocError>
+    ensures { IfOk result (λ all. app_of all ≡ with_done_anyway (app_of command.entry)) }
+{
+    let all = command
+        .arg(format(alloc))?
+        .arg(extension(alloc))?
+        .arg(flag(
+            alloc,
+            "validate-utf8",
+            "Read what is no UTF-8 as U+FFFD, as is done anyway",
+        ))?
+        .arg(valued(
+            alloc,
+            "width",
+            "N",
+            "Wrap no lines of the HTML, whatever the number, as is done anyway",
+        ))?;
+    Ok(all)
+}
+
+/// The option that names the format.
+fn format<'a>(alloc: Global) -> Arg<'a>
+    ensures rule { rule_of result ≡ lettered_rule 116 (valued_rule (codes "to")) }
+    ensures local { result.global ≡ false }
+{
+    valued(alloc, "to", "FORMAT", "Write html, as is done anyway").short('t')
+}
+
+/// The option that names an extension, as often as it stands.
+fn extension<'a>(alloc: Global) -> Arg<'a>
+    ensures rule { rule_of result ≡ repeated_rule (lettered_rule 101 (valued_rule (codes "extension"))) }
+    ensures local { result.global ≡ false }
+{
+    let help = "Read table, strikethrough or tasklist, as is done anyway; may stand several times";
+    valued(alloc, "extension", "NAME", help)
+        .short('e')
+        .action(ArgAction::Append)
+}
+
+/// The command with the version that it tells.
+fn versioned<'a>(command: Command<'a>) -> Command<'a>
+    ensures { app_of result ≡ with_version (app_of command.entry) }
+{
+    command.version(VERSION)
 }
 
 fn flag<'a>(alloc: Global, name: &'static str, help: &'static str) -> Arg<'a>
@@ -163,8 +251,8 @@ fn options_of(matches: &ArgMatches<'_>) -> Result<Options, WordFault>
     ensures read { IfOk result (OptionsRead matches.now) }
     ensures limits { IfOk result HasLimits }
 {
-    let unsafe_html = matches.get_flag("unsafe");
-    let breaks = breaks_of(matches.get_flag("hardbreaks"), matches.get_flag("nobreaks"))?;
+    let unsafe_html = is_on(matches, "unsafe");
+    let breaks = breaks_of(is_on(matches, "hardbreaks"), is_on(matches, "nobreaks"))?;
     let max_containers = limit_of(matches.get_str("max-containers"))?;
     let max_spans = limit_of(matches.get_str("max-spans"))?;
     Ok(Options {
@@ -173,6 +261,64 @@ fn options_of(matches: &ArgMatches<'_>) -> Result<Options, WordFault>
         max_containers,
         max_spans,
     })
+}
+
+/// Whether an option without a value was given.
+fn is_on(matches: &ArgMatches<'_>, name: &str) -> bool
+    ensures { result ≡ is_on matches.now name.now }
+{
+    match matches.get_str(name) {
+        Some(value) => value == "true",
+        None => false,
+    }
+}
+
+/// Whether what cmark-gfm is asked for is what is done anyway.
+fn require_done_anyway(matches: &ArgMatches<'_>) -> Result<(), WordFault>
+    ensures { OnOk result (IsDoneAnyway matches.now) }
+{
+    require_html(matches.get_str("to"))?;
+    require_width(matches.get_str("width"))?;
+    match matches.get_strs("extension") {
+        Some(names) => require_extensions(names),
+        None => Ok(()),
+    }
+}
+
+fn require_html(format: Option<&str>) -> Result<(), WordFault>
+    ensures { OnOk result (IfSome (option_map (λ name. name.now) format.entry) (λ name. name ≡ codes "html")) }
+{
+    match format {
+        Some(name) if name != "html" => Err(WordFault::NotUnderstood),
+        _ => Ok(()),
+    }
+}
+
+fn require_width(word: Option<&str>) -> Result<(), WordFault>
+    ensures { OnOk result (IfSome (option_map (λ word. word.now) word.entry) (λ word. IsSome (number word))) }
+{
+    match word {
+        Some(word) if number(word.as_bytes()).is_none() => Err(WordFault::NotUnderstood),
+        _ => Ok(()),
+    }
+}
+
+/// Whether all these extensions are among those that are always on.
+fn require_extensions(names: &[&str]) -> Result<(), WordFault>
+    ensures { OnOk result (list_all is_extension (map (λ name. name.now) names.now) ≡ true) }
+{
+    for name in names {
+        if !is_extension(name) {
+            return Err(WordFault::NotUnderstood);
+        }
+    }
+    Ok(())
+}
+
+fn is_extension(name: &str) -> bool
+    ensures { result ≡ is_extension name.now }
+{
+    name == "table" || name == "strikethrough" || name == "tasklist"
 }
 
 const DEFAULT_LIMIT: usize = 64;
@@ -245,6 +391,7 @@ fn fault_of(alloc: Global, error: &Error) -> WordFault {
             Ok(text) => WordFault::Help(text),
             Err(_) => WordFault::NoMemory,
         },
+        ErrorKind::DisplayVersion => WordFault::Version,
         ErrorKind::OutOfMemory => WordFault::NoMemory,
         _ => WordFault::NotUnderstood,
     }

@@ -26,8 +26,6 @@ mod preview;
 mod readings;
 mod reparse;
 mod resuming;
-#[cfg(test)]
-mod tests;
 mod text_room;
 mod touched_labels;
 mod update;

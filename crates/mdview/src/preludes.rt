@@ -63,7 +63,7 @@ impl Prelude {
     /// (CommonMark 2.3). Each line that is read is counted.
     ///
     /// Refused, in this order: `BreakInLine`, `TooManyLines`, `TooLarge`, whatever the memory, and then nothing is counted;
-    /// `NotDefinitions`; `NoMemory` at any point.
+    /// `NotDefinitions`; `NoMemory` at any point behind the first three.
     pub fn read<C: Count>(
         alloc: Global,
         lines: &[&str],

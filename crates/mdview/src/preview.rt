@@ -273,7 +273,7 @@ impl Preview {
     /// Replaces `del` lines at line `at` by others, and says which pieces changed.
     ///
     /// Refused, in this order: `OutOfRange`, `BreakInLine`, `TooManyLines`, `TooLarge`, whatever the memory; then
-    /// `NestedTooDeep`, `InlineTooDeep`; `NoMemory` at any point. After each the preview is as before, and after the first
+    /// `NestedTooDeep`, `InlineTooDeep`; `NoMemory` at any point behind the first four. After each the preview is as before, and after the first
     /// four the counter too. U+0000 in an added line is
     /// replaced by U+FFFD before its size is counted (CommonMark 2.3).
     ///

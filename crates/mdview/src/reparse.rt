@@ -57,7 +57,7 @@ pub(crate) struct Reparsed {
 }
 
 /// Reads blocks from the last unit that begins above the edit up to where a unit begins behind it that is held, or a later item of a list is held that begins
-/// there in both texts, or to the end. Each line that is read is counted.
+/// there in both texts, or to the end. Each line that is read, or taken over in its place, is counted.
 pub(crate) fn reparse<C: Count>(
     held: &HeldText<'_>,
     text: NewText<'_>,

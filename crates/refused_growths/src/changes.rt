@@ -75,6 +75,9 @@ fn made(preview: &mut Preview, change: &Change<'_>, lines: &[&str]) -> Result<Pa
     }
 }
 
+/// Of a piece with more bytes its length alone is said.
+const LONG_PIECE: usize = 16_384;
+
 /// Says which pieces came and went, with those that came, as `mdpreview` does.
 fn say_patch(
     alloc: Global,
@@ -100,7 +103,10 @@ fn say_patch(
         if patch.text(preview, number) != Some(html) {
             say_failed(said, "Patch")?;
         }
-        write!(said, "piece {number} {}\n{html}", html.len())?;
+        write!(said, "piece {number} {}\n", html.len())?;
+        if html.len() <= LONG_PIECE {
+            said.push_str(html)?;
+        }
         try_walk(preview, number, said)?;
     }
     Ok(())

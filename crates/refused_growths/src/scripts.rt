@@ -11,7 +11,8 @@ pub fn try_scripts(alloc: Global, said: &mut String) -> Result<(), AllocError> {
     try_definitions(alloc, said)?;
     try_preludes(alloc, said)?;
     try_table(alloc, said)?;
-    try_depth(alloc, said)
+    try_depth(alloc, said)?;
+    try_long_list(alloc, said)
 }
 
 /// A definition is changed, another is put above it, and taken away again.
@@ -97,6 +98,38 @@ fn try_depth(alloc: Global, said: &mut String) -> Result<(), AllocError> {
             at: 4,
             del: 0,
             add: "[k]: /u\n",
+        },
+    ];
+    try_changes(alloc, &changes, said)
+}
+
+/// An item of a list whose HTML is long changes twice, and then all items but the first go, which has a definition.
+fn try_long_list(alloc: Global, said: &mut String) -> Result<(), AllocError> {
+    // In HTML each of these has six bytes.
+    let marks = "\"".repeat(alloc, 700)?;
+    let text = format!(in alloc;
+        "- [k]: /u\n- [k] {marks}\n- c {marks}\n- d {marks}\n- e {marks}\n- f {marks}\n"
+    )?;
+    let changes = [
+        Change::Edit {
+            at: 0,
+            del: 0,
+            add: &text,
+        },
+        Change::Edit {
+            at: 4,
+            del: 1,
+            add: "- g\n",
+        },
+        Change::Edit {
+            at: 4,
+            del: 1,
+            add: "- h\n",
+        },
+        Change::Edit {
+            at: 1,
+            del: 5,
+            add: "",
         },
     ];
     try_changes(alloc, &changes, said)

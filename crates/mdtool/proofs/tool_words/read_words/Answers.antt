@@ -1,5 +1,5 @@
-use Rattle.std.proofs.Common.{◌≡◌, ◌∙◌, refl, map, subst}
-use Rattle.clap.specs.Words.{HasMatchesOf, app_of}
+use Rattle.std.proofs.Common.{◌≡◌, ◌∙◌, ap, refl, map, subst}
+use Rattle.clap.specs.Words.{HasMatchesOf, app_of, matches_of}
 use Rattle.mdtool.specs.ToolWords.{tool_app}
 use Rattle.mdtool.proofs.tool_words.read_words.Goals as goal
 
@@ -10,11 +10,12 @@ returns-clause-read c =
     let app : app_of c.in_ok-command.command ≡ tool_app program = c.in_ok-command.ensures in
     let matched : HasMatchesOf (tool_app program) words c.in-Ok.matches = subst (λ a. HasMatchesOf a words c.in-Ok.matches) app c.in-Ok.ensures.matches in
     record {
-      program = program;
       matches = c.in-Ok.matches;
-      rows = (matched refl).0;
+      rows = (matched refl).0 ∙ ap (λ name. matches_of (tool_app name) words) c.program_of.ensures;
       options = c.in_ok-options.ensures.read;
       entities = c.in_ok-entities.ensures ∙ c.get_str.ensures;
       prelude = c.in_ok-prelude.ensures ∙ c.get_str-2.ensures;
       file = c.in_ok-file.ensures ∙ c.get_str-3.ensures;
+      explains = c.is_on.ensures;
+      anyway = c.in_ok-require_done_anyway.ensures;
     }

@@ -1,0 +1,7 @@
+//! Tests of the reading of blocks and of the joining of lists, by their public calls.
+#![tactic(auto)]
+
+#[cfg(test)]
+mod joins;
+#[cfg(test)]
+mod units;

@@ -1,0 +1,82 @@
+-- What a script's commands are said to have read, at each end.
+use Rattle.std.specs.Prelude.{◌≡◌, ◌⊎◌, ℕ, ◌≤◌, Bool, List, [], ◌∷◌, ◌++◌, Option, Result, Ok, Err, decimal, map}
+use Rattle.joinspec.specs.SoonTexts.{texts_soon}
+use Rattle.joinspec.specs.Stops.{lines_soon}
+use Rattle.mdview.specs.Document.{Document, setting_of, source_of}
+use Rattle.mdtool.specs.declared.fault.ToolFault.{ToolFault}
+use Rattle.mdtool.specs.declared.fault.ToolFault.TheVariants.{Read, Write, Refused, BadCommand, Truncated, Table, NoMemory}
+use Rattle.mdtool.specs.Bytes.{Gains, GainsFront}
+use Rattle.mdtool.specs.Commands.{Command, Html, Change, Stop, Done, Open, Bad, Short}
+use Rattle.mdtool.specs.PreludeSet.{Beside, PreludeRefused}
+use Rattle.mdtool.specs.Replies.{ScriptTurn, held_behind}
+use Rattle.mdtool.specs.Serve.{Begins, Ends}
+
+-- a command, and how many lines and inline texts were read for it
+pub record CountedTurn : Type 0 where
+  pub turn : ScriptTurn
+  pub lines : ℕ
+  pub inlines : ℕ
+
+abbrev pub turns_of : List CountedTurn → List ScriptTurn
+turns_of counts = map (λ (count : CountedTurn). count.turn) counts
+
+-- what may be read for a command where this is held
+abbrev pub IsWithin : Document → Command → (lines inlines : ℕ) → Type 0
+IsWithin held Html lines inlines = (lines ≡ 0) × (inlines ≡ 0)
+IsWithin held (Change call) lines inlines = (lines ≤ lines_soon (setting_of held) (source_of held) call) × (inlines ≤ texts_soon (setting_of held) (source_of held) call)
+
+-- each of these commands, one after the other, read no more than it may
+abbrev pub AreWithin : Document → List CountedTurn → Type 0
+AreWithin held [] = Unit {0}
+AreWithin held (count ∷ counts) = IsWithin held count.turn.command count.lines count.inlines × AreWithin (held_behind held count.turn.command count.turn.starved) counts
+
+abbrev pub count_line : (lines inlines : ℕ) → List ℕ
+count_line lines inlines = decimal lines ++ (32 ∷ (decimal inlines ++ 10 ∷ []))
+
+-- a line for each command
+abbrev pub count_lines : List CountedTurn → List ℕ
+count_lines [] = []
+count_lines (count ∷ counts) = count_line count.lines count.inlines ++ count_lines counts
+
+-- each whole command of the bytes that were taken was carried out, and a line says what was read for it
+pub record Counted (document : Document) (left left' written written' : Option (List ℕ)) (stop : Stop) : Type 0 where
+  pub counts : List CountedTurn
+  pub ends : Ends left left' (turns_of counts) stop
+  pub within : AreWithin document counts
+  pub said : Gains written (count_lines counts) written'
+
+-- of the lines of some whole commands, at the front of the bytes that were taken, a beginning was written
+pub record CountedInPart (document : Document) (left left' written written' : Option (List ℕ)) : Type 0 where
+  pub counts : List CountedTurn
+  pub begins : Begins left left' (turns_of counts)
+  pub within : AreWithin document counts
+  pub said : GainsFront written (count_lines counts) written'
+
+-- what each end says, where this is held at the beginning; there is no other
+abbrev pub Counts : {T : Type 0} → Result T ToolFault → Document → (left left' written written' : Option (List ℕ)) → Type 0
+Counts (Ok answer) document left left' written written' = Counted document left left' written written' Done
+Counts (Err (BadCommand line)) document left left' written written' = Counted document left left' written written' (Bad line)
+Counts (Err (Truncated line)) document left left' written written' = Counted document left left' written written' (Short line)
+Counts (Err Read) document left left' written written' = Counted document left left' written written' Open
+Counts (Err Write) document left left' written written' = CountedInPart document left left' written written'
+Counts (Err NoMemory) document left left' written written' = CountedInPart document left left' written written'
+Counts (Err (Refused fault)) document left left' written written' = ⊥
+Counts (Err (Table fault)) document left left' written written' = ⊥
+
+-- what each end says where the prelude is read first; there is no other
+abbrev pub CountsBeside : {T : Type 0} → Result T ToolFault → Document → List (List ℕ) → (left left' written written' : Option (List ℕ)) → Type 0
+CountsBeside (Ok answer) empty prelude left left' written written' = Beside empty prelude (λ held. Counted held left left' written written' Done)
+CountsBeside (Err (BadCommand line)) empty prelude left left' written written' = Beside empty prelude (λ held. Counted held left left' written written' (Bad line))
+CountsBeside (Err (Truncated line)) empty prelude left left' written written' = Beside empty prelude (λ held. Counted held left left' written written' (Short line))
+CountsBeside (Err Read) empty prelude left left' written written' = Beside empty prelude (λ held. Counted held left left' written written' Open)
+CountsBeside (Err Write) empty prelude left left' written written' = Beside empty prelude (λ held. CountedInPart held left left' written written')
+CountsBeside (Err NoMemory) empty prelude left left' written written' =
+    ((left' ≡ left) × (written' ≡ written)) ⊎ Beside empty prelude (λ held. CountedInPart held left left' written written')
+CountsBeside (Err (Refused fault)) empty prelude left left' written written' = PreludeRefused empty prelude fault left left' written written'
+CountsBeside (Err (Table fault)) empty prelude left left' written written' = ⊥
+
+-- a command was carried out, memory refused for it or not, and this was read for it
+pub record Counting (old : Document) (command : Command) (lines inlines : ℕ) (new : Document) : Type 0 where
+  pub starved : Bool
+  pub within : IsWithin old command lines inlines
+  pub holds : new ≡ held_behind old command starved

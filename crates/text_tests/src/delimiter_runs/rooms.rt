@@ -1,0 +1,58 @@
+//! Texts of more and of fewer runs than a pairing keeps room for.
+
+use mdpair::{DelimiterChar, DelimiterRun, Match, Pairing, pair};
+use std::alloc::{AllocError, Global};
+use std::process::Abort;
+use std::test::Fail;
+
+/// So many runs that open, and as many that close. Tildes are of many lengths, each of which is a kind of its own.
+fn runs_of(
+    alloc: Global,
+    delimiter: DelimiterChar,
+    count: usize,
+) -> Result<Vec<DelimiterRun>, AllocError> {
+    let mut runs = Vec::new(alloc);
+    for opens in [true, false] {
+        for place in 0..count {
+            let length = match delimiter {
+                DelimiterChar::Tilde => place + 1,
+                _ => 1,
+            };
+            runs.push(DelimiterRun {
+                delimiter,
+                length,
+                can_open: opens,
+                can_close: !opens,
+            })?;
+        }
+    }
+    Ok(runs)
+}
+
+fn compare(rt: &impl Abort, matches: &[Match], wants: &[Match], count: usize) {
+    assert_eq!(rt; matches.len(), wants.len(), "{count} runs");
+    for (matched, want) in matches.iter().zip(wants) {
+        assert_eq!(rt; matched.opener, want.opener, "{count} runs");
+        assert_eq!(rt; matched.closer, want.closer, "{count} runs");
+        assert_eq!(rt; matched.width, want.width, "{count} runs");
+    }
+}
+
+/// What is paired after a room was given back is paired as by itself.
+#[test]
+fn a_pairing_pairs_as_the_function(rt: HostRuntime) -> Result<(), Fail> {
+    let alloc = rt.alloc();
+    let mut pairing = Pairing::new(alloc);
+    for delimiter in [DelimiterChar::Asterisk, DelimiterChar::Tilde] {
+        for count in [63, 64, 65, 200, 66, 3] {
+            let runs = runs_of(alloc, delimiter, count)?;
+            let wants = pair(alloc, &runs)?;
+            for _ in 0..2 {
+                pairing.pair(&runs)?;
+                compare(&rt, pairing.matches(), &wants, count);
+            }
+            pairing.let_go();
+        }
+    }
+    Ok(())
+}
