@@ -163,7 +163,8 @@ fn refusal_told(alloc: Global, options: &Options, fault: &EditFault) -> Result<S
             in_line(alloc, *line, told.as_str())
         }
         EditFault::NotDefinitions { line } => {
-            let told = "the block that begins here is more than link reference definitions; leave nothing else in the file";
+            let told =
+                "the block that begins here is more than link reference definitions; leave nothing else in the file";
             in_line(alloc, *line, told)
         }
         EditFault::TooManyLines => {
