@@ -10,9 +10,10 @@ _mdrender_files() {
     done < <(compgen -f -- "$1")
 }
 
-# The options that may still be given after those in $given.
+# The options that may still be given to a program after those in $given.
 _mdrender_options() {
     local option
+    [ "${1##*/}" != mdpreview ] || [[ $given == *" --lines "* ]] || echo --lines
     for option in --unsafe --hardbreaks --nobreaks --entities --prelude --max-containers --max-spans --explain --to --extension \
         --validate-utf8 --width --help --version; do
         case "$option $given" in
@@ -57,7 +58,7 @@ _mdrender() {
     elif [ -z "$ended" ] && [[ $current == -* ]]; then
         while IFS= read -r word; do
             COMPREPLY+=("$word")
-        done < <(compgen -W "$(_mdrender_options)" -- "$current")
+        done < <(compgen -W "$(_mdrender_options "${COMP_WORDS[0]}")" -- "$current")
     elif [ -z "$named" ]; then
         _mdrender_files "$current"
     fi

@@ -1,8 +1,9 @@
 #!/usr/bin/env python3
 """soak.py [--seconds N] [--seed S] [--every K] [--bin DIR]: random edits of the repository's own texts through bin/mdpreview, for N seconds (60).
 
-Each document is one run of mdpreview with some options, 400 edits and preludes long. The pieces are kept as a client keeps them. After every K edits (10),
-and at the end, they must be what `html` answers and what bin/mdrender writes for the whole text. A refusal must be the one that is due: of a line out of
+Each document is one run of mdpreview with some options, 400 edits and preludes long. The pieces are kept as a client keeps them, in every second document with
+the lines on which they begin (--lines). After every K edits (10), and at the end, they must be what `html` answers and what bin/mdrender writes for the whole text,
+and begin where a preview of the whole text says. A refusal must be the one that is due: of a line out of
 range or with CR as the client counts it, else the one that mdrender gives for that text. Prints how many edits were done, and the seed; a failure leaves its
 script in out/. The last line is 'N passed, M failed', over the documents."""
 import argparse
@@ -41,10 +42,12 @@ def own_texts():
 class Session:
     """An mdpreview, with the lines, the prelude and the pieces that it should hold."""
 
-    def __init__(self, programs, words, scratch):
+    def __init__(self, programs, words, scratch, has_lines):
         self.render = [os.path.join(programs, "mdrender"), *words]
+        self.preview = [os.path.join(programs, "mdpreview"), *words, *(["--lines"] if has_lines else [])]
         pipe = subprocess.PIPE
-        self.child = subprocess.Popen([os.path.join(programs, "mdpreview"), *words], stdin=pipe, stdout=pipe, stderr=pipe)
+        self.child = subprocess.Popen(self.preview, stdin=pipe, stdout=pipe, stderr=pipe)
+        self.begins = [] if has_lines else None
         self.prelude_file = os.path.join(scratch, "prelude")
         self.lines, self.prelude, self.pieces, self.script = [], [], [], []
 
@@ -63,9 +66,15 @@ class Session:
         """Keeps the pieces that come with a reply."""
         first, removed, added, again = map(int, reply[1:])
         self.pieces[first:first + removed] = [b""] * added
+        if self.begins is not None:
+            _, behind, by = self.child.stdout.readline().split()
+            self.begins[first:first + removed] = [None] * added
+            self.begins[int(behind):] = [line + int(by) for line in self.begins[int(behind):]]
         for _ in range(added + again):
-            _, number, size = self.child.stdout.readline().split()
+            _, number, size, *line = self.child.stdout.readline().split()
             self.pieces[int(number)] = self.child.stdout.read(int(size))
+            if self.begins is not None:
+                self.begins[int(number)] = int(line[0])
 
     def rendered(self, lines, prelude):
         """What mdrender writes for a text: its status, its HTML and its line on standard error."""
@@ -86,6 +95,21 @@ class Session:
         status, whole, said = self.rendered(self.lines, self.prelude)
         if (status, whole) != (0, html):
             raise Failed(f"mdrender writes something else: status {status}, {said!r}")
+
+    def check_lines(self):
+        """The pieces begin where those of a preview begin that is given the whole text."""
+        if self.begins is None:
+            return
+        sent = b"".join(line + b"\n" for line in [b"edit 0 0 %d" % len(self.lines), *self.lines])
+        ran = subprocess.run(self.preview, input=sent, capture_output=True)
+        rest, begins = ran.stdout.split(b"\n", 2)[2], []
+        while rest:
+            head, _, rest = rest.partition(b"\n")
+            _, _, size, line = head.split()
+            begins.append(int(line))
+            rest = rest[int(size):]
+        if begins != self.begins:
+            raise Failed(f"the pieces are told to begin on other lines: {self.begins}, and {begins}")
 
     def refusal_is_due(self, said, due, lines, prelude):
         """A refusal is the one that the client counts, else the one that mdrender names for the text."""
@@ -212,7 +236,7 @@ def document(number, options, texts, scratch, counts):
     """One document from its first edit to its end."""
     rand = random.Random(f"{options.seed}:{number}")
     words = rand.choice(WORDS)
-    writer, session = Writer(rand, texts), Session(options.bin, words, scratch)
+    writer, session = Writer(rand, texts), Session(options.bin, words, scratch, number % 2 == 1)
     try:
         for step in range(EDITS):
             if rand.random() < 0.04:
@@ -222,7 +246,9 @@ def document(number, options, texts, scratch, counts):
             counts[end] = counts.get(end, 0) + 1
             if step % options.every == 0:
                 session.check()
+                session.check_lines()
         session.check()
+        session.check_lines()
         counts["most memory"] = max(counts.get("most memory", 0), session.memory())
         session.end()
     except (Failed, OSError, ValueError, IndexError) as fault:

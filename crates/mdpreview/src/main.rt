@@ -27,6 +27,7 @@ fn run(rt: &HostRuntime, words: &Words) -> Result<(), Halt>
             let mut feed = opened(rt, name, Source::Text)?;
             let end = serve_to_the_end(
                 rt.alloc(),
+                words.replies,
                 &mut feed,
                 &mut out,
                 entities,
@@ -39,6 +40,7 @@ fn run(rt: &HostRuntime, words: &Words) -> Result<(), Halt>
             let mut feed = ReadFeed::new(rt.stdin());
             let end = serve_to_the_end(
                 rt.alloc(),
+                words.replies,
                 &mut feed,
                 &mut out,
                 entities,

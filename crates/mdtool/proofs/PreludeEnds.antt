@@ -10,33 +10,34 @@ use Rattle.mdview.specs.Outcome.{answer_of, is_starved, outcome_of}
 use Rattle.mdview.proofs.Outcomes.{accepted_holds, accepted_stands, refused_due}
 use Rattle.mdtool.specs.declared.fault.ToolFault.{ToolFault}
 use Rattle.mdtool.specs.declared.fault.ToolFault.TheVariants.{Read, Write, Refused, BadCommand, Truncated, Table, NoMemory}
+use Rattle.mdtool.specs.declared.reply_forms.ReplyForm.{ReplyForm}
 use Rattle.mdtool.specs.PreludeSet.{PreludeSet, Sets}
 use Rattle.mdtool.specs.Serve.{Served, ServedBeside, out_failures_after}
 use Rattle.mdtool.specs.Steps.{failures_after}
 use Rattle.mdtool.specs.ToolRefusals.{refusal_of}
 
 -- the end of the script beside a prelude that is held
-pub serves_beside : {T : Type 0} (r : Result T ToolFault) (old held : Document) (lines : List (List ℕ)) (left left' written written' : Option (List ℕ)) → Sets old lines held
-    → Served r held left left' written written' → ServedBeside r old lines left left' written written'
-serves_beside (Ok answer) old held lines left left' written written' set end = (held, set, end)
-serves_beside (Err Write) old held lines left left' written written' set end = (held, set, end)
-serves_beside (Err (BadCommand line)) old held lines left left' written written' set end = (held, set, end)
-serves_beside (Err (Truncated line)) old held lines left left' written written' set end = (held, set, end)
-serves_beside (Err Read) old held lines left left' written written' set end = (held, set, end)
-serves_beside (Err NoMemory) old held lines left left' written written' set end = inr (held, set, end)
-serves_beside (Err (Refused fault)) old held lines left left' written written' set end = absurd end
-serves_beside (Err (Table fault)) old held lines left left' written written' set end = absurd end
+pub serves_beside : {T : Type 0} (form : ReplyForm) (r : Result T ToolFault) (old held : Document) (lines : List (List ℕ)) (left left' written written' : Option (List ℕ)) → Sets old lines held
+    → Served form r held left left' written written' → ServedBeside form r old lines left left' written written'
+serves_beside form (Ok answer) old held lines left left' written written' set end = (held, set, end)
+serves_beside form (Err Write) old held lines left left' written written' set end = (held, set, end)
+serves_beside form (Err (BadCommand line)) old held lines left left' written written' set end = (held, set, end)
+serves_beside form (Err (Truncated line)) old held lines left left' written written' set end = (held, set, end)
+serves_beside form (Err Read) old held lines left left' written written' set end = (held, set, end)
+serves_beside form (Err NoMemory) old held lines left left' written written' set end = inr (held, set, end)
+serves_beside form (Err (Refused fault)) old held lines left left' written written' set end = absurd end
+serves_beside form (Err (Table fault)) old held lines left left' written written' set end = absurd end
 
 -- where the prelude is refused, or memory is, nothing was read or written
-pub prelude_ends_script : {T : Type 0} (U : Type 0) (held : T → Document) (fault : ToolFault) (old : Document) (lines : List (List ℕ)) (left written : Option (List ℕ)) → PreludeSet held (Err fault) old lines
-    → ServedBeside {T = U} (Err fault) old lines left left written written
-prelude_ends_script U held (Refused fault) old lines left written end = record { refused = end; unread = refl; unwritten = refl }
-prelude_ends_script U held NoMemory old lines left written end = inl (refl, refl)
-prelude_ends_script U held Read old lines left written end = absurd end
-prelude_ends_script U held Write old lines left written end = absurd end
-prelude_ends_script U held (BadCommand line) old lines left written end = absurd end
-prelude_ends_script U held (Truncated line) old lines left written end = absurd end
-prelude_ends_script U held (Table fault) old lines left written end = absurd end
+pub prelude_ends_script : {T : Type 0} (U : Type 0) (form : ReplyForm) (held : T → Document) (fault : ToolFault) (old : Document) (lines : List (List ℕ)) (left written : Option (List ℕ)) → PreludeSet held (Err fault) old lines
+    → ServedBeside {T = U} form (Err fault) old lines left left written written
+prelude_ends_script U form held (Refused fault) old lines left written end = record { refused = end; unread = refl; unwritten = refl }
+prelude_ends_script U form held NoMemory old lines left written end = inl (refl, refl)
+prelude_ends_script U form held Read old lines left written end = absurd end
+prelude_ends_script U form held Write old lines left written end = absurd end
+prelude_ends_script U form held (BadCommand line) old lines left written end = absurd end
+prelude_ends_script U form held (Truncated line) old lines left written end = absurd end
+prelude_ends_script U form held (Table fault) old lines left written end = absurd end
 
 -- no device failed then
 pub no_feed_failed : {T : Type 0} (U : Type 0) (held : T → Document) (fault : ToolFault) (old : Document) (lines : List (List ℕ)) (failures : ℕ) → PreludeSet held (Err fault) old lines

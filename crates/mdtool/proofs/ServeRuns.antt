@@ -2,6 +2,7 @@
 use Rattle.std.proofs.Common.{◌≡◌, ℕ, ◌+◌, Bool, true, false, List, [], ◌∷◌, ◌++◌, drop, length, Option, Some, None, refl, ap, sym, ◌∙◌, subst, append-nil, append_assoc, arith}
 use Rattle.std.proofs.lemmas.List.{map-append}
 use Rattle.std.proofs.Math.Seq.{drop-append_seam}
+use Rattle.mdtool.specs.declared.reply_forms.ReplyForm.{ReplyForm}
 use Rattle.mdtool.specs.Bytes.{Takes, AtEnd, Gains, GainsFront}
 use Rattle.mdview.specs.Document.{Document}
 use Rattle.mdtool.specs.Commands.{Command, Stop, Leads, first_command, script_lines, capped}
@@ -17,12 +18,12 @@ abbrev pub held_after : Document → List ScriptTurn → Document
 held_after old [] = old
 held_after old (turn ∷ turns) = held_after (held_behind old turn.command turn.starved) turns
 
-replies_more : (old : Document) (turns : List ScriptTurn) (turn : ScriptTurn) → replies old (turns ++ turn ∷ []) ≡ replies old turns ++ reply (held_after old turns) turn.command turn.starved
+replies_more : (form : ReplyForm) (old : Document) (turns : List ScriptTurn) (turn : ScriptTurn) → replies form old (turns ++ turn ∷ []) ≡ replies form old turns ++ reply form (held_after old turns) turn.command turn.starved
 unfolding replies
-replies_more old [] turn = append-nil (reply old turn.command turn.starved)
-replies_more old (first ∷ turns) turn =
-    ap (λ bs. reply old first.command first.starved ++ bs) (replies_more (held_behind old first.command first.starved) turns turn)
-    ∙ sym (append_assoc (reply old first.command first.starved) (replies (held_behind old first.command first.starved) turns) (reply (held_after (held_behind old first.command first.starved) turns) turn.command turn.starved))
+replies_more form old [] turn = append-nil (reply form old turn.command turn.starved)
+replies_more form old (first ∷ turns) turn =
+    ap (λ bs. reply form old first.command first.starved ++ bs) (replies_more form (held_behind old first.command first.starved) turns turn)
+    ∙ sym (append_assoc (reply form old first.command first.starved) (replies form (held_behind old first.command first.starved) turns) (reply form (held_after (held_behind old first.command first.starved) turns) turn.command turn.starved))
 
 pub held_more : (old : Document) (turns : List ScriptTurn) (turn : ScriptTurn) → held_after old (turns ++ turn ∷ []) ≡ held_behind (held_after old turns) turn.command turn.starved
 held_more old [] turn = refl
@@ -48,11 +49,11 @@ pub record Progress (old : Document) (left left' : Option (List ℕ)) (script : 
   pub leads : (rest : List (List ℕ)) → Leads 1 (lines ++ rest) (commands_of turns) (capped (script.lines + 1)) rest
 
 -- and they were answered, which left this document
-pub record Run (old : Document) (left left' : Option (List ℕ)) (script : Pending) (written written' : Option (List ℕ)) (held : Document) : Type 0 where
+pub record Run (form : ReplyForm) (old : Document) (left left' : Option (List ℕ)) (script : Pending) (written written' : Option (List ℕ)) (held : Document) : Type 0 where
   pub turns : List ScriptTurn
   pub progress : Progress old left left' script turns
   pub holds : held ≡ held_after old turns
-  pub replied : Gains written (replies old turns) written'
+  pub replied : Gains written (replies form old turns) written'
 
 pub gains_nothing : (written : Option (List ℕ)) → Gains written [] written
 gains_nothing None = refl
@@ -65,9 +66,9 @@ progress_start old left script script_is = record {
   leads = λ rest. leads_none 1 _ rest (ap (λ (p : Pending). capped (p.lines + 1)) script_is);
 }
 
-pub run_start : (old : Document) (left written : Option (List ℕ)) (script : Pending) (held : Document) → script ≡ fresh → held ≡ old → Run old left left script written written held
+pub run_start : {form : ReplyForm} (old : Document) (left written : Option (List ℕ)) (script : Pending) (held : Document) → script ≡ fresh → held ≡ old → Run form old left left script written written held
 unfolding replies
-run_start old left written script held script_is held_is = record {
+run_start {form} old left written script held script_is held_is = record {
   turns = [];
   progress = progress_start old left script script_is;
   holds = held_is;
@@ -91,22 +92,22 @@ progress_more old a b c script script' turns turn progress read = record {
 }
 
 -- the reply to one more command
-next_reply : (old held : Document) (turns : List ScriptTurn) (command : Command) (starved : Bool) (bytes : List ℕ) → held ≡ held_after old turns → bytes ≡ reply held command starved
-    → replies old (turns ++ (record { command = command; starved = starved }) ∷ []) ≡ replies old turns ++ bytes
-next_reply old held turns command starved bytes holds is =
-    replies_more old turns (record { command = command; starved = starved })
-    ∙ ap (λ bs. replies old turns ++ bs) (sym (is ∙ ap (λ (d : Document). reply d command starved) holds))
+next_reply : (form : ReplyForm) (old held : Document) (turns : List ScriptTurn) (command : Command) (starved : Bool) (bytes : List ℕ) → held ≡ held_after old turns → bytes ≡ reply form held command starved
+    → replies form old (turns ++ (record { command = command; starved = starved }) ∷ []) ≡ replies form old turns ++ bytes
+next_reply form old held turns command starved bytes holds is =
+    replies_more form old turns (record { command = command; starved = starved })
+    ∙ ap (λ bs. replies form old turns ++ bs) (sym (is ∙ ap (λ (d : Document). reply form d command starved) holds))
 
-pub run_more : (old : Document) (a b c : Option (List ℕ)) (script script' : Pending) (w w' w'' : Option (List ℕ)) (held held' : Document) (command : Command) (bytes : List ℕ)
-    → Run old a b script w w' held → ReadsCommand b script c script' command → Replied held command bytes held' → Gains w' bytes w'' → Run old a c script' w w'' held'
-run_more old a b c script script' w w' w'' held held' command bytes run read replied gains =
+pub run_more : {form : ReplyForm} (old : Document) (a b c : Option (List ℕ)) (script script' : Pending) (w w' w'' : Option (List ℕ)) (held held' : Document) (command : Command) (bytes : List ℕ)
+    → Run form old a b script w w' held → ReadsCommand b script c script' command → Replied form held command bytes held' → Gains w' bytes w'' → Run form old a c script' w w'' held'
+run_more {form} old a b c script script' w w' w'' held held' command bytes run read replied gains =
     let turn : ScriptTurn = record { command = command; starved = replied.starved } in
     record {
       turns = run.turns ++ turn ∷ [];
       progress = progress_more old a b c script script' run.turns turn run.progress read;
       holds = replied.holds ∙ ap (λ (d : Document). held_behind d command replied.starved) run.holds ∙ sym (held_more old run.turns turn);
-      replied = subst (λ (bs : List ℕ). Gains w bs w'') (sym (next_reply old held run.turns command replied.starved bytes run.holds replied.bytes_are))
-          (gains_more w w' w'' (replies old run.turns) bytes run.replied gains);
+      replied = subst (λ (bs : List ℕ). Gains w bs w'') (sym (next_reply form old held run.turns command replied.starved bytes run.holds replied.bytes_are))
+          (gains_more w w' w'' (replies form old run.turns) bytes run.replied gains);
     }
 
 never_ended : (left : Option (List ℕ)) → false ≡ true → AtEnd left
@@ -132,9 +133,9 @@ progress_stops old a b c script turns stop progress stops =
       script = (capped (script.lines + 1), rest, leads, stops.none, stops.stop_is);
     }
 
-pub run_stops : (old : Document) (a b c : Option (List ℕ)) (script : Pending) (w w' : Option (List ℕ)) (held : Document) (stop : Stop)
-    → Run old a b script w w' held → StopsAt b script c stop → Answered old a c w w' stop
-run_stops old a b c script w w' held stop run stops =
+pub run_stops : {form : ReplyForm} (old : Document) (a b c : Option (List ℕ)) (script : Pending) (w w' : Option (List ℕ)) (held : Document) (stop : Stop)
+    → Run form old a b script w w' held → StopsAt b script c stop → Answered form old a c w w' stop
+run_stops {form} old a b c script w w' held stop run stops =
     record { turns = run.turns; ends = progress_stops old a b c script run.turns stop run.progress stops; replied = run.replied }
 
 end_stays : (b c : Option (List ℕ)) (taken : List ℕ) → taken ≡ [] → Takes b taken c → AtEnd b → AtEnd c
@@ -163,27 +164,27 @@ progress_breaks old a b c script turns progress draws =
     }
 
 -- what was written then
-breaks : (old : Document) (a b c : Option (List ℕ)) (script : Pending) (turns : List ScriptTurn) (w w' : Option (List ℕ))
-    → Progress old a b script turns → Draws b script.is_ended c → GainsFront w (replies old turns) w' → Broken old a c w w'
-breaks old a b c script turns w w' progress draws front = record { turns = turns; begins = progress_breaks old a b c script turns progress draws; replied = front }
+breaks : (form : ReplyForm) (old : Document) (a b c : Option (List ℕ)) (script : Pending) (turns : List ScriptTurn) (w w' : Option (List ℕ))
+    → Progress old a b script turns → Draws b script.is_ended c → GainsFront w (replies form old turns) w' → Broken form old a c w w'
+breaks form old a b c script turns w w' progress draws front = record { turns = turns; begins = progress_breaks old a b c script turns progress draws; replied = front }
 
 -- memory ended the work before the next reply
-pub run_starves : (old : Document) (a b c : Option (List ℕ)) (script : Pending) (w w' : Option (List ℕ)) (held : Document)
-    → Run old a b script w w' held → Draws b script.is_ended c → Broken old a c w w'
-run_starves old a b c script w w' held run draws =
-    breaks old a b c script run.turns w w' run.progress draws (replies old run.turns, [], sym (append-nil (replies old run.turns)), run.replied)
+pub run_starves : {form : ReplyForm} (old : Document) (a b c : Option (List ℕ)) (script : Pending) (w w' : Option (List ℕ)) (held : Document)
+    → Run form old a b script w w' held → Draws b script.is_ended c → Broken form old a c w w'
+run_starves {form} old a b c script w w' held run draws =
+    breaks form old a b c script run.turns w w' run.progress draws (replies form old run.turns, [], sym (append-nil (replies form old run.turns)), run.replied)
 
 -- the out failed in the next reply
-pub run_breaks : (old : Document) (a b c : Option (List ℕ)) (script script' : Pending) (w w' w'' : Option (List ℕ)) (held held' : Document) (command : Command) (bytes : List ℕ)
-    → Run old a b script w w' held → ReadsCommand b script c script' command → Replied held command bytes held' → GainsFront w' bytes w'' → Broken old a c w w''
-run_breaks old a b c script script' w w' w'' held held' command bytes run read replied front =
+pub run_breaks : {form : ReplyForm} (old : Document) (a b c : Option (List ℕ)) (script script' : Pending) (w w' w'' : Option (List ℕ)) (held held' : Document) (command : Command) (bytes : List ℕ)
+    → Run form old a b script w w' held → ReadsCommand b script c script' command → Replied form held command bytes held' → GainsFront w' bytes w'' → Broken form old a c w w''
+run_breaks {form} old a b c script script' w w' w'' held held' command bytes run read replied front =
     let turn : ScriptTurn = record { command = command; starved = replied.starved } in
     let part : bytes ≡ front.0 ++ front.1 = front.2 in
-    let all = next_reply old held run.turns command replied.starved bytes run.holds replied.bytes_are in
-    breaks old a c c script' (run.turns ++ turn ∷ []) w w'' (progress_more old a b c script script' run.turns turn run.progress read)
+    let all = next_reply form old held run.turns command replied.starved bytes run.holds replied.bytes_are in
+    breaks form old a c c script' (run.turns ++ turn ∷ []) w w'' (progress_more old a b c script script' run.turns turn run.progress read)
     (draws_nothing c script'.is_ended) (
-      replies old run.turns ++ front.0,
+      replies form old run.turns ++ front.0,
       front.1,
-      all ∙ ap (λ bs. replies old run.turns ++ bs) part ∙ sym (append_assoc (replies old run.turns) front.0 front.1),
-      gains_more w w' w'' (replies old run.turns) front.0 run.replied front.3,
+      all ∙ ap (λ bs. replies form old run.turns ++ bs) part ∙ sym (append_assoc (replies form old run.turns) front.0 front.1),
+      gains_more w w' w'' (replies form old run.turns) front.0 run.replied front.3,
     )

@@ -1,5 +1,5 @@
 -- The words of the programs, and what they say.
-use Rattle.std.specs.Prelude.{◌≡◌, ◌==◌, ◌||◌, ◌∷◌, [], ℕ, Bool, true, false, List, Option, Some, None, IfSome, IsSome, codes, drop, option_map, string_bytes}
+use Rattle.std.specs.Prelude.{◌≡◌, ◌==◌, ◌||◌, ◌∷◌, [], ℕ, Bool, true, false, List, Option, Some, None, IfSome, IsSome, codes, drop, option_map, string_bytes, if◌then◌else◌}
 use Rattle.std.specs.List.{list_all, prefix_len}
 use Rattle.std.specs.Option.{option_map_or}
 use Rattle.std.specs.Str.{bytes_eq}
@@ -9,6 +9,8 @@ use Rattle.clap.specs.declared.parser.matches.ArgMatches.{ArgMatches}
 use Rattle.mdhtml.specs.declared.options.Breaks.{Breaks}
 use Rattle.mdhtml.specs.declared.options.Breaks.TheVariants.{Soft, Hard, Space}
 use Rattle.mdhtml.specs.declared.options.Options.{Options}
+use Rattle.mdtool.specs.declared.reply_forms.ReplyForm.{ReplyForm}
+use Rattle.mdtool.specs.declared.reply_forms.ReplyForm.TheVariants.{Plain, WithLines}
 use Rattle.mdtool.specs.declared.tool_words.Words.{Words}
 use Rattle.mdtool.specs.Commands.{number}
 
@@ -45,6 +47,10 @@ with_reading app =
     with_rule (with_rule (with_rule (with_rule (with_rule app
     (valued_rule (codes "entities"))) (valued_rule (codes "prelude"))) (valued_rule (codes "max-containers"))) (valued_rule (codes "max-spans"))) (flag_rule (codes "explain"))
 
+-- the option of what replies tell, which `mdpreview` has
+abbrev pub with_replies : Text → App → App
+with_replies name app = if bytes_eq name (codes "mdpreview") then with_rule app (flag_rule (codes "lines")) else app
+
 -- the options of cmark-gfm that say what is done anyway
 abbrev pub with_done_anyway : App → App
 with_done_anyway app =
@@ -53,7 +59,7 @@ with_done_anyway app =
 
 -- the words that a program of this name understands, in the order that its help has them
 abbrev pub tool_app : Text → App
-tool_app name = with_version (with_rule (with_done_anyway (with_reading (with_writing (new_app name)))) file_rule)
+tool_app name = with_version (with_rule (with_done_anyway (with_replies name (with_reading (with_writing (new_app name))))) file_rule)
 
 -- the program's name is the first word
 abbrev pub program_of : List Text → Text
@@ -63,6 +69,10 @@ program_of (word ∷ words) = word
 -- the option is on where the value of its match is `true`, as it is where it was given
 abbrev pub is_on : ArgMatches → Text → Bool
 is_on matches name = option_map_or (λ value. bytes_eq value (codes "true")) (first_value (found_of matches) name) false
+
+-- what replies tell
+abbrev pub replies_of : ArgMatches → ReplyForm
+replies_of matches = if is_on matches (codes "lines") then WithLines else Plain
 
 -- how line breaks are written, where the two options are not both on
 abbrev pub IsBreaks : Bool → Bool → Breaks → Type 0
@@ -108,4 +118,5 @@ pub record WordsRead (words : List Text) (read : Words) : Type 0 where
   pub prelude : option_map string_bytes read.prelude ≡ first_value (found_of matches) (codes "prelude")
   pub file : option_map string_bytes read.file ≡ first_value (found_of matches) (codes "file")
   pub explains : read.explains ≡ is_on matches (codes "explain")
+  pub replies : read.replies ≡ replies_of matches
   pub anyway : IsDoneAnyway matches

@@ -8,12 +8,14 @@ ghost use Rattle.mdtool.specs.Views.{command_view};
 ghost use Rattle.mdtool.specs.Steps.{failures_after};
 ghost use Rattle.mdtool.specs.Serve.{Served, ServedBeside, Replied, out_failures_after};
 ghost use Rattle.mdhtml.specs.Limits.{HasLimits};
+ghost use Rattle.mdtool.specs.declared.reply_forms.ReplyForm.TheVariants.{Plain};
 
 use crate::command::Command;
 use crate::converting::refusal;
 use crate::device::{DeviceFault, Feed, Out, put_all};
 use crate::fault::ToolFault;
 use crate::replies::{edit_reply, html_reply};
+use crate::reply_forms::ReplyForm;
 use crate::script::Script;
 use mdhtml::Options;
 use mdtext::{Entities, Tally};
@@ -51,20 +53,26 @@ pub fn preview_with(
 }
 
 /// Carries out one command and makes its reply.
-fn reply_to(alloc: Global, preview: &mut Preview, command: &Command) -> Result<String, AllocError>
-    ensures { IfOk result (λ reply. Replied preview.old (command_view command.now) (string_bytes reply) preview.new) }
+fn reply_to(
+    alloc: Global,
+    form: ReplyForm,
+    preview: &mut Preview,
+    command: &Command,
+) -> Result<String, AllocError>
+    ensures { IfOk result (λ reply. Replied form preview.old (command_view command.now) (string_bytes reply) preview.new) }
 {
+    let before = preview.len();
     match command {
         Command::Html => html_reply(alloc, preview),
         Command::Prelude { lines } => {
             let lines = lent(alloc, lines)?;
             let answer = preview.set_prelude(&lines, &mut Tally::new());
-            edit_reply(alloc, preview, &answer)
+            edit_reply(alloc, form, preview, before, &answer)
         }
         Command::Edit { at, del, add } => {
             let lines = lent(alloc, add)?;
             let answer = preview.edit(*at, *del, &lines, &mut Tally::new());
-            edit_reply(alloc, preview, &answer)
+            edit_reply(alloc, form, preview, before, &answer)
         }
     }
 }
@@ -97,18 +105,19 @@ pub fn serve<R: Feed, W: Out>(
     requires limits { HasLimits options }
     requires feed { R.failures feed.old < 2 ^ 64 - 1 }
     requires out { W.failures out.old < 2 ^ 64 - 1 }
-    ensures served { ServedBeside result (empty entities options) (map string_bytes prelude.now) (R.left feed.old) (R.left feed.new) (W.written out.old) (W.written out.new) }
+    ensures served { ServedBeside Plain result (empty entities options) (map string_bytes prelude.now) (R.left feed.old) (R.left feed.new) (W.written out.old) (W.written out.new) }
     // `Read` is answered where the feed failed, and `Write` where the out did.
     ensures feed { R.failures feed.new ≡ failures_after result (R.failures feed.old) }
     ensures out { W.failures out.new ≡ out_failures_after result (W.failures out.old) }
 {
     let mut preview = preview_with(alloc, entities, options, prelude)?;
-    answer(alloc, feed, out, &mut preview)
+    answer(alloc, ReplyForm::Plain, feed, out, &mut preview)
 }
 
-/// Answers a script as `serve` does, for a program that ends then: the preview's memory goes back with the process, and not bit by bit.
+/// Answers a script as `serve` does, by replies of this form, for a program that ends then: the preview's memory goes back with the process, and not bit by bit.
 pub fn serve_to_the_end<R: Feed, W: Out>(
     alloc: Global,
+    form: ReplyForm,
     feed: &mut R,
     out: &mut W,
     entities: Entities,
@@ -118,12 +127,12 @@ pub fn serve_to_the_end<R: Feed, W: Out>(
     requires limits { HasLimits options }
     requires feed { R.failures feed.old < 2 ^ 64 - 1 }
     requires out { W.failures out.old < 2 ^ 64 - 1 }
-    ensures served { ServedBeside result (empty entities options) (map string_bytes prelude.now) (R.left feed.old) (R.left feed.new) (W.written out.old) (W.written out.new) }
+    ensures served { ServedBeside form result (empty entities options) (map string_bytes prelude.now) (R.left feed.old) (R.left feed.new) (W.written out.old) (W.written out.new) }
     ensures feed { R.failures feed.new ≡ failures_after result (R.failures feed.old) }
     ensures out { W.failures out.new ≡ out_failures_after result (W.failures out.old) }
 {
     let mut preview = preview_with(alloc, entities, options, prelude)?;
-    let end = answer(alloc, feed, out, &mut preview);
+    let end = answer(alloc, form, feed, out, &mut preview);
     forget(preview);
     end
 }
@@ -131,19 +140,20 @@ pub fn serve_to_the_end<R: Feed, W: Out>(
 /// Answers the commands of a script as they come, each reply flushed.
 fn answer<R: Feed, W: Out>(
     alloc: Global,
+    form: ReplyForm,
     feed: &mut R,
     out: &mut W,
     preview: &mut Preview,
 ) -> Result<(), ToolFault>
     requires feed { R.failures feed.old < 2 ^ 64 - 1 }
     requires out { W.failures out.old < 2 ^ 64 - 1 }
-    ensures served { Served result preview.old (R.left feed.old) (R.left feed.new) (W.written out.old) (W.written out.new) }
+    ensures served { Served form result preview.old (R.left feed.old) (R.left feed.new) (W.written out.old) (W.written out.new) }
     ensures feed { R.failures feed.new ≡ failures_after result (R.failures feed.old) }
     ensures out { W.failures out.new ≡ out_failures_after result (W.failures out.old) }
 {
     let mut script = Script::new(alloc);
     while let Some(command) = script.next_command(alloc, feed)? {
-        let reply = reply_to(alloc, preview, &command)?;
+        let reply = reply_to(alloc, form, preview, &command)?;
         if send(out, reply.as_str().as_bytes()).is_err() {
             return Err(ToolFault::Write);
         }

@@ -4,12 +4,13 @@ ghost use Rattle.std.specs.List.{list_all, prefix_len};
 ghost use Rattle.clap.specs.Words.{app_of, first_value, found_of, rule_of};
 ghost use Rattle.mdhtml.specs.Limits.{HasLimits};
 ghost use Rattle.mdtool.specs.Commands.{number};
-ghost use Rattle.mdtool.specs.ToolWords.{IsBreaks, IsDoneAnyway, IsLimit, OptionsRead, WordsRead, flag_rule, is_extension, is_on, is_zero};
-ghost use Rattle.mdtool.specs.ToolWords.{lettered_rule, program_of, repeated_rule, tool_app, valued_rule, values_of, with_done_anyway, with_reading, with_version, with_writing};
+ghost use Rattle.mdtool.specs.ToolWords.{IsBreaks, IsDoneAnyway, IsLimit, OptionsRead, WordsRead, flag_rule, is_extension, is_on, is_zero, replies_of};
+ghost use Rattle.mdtool.specs.ToolWords.{lettered_rule, program_of, repeated_rule, tool_app, valued_rule, values_of, with_done_anyway, with_reading, with_replies, with_version, with_writing};
 ghost use Rattle.mdtool.specs.Endings.{version};
 
 use crate::fault::WordFault;
 use crate::header::number;
+use crate::reply_forms::ReplyForm;
 use clap::error::ErrorKind;
 use clap::{Arg, ArgAction, ArgMatches, Command, Error};
 use mdhtml::{Breaks, Options};
@@ -28,6 +29,8 @@ pub struct Words {
     pub file: Option<String>,
     /// Whether a stop is explained in a second line.
     pub explains: bool,
+    /// How edits are replied to.
+    pub replies: ReplyForm,
 }
 
 /// What `--version` tells behind the program's name.
@@ -81,6 +84,7 @@ pub fn read_words<'a>(alloc: Global, words: &'a [&'a str]) -> Result<Words, Word
         prelude,
         file,
         explains: is_on(&matches, "explain"),
+        replies: replies_of(&matches),
     })
 }
 
@@ -100,6 +104,7 @@ fn command<'a>(alloc: Global, program: &'a str) -> Result<Command<'a>, AllocErro
 {
     let command = with_writing(alloc, Command::new(alloc, program))?;
     let command = with_reading(alloc, command)?;
+    let command = with_replies(alloc, command, program)?;
     let command = with_done_anyway(alloc, command)?.arg(
         Arg::new(alloc, "file")
             .value_name("FILE")
@@ -166,6 +171,24 @@ fn with_reading<'a>(alloc: Global, command: Command<'a>) -> Result<Command<'a>, 
             "Say in a second line, in plain words, why the program stops",
         ))?;
     Ok(all)
+}
+
+/// The option of what replies tell, which `mdpreview` has.
+fn with_replies<'a>(
+    alloc: Global,
+    command: Command<'a>,
+    program: &str,
+) -> Result<Command<'a>, AllocError>
+    ensures { IfOk result (λ all. app_of all ≡ with_replies program.now (app_of command.entry)) }
+{
+    if program != "mdpreview" {
+        return Ok(command);
+    }
+    command.arg(flag(
+        alloc,
+        "lines",
+        "Tell on which line each piece begins, and how far those behind it moved",
+    ))
 }
 
 /// The options of cmark-gfm that say what is done anyway.
@@ -270,6 +293,17 @@ fn is_on(matches: &ArgMatches<'_>, name: &str) -> bool
     match matches.get_str(name) {
         Some(value) => value == "true",
         None => false,
+    }
+}
+
+/// What replies tell.
+fn replies_of(matches: &ArgMatches<'_>) -> ReplyForm
+    ensures { result ≡ replies_of matches.now }
+{
+    if is_on(matches, "lines") {
+        ReplyForm::WithLines
+    } else {
+        ReplyForm::Plain
     }
 }
 

@@ -262,6 +262,13 @@ fn reads_words(rt: HostRuntime) -> Result<(), Fail> {
     let alloc = rt.alloc();
     let bad = "NotUnderstood";
     check_words(&rt, alloc, &["mdrender"], "false Soft None None")?;
+    check_words(&rt, alloc, &["mdrender", "--lines"], bad)?;
+    check_words(
+        &rt,
+        alloc,
+        &["mdpreview", "--lines"],
+        "false Soft None None",
+    )?;
     check_words(
         &rt,
         alloc,

@@ -14,7 +14,7 @@ loop-script-init g c = record { run = run_start _ _ _ _ _ c.new-script.ensures r
 pub returns-in_err-command-clause-served : goal.returns-in_err-command-clause-served
 returns-in_err-command-clause-served g c =
     let p = err_from_is_err_and c.from_residual.result c.from_residual.ensures.1 in
-    rw (p.1, p.2) (ends_so (Unit {0}) c.in_err-command.field-0.0 _ _ _ _ _ _ _ _ _ c.loop-script.invariant.run c.in_err-command.ensures.next)
+    rw (p.1, p.2) (ends_so (Unit {0}) c.args.form c.in_err-command.field-0.0 _ _ _ _ _ _ _ _ _ c.loop-script.invariant.run c.in_err-command.ensures.next)
 
 pub returns-in_err-reply-clause-served : goal.returns-in_err-reply-clause-served
 returns-in_err-reply-clause-served g c =

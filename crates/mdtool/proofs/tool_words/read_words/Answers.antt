@@ -17,5 +17,6 @@ returns-clause-read c =
       prelude = c.in_ok-prelude.ensures ∙ c.get_str-2.ensures;
       file = c.in_ok-file.ensures ∙ c.get_str-3.ensures;
       explains = c.is_on.ensures;
+      replies = c.replies_of.ensures;
       anyway = c.in_ok-require_done_anyway.ensures;
     }
