@@ -16,3 +16,4 @@ pub mod Rows
 pub mod PreludeEnds
 pub mod PreludeDue
 pub mod Conversions
+pub mod UnitsBehind
