@@ -17,3 +17,4 @@ pub mod PreludeEnds
 pub mod PreludeDue
 pub mod Conversions
 pub mod UnitsBehind
+pub mod ToolApps

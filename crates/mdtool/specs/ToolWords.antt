@@ -48,8 +48,14 @@ with_reading app =
     (valued_rule (codes "entities"))) (valued_rule (codes "prelude"))) (valued_rule (codes "max-containers"))) (valued_rule (codes "max-spans"))) (flag_rule (codes "explain"))
 
 -- the option of what replies tell, which `mdpreview` has
+abbrev pub has_lines : Text → Bool
+has_lines name = bytes_eq name (codes "mdpreview")
+
+abbrev pub with_lines : App → App
+with_lines app = with_rule app (flag_rule (codes "lines"))
+
 abbrev pub with_replies : Text → App → App
-with_replies name app = if bytes_eq name (codes "mdpreview") then with_rule app (flag_rule (codes "lines")) else app
+with_replies name app = if has_lines name then with_lines app else app
 
 -- the options of cmark-gfm that say what is done anyway
 abbrev pub with_done_anyway : App → App

@@ -4,8 +4,8 @@ ghost use Rattle.std.specs.List.{list_all, prefix_len};
 ghost use Rattle.clap.specs.Words.{app_of, first_value, found_of, rule_of};
 ghost use Rattle.mdhtml.specs.Limits.{HasLimits};
 ghost use Rattle.mdtool.specs.Commands.{number};
-ghost use Rattle.mdtool.specs.ToolWords.{IsBreaks, IsDoneAnyway, IsLimit, OptionsRead, WordsRead, flag_rule, is_extension, is_on, is_zero, replies_of};
-ghost use Rattle.mdtool.specs.ToolWords.{lettered_rule, program_of, repeated_rule, tool_app, valued_rule, values_of, with_done_anyway, with_reading, with_replies, with_version, with_writing};
+ghost use Rattle.mdtool.specs.ToolWords.{IsBreaks, IsDoneAnyway, IsLimit, OptionsRead, WordsRead, flag_rule, has_lines, is_extension, is_on, is_zero, replies_of};
+ghost use Rattle.mdtool.specs.ToolWords.{lettered_rule, program_of, repeated_rule, tool_app, valued_rule, values_of, with_done_anyway, with_lines, with_reading, with_replies, with_version, with_writing};
 ghost use Rattle.mdtool.specs.Endings.{version};
 
 use crate::fault::WordFault;
@@ -181,14 +181,29 @@ fn with_replies<'a>(
 ) -> Result<Command<'a>, AllocError>
     ensures { IfOk result (λ all. app_of all ≡ with_replies program.now (app_of command.entry)) }
 {
-    if program != "mdpreview" {
-        return Ok(command);
+    if has_lines(program) {
+        with_lines(alloc, command)
+    } else {
+        Ok(command)
     }
-    command.arg(flag(
+}
+
+/// Whether a program of this name has that option.
+fn has_lines(program: &str) -> bool
+    ensures { result ≡ has_lines program.now }
+{
+    program == "mdpreview"
+}
+
+fn with_lines<'a>(alloc: Global, command: Command<'a>) -> Result<Command<'a>, AllocError>
+    ensures { IfOk result (λ all. app_of all ≡ with_lines (app_of command.entry)) }
+{
+    let all = command.arg(flag(
         alloc,
         "lines",
         "Tell on which line each piece begins, and how far those behind it moved",
-    ))
+    ))?;
+    Ok(all)
 }
 
 /// The options of cmark-gfm that say what is done anyway.

@@ -1,6 +1,7 @@
-use Rattle.std.proofs.Common.{◌≡◌, ◌∙◌, ap, refl, map, subst}
+use Rattle.std.proofs.Common.{◌≡◌, ◌∙◌, ap, map, subst}
 use Rattle.clap.specs.Words.{HasMatchesOf, app_of, matches_of}
 use Rattle.mdtool.specs.ToolWords.{tool_app}
+use Rattle.mdtool.proofs.ToolApps.{tool_is_simple}
 use Rattle.mdtool.proofs.tool_words.read_words.Goals as goal
 
 pub returns-clause-read : goal.returns-clause-read
@@ -11,7 +12,7 @@ returns-clause-read c =
     let matched : HasMatchesOf (tool_app program) words c.in-Ok.matches = subst (λ a. HasMatchesOf a words c.in-Ok.matches) app c.in-Ok.ensures.matches in
     record {
       matches = c.in-Ok.matches;
-      rows = (matched refl).0 ∙ ap (λ name. matches_of (tool_app name) words) c.program_of.ensures;
+      rows = (matched (tool_is_simple program)).0 ∙ ap (λ name. matches_of (tool_app name) words) c.program_of.ensures;
       options = c.in_ok-options.ensures.read;
       entities = c.in_ok-entities.ensures ∙ c.get_str.ensures;
       prelude = c.in_ok-prelude.ensures ∙ c.get_str-2.ensures;
