@@ -183,6 +183,31 @@ def writes(browser, name):
         server.wait()
 
 
+def scrolls(browser, name):
+    """The page scrolls with the cursor of the text area, behind an edit above it too."""
+    save(name, "".join(f"Paragraph {number}.\n\n" for number in range(200)))
+    server, address = started(name, "--write")
+    at = ("(line => { const area = document.querySelector('textarea'); area.focus(); const before = area.value.split('\\n').slice(0, line).join('\\n').length + (line > 0);"
+          " area.setSelectionRange(before, before); })(%d)")
+    seen = "(text => [...document.querySelectorAll('.piece')].filter(one => one.textContent.trim() == text).map(one => one.getBoundingClientRect()).some(box => box.top >= 0 && box.bottom <= innerHeight))('%s')"
+    typed = "(() => { const area = document.querySelector('textarea'); area.focus(); area.setRangeText('New.\\n\\n', 0, 0, 'preserve'); area.dispatchEvent(new Event('input')); })()"
+    try:
+        browser.look(1300, 700)
+        browser.call("Page.navigate", url=address)
+        wait(lambda: browser.value("document.querySelectorAll('.piece').length") == 200)
+        first = not browser.value(seen % "Paragraph 150.")
+        browser.value(at % 300)
+        there = wait(lambda: browser.value(seen % "Paragraph 150."))
+        browser.value(typed)
+        wait(lambda: browser.value("document.querySelectorAll('.piece').length") == 201)
+        browser.value(at % 102)
+        behind = wait(lambda: browser.value(seen % "Paragraph 50."))
+        return first and there and behind
+    finally:
+        server.terminate()
+        server.wait()
+
+
 def refused_at_first(browser, name):
     """A text that is refused when the page opens: the words stand there, behind a reload too, and are gone with the next text. A picture of its folder is shown."""
     save(name, ">" * 100 + "\n")
@@ -281,6 +306,7 @@ def main():
             for holds, words in (
                 (said, "a refusal is not shown, or the page did not stay"),
                 (writes(browser, name), "what is written on the page is not shown, or the file was changed"),
+                (scrolls(browser, os.path.join(home, "pages", "long.md")), "the page does not scroll with the cursor"),
                 (not answers_strangers(address), "a request from elsewhere was answered"),
                 (not leaks(address, name), "a file that is not to be served was"),
                 (ends_with_a_line(address, name), "a pane that can't be begun does not say why, or goes on"),

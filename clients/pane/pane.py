@@ -4,7 +4,7 @@
 usage: pane.py [--port N] [--write] [--program PATH] [--unsafe] [--hardbreaks | --nobreaks] [--entities FILE] [--prelude FILE] FILE
 
 The words behind --program are mdpreview's. One mdpreview holds the text. When FILE changes, the lines that changed are sent to it as one edit, and the page puts in only the pieces that the reply names.
-With --write the page has a text area beside the preview, for trying; FILE is then its first text and is never written.
+With --write the page has a text area beside the preview, for trying, and scrolls with its cursor; FILE is then its first text and is never written.
 Images and texts of FILE's folder are served too, so that the page's own pictures are shown and its relative links open beside it; nothing outside of that folder is.
 The server listens on the loopback address alone, answers only requests that name it and come from its own page, and writes no file. Ctrl-C ends it and its child.
 What can't be begun (a file or a program that is not there, a port that is taken, words that the program refuses) ends it with one line and the status 1.
@@ -67,16 +67,16 @@ def change(old, new):
 
 
 class Preview:
-    """An mdpreview with the lines and the pieces that it holds."""
+    """An mdpreview with the lines and the pieces that it holds, and the lines on which these begin."""
 
     def __init__(self, program, words=()):
-        self.command = [program, *words]
+        self.command = [program, "--lines", *words]
         self.start()
 
     def start(self):
         """Starts the program, and sees that it answers: the HTML of the empty text is empty."""
         self.child = subprocess.Popen(self.command, stdin=subprocess.PIPE, stdout=subprocess.PIPE, stderr=subprocess.PIPE)
-        self.lines, self.pieces = [], []
+        self.lines, self.pieces, self.begins = [], [], []
         answer = b""
         try:
             self.child.stdin.write(b"html\n")
@@ -119,15 +119,19 @@ class Preview:
         if words[0] == "refused":
             return {"refused": REASONS.get(words[1], words[1]).format(line=int(words[2]) + 1)}
         first, removed, added, again = map(int, words[1:])
+        behind, by = map(int, self.child.stdout.readline().split()[1:])
         brought = [self.piece() for _ in range(added + again)]
         self.pieces[first:first + removed] = [""] * added
-        for number, html in brought:
-            self.pieces[number] = html
-        return {"first": first, "removed": removed, "added": added, "pieces": brought}
+        self.begins[first:first + removed] = [0] * added
+        self.begins[behind:] = [line + by for line in self.begins[behind:]]
+        for number, html, line in brought:
+            self.pieces[number], self.begins[number] = html, line
+        return {"first": first, "removed": removed, "added": added, "by": by, "pieces": brought}
 
     def piece(self):
-        _, number, size = self.child.stdout.readline().decode().split()
-        return int(number), self.child.stdout.read(int(size)).decode()
+        """A piece: its number, its HTML, and the line on which it begins."""
+        _, number, size, line = self.child.stdout.readline().decode().split()
+        return int(number), self.child.stdout.read(int(size)).decode(), int(line)
 
     def close(self):
         for pipe in (self.child.stdin, self.child.stdout):
@@ -168,8 +172,8 @@ class Pane:
         """A new page: it gets all pieces first."""
         page = queue.Queue()
         with self.lock:
-            pieces = list(enumerate(self.preview.pieces))
-            page.put({"first": 0, "removed": 0, "added": len(pieces), "pieces": pieces, "fresh": True})
+            pieces = list(zip(range(len(self.preview.pieces)), self.preview.pieces, self.preview.begins))
+            page.put({"first": 0, "removed": 0, "added": len(pieces), "by": 0, "pieces": pieces, "fresh": True})
             if self.refused:
                 page.put({"refused": self.refused})
             self.pages.append(page)
