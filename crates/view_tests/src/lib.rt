@@ -2,6 +2,4 @@
 #![tactic(auto)]
 
 #[cfg(test)]
-mod edits;
-#[cfg(test)]
 mod previews;

@@ -87,7 +87,7 @@ fn letters(alloc: Global, count: usize) -> Result<String, AllocError> {
 }
 
 /// A preview of these lines.
-pub(crate) fn preview_of(alloc: Global, lines: &[&str]) -> Result<Preview, Fail> {
+fn preview_of(alloc: Global, lines: &[&str]) -> Result<Preview, Fail> {
     let mut preview = Preview::new(alloc, Entities::builtin(alloc)?, options(Breaks::Soft));
     preview
         .edit(0, 0, lines, &mut Tally::new())
@@ -355,5 +355,133 @@ fn units_are_told_by_their_numbers(rt: HostRuntime) -> Result<(), Fail> {
     assert_eq!(rt; inlines.len(), 1);
     assert_eq!(rt; inlines[0].asked().len(), 1);
     assert!(rt; preview.inlines(3).is_none());
+    Ok(())
+}
+
+/// Lines of which each kind of block can begin, go on and end, and that change where labels lead.
+const LINES: [&str; 24] = [
+    "",
+    "",
+    "",
+    "a",
+    "b *c* [k]",
+    "[m][k] d",
+    "# t [m]",
+    "---",
+    "===",
+    "- x [k]",
+    "  y",
+    "2. z",
+    "> q [k]",
+    ">",
+    "[k]: /u",
+    "[m]: /v \"t\"",
+    "[k]: /w",
+    "```",
+    "    i",
+    "| a |",
+    "| - |",
+    "<div>",
+    "<!-- x",
+    "-->",
+];
+
+/// The next number of a sequence that looks random.
+fn next(seed: &mut u64) -> usize {
+    *seed = seed
+        .wrapping_mul(6_364_136_223_846_793_005)
+        .wrapping_add(1_442_695_040_888_963_407);
+    (*seed >> 33) as usize
+}
+
+fn line_of(seed: &mut u64) -> &'static str {
+    LINES.as_slice().get(next(seed) % 24).copied().unwrap_or("")
+}
+
+/// Whether both hold the same, as far as it is told.
+fn are_same(rt: &impl Abort, one: &Preview, other: &Preview) {
+    assert_eq!(rt; (one.len(), one.units()), (other.len(), other.units()));
+    assert!(rt; one.prelude().eq(other.prelude()));
+    for i in 0..one.len() {
+        assert_eq!(rt; one.line(i), other.line(i));
+    }
+    for i in 0..one.units() {
+        assert_eq!(rt; one.first_line(i), other.first_line(i));
+        assert_eq!(rt; one.piece(i), other.piece(i));
+    }
+}
+
+/// Definitions of the labels that the lines ask for.
+const DEFINITIONS: [&str; 6] = [
+    "",
+    "[k]: /p",
+    "[m]: /q \"t\"",
+    "[k]: /r",
+    "[x]: /s",
+    "[m]: /v \"t\"",
+];
+
+/// A prelude of some definitions.
+fn prelude_of(alloc: Global, seed: &mut u64) -> Result<Vec<&'static str>, AllocError> {
+    let mut prelude = Vec::new(alloc);
+    for _ in 0..next(seed) % 4 {
+        let one = DEFINITIONS.as_slice().get(next(seed) % 6);
+        prelude.push(one.copied().unwrap_or(""))?;
+    }
+    Ok(prelude)
+}
+
+/// The lines with some replaced.
+fn replaced(
+    alloc: Global,
+    lines: &[&'static str],
+    at: usize,
+    del: usize,
+    add: &[&'static str],
+) -> Result<Vec<&'static str>, AllocError> {
+    let mut new = Vec::with_capacity(alloc, lines.len() + add.len())?;
+    for line in lines.iter().take(at) {
+        new.push(*line)?;
+    }
+    for line in add {
+        new.push(*line)?;
+    }
+    for line in lines.iter().skip(at).skip(del) {
+        new.push(*line)?;
+    }
+    Ok(new)
+}
+
+#[test]
+fn edits_leave_what_the_whole_text_gives(rt: HostRuntime) -> Result<(), Fail> {
+    let alloc = rt.alloc();
+    let mut seed = 41;
+    let mut lines: Vec<&'static str> = Vec::new(alloc);
+    for i in 0..300 {
+        lines.push("")?;
+        lines.push(line_of(&mut seed))?;
+        lines.push(if i % 3 == 0 { line_of(&mut seed) } else { "z" })?;
+    }
+    let mut preview = preview_of(alloc, &lines)?;
+    let mut prelude: Vec<&'static str> = Vec::new(alloc);
+    for step in 0..1000 {
+        if step % 8 == 0 {
+            prelude = prelude_of(alloc, &mut seed)?;
+            preview.set_prelude(&prelude, &mut Tally::new())?;
+        }
+        let at = next(&mut seed) % (lines.len() + 1);
+        let del = (next(&mut seed) % 4).min(lines.len() - at);
+        let mut add: Vec<&'static str> = Vec::new(alloc);
+        for _ in 0..next(&mut seed) % 4 {
+            add.push(line_of(&mut seed))?;
+        }
+        preview
+            .edit(at, del, &add, &mut Tally::new())
+            .map_err(|_| "refused")?;
+        lines = replaced(alloc, &lines, at, del, &add)?;
+        let mut anew = preview_of(alloc, &lines)?;
+        anew.set_prelude(&prelude, &mut Tally::new())?;
+        are_same(&rt, &preview, &anew);
+    }
     Ok(())
 }
