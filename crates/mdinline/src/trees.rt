@@ -1,6 +1,6 @@
 //! A tree of inlines that is built from left to right.
 
-ghost use Rattle.std.specs.Prelude.{◌≡◌, ◌+◌, ◌<◌, [], ◌∷◌, ◌++◌, IfOk, OnOk, length, string_bytes};
+ghost use Rattle.std.specs.Prelude.{◌≡◌, ◌+◌, ◌<◌, ◌≤◌, [], ◌∷◌, ◌++◌, IfOk, OnOk, length, string_bytes, vec_capacity};
 ghost use Rattle.inlinespec.specs.CodeSpans.{as_one_line};
 ghost use Rattle.inlinespec.specs.InlineEvents.{Enter, Leave, span_tree, tree_of, within, written};
 ghost use Rattle.inlinespec.specs.JoinedTexts.{AreJoined};
@@ -90,7 +90,8 @@ impl TreeBuilder {
 
     /// The tree, where no span is open, and the room.
     pub(crate) fn finish(mut self) -> Result<(Row, TreeRoom), AllocError>
-        ensures { self.frames.items ≡ [] → IsJoined self → IfOk result (λ done. row_view done.0 ≡ tree_of (built self)) }
+        ensures tree { self.frames.items ≡ [] → IsJoined self → IfOk result (λ done. row_view done.0 ≡ tree_of (built self)) }
+        ensures room { IfOk result (λ done. vec_capacity done.1.row ≤ 64) }
     {
         if self.last.is_empty() {
             return self.finish_text();
@@ -100,18 +101,25 @@ impl TreeBuilder {
         Ok((row, self.into_room()))
     }
 
-    fn into_room(self) -> TreeRoom {
-        TreeRoom {
-            text: self.text,
-            row: self.last,
-            frames: self.frames,
-        }
+    /// The room alone, of which that for a row is small.
+    fn into_room(self) -> TreeRoom
+        ensures { vec_capacity result.row ≤ 64 }
+    {
+        let TreeBuilder {
+            last: mut row,
+            text,
+            frames,
+            ..
+        } = self;
+        let_go(&mut row);
+        TreeRoom { text, row, frames }
     }
 
     /// The tree of a text that nothing stands before, and the room. Takes no list.
     fn finish_text(self) -> Result<(Row, TreeRoom), AllocError>
         requires { self.last.items ≡ [] }
-        ensures { self.frames.items ≡ [] → IfOk result (λ done. row_view done.0 ≡ tree_of (built self)) }
+        ensures tree { self.frames.items ≡ [] → IfOk result (λ done. row_view done.0 ≡ tree_of (built self)) }
+        ensures room { IfOk result (λ done. vec_capacity done.1.row ≤ 64) }
     {
         if self.text.is_empty() {
             return Ok((Row::Empty, self.into_room()));
@@ -247,7 +255,8 @@ impl InlineSink for TreeBuilder {
 /// Takes what stands in the room of a row. A lone inline needs no list, and more go to one of their own, which is no longer than it has to be; a long row takes
 /// its room with it.
 fn take_row(alloc: Global, last: &mut Vec<Inline>) -> Result<Row, AllocError>
-    ensures { IfOk result (λ row. row_view row ≡ inlines_view last.old.items) }
+    ensures row { IfOk result (λ row. row_view row ≡ inlines_view last.old.items) }
+    ensures room { 64 < length last.old.items → vec_capacity last.new ≡ 0 }
 {
     if last.len() > LONG_ROW {
         return Ok(Row::Many(mem::replace(last, Vec::new(alloc))));
@@ -260,6 +269,17 @@ fn take_row(alloc: Global, last: &mut Vec<Inline>) -> Result<Row, AllocError>
     match last.pop() {
         Some(inline) => Ok(Row::One(inline)),
         None => Ok(Row::Empty),
+    }
+}
+
+/// Gives back the room of a list that has more than is kept.
+fn let_go(row: &mut Vec<Inline>)
+    ensures room { vec_capacity row.new ≤ 64 }
+    ensures small { vec_capacity row.old ≤ 64 → row.new ≡ row.old }
+{
+    if row.capacity() > LONG_ROW {
+        row.clear();
+        row.shrink_to_fit();
     }
 }
 
@@ -308,37 +328,5 @@ fn kind_of(kind: SpanKind, inside: Vec<Inline>) -> Inline
         SpanKind::Emph => Inline::Emph(inside),
         SpanKind::Strong => Inline::Strong(inside),
         SpanKind::Strike => Inline::Strike(inside),
-    }
-}
-
-#[cfg(test)]
-mod tests {
-    use super::*;
-    use std::test::Fail;
-
-    /// Builds a row of so many line breaks in the room, and answers for how many inlines it has room then.
-    fn room_behind(alloc: Global, room: &mut TreeRoom, len: usize) -> Result<usize, Fail> {
-        let taken = mem::replace(room, TreeRoom::new(alloc));
-        let mut builder = TreeBuilder::new(alloc, taken);
-        for _ in 0..len {
-            builder.soft_break()?;
-        }
-        let (row, left) = builder.finish()?;
-        if row.inlines().len() != len {
-            return Err(Fail::from("inlines are missing"));
-        }
-        *room = left;
-        Ok(room.row.capacity())
-    }
-
-    #[test]
-    fn a_long_row_leaves_no_room(rt: HostRuntime) -> Result<(), Fail> {
-        let alloc = rt.alloc();
-        let mut room = TreeRoom::new(alloc);
-        for (len, most) in [(64, 64), (1, 64), (65, 0), (0, 0), (300, 0), (64, 64)] {
-            let left = room_behind(alloc, &mut room, len)?;
-            assert!(rt; left <= most, "{left} behind {len}");
-        }
-        Ok(())
     }
 }

@@ -4,9 +4,9 @@ use Rattle.mdinline.specs.held.TreeBuilding.{built}
 use Rattle.mdinline.proofs.JoinedRows.{tree_whole}
 use Rattle.mdinline.proofs.trees.TreeBuilder.finish.Goals as goal
 
-pub returns : goal.returns
-returns c = λ none joined.
+pub returns-clause-tree : goal.returns-clause-tree
+returns-clause-tree c = λ none joined.
     let s = c.end_text.new.self in
     let now = c.in_ok-end_text.ensures in
-    c.in_ok-row.ensures
+    c.in_ok-row.ensures.row
     ∙ tree_whole s.frames.items s.last.items (string_bytes s.text) (built c.args.self) (ap (λ (v : Vec Frame Global). v.items) now.frames ∙ none) now.text now.events (now.joined joined)

@@ -8,16 +8,16 @@ use Rattle.mdinline.proofs.JoinedRows.{open_row, row_text, some_text, tree_whole
 use Rattle.mdinline.proofs.ReadHolding.{no_items}
 use Rattle.mdinline.proofs.trees.TreeBuilder.finish_text.Goals as goal
 
-pub returns-then-is_empty : goal.returns-then-is_empty
-returns-then-is_empty c = λ none.
+pub returns-then-is_empty-clause-tree : goal.returns-then-is_empty-clause-tree
+returns-then-is_empty-clause-tree c = λ none.
     let s = c.args.self in
     let empty = c.is_empty.ensures ∙ ap (λ n. n == 0) s.text.bytes.ok.0 in
     ap inlines_view (sym c.requires)
     ∙ tree_whole s.frames.items s.last.items (string_bytes s.text) (built s) none (no_items (string_bytes s.text) c.is_empty.result empty c.if-is_empty.true) refl
     (subst (λ is. AreJoined (inlines_view is)) (sym c.requires) tt)
 
-pub returns : goal.returns
-returns c = λ none.
+pub returns-clause-tree : goal.returns-clause-tree
+returns-clause-tree c = λ none.
     let s = c.args.self in
     let t = c.in_ok-text.text in
     let row = made.Text t ∷ [] in
