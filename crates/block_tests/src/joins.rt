@@ -1,7 +1,7 @@
 //! Lists in two parts, beside the same lines read from their front.
 
-use crate::units::LIMIT;
-use mdblock::{Found, Reader, splice};
+use crate::calls::{LIMIT, finish, new_reader, read_line, resume, spliced};
+use mdblock::{Found, Reader};
 use mdtext::{Entities, Tally};
 use std::alloc::{AllocError, Global};
 use std::process::Abort;
@@ -55,7 +55,7 @@ fn read<'e>(
     entities: &'e Entities,
     lines: &[&'static str],
 ) -> Result<Reader<'e>, AllocError> {
-    let mut reader = Reader::new(alloc, entities, LIMIT);
+    let mut reader = new_reader(alloc, entities, LIMIT);
     read_on(&mut reader, lines);
     Ok(reader)
 }
@@ -63,10 +63,7 @@ fn read<'e>(
 fn read_on(reader: &mut Reader<'_>, lines: &[&'static str]) {
     let mut count = Tally::new();
     for line in lines {
-        if reader.fed() == usize::MAX || line.len() > usize::MAX / 4 {
-            return;
-        }
-        let _ = reader.line(line, &mut count);
+        let _ = read_line(reader, line, &mut count);
     }
 }
 
@@ -88,7 +85,7 @@ fn whole(
     for line in later {
         lines.push(*line)?;
     }
-    match read(alloc, entities, &lines)?.finish() {
+    match finish(read(alloc, entities, &lines)?) {
         Ok(found) => told(alloc, &found),
         Err(_) => String::from_str(alloc, "fault"),
     }
@@ -102,19 +99,20 @@ fn join_all(
     front: &[&'static str],
     old: &[&'static str],
 ) -> Result<usize, AllocError> {
-    let Ok(Some(found)) = read(alloc, entities, old)?.finish() else {
+    let Ok(Some(found)) = finish(read(alloc, entities, old)?) else {
         return Ok(0);
     };
     let mut count: usize = 0;
     for k in 0..found.joins().len() {
         let at = found.begin().saturating_add(found.joins()[k].line);
         for end in 1..=front.len() {
-            let reader = read(alloc, entities, &front[..end])?;
-            let uncounted = reader.fed() > usize::MAX - found.lines();
-            if uncounted || !reader.joined() || front.get(end - 1) != old.get(at) {
+            if front.get(end - 1) != old.get(at) {
                 continue;
             }
-            let joined = splice(reader, &found, k)?;
+            let reader = read(alloc, entities, &front[..end])?;
+            let Some(joined) = spliced(reader, &found, k)? else {
+                continue;
+            };
             let later = old.get(at..).unwrap_or(&[]);
             let want = whole(alloc, entities, &front[..end - 1], later)?;
             assert_eq!(rt; told(alloc, &Some(joined))?.as_str(), want.as_str());
@@ -131,7 +129,7 @@ fn resume_all(
     entities: &Entities,
     lines: &[&'static str],
 ) -> Result<usize, AllocError> {
-    let Ok(Some(found)) = read(alloc, entities, lines)?.finish() else {
+    let Ok(Some(found)) = finish(read(alloc, entities, lines)?) else {
         return Ok(0);
     };
     let own = lines.get(found.begin()..).unwrap_or(&[]);
@@ -139,11 +137,8 @@ fn resume_all(
     for k in 0..found.joins().len() {
         let at = found.joins()[k].line;
         let text = own.get(at).unwrap_or(&"");
-        if text.len() > usize::MAX / 4 {
-            continue;
-        }
         let mut count = Tally::new();
-        let resumed = Reader::resume(alloc, entities, LIMIT, &found, k, text, &mut count)?;
+        let resumed = resume(alloc, entities, &found, k, text, &mut count)?;
         let Some(mut reader) = resumed else {
             assert!(rt; false);
             continue;
@@ -153,7 +148,7 @@ fn resume_all(
         assert!(rt; reader.joined());
         assert_eq!(rt; reader.fed(), at.saturating_add(1));
         read_on(&mut reader, own.get(at.saturating_add(1)..).unwrap_or(&[]));
-        let Ok(last) = reader.finish() else {
+        let Ok(last) = finish(reader) else {
             assert!(rt; false);
             continue;
         };
@@ -175,15 +170,15 @@ fn lists_are_read_on_from_each_item(rt: HostRuntime) -> Result<(), Fail> {
         }
         count = count.saturating_add(resume_all(&rt, a, &entities, &lines)?);
     }
-    let Ok(Some(found)) = read(a, &entities, &["- a", "- b"])?.finish() else {
+    let Ok(Some(found)) = finish(read(a, &entities, &["- a", "- b"])?) else {
         assert!(rt; false);
         return Ok(());
     };
     // A line that begins no item of the list, and a join that is not there.
     let mut none = Tally::new();
-    assert!(rt; Reader::resume(a, &entities, LIMIT, &found, 0, "1. b", &mut none)?.is_none());
-    assert!(rt; Reader::resume(a, &entities, LIMIT, &found, 0, "b", &mut none)?.is_none());
-    assert!(rt; Reader::resume(a, &entities, LIMIT, &found, 1, "- b", &mut none)?.is_none());
+    assert!(rt; resume(a, &entities, &found, 0, "1. b", &mut none)?.is_none());
+    assert!(rt; resume(a, &entities, &found, 0, "b", &mut none)?.is_none());
+    assert!(rt; resume(a, &entities, &found, 1, "- b", &mut none)?.is_none());
     assert_eq!(rt; none.lines(), 0);
     assert!(rt; count > 500);
     Ok(())

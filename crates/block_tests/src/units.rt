@@ -2,7 +2,8 @@
 
 ghost use Rattle.std.specs.Prelude.{◌≤◌};
 
-use mdblock::{Block, BlockFault, Found, Reader, Unit};
+use crate::calls::{LIMIT, finish, new_reader, read_line};
+use mdblock::{Block, BlockFault, Found, Unit};
 use mdtext::{Entities, Tally};
 use std::alloc::{AllocError, Global};
 use std::error::Error;
@@ -126,23 +127,17 @@ fn name(fault: BlockFault) -> &'static str {
     }
 }
 
-/// How many containers may be open inside one another, where a test says nothing else.
-pub(crate) const LIMIT: usize = 64;
-
 /// The units of a text whose lines end at LF, or the name of its fault.
 fn units(alloc: Global, text: &str, limit: usize) -> Result<String, AllocError>
     requires some { 1 ≤ limit }
     requires few { limit ≤ 256 }
 {
     let entities = Entities::builtin(alloc)?;
-    let mut reader = Reader::new(alloc, &entities, limit);
+    let mut reader = new_reader(alloc, &entities, limit);
     let mut count = Tally::new();
     let mut out = String::new(alloc);
     for line in text.lines() {
-        if reader.fed() == usize::MAX || line.len() > usize::MAX / 4 {
-            return Ok(out);
-        }
-        match reader.line(line, &mut count) {
+        match read_line(&mut reader, line, &mut count) {
             Ok(found) => show(found, &mut out)?,
             Err(fault) => {
                 out.push_str(name(fault))?;
@@ -150,7 +145,7 @@ fn units(alloc: Global, text: &str, limit: usize) -> Result<String, AllocError>
             }
         }
     }
-    match reader.finish() {
+    match finish(reader) {
         Ok(found) => show(found, &mut out)?,
         Err(fault) => out.push_str(name(fault))?,
     }
@@ -308,22 +303,26 @@ fn a_fault_stays(rt: HostRuntime) -> Result<(), Fail> {
     let entities = Entities::builtin(a)?;
     let mut count = Tally::new();
     let line = quoted(a, 65)?;
-    let mut reader = Reader::new(a, &entities, LIMIT);
+    let mut reader = new_reader(a, &entities, LIMIT);
     assert!(rt; reader.fed() == 0 && reader.open_at().is_none());
-    assert!(rt; matches!(reader.line("", &mut count), Ok(None)));
-    assert!(rt; matches!(reader.line("a", &mut count), Ok(None)));
+    assert!(rt; matches!(read_line(&mut reader, "", &mut count), Ok(None)));
+    assert!(rt; matches!(read_line(&mut reader, "a", &mut count), Ok(None)));
     assert_eq!(rt; reader.open_at(), Some(1));
-    assert!(rt; line.len() == 66);
     assert!(rt;
         matches!(
-            reader.line(line.as_str(), &mut count),
+            read_line(&mut reader, line.as_str(), &mut count),
             Err(BlockFault::NestedTooDeep)
         )
     );
     assert!(rt; reader.fed() == 2 && reader.open_at().is_none());
-    assert!(rt; matches!(reader.line("b", &mut count), Err(BlockFault::Failed)));
+    assert!(rt;
+        matches!(
+            read_line(&mut reader, "b", &mut count),
+            Err(BlockFault::Failed)
+        )
+    );
     assert_eq!(rt; count.lines(), 4);
-    assert!(rt; matches!(reader.finish(), Err(BlockFault::Failed)));
+    assert!(rt; matches!(finish(reader), Err(BlockFault::Failed)));
     Ok(())
 }
 
@@ -332,16 +331,16 @@ fn units_say_where_they_begin(rt: HostRuntime) -> Result<(), Fail> {
     let a = rt.alloc();
     let entities = Entities::builtin(a)?;
     let mut count = Tally::new();
-    let mut reader = Reader::new(a, &entities, LIMIT);
-    assert!(rt; matches!(reader.line("", &mut count), Ok(None)));
-    assert!(rt; matches!(reader.line("- a", &mut count), Ok(None)));
-    assert!(rt; matches!(reader.line("", &mut count), Ok(None)));
-    let Ok(Some(found)) = reader.line("b", &mut count) else {
+    let mut reader = new_reader(a, &entities, LIMIT);
+    assert!(rt; matches!(read_line(&mut reader, "", &mut count), Ok(None)));
+    assert!(rt; matches!(read_line(&mut reader, "- a", &mut count), Ok(None)));
+    assert!(rt; matches!(read_line(&mut reader, "", &mut count), Ok(None)));
+    let Ok(Some(found)) = read_line(&mut reader, "b", &mut count) else {
         return Err("no unit".into());
     };
     assert!(rt; found.begin() == 1 && found.lines() == 2);
     assert_eq!(rt; reader.open_at(), Some(3));
-    let Ok(Some(found)) = reader.finish() else {
+    let Ok(Some(found)) = finish(reader) else {
         return Err("no unit".into());
     };
     assert!(rt; found.begin() == 3 && found.lines() == 1);
@@ -351,14 +350,11 @@ fn units_say_where_they_begin(rt: HostRuntime) -> Result<(), Fail> {
 /// Which lines of a text begin a later item of a top-level list, as `x`, and which don't, as `.`.
 fn joined(alloc: Global, text: &str) -> Result<String, AllocError> {
     let entities = Entities::builtin(alloc)?;
-    let mut reader = Reader::new(alloc, &entities, LIMIT);
+    let mut reader = new_reader(alloc, &entities, LIMIT);
     let mut count = Tally::new();
     let mut out = String::new(alloc);
     for line in text.lines() {
-        if reader.fed() == usize::MAX || line.len() > usize::MAX / 4 {
-            return Ok(out);
-        }
-        if reader.line(line, &mut count).is_err() {
+        if read_line(&mut reader, line, &mut count).is_err() {
             out.push_str("!")?;
         }
         out.push_str(if reader.joined() { "x" } else { "." })?;
@@ -385,12 +381,12 @@ fn later_items_are_told(rt: HostRuntime) -> Result<(), Fail> {
     let entities = Entities::builtin(a)?;
     let mut count = Tally::new();
     let line = quoted(a, 65)?;
-    let mut reader = Reader::new(a, &entities, LIMIT);
+    let mut reader = new_reader(a, &entities, LIMIT);
     assert!(rt; !reader.joined());
-    assert!(rt; matches!(reader.line("- a", &mut count), Ok(None)));
-    assert!(rt; matches!(reader.line("- b", &mut count), Ok(None)));
+    assert!(rt; matches!(read_line(&mut reader, "- a", &mut count), Ok(None)));
+    assert!(rt; matches!(read_line(&mut reader, "- b", &mut count), Ok(None)));
     assert!(rt; reader.joined());
-    assert!(rt; line.len() == 66 && reader.line(line.as_str(), &mut count).is_err());
+    assert!(rt; read_line(&mut reader, line.as_str(), &mut count).is_err());
     assert!(rt; !reader.joined());
     Ok(())
 }
@@ -398,18 +394,15 @@ fn later_items_are_told(rt: HostRuntime) -> Result<(), Fail> {
 /// The later items of each unit of a text, as the number of its lines before each and that of the inline texts; units are parted by `|`.
 fn joins(alloc: Global, text: &str) -> Result<String, AllocError> {
     let entities = Entities::builtin(alloc)?;
-    let mut reader = Reader::new(alloc, &entities, LIMIT);
+    let mut reader = new_reader(alloc, &entities, LIMIT);
     let mut count = Tally::new();
     let mut out = String::new(alloc);
     for line in text.lines() {
-        if reader.fed() == usize::MAX || line.len() > usize::MAX / 4 {
-            return Ok(out);
-        }
-        if let Ok(Some(found)) = reader.line(line, &mut count) {
+        if let Ok(Some(found)) = read_line(&mut reader, line, &mut count) {
             show_joins(&found, &mut out)?;
         }
     }
-    if let Ok(Some(found)) = reader.finish() {
+    if let Ok(Some(found)) = finish(reader) {
         show_joins(&found, &mut out)?;
     }
     Ok(out)
@@ -466,10 +459,10 @@ fn across_threads<T: Send + Sync>(value: T) -> T {
 fn found_units_may_cross_threads(rt: HostRuntime) -> Result<(), Fail> {
     let a = rt.alloc();
     let entities = Entities::builtin(a)?;
-    let mut reader = Reader::new(a, &entities, LIMIT);
+    let mut reader = new_reader(a, &entities, LIMIT);
     assert!(rt; reader.fed() == 0);
-    reader.line("- a", &mut Tally::new())?;
-    let found = across_threads(reader.finish()?);
+    read_line(&mut reader, "- a", &mut Tally::new())?;
+    let found = across_threads(finish(reader)?);
     assert_eq!(rt; found.map(|found| found.lines()), Some(1));
     Ok(())
 }
@@ -479,12 +472,12 @@ fn parts_are_read(rt: HostRuntime) -> Result<(), Fail> {
     let a = rt.alloc();
     let entities = Entities::builtin(a)?;
     let mut count = Tally::new();
-    let mut reader = Reader::new(a, &entities, LIMIT);
-    assert!(rt; matches!(reader.line("", &mut count), Ok(None)));
-    assert!(rt; matches!(reader.line("- [A]: /u", &mut count), Ok(None)));
-    assert!(rt; matches!(reader.line("  t", &mut count), Ok(None)));
-    assert!(rt; matches!(reader.line("- b", &mut count), Ok(None)));
-    let Ok(Some(found)) = reader.finish() else {
+    let mut reader = new_reader(a, &entities, LIMIT);
+    assert!(rt; matches!(read_line(&mut reader, "", &mut count), Ok(None)));
+    assert!(rt; matches!(read_line(&mut reader, "- [A]: /u", &mut count), Ok(None)));
+    assert!(rt; matches!(read_line(&mut reader, "  t", &mut count), Ok(None)));
+    assert!(rt; matches!(read_line(&mut reader, "- b", &mut count), Ok(None)));
+    let Ok(Some(found)) = finish(reader) else {
         return Err("no unit".into());
     };
     assert!(rt; found.begin() == 1 && found.lines() == 3);

@@ -1,0 +1,61 @@
+//! The calls of a reader of blocks as tests make them. What they promise stays here: a test looks at the answers, so its own proof is short.
+
+ghost use Rattle.std.specs.Prelude.{◌≤◌};
+
+use mdblock::{BlockFault, Found, Reader, splice};
+use mdtext::{Entities, Tally};
+use std::alloc::{AllocError, Global};
+
+/// How many containers may be open inside one another, where a test says nothing else.
+pub(crate) const LIMIT: usize = 64;
+
+/// A reader that has read nothing.
+pub(crate) fn new_reader<'e>(alloc: Global, entities: &'e Entities, limit: usize) -> Reader<'e>
+    requires some { 1 ≤ limit }
+    requires few { limit ≤ 256 }
+{
+    Reader::new(alloc, entities, limit)
+}
+
+/// Reads a line. One that could not be counted, or is longer than any that a test has, is a fault.
+pub(crate) fn read_line(
+    reader: &mut Reader<'_>,
+    text: &str,
+    count: &mut Tally,
+) -> Result<Option<Found>, BlockFault> {
+    if reader.fed() == usize::MAX || text.len() > usize::MAX / 4 {
+        return Err(BlockFault::Failed);
+    }
+    reader.line(text, count)
+}
+
+pub(crate) fn finish(reader: Reader<'_>) -> Result<Option<Found>, BlockFault> {
+    reader.finish()
+}
+
+/// Goes on inside a list from one of its later items, which begins with this line.
+pub(crate) fn resume<'e>(
+    alloc: Global,
+    entities: &'e Entities,
+    found: &Found,
+    k: usize,
+    text: &str,
+    count: &mut Tally,
+) -> Result<Option<Reader<'e>>, AllocError> {
+    if text.len() > usize::MAX / 4 {
+        return Ok(None);
+    }
+    Reader::resume(alloc, entities, LIMIT, found, k, text, count)
+}
+
+/// Joins what was read with the rest of an old list from one of its later items on, where the last line that was read begins such an item.
+pub(crate) fn spliced(
+    reader: Reader<'_>,
+    found: &Found,
+    k: usize,
+) -> Result<Option<Found>, AllocError> {
+    if !reader.joined() || reader.fed() > usize::MAX - found.lines() || k >= found.joins().len() {
+        return Ok(None);
+    }
+    Ok(Some(splice(reader, found, k)?))
+}
