@@ -6,6 +6,7 @@ ghost use Rattle.mdtext.specs.EntityTable.{entity_text, put_all, builtin_table};
 use crate::NoMemory;
 use crate::entity_file::TableFault;
 use crate::entity_reading::read_table;
+use crate::html_names::HTML_NAMES;
 use crate::named_texts::NamedTexts;
 use std::alloc::Global;
 use std::marker::Model;
@@ -74,6 +75,16 @@ impl Entities {
             }),
             Err(_) => Err(TableFault::NotJson),
         }
+    }
+
+    /// HTML's 2,125 names that end with `;`, as `from_json` reads them of HTML's file.
+    pub fn html(alloc: Global) -> Result<Entities, TableFault>
+        ensures ok { IfOk result (λ entities. file_table HTML_NAMES.now ≡ Ok entities) }
+        ensures err { IfErr result (λ fault. fault ≢ TableFault.NoMemory → file_table HTML_NAMES.now ≡ Err fault) }
+    {
+        Ok(Entities {
+            texts: read_table(alloc, HTML_NAMES)?,
+        })
     }
 
     fn of(alloc: Global, pairs: &[(&str, &str)]) -> Result<Entities, NoMemory>
