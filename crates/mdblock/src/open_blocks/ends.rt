@@ -1,0 +1,185 @@
+//! The ends of what is open: of a block, of all blocks of a level, and of a list's item.
+
+ghost use Rattle.std.specs.Prelude.{◌≡◌, ◌≤◌, ℕ, IfOk, OnOk, length, true};
+ghost use Rattle.mdblock.specs.BlockView.{blocks_view};
+ghost use Rattle.mdblock.specs.Positions.{BlocksIn};
+ghost use Rattle.mdblock.specs.held.EndedItems.{EndsLastItem, KeepsNext};
+ghost use Rattle.mdblock.specs.held.HeldLevel.{ClosesAll, is_shut};
+ghost use Rattle.mdblock.specs.held.LevelSteps.{EndsAll, IsEmpty, IsOpenLeaf};
+ghost use Rattle.mdblock.specs.held.OpenPositions.{LevelIn};
+
+use crate::blocks::Block;
+use crate::closed_blocks::{push_found_inside, with_found, with_item, with_list, with_quote};
+use crate::container::list_items::end_item;
+use crate::gathering::Gathering;
+use crate::open_blocks::{Level, OpenBlock};
+use std::alloc::{AllocError, Global};
+use std::mem;
+
+impl Level {
+    #[tactic(auto, using(crate::proofs::Within::growing))]
+    /// The blocks, the open one included.
+    pub(crate) fn close(self, gathering: &mut Gathering) -> Result<Vec<Block>, AllocError>
+        requires { LevelIn (length gathering.old.texts.items) self }
+        ensures within { IfOk result (λ blocks. BlocksIn (length gathering.new.texts.items) (blocks_view blocks.items)) }
+        ensures grows { length gathering.old.texts.items ≤ length gathering.new.texts.items }
+        ensures entities { gathering.new.entities.now ≡ gathering.old.entities.now }
+        ensures closes { IfOk result (λ blocks. ClosesAll self gathering.old blocks.items gathering.new) }
+    {
+        let first = self.is_at_front();
+        let Level { over, last, .. } = self;
+        match last {
+            OpenBlock::Shut => Ok(over),
+            OpenBlock::Leaf(leaf) => {
+                let found = leaf.end(first, gathering)?;
+                with_found(over, found)
+            }
+            OpenBlock::Quote(inner) => {
+                let blocks = Box::into_inner(inner).close(gathering)?;
+                with_quote(over, blocks)
+            }
+            OpenBlock::List(inner, list) => {
+                if !list.is_open() {
+                    return with_list(over, list);
+                }
+                let inner = Box::into_inner(inner);
+                let gap = inner.spaced;
+                let blocks = inner.close(gathering)?;
+                with_item(over, list, blocks, gap)
+            }
+        }
+    }
+
+    /// Takes all the blocks out, and leaves none.
+    fn take(&mut self, alloc: Global) -> Level
+        ensures taken { result ≡ self.old }
+        ensures left { (n : ℕ) → LevelIn n self.new }
+    {
+        mem::replace(self, Level::new(alloc, false))
+    }
+
+    /// Puts the open block among those that are over. `more`: whether another block comes right behind it.
+    pub(super) fn shut(&mut self, more: bool, gathering: &mut Gathering) -> Result<(), AllocError>
+        requires { LevelIn (length gathering.old.texts.items) self.old }
+        ensures within { OnOk result (LevelIn (length gathering.new.texts.items) self.new) }
+        ensures grows { length gathering.old.texts.items ≤ length gathering.new.texts.items }
+        ensures entities { gathering.new.entities.now ≡ gathering.old.entities.now }
+        ensures ends { OnOk result (EndsAll self.old gathering.old self.new gathering.new) }
+    {
+        if self.is_open_leaf() {
+            return self.shut_leaf(self.in_item && more, gathering);
+        }
+        self.shut_container(gathering)
+    }
+
+    /// Whether the open block is a leaf.
+    fn is_open_leaf(&self) -> bool
+        ensures { result ≡ true → IsOpenLeaf self.now.last }
+    {
+        matches!(self.last, OpenBlock::Leaf(_))
+    }
+
+    #[tactic(auto, using(crate::proofs::Within::growing))]
+    /// The same of a leaf, where it stands. `more`: whether there is to be room for another block behind it.
+    fn shut_leaf(&mut self, more: bool, gathering: &mut Gathering) -> Result<(), AllocError>
+        requires level { LevelIn (length gathering.old.texts.items) self.old }
+        requires leaf { IsOpenLeaf self.old.last }
+        ensures within { OnOk result (LevelIn (length gathering.new.texts.items) self.new) }
+        ensures grows { length gathering.old.texts.items ≤ length gathering.new.texts.items }
+        ensures entities { gathering.new.entities.now ≡ gathering.old.entities.now }
+        ensures ends { OnOk result (EndsAll self.old gathering.old self.new gathering.new) }
+        ensures closes { OnOk result (ClosesAll self.old gathering.old self.new.over.items gathering.new) }
+        ensures shut { OnOk result (is_shut self.new.last ≡ true) }
+    {
+        let first = self.is_at_front();
+        match mem::replace(&mut self.last, OpenBlock::Shut) {
+            OpenBlock::Leaf(leaf) => {
+                let found = leaf.end(first, gathering)?;
+                push_found_inside(&mut self.over, found, more)
+            }
+            last => {
+                self.last = last;
+                Ok(())
+            }
+        }
+    }
+
+    #[tactic(auto, using(crate::proofs::Within::growing))]
+    /// The same of any block. It stands by itself so that what a line goes down through takes less of the stack.
+    #[inline(never)]
+    fn shut_container(&mut self, gathering: &mut Gathering) -> Result<(), AllocError>
+        requires { LevelIn (length gathering.old.texts.items) self.old }
+        ensures within { OnOk result (LevelIn (length gathering.new.texts.items) self.new) }
+        ensures grows { length gathering.old.texts.items ≤ length gathering.new.texts.items }
+        ensures entities { gathering.new.entities.now ≡ gathering.old.entities.now }
+        ensures ends { OnOk result (EndsAll self.old gathering.old self.new gathering.new) }
+    {
+        let alloc = gathering.alloc();
+        let (in_item, begun) = (self.in_item, self.begun);
+        let (blank, spaced) = (self.blank, self.spaced);
+        let over = self.take(alloc).close(gathering)?;
+        *self = Level {
+            over,
+            last: OpenBlock::Shut,
+            in_item,
+            begun,
+            blank,
+            spaced,
+        };
+        Ok(())
+    }
+
+    #[tactic(auto, using(crate::proofs::Within::growing))]
+    /// Takes all the blocks out, the open one included, and leaves none, of a list item or not.
+    pub(crate) fn take_blocks(
+        &mut self,
+        in_item: bool,
+        gathering: &mut Gathering,
+    ) -> Result<Vec<Block>, AllocError>
+        requires { LevelIn (length gathering.old.texts.items) self.old }
+        ensures within { IfOk result (λ blocks. BlocksIn (length gathering.new.texts.items) (blocks_view blocks.items)) }
+        ensures grows { length gathering.old.texts.items ≤ length gathering.new.texts.items }
+        ensures entities { gathering.new.entities.now ≡ gathering.old.entities.now }
+        ensures closes { IfOk result (λ blocks. ClosesAll self.old gathering.old blocks.items gathering.new) }
+        ensures empty { OnOk result (IsEmpty in_item self.new) }
+    {
+        if self.is_shut() {
+            return Ok(self.take_over(in_item, gathering.alloc()));
+        }
+        if self.is_open_leaf() {
+            self.shut_leaf(false, gathering)?;
+            return Ok(self.take_over(in_item, gathering.alloc()));
+        }
+        mem::replace(self, Level::new(gathering.alloc(), in_item)).close(gathering)
+    }
+
+    /// The same where no block is open.
+    fn take_over(&mut self, in_item: bool, alloc: Global) -> Vec<Block>
+        requires { is_shut self.old.last ≡ true }
+        ensures over { result ≡ self.old.over }
+        ensures empty { IsEmpty in_item self.new }
+    {
+        self.in_item = in_item;
+        self.begun = false;
+        self.blank = false;
+        self.spaced = false;
+        mem::replace(&mut self.over, Vec::new(alloc))
+    }
+
+    #[tactic(auto, using(crate::proofs::Within::growing))]
+    /// Ends the item that is open in a list which stands last.
+    pub(crate) fn end_item(&mut self, gathering: &mut Gathering) -> Result<(), AllocError>
+        requires { LevelIn (length gathering.old.texts.items) self.old }
+        ensures within { OnOk result (LevelIn (length gathering.new.texts.items) self.new) }
+        ensures entities { gathering.new.entities.now ≡ gathering.old.entities.now }
+        ensures ends { OnOk result (EndsLastItem self.old gathering.old self.new gathering.new) }
+        ensures keeps { OnOk result (KeepsNext self.old self.new) }
+    {
+        match &mut self.last {
+            OpenBlock::Shut => Ok(()),
+            OpenBlock::Leaf(_) => Ok(()),
+            OpenBlock::Quote(_) => Ok(()),
+            OpenBlock::List(inner, list) => end_item(inner, list, gathering),
+        }
+    }
+}

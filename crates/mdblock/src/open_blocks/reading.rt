@@ -1,0 +1,255 @@
+//! The reading of a line inside a level: it goes down through the open containers that it matches, and continues what is open there or begins a block.
+
+ghost use Rattle.std.specs.Prelude.{◌≡◌, ◌≤◌, IfErr, IfOk, IsErrOf, OnOk, false, length, true};
+ghost use Rattle.mdblock.specs.declared.faults.BlockFault.TheVariants.{Failed, NestedTooDeep};
+ghost use Rattle.mdblock.specs.held.Continuations.{ContinuesOpen, IsContinuationOf};
+ghost use Rattle.mdblock.specs.held.LevelSteps.{AddsButBlank, IsInside, IsVerbatim, MarksBlank};
+ghost use Rattle.mdblock.specs.held.LinesAdded.{AddsLine, ContinuesLevel, FollowsLine, IsUnfollowed, SinksLine};
+ghost use Rattle.mdblock.specs.held.OpenPositions.{LevelIn};
+
+use crate::block_starts::beginning;
+use crate::container::block_quotes;
+use crate::container::list_items::{Entry, enter_item};
+use crate::faults::BlockFault;
+use crate::gathering::Gathering;
+use crate::lines::Line;
+use crate::open_blocks::{Continuation, Level, OpenBlock, deeper};
+
+/// How the reading of a line inside a level ends.
+#[derive(Clone, Copy, Debug, PartialEq, Eq)]
+enum Reading {
+    /// It is read.
+    Done,
+    TooDeep,
+    NoMemory,
+    Failed,
+}
+
+impl Level {
+    /// Reads one line more, where at most `room` containers may be open inside one another.
+    fn read(
+        &mut self,
+        line: &mut Line,
+        room: usize,
+        gathering: &mut Gathering,
+    ) -> Result<(), BlockFault>
+        requires { LevelIn (length gathering.old.texts.items) self.old }
+        ensures within { OnOk result (LevelIn (length gathering.new.texts.items) self.new) }
+        ensures grows { length gathering.old.texts.items ≤ length gathering.new.texts.items }
+        ensures entities { gathering.new.entities.now ≡ gathering.old.entities.now }
+        ensures fault { IfErr result (λ fault. fault ≡ Failed → ⊥) }
+        ensures adds { OnOk result (AddsLine room self.old gathering.old line.old self.new gathering.new) }
+        ensures deep { IsErrOf result NestedTooDeep → SinksLine room self.old gathering.old line.old }
+    {
+        match self.read_inside(line, room, gathering) {
+            Reading::Done => Ok(()),
+            Reading::TooDeep => Err(BlockFault::NestedTooDeep),
+            Reading::NoMemory => Err(BlockFault::NoMemory),
+            Reading::Failed => Err(BlockFault::Failed),
+        }
+    }
+
+    /// The same, told by a word: it ends with the reading inside the open container, of which the compiler makes a loop.
+    #[tactic(auto, using(crate::proofs::Within::growing))]
+    fn read_inside(&mut self, line: &mut Line, room: usize, gathering: &mut Gathering) -> Reading
+        requires { LevelIn (length gathering.old.texts.items) self.old }
+        ensures within { result ≡ Reading.Done → LevelIn (length gathering.new.texts.items) self.new }
+        ensures grows { length gathering.old.texts.items ≤ length gathering.new.texts.items }
+        ensures entities { gathering.new.entities.now ≡ gathering.old.entities.now }
+        ensures fault { result ≡ Reading.Failed → ⊥ }
+        ensures adds { result ≡ Reading.Done → AddsLine room self.old gathering.old line.old self.new gathering.new }
+        ensures deep { result ≡ Reading.TooDeep → SinksLine room self.old gathering.old line.old }
+    {
+        match &mut self.last {
+            OpenBlock::Shut => self.read_unfollowed(line, room, gathering),
+            OpenBlock::Leaf(_) => self.read_unfollowed(line, room, gathering),
+            OpenBlock::Quote(inner) => {
+                if !block_quotes::matches(line) {
+                    return self.read_unfollowed(line, room, gathering);
+                }
+                if room < 1 {
+                    return Reading::TooDeep;
+                }
+                block_quotes::take_marker(line);
+                self.blank = false;
+                inner.read_inside(line, room - 1, gathering)
+            }
+            OpenBlock::List(inner, list) => {
+                if !list.matches(line) {
+                    return self.read_unfollowed(line, room, gathering);
+                }
+                if room < 1 {
+                    return Reading::TooDeep;
+                }
+                list.enter(line);
+                self.blank = false;
+                inner.read_inside(line, room - 1, gathering)
+            }
+        }
+    }
+
+    /// The same of a line that has neither the marker nor the indentation of the open container.
+    #[inline(never)]
+    fn read_unfollowed(
+        &mut self,
+        line: &mut Line,
+        room: usize,
+        gathering: &mut Gathering,
+    ) -> Reading
+        requires level { LevelIn (length gathering.old.texts.items) self.old }
+        requires unfollowed { IsUnfollowed self.old.last line.old }
+        ensures within { result ≡ Reading.Done → LevelIn (length gathering.new.texts.items) self.new }
+        ensures grows { length gathering.old.texts.items ≤ length gathering.new.texts.items }
+        ensures entities { gathering.new.entities.now ≡ gathering.old.entities.now }
+        ensures fault { result ≡ Reading.Failed → ⊥ }
+        ensures adds { result ≡ Reading.Done → AddsLine room self.old gathering.old line.old self.new gathering.new }
+        ensures deep { result ≡ Reading.TooDeep → SinksLine room self.old gathering.old line.old }
+    {
+        let continuation = self.continuation(line);
+        match self.add(line, continuation, room, gathering) {
+            Ok(()) => Reading::Done,
+            Err(BlockFault::NestedTooDeep) => Reading::TooDeep,
+            Err(BlockFault::NoMemory) => Reading::NoMemory,
+            Err(BlockFault::Failed) => Reading::Failed,
+        }
+    }
+
+    /// Reads a line with the marker or the indentation of the open container, and answers whether it has it. Else it changes nothing.
+    #[tactic(auto, using(crate::proofs::Within::growing))]
+    pub(crate) fn follow(
+        &mut self,
+        line: &mut Line,
+        room: usize,
+        gathering: &mut Gathering,
+    ) -> Result<bool, BlockFault>
+        requires { LevelIn (length gathering.old.texts.items) self.old }
+        ensures within { OnOk result (LevelIn (length gathering.new.texts.items) self.new) }
+        ensures grows { length gathering.old.texts.items ≤ length gathering.new.texts.items }
+        ensures entities { gathering.new.entities.now ≡ gathering.old.entities.now }
+        ensures fault { IfErr result (λ fault. fault ≡ Failed → ⊥) }
+        ensures adds { IfOk result (λ followed. followed ≡ true → FollowsLine room self.old gathering.old line.old self.new gathering.new) }
+        ensures passes { IfOk result (λ followed. followed ≡ false
+            → (self.new ≡ self.old) × (line.new ≡ line.old) × (gathering.new ≡ gathering.old) × IsUnfollowed self.old.last line.old) }
+        ensures deep { IsErrOf result NestedTooDeep → SinksLine room self.old gathering.old line.old }
+    {
+        match &mut self.last {
+            OpenBlock::Shut | OpenBlock::Leaf(_) => Ok(false),
+            OpenBlock::Quote(inner) => {
+                if !block_quotes::matches(line) {
+                    return Ok(false);
+                }
+                block_quotes::take_marker(line);
+                inner.read(line, deeper(room)?, gathering)?;
+                self.blank = false;
+                Ok(true)
+            }
+            OpenBlock::List(inner, list) => {
+                if !list.matches(line) {
+                    return Ok(false);
+                }
+                list.enter(line);
+                inner.read(line, deeper(room)?, gathering)?;
+                self.blank = false;
+                Ok(true)
+            }
+        }
+    }
+
+    /// Reads one line more, which continues what is open so, where at most `room` containers may be open inside one another.
+    #[cycle(reading)]
+    pub(crate) fn add(
+        &mut self,
+        line: &mut Line,
+        continuation: Continuation,
+        room: usize,
+        gathering: &mut Gathering,
+    ) -> Result<(), BlockFault>
+        requires level { LevelIn (length gathering.old.texts.items) self.old }
+        requires continuation { IsContinuationOf line.old continuation }
+        requires step { ContinuesOpen self.old.last line.old continuation }
+        requires last { ContinuesLevel self.old line.old continuation }
+        ensures within { OnOk result (LevelIn (length gathering.new.texts.items) self.new) }
+        ensures grows { length gathering.old.texts.items ≤ length gathering.new.texts.items }
+        ensures entities { gathering.new.entities.now ≡ gathering.old.entities.now }
+        ensures fault { IfErr result (λ fault. fault ≡ Failed → ⊥) }
+        ensures adds { OnOk result (AddsLine room self.old gathering.old line.old self.new gathering.new) }
+        ensures deep { IsErrOf result NestedTooDeep → SinksLine room self.old gathering.old line.old }
+    {
+        let blank = line.is_blank();
+        if let Continuation::Outside(opening) = continuation {
+            self.shut(!blank, gathering)?;
+            return self.begin(line, opening, room, gathering);
+        }
+        self.go_on(line, continuation, room, gathering)?;
+        self.mark_blank(blank);
+        Ok(())
+    }
+
+    /// Says whether the line that was read is blank, and no content of fenced code or an HTML block.
+    fn mark_blank(&mut self, blank: bool)
+        ensures { MarksBlank self.old blank self.new }
+    {
+        if blank {
+            self.blank = !self.is_verbatim();
+        } else {
+            self.blank = false;
+        }
+    }
+
+    /// Reads a line that the open block takes. Inside it no container has the line's marker or indentation, since the line is lazy or blank there.
+    #[cycle(reading)]
+    #[tactic(auto, using(crate::proofs::Within::growing))]
+    fn go_on(
+        &mut self,
+        line: &mut Line,
+        continuation: Continuation,
+        room: usize,
+        gathering: &mut Gathering,
+    ) -> Result<(), BlockFault>
+        requires level { LevelIn (length gathering.old.texts.items) self.old }
+        requires continuation { IsContinuationOf line.old continuation }
+        requires step { ContinuesOpen self.old.last line.old continuation }
+        requires last { ContinuesLevel self.old line.old continuation }
+        requires inside { IsInside continuation }
+        ensures within { OnOk result (LevelIn (length gathering.new.texts.items) self.new) }
+        ensures grows { length gathering.old.texts.items ≤ length gathering.new.texts.items }
+        ensures entities { gathering.new.entities.now ≡ gathering.old.entities.now }
+        ensures fault { IfErr result (λ fault. fault ≡ Failed → ⊥) }
+        ensures adds { OnOk result (AddsButBlank room self.old gathering.old line.old self.new gathering.new) }
+        ensures deep { IsErrOf result NestedTooDeep → SinksLine room self.old gathering.old line.old }
+    {
+        match &mut self.last {
+            OpenBlock::Shut => Ok(()),
+            OpenBlock::Leaf(_) => Ok(self.add_to_leaf(line, continuation, gathering)?),
+            OpenBlock::Quote(inner) => {
+                line.make_lazy();
+                let room = deeper(room)?;
+                let continuation = inner.continuation(line);
+                inner.add(line, continuation, room, gathering)
+            }
+            OpenBlock::List(inner, list) => {
+                let room = deeper(room)?;
+                match enter_item(inner, list, self.blank, line, continuation, gathering)? {
+                    Entry::Goes => {
+                        let continuation = inner.continuation(line);
+                        inner.add(line, continuation, room, gathering)
+                    }
+                    Entry::Begins => inner.begin(line, beginning(line), room, gathering),
+                    Entry::Stays => Ok(()),
+                }
+            }
+        }
+    }
+
+    /// Whether a blank line that was read last is content of fenced code or an HTML block.
+    fn is_verbatim(&self) -> bool
+        ensures { IsVerbatim self.now.last result }
+    {
+        match &self.last {
+            OpenBlock::Shut => false,
+            OpenBlock::Leaf(leaf) => leaf.is_verbatim(),
+            OpenBlock::Quote(_) => false,
+            OpenBlock::List(inner, list) => list.is_open() && !inner.blank,
+        }
+    }
+}
