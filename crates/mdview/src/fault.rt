@@ -96,7 +96,7 @@ impl fmt::Display for EditFault {
             EditFault::NotDefinitions { line } => {
                 write!(
                     f,
-                    "the prelude is refused: the block in its line {line} is no definition"
+                    "the prelude is refused: what begins in its line {line} is more than definitions"
                 )
             }
         }
