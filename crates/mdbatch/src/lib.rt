@@ -8,8 +8,6 @@ mod guesses;
 mod labels;
 mod limits;
 mod page_labels;
-#[cfg(test)]
-mod tests;
 mod units;
 
 pub use batch::to_html;

@@ -207,19 +207,38 @@ fn edit_some(
     Ok(count.lines() <= held.lines.len() as u64)
 }
 
-/// What a preview of the same tells that is made anew.
-fn told_anew(alloc: Global, held: &Held) -> Result<String, Fail> {
-    let mut anew = preview_of(alloc, &held.lines)?;
-    set_prelude(&mut anew, &held.prelude, &mut Tally::new())?;
-    Ok(told(alloc, &anew)?)
+/// Whether both hold the same lines and pieces.
+fn are_same(rt: &impl Abort, one: &Preview, other: &Preview) {
+    assert_eq!(rt; (one.len(), one.units()), (other.len(), other.units()));
+    assert!(rt; one.prelude().eq(other.prelude()));
+    for i in 0..one.len() {
+        assert_eq!(rt; one.line(i), other.line(i));
+    }
+    for i in 0..one.units() {
+        assert_eq!(rt; one.first_line(i), other.first_line(i));
+        assert_eq!(rt; one.piece(i), other.piece(i));
+    }
 }
 
-/// A thousand edits, with another prelude at every eighth.
+/// Compares a preview with one of the same lines that is made anew, by its trees too where that is asked for.
+fn compare(rt: &impl Abort, alloc: Global, held: &Held, with_trees: bool) -> Result<(), Fail> {
+    let mut anew = preview_of(alloc, &held.lines)?;
+    set_prelude(&mut anew, &held.prelude, &mut Tally::new())?;
+    are_same(rt, &held.preview, &anew);
+    if with_trees {
+        let want = told(alloc, &anew)?;
+        assert_eq!(rt; told(alloc, &held.preview)?.as_str(), want.as_str());
+    }
+    Ok(())
+}
+
+/// A thousand edits, with another prelude at every eighth. The trees are compared at every `often`th.
 fn try_edits(
     rt: &impl Abort,
     alloc: Global,
     mut held: Held,
     of: &[&'static str],
+    often: usize,
     mut seed: u64,
 ) -> Result<(), Fail> {
     for step in 0..1000 {
@@ -227,8 +246,7 @@ fn try_edits(
             set_some(alloc, &mut held, &mut seed)?;
         }
         assert!(rt; edit_some(alloc, &mut held, of, &mut seed)?);
-        let anew = told_anew(alloc, &held)?;
-        assert_eq!(rt; told(alloc, &held.preview)?.as_str(), anew.as_str());
+        compare(rt, alloc, &held, often != 0 && step % often == 0)?;
     }
     Ok(())
 }
@@ -247,7 +265,7 @@ fn edits_leave_what_the_whole_text_gives(rt: HostRuntime) -> Result<(), Fail> {
             "z"
         })?;
     }
-    try_edits(&rt, alloc, held(alloc, lines)?, &LINES, seed)
+    try_edits(&rt, alloc, held(alloc, lines)?, &LINES, 50, seed)
 }
 
 /// Forty lines of these.
@@ -263,12 +281,12 @@ fn forty(alloc: Global, of: &[&'static str], seed: &mut u64) -> Result<Held, Fai
 fn edits_of_one_bullet_list_leave_what_the_whole_text_gives(rt: HostRuntime) -> Result<(), Fail> {
     let mut seed = 43;
     let held = forty(rt.alloc(), &BULLETS, &mut seed)?;
-    try_edits(&rt, rt.alloc(), held, &BULLETS, seed)
+    try_edits(&rt, rt.alloc(), held, &BULLETS, 1, seed)
 }
 
 #[test]
 fn edits_of_one_ordered_list_leave_what_the_whole_text_gives(rt: HostRuntime) -> Result<(), Fail> {
     let mut seed = 47;
     let held = forty(rt.alloc(), &NUMBERS, &mut seed)?;
-    try_edits(&rt, rt.alloc(), held, &NUMBERS, seed)
+    try_edits(&rt, rt.alloc(), held, &NUMBERS, 1, seed)
 }

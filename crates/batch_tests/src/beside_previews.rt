@@ -1,0 +1,93 @@
+//! The batch way beside the preview: the same HTML, and the same refusals.
+
+use crate::calls::{Form, html_of, previewed};
+use crate::texts::Draws;
+use mdbatch::Breaks;
+use std::alloc::Global;
+use std::test::Fail;
+
+/// Labels that the texts ask for, and some of which they define.
+static PRELUDE: &[&str] = &[
+    "[foo]: /p",
+    "",
+    "[BAR]: /q \"t\"",
+    "[baz]: </r>",
+    "[ss]: /s",
+];
+
+/// Whether both ways end alike: with the same bytes, or with the same refusal.
+fn agree(alloc: Global, text: &str, form: Form, prelude: &[&str]) -> Result<bool, Fail> {
+    let html = html_of(alloc, text, form, prelude)?;
+    let wanted = previewed(alloc, text, form, prelude);
+    Ok(html == wanted)
+}
+
+#[test]
+fn agrees_with_the_preview_on_texts_by_chance(rt: HostRuntime) -> Result<(), Fail> {
+    let alloc = rt.alloc();
+    let mut draws = Draws { state: 20 };
+    for number in 0..3000 {
+        let text = draws.text(alloc)?;
+        let form = draws.form();
+        let known = draws.below(PRELUDE.len().saturating_add(1));
+        let prelude = PRELUDE.get(..known).unwrap_or(PRELUDE);
+        assert!(rt;
+            agree(alloc, &text, form, prelude)?,
+            "text {number}: {text}"
+        );
+    }
+    Ok(())
+}
+
+/// Worked texts of the two standards' borders: lines, tabs, lists, lazy lines, tables, references, emphasis, raw HTML, breaks.
+static WORKED: &[&str] = &[
+    "",
+    "\n",
+    "\tfoo\tbaz\t\tbim\n",
+    ">\t\tfoo\n",
+    "- foo\n\n\tbar",
+    "- foo\n-\n- bar\n",
+    "[foo]: /url\n===\n[foo]\n",
+    "[foo]: /url\n---\n",
+    "> bar\nbaz\n> foo\n",
+    "* a\n  > b\n  >\n* c\n",
+    "*foo**bar*",
+    "[foo][bar][baz]\n\n[baz]: /url1\n[foo]: /url2\n",
+    "[ẞ]\n\n[SS]: /url\n",
+    "| f\\|oo  |\n| ------ |\n| b `\\|` az |\n",
+    "| abc | def |\n| --- |\n",
+    "- [ ] foo\n- [x] bar\n",
+    "~~Hi~~ Hello, ~there~ world!",
+    "&quot; &nope; &#0; &#x41;",
+    "<http://a/?b&amp;c>",
+    "<b>x</b>",
+    "[a](javascript:x)",
+    "[a](/ä \"t\")",
+    "a  \nb\\\nc",
+    "a\nb",
+    "a\u{FFFD}\rb",
+    "\u{FEFF}# a",
+    "a\u{FEFF}",
+    "\u{0}",
+    "\u{0}\u{FEFF}# a\r\n\u{0}\r",
+    "[foo]\n\n[foo]: /a\n[foo]: /b\n",
+    "---\n    code\n\n<b>\n\n> ***\n\n[foo]: /a\n\n---\n[foo]\n\n***\n",
+    "***\n[foo]: /a\n===\n***\n[foo]\n",
+];
+
+#[test]
+fn agrees_with_the_preview_on_worked_texts(rt: HostRuntime) -> Result<(), Fail> {
+    let alloc = rt.alloc();
+    for text in WORKED {
+        for breaks in [Breaks::Soft, Breaks::Hard, Breaks::Space] {
+            for unsafe_html in [false, true] {
+                let form = Form {
+                    unsafe_html,
+                    breaks,
+                };
+                assert!(rt; agree(alloc, text, form, PRELUDE)?, "{text}");
+            }
+        }
+    }
+    Ok(())
+}

@@ -1,0 +1,78 @@
+//! The calls of the batch way and of a preview as tests make them. What they promise stays here: a test looks at the answers, so its own proof is short.
+
+ghost use Rattle.mdhtml.specs.Limits.{HasLimits};
+
+use mdbatch::{Breaks, EditFault, Entities, Options, Prelude, to_html};
+use mdtext::{Tally, lines_of};
+use mdview::Preview;
+use std::alloc::Global;
+use std::test::Fail;
+
+/// How HTML is written: the limits are the usual ones.
+#[derive(Clone, Copy)]
+pub(crate) struct Form {
+    pub(crate) unsafe_html: bool,
+    pub(crate) breaks: Breaks,
+}
+
+/// The form where nothing is asked for.
+pub(crate) const PLAIN: Form = Form {
+    unsafe_html: false,
+    breaks: Breaks::Soft,
+};
+
+fn options(form: Form) -> Options
+    ensures { HasLimits result }
+{
+    Options {
+        unsafe_html: form.unsafe_html,
+        breaks: form.breaks,
+        ..Options::plain()
+    }
+}
+
+/// What `to_html` answers.
+pub(crate) fn html_of(
+    alloc: Global,
+    text: &str,
+    form: Form,
+    prelude: &[&str],
+) -> Result<Result<String, EditFault>, Fail> {
+    let entities = Entities::builtin(alloc)?;
+    let options = options(form);
+    let read = Prelude::read(alloc, prelude, &entities, &options, &mut Tally::new())?;
+    Ok(to_html(alloc, text, &entities, &options, &read))
+}
+
+/// A preview of the lines of a text, or why it refuses them.
+fn preview_of(
+    alloc: Global,
+    text: &str,
+    form: Form,
+    prelude: &[&str],
+) -> Result<Preview, EditFault> {
+    let lines = lines_of(alloc, text)?;
+    let mut lent = Vec::with_capacity(alloc, lines.len())?;
+    for line in &lines {
+        lent.push(line.as_str())?;
+    }
+    let mut preview = Preview::new(alloc, Entities::builtin(alloc)?, options(form));
+    preview.set_prelude(prelude, &mut Tally::new())?;
+    preview.edit(0, 0, &lent, &mut Tally::new())?;
+    Ok(preview)
+}
+
+/// What a preview shows after the edit that brings the lines of the text, or why it refuses it.
+pub(crate) fn previewed(
+    alloc: Global,
+    text: &str,
+    form: Form,
+    prelude: &[&str],
+) -> Result<String, EditFault> {
+    let preview = preview_of(alloc, text, form, prelude)?;
+    let mut html = String::new(alloc);
+    for piece in preview.pieces() {
+        html.push_str(piece)?;
+    }
+    Ok(html)
+}
