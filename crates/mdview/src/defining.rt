@@ -46,7 +46,7 @@ pub(crate) fn read_definitions<C: Count>(
     for line in 0..lines.len() {
         match reader.line(line_at(lines, line), count) {
             Ok(found) => defined.take(found)?,
-            Err(fault) => return Err(fault_in_line(fault, line)),
+            Err(fault) => return Err(fault_in_prelude(fault, line)),
         }
     }
     // Behind the last line no container begins any more.
@@ -136,7 +136,7 @@ impl Defined {
 }
 
 /// No line is fed after a fault, so none is answered `Failed`.
-fn fault_in_line(fault: BlockFault, line: usize) -> EditFault
+fn fault_in_prelude(fault: BlockFault, line: usize) -> EditFault
     ensures { result ≡ fault_of fault line }
 {
     match fault {

@@ -21,7 +21,7 @@ pub returns-in-Err-clause-undefining : goal.returns-in-Err-clause-undefining
 returns-in-Err-clause-undefining g c =
     let lines = map string_bytes c.args.lines.now in
     let setting : Setting = record { entities = c.args.entities.now; options = c.args.options.now } in
-    subst (IsUndefiningAt _) (sym c.fault_in_line.ensures)
+    subst (IsUndefiningAt _) (sym c.fault_in_prelude.ensures)
     (undefined_at setting lines c.loop-line.line c.line_at.result.now c.in-Err.fault (omega (arith, c.loop-line-test.true, length-map c.args.lines.now string_bytes)) c.line_at.ensures.line
     (λ is. c.in-Err.ensures.deep (ap Err is) c.args.options.now.max_containers c.args.entities.now (take c.loop-line.line lines) c.loop-line.invariant.reads))
 
