@@ -104,8 +104,8 @@ impl HeldUnit {
         }
     }
 
-    /// The same where the unit ends at a line of the text, for a line of the text.
-    pub(crate) fn item_before(&self, end: usize, line: usize) -> Option<usize>
+    /// Which of its later items begins in this line of the text, if it is a list; the unit ends in front of the line `end` of the text.
+    pub(crate) fn item_at_text_line(&self, end: usize, line: usize) -> Option<usize>
         ensures there { IfSome result (λ i. (end ≤ line + self.now.read.lines) × (self.now.read.lines ≤ end)
             × (slice_get (map item_line self.now.read.items) i ≡ Some ((line + self.now.read.lines) - end))) }
         ensures told { IsNonDecreasing (map item_line self.now.read.items) → self.now.read.lines ≤ end → end ≤ line + self.now.read.lines

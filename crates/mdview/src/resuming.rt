@@ -142,7 +142,7 @@ impl<'a> UnitCursor<'a> {
         self.pass(line);
         let number = self.next.unit.checked_sub(1)?;
         let unit = self.units.get(number)?;
-        let item = unit.item_before(self.next.line, line)?;
+        let item = unit.item_at_text_line(self.next.line, line)?;
         Some(HeldItem { unit, number, item })
     }
 
