@@ -8,9 +8,9 @@ use Rattle.mdblock.specs.FoundLists.{FoundList, StandsForUnit, found_unit}
 use Rattle.mdblock.specs.held.ReaderState.{ReaderState}
 use Rattle.mdblock.specs.held.Reads.{handed, open_begin}
 use Rattle.mdview.specs.declared.reparse.Kept.{Kept}
-use Rattle.mdview.specs.declared.resuming.HeldItem.{HeldItem}
+use Rattle.mdview.specs.declared.held_places.HeldItem.{HeldItem}
 use Rattle.mdview.specs.HeldUnit.{HeldUnit, first_line, read_of}
-use Rattle.mdview.specs.declared.resuming.UnitStart.{UnitStart}
+use Rattle.mdview.specs.declared.held_places.UnitStart.{UnitStart}
 use Rattle.mdblock.specs.Spliced.{MeetsAt, mark_at}
 
 -- its mark

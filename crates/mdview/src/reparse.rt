@@ -27,9 +27,9 @@ ghost use Rattle.mdview.specs.ReadingFaults.{OfBlocks};
 ghost use Rattle.mdview.specs.declared.fault.EditFault.TheVariants.{NoMemory};
 
 use crate::fault::EditFault;
+use crate::held_places::{HeldItem, Resume, UnitCursor, UnitStart, resume_at};
 use crate::held_units::HeldUnit;
 use crate::new_text::NewText;
-use crate::resuming::{HeldItem, Resume, UnitCursor, UnitStart, resume_at};
 use crate::update::HeldText;
 use mdblock::{BlockFault, Found, Reader, splice};
 use mdchunks::Chunks;

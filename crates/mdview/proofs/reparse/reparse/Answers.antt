@@ -17,7 +17,7 @@ use Rattle.mdview.specs.NewText.{lines_of}
 use Rattle.mdchunks.specs.Sequences.{Sequence}
 use Rattle.mdview.specs.HeldLists.{StandsAt}
 use Rattle.mdview.specs.HeldUnit.{HeldUnit}
-use Rattle.mdview.specs.declared.resuming.UnitStart.{UnitStart}
+use Rattle.mdview.specs.declared.held_places.UnitStart.{UnitStart}
 use Rattle.mdview.proofs.CountedLaws.{counted_within}
 use Rattle.mdview.proofs.EditPlaces.{begins_many}
 use Rattle.mdview.proofs.ListsStand.{stands_pushed}

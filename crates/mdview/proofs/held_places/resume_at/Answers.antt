@@ -1,7 +1,7 @@
 use Rattle.std.proofs.Common.{ap, arith, length}
 use Rattle.mdview.proofs.UnitSizes.{lines_before}
 use Rattle.mdview.proofs.WhereReading.{resumed_found, resumed_front, resumed_none}
-use Rattle.mdview.proofs.resuming.resume_at.Goals as goal
+use Rattle.mdview.proofs.held_places.resume_at.Goals as goal
 
 pub returns-then-at-head-clause-resumed : goal.returns-then-at-head-clause-resumed
 returns-then-at-head-clause-resumed c = λ e lines few many is. resumed_front e lines few c.args.units.now.items c.args.head c.args.at many is c.if-at-head.true

@@ -4,7 +4,7 @@ use Rattle.blockspec.specs.BlockUnits.{begins}
 use Rattle.viewlaws.specs.UnitTiles.{IsAhead}
 use Rattle.mdview.specs.HeldBlocks.{lines_in}
 use Rattle.mdview.specs.HeldItems.{IsCounted}
-use Rattle.mdview.proofs.resuming.UnitCursor.pass.Given as goal
+use Rattle.mdview.proofs.held_places.UnitCursor.pass.Given as goal
 
 -- the cursor goes on, past units that begin above the line
 abbrev pub invariant-loop-self : goal.invariant-loop-self

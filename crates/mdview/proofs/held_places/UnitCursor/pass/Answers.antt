@@ -11,7 +11,7 @@ use Rattle.mdview.proofs.Ahead.{first_comes, first_left, left_at, left_behind, s
 use Rattle.std.proofs.lemmas.Option.{slice_get-get_or}
 use Rattle.mdview.proofs.PassedItems.{next_line}
 use Rattle.mdview.proofs.UnitSizes.{sizes_here}
-use Rattle.mdview.proofs.resuming.UnitCursor.pass.Goals as goal
+use Rattle.mdview.proofs.held_places.UnitCursor.pass.Goals as goal
 
 pub unwrap-unit-requires : goal.unwrap-unit-requires
 unwrap-unit-requires c =

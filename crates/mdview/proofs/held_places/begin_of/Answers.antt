@@ -1,6 +1,6 @@
 use Rattle.std.proofs.Common.{arith}
 use Rattle.mdview.proofs.UnitSizes.{lines_before}
-use Rattle.mdview.proofs.resuming.begin_of.Goals as goal
+use Rattle.mdview.proofs.held_places.begin_of.Goals as goal
 
 pub returns : goal.returns
 returns c =

@@ -7,8 +7,8 @@ use Rattle.mdchunks.specs.Sequences.{Sequence}
 use Rattle.viewlaws.proofs.UnitPlaces.{none_left, unit_tells}
 use Rattle.mdview.specs.HeldBlocks.{lines_in}
 use Rattle.mdview.specs.HeldUnit.{HeldUnit}
-use Rattle.mdview.proofs.resuming.UnitCursor.unit_at.Goals.{else-self-len-via-then-self-len+else-self-line, else-self-len-via-else-self-len}
-use Rattle.mdview.proofs.resuming.UnitCursor.unit_at.Goals as goal
+use Rattle.mdview.proofs.held_places.UnitCursor.unit_at.Goals.{else-self-len-via-then-self-len+else-self-line, else-self-len-via-else-self-len}
+use Rattle.mdview.proofs.held_places.UnitCursor.unit_at.Goals as goal
 
 pub returns-then-self-line-clause-ahead : goal.returns-then-self-line-clause-ahead
 returns-then-self-line-clause-ahead c = λ e lines low few order w.

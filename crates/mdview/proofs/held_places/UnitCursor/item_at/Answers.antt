@@ -13,7 +13,7 @@ use Rattle.mdview.specs.HeldUnit.{HeldUnit, first_line, read_of}
 use Rattle.mdblock.specs.Spliced.{mark_at}
 use Rattle.mdview.proofs.HeldItems.{item_told, items_rise}
 use Rattle.mdview.proofs.PassedItems.{front_passed, mark_line, none_first, passed_last, placed_last, something_got, told_last}
-use Rattle.mdview.proofs.resuming.UnitCursor.item_at.Goals as goal
+use Rattle.mdview.proofs.held_places.UnitCursor.item_at.Goals as goal
 
 nothing : (n : ℕ) → (1 ≤ n → ⊥) → n ≡ 0
 nothing zero none = refl
