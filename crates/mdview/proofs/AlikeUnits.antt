@@ -14,7 +14,7 @@ use Rattle.mdview.specs.HeldUnit.{HeldUnit}
 use Rattle.mdview.specs.KeptTexts.{AreReadingsOf}
 use Rattle.mdview.specs.LabelTargets.{IsElsewhere, at}
 use Rattle.mdview.specs.declared.kept_texts.KeptReadings.{KeptReadings}
-use Rattle.mdview.specs.declared.readings.TextReader.{TextReader}
+use Rattle.mdview.specs.declared.readings.UnitTextReader.{UnitTextReader}
 use Rattle.mdview.specs.declared.text_room.Alike.{Alike}
 use Rattle.mdview.proofs.NoneAsking.{none_asks}
 
@@ -24,7 +24,7 @@ take_within (suc n) zero xs low = absurd (omega (arith, low))
 take_within (suc n) (suc m) [] low = refl
 take_within (suc n) (suc m) (x ∷ xs) low = ap (λ z. x ∷ z) (take_within n m xs (omega (arith, low)))
 
-module _ (reader : TextReader) (elsewhere : IsElsewhere reader.labels.now.held.now reader.labels.now.changes.now) (e : EntityTable) where
+module _ (reader : UnitTextReader) (elsewhere : IsElsewhere reader.labels.now.held.now reader.labels.now.changes.now) (e : EntityTable) where
   abbrev NoneLeads : Type 0
   NoneLeads = (label : List ℕ) → at label reader.labels.now.changes.now.targets.entries ≡ None
 

@@ -7,11 +7,11 @@ use Rattle.mdinline.specs.ParsedText.{ParsedText}
 use Rattle.viewspec.specs.Changes.{asks_changed, leads_elsewhere}
 use Rattle.mdview.specs.HeldTexts.{labels_before, labels_behind}
 use Rattle.mdview.specs.LabelTargets.{IsElsewhere, at}
-use Rattle.mdview.specs.declared.readings.TextReader.{TextReader}
+use Rattle.mdview.specs.declared.readings.UnitTextReader.{UnitTextReader}
 use Rattle.mdview.proofs.ReadTexts.{IsTextAt, any_same, count_next, count_within}
 
 -- whether the labels that it asked for are among those that are changed tells it
-pub concerned : (reader : TextReader) → IsElsewhere reader.labels.now.held.now reader.labels.now.changes.now → (reading : ParsedText) (asked : List (List ℕ)) (result : Bool) → asked ≡ reading.asked
+pub concerned : (reader : UnitTextReader) → IsElsewhere reader.labels.now.held.now reader.labels.now.changes.now → (reading : ParsedText) (asked : List (List ℕ)) (result : Bool) → asked ≡ reading.asked
     → result ≡ list_any (λ label. is_some (at label reader.labels.now.changes.now.targets.entries)) asked → result ≡ asks_changed (labels_before reader) (labels_behind reader) reading
 concerned reader elsewhere reading asked result same is =
     is

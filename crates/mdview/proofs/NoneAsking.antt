@@ -14,7 +14,7 @@ use Rattle.mdview.specs.HeldBlocks.{held_tile}
 use Rattle.mdview.specs.HeldTexts.{IsShallow, labels_before, labels_behind}
 use Rattle.mdview.specs.HeldUnit.{HeldUnit}
 use Rattle.mdview.specs.LabelTargets.{IsElsewhere, at}
-use Rattle.mdview.specs.declared.readings.TextReader.{TextReader}
+use Rattle.mdview.specs.declared.readings.UnitTextReader.{UnitTextReader}
 use Rattle.mdview.proofs.MemberChanges.{all_first, all_rest}
 
 any_none : {A : Type 0} (p : A → Bool) → ((x : A) → p x ≡ false) → (xs : List A) → list_any p xs ≡ false
@@ -28,7 +28,7 @@ none_deep limit e labels begin (u ∷ units) all =
     ap (λ b. cond b (Some begin) (deep_from limit e labels (begin + u.read.lines) (map held_tile units))) (all_first (IsShallow limit e labels) u units all)
     ∙ none_deep limit e labels (begin + u.read.lines) units (all_rest (IsShallow limit e labels) u units all)
 
-module _ (reader : TextReader) (elsewhere : IsElsewhere reader.labels.now.held.now reader.labels.now.changes.now) (none : (label : List ℕ) → at label reader.labels.now.changes.now.targets.entries ≡ None) where
+module _ (reader : UnitTextReader) (elsewhere : IsElsewhere reader.labels.now.held.now reader.labels.now.changes.now) (none : (label : List ℕ) → at label reader.labels.now.changes.now.targets.entries ≡ None) where
   none_leads : (label : List ℕ) → leads_elsewhere (labels_before reader) (labels_behind reader) label ≡ false
   none_leads label = sym (elsewhere label) ∙ ap is_some (none label)
 

@@ -29,7 +29,7 @@ use Rattle.mdview.specs.HeldUnit.{HeldUnit, unit_in}
 use Rattle.mdview.specs.LabelMarks.{held_marks, label_mark, marks_after}
 use Rattle.mdview.specs.LabelTargets.{IsElsewhere, at, definitions_by}
 use Rattle.mdview.specs.ToldLabels.{first_led, labels_in, told_by}
-use Rattle.mdview.specs.declared.readings.TextReader.{TextReader}
+use Rattle.mdview.specs.declared.readings.UnitTextReader.{UnitTextReader}
 use Rattle.mdchunks.proofs.MarkSums.{apart_right}
 use Rattle.mdview.proofs.LabelMarkLaws.{asked_apart, kept_apart, none_of_readings}
 use Rattle.mdview.proofs.MemberChanges.{all_first, all_rest}
@@ -63,7 +63,7 @@ quiet_numbers e old new number (u ∷ units) all =
     ap (λ b. if b then number ∷ asking_units e old new (number + 1) (map unit_in units) else asking_units e old new (number + 1) (map unit_in units)) (all_first (IsQuiet e old new) u units all)
     ∙ quiet_numbers e old new (number + 1) units (all_rest (IsQuiet e old new) u units all)
 
-module _ (reader : TextReader) (elsewhere : IsElsewhere reader.labels.now.held.now reader.labels.now.changes.now) (marks : ℕ)
+module _ (reader : UnitTextReader) (elsewhere : IsElsewhere reader.labels.now.held.now reader.labels.now.changes.now) (marks : ℕ)
     (marked : (label : List ℕ) → bit_and (label_mark label) marks ≡ 0 → is_some (at label reader.labels.now.changes.now.targets.entries) ≡ false)
     (e : EntityTable) (units : List HeldUnit) (read : All (IsReadUnder e (labels_before reader)) units) (i j : ℕ) (apart : All (IsApart held_marks marks) (between i j units)) where
   pub all_quiet : All (IsQuiet e (labels_before reader) (labels_behind reader)) (between i j units)

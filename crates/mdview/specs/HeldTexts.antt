@@ -19,7 +19,7 @@ use Rattle.mdview.specs.declared.reparse.Reparsed.{Reparsed}
 use Rattle.mdview.specs.declared.fault.EditFault.{EditFault}
 use Rattle.mdview.specs.declared.fault.EditFault.TheVariants.{OutOfRange, BreakInLine, TooManyLines, TooLarge, NestedTooDeep, InlineTooDeep, NoMemory, NotDefinitions}
 use Rattle.mdview.specs.declared.readings.Again.{Again}
-use Rattle.mdview.specs.declared.readings.TextReader.{TextReader}
+use Rattle.mdview.specs.declared.readings.UnitTextReader.{UnitTextReader}
 use Rattle.mdview.specs.declared.text_room.TextRoom.{TextRoom}
 use Rattle.mdview.specs.HeldUnit.{HeldUnit, unit_in}
 use Rattle.mdview.specs.KeptTexts.{number_kept, texts_with_kept}
@@ -64,10 +64,10 @@ abbrev pub entities_in : TextRoom → EntityTable
 entities_in room = room.reader.entities.now
 
 -- where labels led before, and where they lead behind, for one who reads texts
-abbrev pub labels_before : TextReader → Table
+abbrev pub labels_before : UnitTextReader → Table
 labels_before reader = target_held reader.labels.now.held.now
 
-abbrev pub labels_behind : TextReader → Table
+abbrev pub labels_behind : UnitTextReader → Table
 labels_behind reader = target_after reader.labels.now
 
 -- the units from one number on and before another

@@ -12,7 +12,7 @@ ghost use Rattle.mdview.specs.HeldTexts.{IsReadUnder, IsShallow, entities_in, la
 ghost use Rattle.mdview.specs.LabelTargets.{IsElsewhere};
 
 use crate::held_units::HeldUnit;
-use crate::readings::TextReader;
+use crate::readings::UnitTextReader;
 use crate::text_room::TextRoom;
 use mdinline::{InlineFault, Parsed};
 use mdtext::Count;
@@ -61,7 +61,7 @@ fn same_up_to(before: usize, i: usize, in_front: bool) -> usize
     if in_front { i + 1 } else { before }
 }
 
-impl<'a> TextReader<'a> {
+impl<'a> UnitTextReader<'a> {
     /// Reads texts, behind which their unit has so many others, and puts their readings behind those that are there. A text that a held unit has at the same
     /// place, counted from the front up to the first that differs and from the end behind it, reads as it did, unless it asked for a label that leads
     /// elsewhere: its reading is shared. Each text counts as read. Answers how many texts there are up to the first that differs.

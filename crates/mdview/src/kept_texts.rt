@@ -16,7 +16,7 @@ ghost use Rattle.mdview.specs.LabelTargets.{IsElsewhere};
 
 use crate::fault::EditFault;
 use crate::held_units::HeldUnit;
-use crate::readings::{TextReader, fault_in_unit};
+use crate::readings::{UnitTextReader, fault_in_unit};
 use crate::reparse::Kept;
 use crate::text_room::{Alike, TextRoom};
 use mdblock::{Found, Unit};
@@ -53,7 +53,7 @@ pub(crate) fn kept_readings<'a>(
     })
 }
 
-impl<'a> TextReader<'a> {
+impl<'a> UnitTextReader<'a> {
     /// Reads the texts of the units that were found in the lines from `from` on; the last of them may have texts that are held.
     pub(crate) fn read_found<C: Count>(
         &self,

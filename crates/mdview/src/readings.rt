@@ -35,7 +35,7 @@ use std::alloc::{AllocError, Global};
 
 /// Reads inline texts under the labels of the text that an edit leaves, and writes HTML. Each text that is read is counted.
 #[derive(Clone, Copy)]
-pub(crate) struct TextReader<'a> {
+pub(crate) struct UnitTextReader<'a> {
     pub(crate) alloc: Global,
     pub(crate) options: &'a Options,
     pub(crate) labels: &'a LabelsAfter<'a>,
@@ -63,7 +63,7 @@ impl Change<HeldUnit> for Again {
     }
 }
 
-impl<'a> TextReader<'a> {
+impl<'a> UnitTextReader<'a> {
     /// Reads the texts of the units that were found in the lines from `from` on. They may have texts of the held units from
     /// number `first` up to `next`, in whose place they come, one by one: the readings of those are shared.
     pub(crate) fn read_units<C: Count>(

@@ -32,7 +32,7 @@ use crate::label_changes::LabelChanges;
 use crate::new_text::NewText;
 use crate::patch::Patch;
 use crate::preludes::Prelude;
-use crate::readings::{Again, TextReader};
+use crate::readings::{Again, UnitTextReader};
 use crate::reparse::{Reparsed, reparse};
 use crate::text_room::TextRoom;
 use mdblock::Found;
@@ -185,7 +185,7 @@ impl Update {
             held: held.labels,
             changes: &changes,
         };
-        let reader = TextReader {
+        let reader = UnitTextReader {
             alloc: held.alloc,
             options: held.options,
             labels: &labels,

@@ -8,7 +8,7 @@ use Rattle.mdblock.proofs.LevelBegins.{err_is}
 use Rattle.mdview.specs.HeldTexts.{IsReadUnder, IsShallow, entities_in, labels_before, labels_behind}
 use Rattle.mdview.proofs.AlikeTexts.{at_next, few_next, fronts_next, of_both}
 use Rattle.mdview.proofs.ReadTexts.{IsTextAt, none_next, one_passes, taken_next}
-use Rattle.mdview.proofs.readings.TextReader.read_alike.Goals as goal
+use Rattle.mdview.proofs.readings.UnitTextReader.read_alike.Goals as goal
 
 pub read_or_keep-requires-clause-kept : goal.read_or_keep-requires-clause-kept
 read_or_keep-requires-clause-kept g c =

@@ -3,7 +3,7 @@ use Rattle.std.specs.List.{list_any}
 use Rattle.viewspec.specs.Refusals.{is_deep}
 use Rattle.viewspec.specs.View.{reading_of}
 use Rattle.mdview.specs.HeldTexts.{entities_in, labels_behind}
-use Rattle.mdview.proofs.readings.TextReader.read_alike.Given as goal
+use Rattle.mdview.proofs.readings.UnitTextReader.read_alike.Given as goal
 
 -- each text so far was read and counted or reads as before, and in none of them do spans lie too deep
 abbrev pub invariant-loop-i : goal.invariant-loop-i

@@ -4,7 +4,7 @@ use Rattle.viewspec.specs.Changes.{asks_changed}
 use Rattle.viewspec.specs.Refusals.{is_deep}
 use Rattle.viewspec.specs.View.{reading_of}
 use Rattle.mdview.specs.HeldTexts.{entities_in, labels_before, labels_behind}
-use Rattle.mdview.proofs.readings.TextReader.read_concerned.Given as goal
+use Rattle.mdview.proofs.readings.UnitTextReader.read_concerned.Given as goal
 
 -- each text so far that asked for a label which leads elsewhere was read and counted, and the others were copied
 abbrev pub invariant-loop-i : goal.invariant-loop-i

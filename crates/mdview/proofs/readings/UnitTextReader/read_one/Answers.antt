@@ -5,7 +5,7 @@ use Rattle.viewspec.specs.View.{reading_of}
 use Rattle.viewlaws.proofs.Readings.{reads_as_before}
 use Rattle.mdview.specs.HeldTexts.{entities_in, labels_before, labels_behind}
 use Rattle.mdview.proofs.Concerns.{concerned}
-use Rattle.mdview.proofs.readings.TextReader.read_one.Goals as goal
+use Rattle.mdview.proofs.readings.UnitTextReader.read_one.Goals as goal
 
 pub returns-then-concern-clause-inlines : goal.returns-then-concern-clause-inlines
 returns-then-concern-clause-inlines g c =

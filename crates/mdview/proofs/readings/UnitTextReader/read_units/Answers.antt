@@ -12,7 +12,7 @@ use Rattle.mdview.proofs.AlikeTexts.{next_has, rest_have}
 use Rattle.mdview.proofs.FoundTexts.{deep_later}
 use Rattle.mdview.proofs.HeldTiles.{lists_ended, lists_next}
 use Rattle.mdview.proofs.MemberChanges.{all_more}
-use Rattle.mdview.proofs.readings.TextReader.read_units.Goals as goal
+use Rattle.mdview.proofs.readings.UnitTextReader.read_units.Goals as goal
 
 pub read_unit-requires-clause-held : goal.read_unit-requires-clause-held
 read_unit-requires-clause-held g c =

@@ -5,7 +5,7 @@ use Rattle.viewspec.specs.Changes.{asks_changed}
 use Rattle.mdview.specs.HeldTexts.{labels_before, labels_behind}
 use Rattle.mdview.proofs.Concerns.{concerned}
 use Rattle.mdview.proofs.ReadTexts.{any_here}
-use Rattle.mdview.proofs.readings.TextReader.is_concerned.Goals as goal
+use Rattle.mdview.proofs.readings.UnitTextReader.is_concerned.Goals as goal
 
 pub returns-then-concern : goal.returns-then-concern
 returns-then-concern c =

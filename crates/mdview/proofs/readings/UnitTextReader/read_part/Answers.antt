@@ -8,7 +8,7 @@ use Rattle.mdblock.proofs.LevelBegins.{err_is}
 use Rattle.mdview.specs.HeldTexts.{entities_in, labels_before, labels_behind}
 use Rattle.mdview.proofs.AlikeUnits.{take_within}
 use Rattle.mdview.proofs.KeptTexts.{behind_passes, both_parts, front_passes, neither_passes, part_is}
-use Rattle.mdview.proofs.readings.TextReader.read_part.Goals as goal
+use Rattle.mdview.proofs.readings.UnitTextReader.read_part.Goals as goal
 
 pub returns-in_err-same-clause-deep : goal.returns-in_err-same-clause-deep
 returns-in_err-same-clause-deep g c =

@@ -7,7 +7,7 @@ use Rattle.mdblock.proofs.LevelBegins.{err_is}
 use Rattle.mdview.specs.HeldTexts.{entities_in, labels_before, labels_behind}
 use Rattle.mdview.proofs.Concerns.{counted_next, counted_within}
 use Rattle.mdview.proofs.ReadTexts.{IsTextAt, none_next, none_passes, one_passes, reading_here, taken_next}
-use Rattle.mdview.proofs.readings.TextReader.read_concerned.Goals as goal
+use Rattle.mdview.proofs.readings.UnitTextReader.read_concerned.Goals as goal
 
 pub read_one-requires-clause-held : goal.read_one-requires-clause-held
 read_one-requires-clause-held g c =

@@ -2,7 +2,7 @@ use Rattle.std.proofs.Common.{◌≡◌, refl, subst, take, ◌∙◌}
 use Rattle.std.specs.Prelude.{IfSome}
 use Rattle.mdview.specs.HeldTexts.{IsReadUnder, entities_in, labels_before}
 use Rattle.mdview.proofs.AlikeUnits.{alike_front}
-use Rattle.mdview.proofs.readings.TextReader.read_unit.Goals as goal
+use Rattle.mdview.proofs.readings.UnitTextReader.read_unit.Goals as goal
 
 pub piece_like-requires-clause-alike : goal.piece_like-requires-clause-alike
 piece_like-requires-clause-alike g c =

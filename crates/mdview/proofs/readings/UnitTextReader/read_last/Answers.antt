@@ -3,7 +3,7 @@ use Rattle.mdview.specs.HeldTexts.{entities_in, labels_before}
 use Rattle.blockspec.specs.UnitTree.{UnitTree}
 use Rattle.mdview.specs.KeptTexts.{AreReadingsOf}
 use Rattle.mdview.proofs.AlikeUnits.{alike_kept}
-use Rattle.mdview.proofs.readings.TextReader.read_last.Goals as goal
+use Rattle.mdview.proofs.readings.UnitTextReader.read_last.Goals as goal
 
 pub piece_like-requires-clause-alike : goal.piece_like-requires-clause-alike
 piece_like-requires-clause-alike g c =

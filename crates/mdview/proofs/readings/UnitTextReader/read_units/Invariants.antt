@@ -5,7 +5,7 @@ use Rattle.viewlaws.specs.UnitTexts.{deep_found, trees_in}
 use Rattle.mdview.specs.HeldLists.{list_in, unplaced}
 use Rattle.mdview.specs.HeldTexts.{IsReadUnder, IsShallow, entities_in, labels_before, labels_behind}
 use Rattle.mdview.specs.HeldUnit.{IsRendered, texts_in}
-use Rattle.mdview.proofs.readings.TextReader.read_units.Given as goal
+use Rattle.mdview.proofs.readings.UnitTextReader.read_units.Given as goal
 
 -- the units so far were read and counted, and in none of them do spans lie too deep; the held ones that are left read so too
 abbrev pub invariant-loop-one : goal.invariant-loop-one

@@ -5,7 +5,7 @@ use Rattle.mdview.specs.HeldBlocks.{held_tile}
 use Rattle.mdview.specs.HeldTexts.{IsReread, between, entities_in, labels_before, labels_behind, number_again}
 use Rattle.mdview.specs.HeldUnit.{unit_in}
 use Rattle.mdview.specs.Update.{Fits, IsWritten}
-use Rattle.mdview.proofs.readings.TextReader.read_again.Given as goal
+use Rattle.mdview.proofs.readings.UnitTextReader.read_again.Given as goal
 
 -- of the units so far those were read again that have a text which asked for a label that leads elsewhere, and in none do spans lie too deep
 abbrev pub invariant-loop-i : goal.invariant-loop-i

@@ -2,7 +2,7 @@ use Rattle.std.proofs.Common.{◌≡◌, drop}
 use Rattle.std.specs.List.{list_any}
 use Rattle.viewspec.specs.Changes.{asks_changed}
 use Rattle.mdview.specs.HeldTexts.{labels_before, labels_behind}
-use Rattle.mdview.proofs.readings.TextReader.is_concerned.Given as goal
+use Rattle.mdview.proofs.readings.UnitTextReader.is_concerned.Given as goal
 
 -- no text so far asked for a label that leads elsewhere
 abbrev pub invariant-loop-parsed : goal.invariant-loop-parsed

@@ -6,7 +6,7 @@ use Rattle.viewlaws.specs.UnitTexts.{deep_found, is_deep_under}
 use Rattle.mdview.specs.HeldTexts.{IsTextFault, entities_in, labels_behind, line_on, text_fault_in}
 use Rattle.mdview.proofs.KeptTexts.{fault_before, fault_last, none_deep}
 use Rattle.mdview.proofs.ReadParts.{returned}
-use Rattle.mdview.proofs.readings.TextReader.read_found.Goals as goal
+use Rattle.mdview.proofs.readings.UnitTextReader.read_found.Goals as goal
 
 pub returns-in_err-units-clause-deep : goal.returns-in_err-units-clause-deep
 returns-in_err-units-clause-deep g c =

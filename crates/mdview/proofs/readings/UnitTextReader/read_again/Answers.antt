@@ -11,7 +11,7 @@ use Rattle.mdview.proofs.Ahead.{first_comes, first_left, left_at, left_behind, s
 use Rattle.mdview.proofs.NoneAsking.{all_shallow, none_asking, none_deep}
 use Rattle.mdview.proofs.PassedUnits.{all_quiet, lines_past, numbers_past, quiet_numbers, shallow_between, shallow_past, texts_past}
 use Rattle.mdview.proofs.UnitsBetween.{deep_here, member_at, numbers_next, shallow_next, text_fault, texts_next, texts_within}
-use Rattle.mdview.proofs.readings.TextReader.read_again.Goals as goal
+use Rattle.mdview.proofs.readings.UnitTextReader.read_again.Goals as goal
 
 pub returns-then-is_empty-clause-numbers : goal.returns-then-is_empty-clause-numbers
 returns-then-is_empty-clause-numbers g c =

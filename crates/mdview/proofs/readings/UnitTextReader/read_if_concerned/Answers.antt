@@ -10,7 +10,7 @@ use Rattle.mdblock.proofs.LevelBegins.{err_is}
 use Rattle.mdview.specs.HeldTexts.{IsReread, entities_in, labels_before, labels_behind, number_again}
 use Rattle.mdview.specs.Update.{Fits, IsWritten}
 use Rattle.mdview.proofs.MemberChanges.{all_more}
-use Rattle.mdview.proofs.readings.TextReader.read_if_concerned.Goals as goal
+use Rattle.mdview.proofs.readings.UnitTextReader.read_if_concerned.Goals as goal
 
 pub returns-then-not-is_concerned-clause-shallow : goal.returns-then-not-is_concerned-clause-shallow
 returns-then-not-is_concerned-clause-shallow g c =

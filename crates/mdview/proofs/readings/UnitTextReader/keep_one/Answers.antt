@@ -5,7 +5,7 @@ use Rattle.viewspec.specs.View.{reading_of}
 use Rattle.viewlaws.proofs.Readings.{reads_as_before}
 use Rattle.mdview.specs.HeldTexts.{entities_in, labels_before, labels_behind}
 use Rattle.mdview.proofs.Concerns.{concerned}
-use Rattle.mdview.proofs.readings.TextReader.keep_one.Goals as goal
+use Rattle.mdview.proofs.readings.UnitTextReader.keep_one.Goals as goal
 
 pub returns-clause-reading : goal.returns-clause-reading
 returns-clause-reading g c =
