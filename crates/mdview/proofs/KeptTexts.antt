@@ -21,7 +21,7 @@ use Rattle.viewlaws.proofs.DeepUnits.{found_append}
 use Rattle.joinlaws.specs.LaterTexts.{asking_of}
 use Rattle.mdview.specs.declared.fault.EditFault.{EditFault}
 use Rattle.mdview.specs.declared.kept_texts.KeptReadings.{KeptReadings}
-use Rattle.mdview.specs.declared.reparse.Kept.{Kept}
+use Rattle.mdview.specs.declared.reparse.KeptTexts.{KeptTexts}
 use Rattle.mdview.specs.HeldTexts.{IsReadUnder, IsShallow, IsTextFault, line_on, text_fault_in}
 use Rattle.mdview.specs.HeldUnit.{HeldUnit, texts_in}
 use Rattle.mdview.specs.KeptTexts.{AreReadingsOf, IsKept, kept_texts, last_texts, number_kept, number_read, texts_with_kept}
@@ -157,7 +157,7 @@ number_or n None = n
 number_or n (Some k) = k
 
 module _ (limit : ℕ) (e : EntityTable) (labels : Table) (units : List HeldUnit) (trees : List UnitTree) (read : All (IsReadUnder e labels) units) (shallow : All (IsShallow limit e labels) units) where
-  kept_by : (part : Kept) (readings : KeptReadings) → IsKept units trees part → readings.at ≡ part.at
+  kept_by : (part : KeptTexts) (readings : KeptReadings) → IsKept units trees part → readings.at ≡ part.at
       → ((unit : HeldUnit) → slice_get units part.unit ≡ Some unit → readings.readings.now ≡ drop part.from unit.read.readings) → slice_get units part.unit ≡ Some readings.unit.now
       → AreReadingsOf limit e labels (last_texts trees) readings
   kept_by part readings w at is like =
@@ -178,7 +178,7 @@ module _ (limit : ℕ) (e : EntityTable) (labels : Table) (units : List HeldUnit
       }
 
   -- Readings of the kept texts are those that the held unit has of them.
-  pub kept_read : (kept : Option Kept) (result : Option KeptReadings) → IfSome kept (IsKept units trees) → option_map number_read result ≡ option_map number_kept kept
+  pub kept_read : (kept : Option KeptTexts) (result : Option KeptReadings) → IfSome kept (IsKept units trees) → option_map number_read result ≡ option_map number_kept kept
       → IfSome result (λ readings. IfSome kept (λ part. (unit : HeldUnit) → slice_get units part.unit ≡ Some unit → readings.readings.now ≡ drop part.from unit.read.readings))
       → IfSome result (λ readings. IfSome kept (λ part. slice_get units part.unit ≡ Some readings.unit.now)) → IfSome result (AreReadingsOf limit e labels (last_texts trees))
   unfolding number_or

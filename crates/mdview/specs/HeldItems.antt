@@ -7,7 +7,7 @@ use Rattle.itemspec.specs.ItemMarks.{ItemMark}
 use Rattle.mdblock.specs.FoundLists.{FoundList, StandsForUnit, found_unit}
 use Rattle.mdblock.specs.held.ReaderState.{ReaderState}
 use Rattle.mdblock.specs.held.Reads.{handed, open_begin}
-use Rattle.mdview.specs.declared.reparse.Kept.{Kept}
+use Rattle.mdview.specs.declared.reparse.KeptTexts.{KeptTexts}
 use Rattle.mdview.specs.declared.held_places.HeldItem.{HeldItem}
 use Rattle.mdview.specs.HeldUnit.{HeldUnit, first_line, read_of}
 use Rattle.mdview.specs.declared.held_places.UnitStart.{UnitStart}
@@ -38,7 +38,7 @@ IsSpliced reader old k list = (limit : ℕ) (e : EntityTable) (xs : List (List �
     × ((kept : List (List ℕ)) × (list.unit.texts ≡ kept ++ drop (mark_at old.marks k).texts old.unit.texts))
 
 -- the texts that stay of a list which goes on in a held one
-abbrev pub kept_of : HeldItem → FoundList → Kept
+abbrev pub kept_of : HeldItem → FoundList → KeptTexts
 kept_of item list = record {
   unit = item.number;
   from = (mark_in item).texts;

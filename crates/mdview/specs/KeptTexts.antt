@@ -9,7 +9,7 @@ use Rattle.viewspec.specs.View.{reading_of}
 use Rattle.viewlaws.specs.UnitTexts.{is_deep_under, readings_under}
 use Rattle.joinlaws.specs.LaterTexts.{asking_of}
 use Rattle.mdview.specs.declared.kept_texts.KeptReadings.{KeptReadings}
-use Rattle.mdview.specs.declared.reparse.Kept.{Kept}
+use Rattle.mdview.specs.declared.reparse.KeptTexts.{KeptTexts}
 use Rattle.mdview.specs.HeldUnit.{HeldUnit, texts_in}
 
 -- the texts of the last of some units
@@ -26,11 +26,11 @@ abbrev pub texts_with_kept : EntityTable → (old new : Table) → Option ℕ �
 texts_with_kept e old new at trees = (sum_by texts_in trees - length (kept_texts at trees)) + asking_of e old new (kept_texts at trees)
 
 -- a held unit has texts from this number on
-abbrev pub IsHeldPart : List HeldUnit → Kept → Type 0
+abbrev pub IsHeldPart : List HeldUnit → KeptTexts → Type 0
 IsHeldPart units kept = (unit : HeldUnit) × (slice_get units kept.unit ≡ Some unit) × (kept.from ≤ length unit.read.unit.texts)
 
 -- The texts of the last unit found from a number on are those of a held unit from a number on.
-pub record IsKept (units : List HeldUnit) (found : List UnitTree) (kept : Kept) : Type 0 where
+pub record IsKept (units : List HeldUnit) (found : List UnitTree) (kept : KeptTexts) : Type 0 where
   pub unit : HeldUnit
   pub held : slice_get units kept.unit ≡ Some unit
   pub from : kept.from ≤ length unit.read.unit.texts
@@ -47,7 +47,7 @@ pub record AreReadingsOf (limit : ℕ) (e : EntityTable) (labels : Table) (texts
   pub like : kept.unit.now.read.readings ≡ readings_under e labels kept.unit.now.read.unit
   pub like_shallow : is_deep_under limit e labels kept.unit.now.read.unit ≡ false
 
-abbrev pub number_kept : Kept → ℕ
+abbrev pub number_kept : KeptTexts → ℕ
 number_kept kept = kept.at
 
 abbrev pub number_read : KeptReadings → ℕ

@@ -17,7 +17,7 @@ ghost use Rattle.mdview.specs.LabelTargets.{IsElsewhere};
 use crate::fault::EditFault;
 use crate::held_units::HeldUnit;
 use crate::readings::{UnitTextReader, fault_in_unit};
-use crate::reparse::Kept;
+use crate::reparse::KeptTexts;
 use crate::text_room::{Alike, TextRoom};
 use mdblock::{Found, Unit};
 use mdchunks::Chunks;
@@ -36,7 +36,7 @@ pub(crate) struct KeptReadings<'a> {
 /// The readings of the texts that are kept.
 pub(crate) fn kept_readings<'a>(
     units: &'a Chunks<HeldUnit>,
-    kept: Option<Kept>,
+    kept: Option<KeptTexts>,
 ) -> Option<KeptReadings<'a>>
     requires { IfSome kept (IsHeldPart units.now.items) }
     ensures at { option_map number_read result ≡ option_map number_kept kept }

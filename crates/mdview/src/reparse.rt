@@ -38,7 +38,7 @@ use std::alloc::AllocError;
 
 /// Inline texts of a list that stay: those of the last unit found from number `at` on are those of the held unit with number `unit` from number `from` on.
 #[derive(Clone, Copy)]
-pub(crate) struct Kept {
+pub(crate) struct KeptTexts {
     pub(crate) unit: usize,
     pub(crate) from: usize,
     pub(crate) at: usize,
@@ -53,7 +53,7 @@ pub(crate) struct Reparsed {
     pub(crate) from: usize,
     pub(crate) meet: usize,
     pub(crate) found: Vec<Found>,
-    pub(crate) kept: Option<Kept>,
+    pub(crate) kept: Option<KeptTexts>,
 }
 
 /// Reads blocks from the last unit that begins above the edit up to where a unit begins behind it that is held, or a later item of a list is held that begins
@@ -214,7 +214,7 @@ fn join_held(reader: Reader<'_>, item: HeldItem<'_>, read: Reparsed) -> Result<R
     let join = old.joins()[item.item];
     let list = splice(reader, old, item.item)?;
     let later = old.unit().texts().len().saturating_sub(join.texts);
-    let kept = Kept {
+    let kept = KeptTexts {
         unit: item.number,
         from: join.texts,
         at: list.unit().texts().len().saturating_sub(later),
