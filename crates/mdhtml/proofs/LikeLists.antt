@@ -12,7 +12,7 @@ use Rattle.mdblock.specs.BlockView.{items_view, kind_view}
 use Rattle.mdblock.specs.Positions.{ItemsIn}
 use Rattle.mdblock.specs.declared.blocks.Item as i
 use Rattle.mdhtml.specs.declared.options.Options.{Options}
-use Rattle.mdhtml.specs.declared.like_lists.Kept.{Kept}
+use Rattle.mdhtml.specs.declared.like_lists.KeptHtml.{KeptHtml}
 use Rattle.mdhtml.specs.declared.like_lists.Like.{Like}
 use Rattle.mdhtml.specs.declared.like_lists.SameEnds.{SameEnds}
 use Rattle.mdhtml.specs.declared.list_ends.OneList.{OneList}
@@ -284,7 +284,7 @@ module _ (o : Options) (texts others : List ParsedText) (items olds : List i.Ite
 
 -- ---- the list, as it is written
 
-module _ (o : Options) (texts others : List ParsedText) (one other : OneList) (same : SameEnds) (S : AreSameEnds texts others one.items.now other.items.now same) (like : Like) (kept : Kept)
+module _ (o : Options) (texts others : List ParsedText) (one other : OneList) (same : SameEnds) (S : AreSameEnds texts others one.items.now other.items.now same) (like : Like) (kept : KeptHtml)
     (begin : ℕ) (was now : List ℕ) (nothing : was ≡ []) (hb : begin ≡ length now) (hn : now ≡ fresh was ++ list_open (kind_view one.kind))
     (ek : kind_view one.kind ≡ kind_view other.kind) (et : one.tight ≡ other.tight)
     (hh : like.html.now ≡ blocks_html o (texts_html o others) false (unit_of other) []) (he : like.ends.now ≡ unit_ends o (texts_html o others) (unit_of other))

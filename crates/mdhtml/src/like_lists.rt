@@ -144,14 +144,14 @@ fn same_ends(list: &OneList<'_>, other: &OneList<'_>, texts: &[Parsed], like: &L
 
 /// HTML of items that is taken over: of those at the front, and of those at the end and where it stands.
 #[derive(Clone, Copy, Drop)]
-pub(crate) struct Kept<'a> {
+pub(crate) struct KeptHtml<'a> {
     pub(crate) front: &'a str,
     pub(crate) tail: &'a str,
     pub(crate) tail_at: usize,
 }
 
 /// The HTML of so many items at the front, and of those behind the first `tail` ones; the first item begins at `begin`.
-fn kept_html<'a>(like: &Like<'a>, begin: usize, front: usize, tail: usize) -> Option<Kept<'a>>
+fn kept_html<'a>(like: &Like<'a>, begin: usize, front: usize, tail: usize) -> Option<KeptHtml<'a>>
     requires front { front ≤ length like.now.ends.now }
     requires tail { tail ≤ length like.now.ends.now }
     ensures { IfSome result (λ kept. AreKept like.now begin front tail kept) }
@@ -161,7 +161,7 @@ fn kept_html<'a>(like: &Like<'a>, begin: usize, front: usize, tail: usize) -> Op
     let tail_end = place(like.ends, begin, like.ends.len());
     let front = like.html.get(begin..front_end)?;
     let tail = like.html.get(tail_at..tail_end)?;
-    Some(Kept {
+    Some(KeptHtml {
         front,
         tail,
         tail_at,
@@ -186,7 +186,7 @@ fn append_kept(
     options: &Options,
     like: &Like<'_>,
     same: &SameEnds,
-    kept: &Kept<'_>,
+    kept: &KeptHtml<'_>,
     out: &mut String,
     ends: &mut Vec<usize>,
 ) -> Result<(), NoMemory>

@@ -7,7 +7,7 @@ use Rattle.mdblock.specs.BlockView.{items_view}
 use Rattle.mdblock.specs.declared.blocks.Item as i
 use Rattle.mdhtml.specs.declared.options.Options.{Options}
 use Rattle.mdhtml.specs.declared.like_lists.Like.{Like}
-use Rattle.mdhtml.specs.declared.like_lists.Kept.{Kept}
+use Rattle.mdhtml.specs.declared.like_lists.KeptHtml.{KeptHtml}
 use Rattle.mdhtml.specs.declared.like_lists.SameEnds.{SameEnds}
 use Rattle.mdhtml.specs.declared.list_ends.OneList.{OneList}
 use Rattle.mdhtml.specs.BlockHtml.{texts_html, items_html}
@@ -40,7 +40,7 @@ abbrev pub between_ends : OneList → SameEnds → Items
 between_ends list same = items_view (slice_range list.items.now same.front (length list.items.now - same.behind))
 
 -- this stands for so many items at the front, and for those behind so many
-pub record AreKept (like : Like) (begin first tail_from : ℕ) (kept : Kept) : Type 0 where
+pub record AreKept (like : Like) (begin first tail_from : ℕ) (kept : KeptHtml) : Type 0 where
   pub front : kept.front.now ≡ slice_range like.html.now begin (slice_index (begin ∷ like.ends.now) first)
   pub tail : kept.tail.now ≡ slice_range like.html.now kept.tail_at (slice_index (begin ∷ like.ends.now) (length like.ends.now))
   pub tail_at : kept.tail_at ≡ slice_index (begin ∷ like.ends.now) tail_from
