@@ -5,11 +5,11 @@ use memchr::memmem;
 /// Whether the units of a text are to be written as they are found. They are not where a label may be defined, for which units have to wait, or a container
 /// may begin too deep: such a text is refused before anything is written of the units that wait.
 pub(crate) fn is_written_at_once(text: &str, max_containers: usize) -> bool {
-    !may_nest_too_deep(text.as_bytes(), max_containers) && !may_define(text)
+    !may_nest_too_deep(text.as_bytes(), max_containers) && !may_hold_definitions(text)
 }
 
 /// Whether a label may be defined: `]:` stands behind one that is (CommonMark 4.7).
-fn may_define(text: &str) -> bool {
+fn may_hold_definitions(text: &str) -> bool {
     memmem::find(text.as_bytes(), b"]:").is_some()
 }
 
