@@ -75,11 +75,11 @@ fn clean_html(
         }
     }
     let gathered = gathered_units(alloc, text, entities, options)?;
-    whole_html(alloc, gathered, entities, options, prelude)
+    gathered_html(alloc, gathered, entities, options, prelude)
 }
 
 /// Writes the units that wait, each at its place, under the labels of the whole text.
-fn whole_html(
+fn gathered_html(
     alloc: Global,
     gathered: Gathered,
     entities: &Entities,

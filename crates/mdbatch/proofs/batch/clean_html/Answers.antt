@@ -15,9 +15,9 @@ returns-in_err-gathered-clause-fault c =
     rw (p.1, p.2) (of_reading _ _ c.in_err-gathered.field-0.0 c.in_err-gathered.ensures.fault)
 
 pub returns-clause-html : goal.returns-clause-html
-returns-clause-html c = c.whole_html.ensures.html (units c.args.entities.now (split_lines c.args.text.now)) c.in_ok-gathered.ensures.gathers
+returns-clause-html c = c.gathered_html.ensures.html (units c.args.entities.now (split_lines c.args.text.now)) c.in_ok-gathered.ensures.gathers
 
 pub returns-clause-fault : goal.returns-clause-fault
 returns-clause-fault c =
-    IfErr-weaker c.whole_html.result _ _ (λ fault h. of_texts _ _ fault c.in_ok-gathered.ensures.nesting h)
-    (c.whole_html.ensures.fault (units c.args.entities.now (split_lines c.args.text.now)) c.in_ok-gathered.ensures.gathers)
+    IfErr-weaker c.gathered_html.result _ _ (λ fault h. of_texts _ _ fault c.in_ok-gathered.ensures.nesting h)
+    (c.gathered_html.ensures.fault (units c.args.entities.now (split_lines c.args.text.now)) c.in_ok-gathered.ensures.gathers)

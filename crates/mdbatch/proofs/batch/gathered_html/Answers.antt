@@ -3,7 +3,7 @@ use Rattle.std.proofs.lemmas.Result.{err_from_is_err_and}
 use Rattle.viewspec.specs.Setting.{Setting}
 use Rattle.mdbatch.specs.GatheredUnits.{IsWoven, setting_of}
 use Rattle.mdbatch.proofs.UnitsGathered.{cut_on_page, never_some, page_written, waiting_fault}
-use Rattle.mdbatch.proofs.batch.whole_html.Goals as goal
+use Rattle.mdbatch.proofs.batch.gathered_html.Goals as goal
 
 pub returns-in_err-append_waiting-clause-fault : goal.returns-in_err-append_waiting-clause-fault
 returns-in_err-append_waiting-clause-fault c = λ all gathers.
