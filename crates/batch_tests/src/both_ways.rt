@@ -17,7 +17,7 @@ fn are_alike(html: Result<String, EditFault>, behind: Result<String, EditFault>)
     }
 }
 
-/// The same text behind a line of so many blanks that its units are not written as they are found: the answer is the same, but for the line of a refusal.
+/// Whether the answer to a text is the one to that text behind a line of so many blanks that its units are not written as they are found, but for the line of a refusal.
 fn agree_both_ways(alloc: Global, text: &str, form: Form) -> Result<bool, Fail> {
     let mut behind = repeated(alloc, " ", 32)?;
     behind.push_str("\n")?;
