@@ -48,11 +48,13 @@ fn both_ways_answer_alike(rt: HostRuntime) -> Result<(), Fail> {
     Ok(())
 }
 
+static PARTS: [&str; 4] = ["*a* ", "[", "<", "[a](/b)\n\n"];
+
 /// A container that begins too deep in the last line is the answer, and no unit before it is written first.
 #[test]
 fn a_last_line_too_deep_is_seen_first(rt: HostRuntime) -> Result<(), Fail> {
     let alloc = rt.alloc();
-    for part in ["*a* ", "[", "<", "[a](/b)\n\n"] {
+    for part in &PARTS {
         let mut text = repeated(alloc, part, 400)?;
         text.push_str("a]\n\nx\n")?;
         let html = html_of(alloc, &text, PLAIN, &[])?;

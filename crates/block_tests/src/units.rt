@@ -158,107 +158,79 @@ fn check(rt: &impl Abort, alloc: Global, text: &str, want: &str) -> Result<(), A
     Ok(())
 }
 
-#[test]
-fn leaves_are_read(rt: HostRuntime) -> Result<(), Fail> {
-    let a = rt.alloc();
-    check(&rt, a, "", "")?;
-    check(&rt, a, "\tfoo\tbaz\t\tbim\n", "code:(foo\tbaz\t\tbim\n);\n")?;
-    check(&rt, a, "[foo]: /url\n---\n", "[foo /url ]\nhr;\n")?;
-    check(
-        &rt,
-        a,
-        "[foo]: /url\n===\n[foo]\n",
-        "[foo /url ]p(===\n[foo]);\n",
-    )?;
-    check(
-        &rt,
-        a,
-        "[foo]: /url\n\"title\" ok\n",
-        "[foo /url ]p(\"title\" ok);\n",
-    )?;
-    check(&rt, a, "foo  \nbar\n---\n", "h2(foo  \nbar);\n")?;
-    check(
-        &rt,
-        a,
-        "``` a&amp;b c\nd\n```\ne",
-        "code:a&b(d\n);\np(e);\n",
-    )?;
-    check(
-        &rt,
-        a,
-        "<!-- a\n\nb -->\nc",
-        "html(<!-- a\n\nb -->);\np(c);\n",
-    )?;
-    check(&rt, a, "<div>\na\n\nb", "html(<div>\na);\np(b);\n")?;
+/// Texts, each with its units.
+fn check_all(rt: &HostRuntime, rows: &[(&str, &str)]) -> Result<(), Fail> {
+    for &(text, want) in rows {
+        check(rt, rt.alloc(), text, want)?;
+    }
     Ok(())
 }
+
+/// Texts of leaves.
+static LEAVES: [(&str, &str); 9] = [
+    ("", ""),
+    ("\tfoo\tbaz\t\tbim\n", "code:(foo\tbaz\t\tbim\n);\n"),
+    ("[foo]: /url\n---\n", "[foo /url ]\nhr;\n"),
+    ("[foo]: /url\n===\n[foo]\n", "[foo /url ]p(===\n[foo]);\n"),
+    (
+        "[foo]: /url\n\"title\" ok\n",
+        "[foo /url ]p(\"title\" ok);\n",
+    ),
+    ("foo  \nbar\n---\n", "h2(foo  \nbar);\n"),
+    ("``` a&amp;b c\nd\n```\ne", "code:a&b(d\n);\np(e);\n"),
+    ("<!-- a\n\nb -->\nc", "html(<!-- a\n\nb -->);\np(c);\n"),
+    ("<div>\na\n\nb", "html(<div>\na);\np(b);\n"),
+];
+
+#[test]
+fn leaves_are_read(rt: HostRuntime) -> Result<(), Fail> {
+    check_all(&rt, &LEAVES)
+}
+
+/// Texts of containers.
+static CONTAINERS: [(&str, &str); 10] = [
+    (">\t\tfoo\n", "quote{code:(  foo\n);};\n"),
+    ("- foo\n\n\tbar\n", "loose{-p(foo);p(bar);};\n"),
+    ("- foo\n-\n- bar\n", "tight{-p(foo);--p(bar);};\n"),
+    ("> bar\nbaz\n> foo\n", "quote{p(bar\nbaz\nfoo);};\n"),
+    (
+        "* a\n  > b\n  >\n* c\n",
+        "tight{-p(a);quote{p(b);};-p(c);};\n",
+    ),
+    ("3. a\n4. b\n", "tight{-p(a);-p(b);};\n"),
+    ("> foo\n---\n", "quote{p(foo);};\nhr;\n"),
+    ("> foo\nbar\n===\n", "quote{p(foo\nbar\n===);};\n"),
+    ("> - foo\n    ===\n", "quote{tight{-p(foo\n===);};};\n"),
+    (
+        "- a\n- ```\n  b\n\n\n  ```\n- c\n",
+        "tight{-p(a);-code:(b\n\n\n);-p(c);};\n",
+    ),
+];
 
 #[test]
 fn containers_are_read(rt: HostRuntime) -> Result<(), Fail> {
-    let a = rt.alloc();
-    check(&rt, a, ">\t\tfoo\n", "quote{code:(  foo\n);};\n")?;
-    check(&rt, a, "- foo\n\n\tbar\n", "loose{-p(foo);p(bar);};\n")?;
-    check(&rt, a, "- foo\n-\n- bar\n", "tight{-p(foo);--p(bar);};\n")?;
-    check(&rt, a, "> bar\nbaz\n> foo\n", "quote{p(bar\nbaz\nfoo);};\n")?;
-    check(
-        &rt,
-        a,
-        "* a\n  > b\n  >\n* c\n",
-        "tight{-p(a);quote{p(b);};-p(c);};\n",
-    )?;
-    check(&rt, a, "3. a\n4. b\n", "tight{-p(a);-p(b);};\n")?;
-    check(&rt, a, "> foo\n---\n", "quote{p(foo);};\nhr;\n")?;
-    check(&rt, a, "> foo\nbar\n===\n", "quote{p(foo\nbar\n===);};\n")?;
-    check(
-        &rt,
-        a,
-        "> - foo\n    ===\n",
-        "quote{tight{-p(foo\n===);};};\n",
-    )?;
-    check(
-        &rt,
-        a,
-        "- a\n- ```\n  b\n\n\n  ```\n- c\n",
-        "tight{-p(a);-code:(b\n\n\n);-p(c);};\n",
-    )?;
-    Ok(())
+    check_all(&rt, &CONTAINERS)
 }
+
+/// Texts of tables and task items.
+static TABLES: [(&str, &str); 6] = [
+    (
+        "| f\\|oo  |\n| ------ |\n| b `\\|` az |\n",
+        "table(f|oo)/(b `|` az);\n",
+    ),
+    ("| abc | def |\n| --- |\n", "p(| abc | def |\n| --- |);\n"),
+    (
+        "| a | b |\n| :-- | --: |\n| 1 |\n| 2 | 3 | 4 |\n",
+        "table(a)(b)/(1)()/(2)(3);\n",
+    ),
+    ("foo\n| a |\n| - |\n| b |\n", "p(foo);table(a)/(b);\n"),
+    ("- | a |\n  | - |\n", "tight{-table(a);};\n"),
+    ("- [ ] foo\n- [x] bar\n", "tight{-task(foo);-done(bar);};\n"),
+];
 
 #[test]
 fn tables_and_tasks_are_read(rt: HostRuntime) -> Result<(), Fail> {
-    let a = rt.alloc();
-    check(
-        &rt,
-        a,
-        "| f\\|oo  |\n| ------ |\n| b `\\|` az |\n",
-        "table(f|oo)/(b `|` az);\n",
-    )?;
-    check(
-        &rt,
-        a,
-        "| abc | def |\n| --- |\n",
-        "p(| abc | def |\n| --- |);\n",
-    )?;
-    check(
-        &rt,
-        a,
-        "| a | b |\n| :-- | --: |\n| 1 |\n| 2 | 3 | 4 |\n",
-        "table(a)(b)/(1)()/(2)(3);\n",
-    )?;
-    check(
-        &rt,
-        a,
-        "foo\n| a |\n| - |\n| b |\n",
-        "p(foo);table(a)/(b);\n",
-    )?;
-    check(&rt, a, "- | a |\n  | - |\n", "tight{-table(a);};\n")?;
-    check(
-        &rt,
-        a,
-        "- [ ] foo\n- [x] bar\n",
-        "tight{-task(foo);-done(bar);};\n",
-    )?;
-    Ok(())
+    check_all(&rt, &TABLES)
 }
 
 /// A line of so many markers of block quotes.
@@ -362,20 +334,23 @@ fn joined(alloc: Global, text: &str) -> Result<String, AllocError> {
     Ok(out)
 }
 
+/// Texts, with which of their lines begin a later item.
+static LATER: [(&str, &str); 6] = [
+    ("- a\n- b\n* c\n* d", ".x.x"),
+    (
+        "- a\n\n- b\n  - c\n  - d\nlazy\n- e\n\np\n- f",
+        "..x...x...",
+    ),
+    ("1. a\n3. b\n1) c\n7) d", ".x.x"),
+    ("- ```\n  - a\n- b\n```\n- c\n```\n- d\n- e", "..x....x"),
+    ("> - a\n> - b\n- c\n- # d\n- e", "...xx"),
+    ("-\n\n- a\n- - -\n- b", "..x.."),
+];
+
 #[test]
 fn later_items_are_told(rt: HostRuntime) -> Result<(), Fail> {
     let a = rt.alloc();
-    for (text, want) in [
-        ("- a\n- b\n* c\n* d", ".x.x"),
-        (
-            "- a\n\n- b\n  - c\n  - d\nlazy\n- e\n\np\n- f",
-            "..x...x...",
-        ),
-        ("1. a\n3. b\n1) c\n7) d", ".x.x"),
-        ("- ```\n  - a\n- b\n```\n- c\n```\n- d\n- e", "..x....x"),
-        ("> - a\n> - b\n- c\n- # d\n- e", "...xx"),
-        ("-\n\n- a\n- - -\n- b", "..x.."),
-    ] {
+    for &(text, want) in &LATER {
         assert_eq!(rt; joined(a, text)?.as_str(), want);
     }
     let entities = Entities::builtin(a)?;
@@ -415,17 +390,20 @@ fn show_joins(found: &Found, out: &mut String) -> Result<(), AllocError> {
     out.push_str("|")
 }
 
+/// Texts, with the joins of their units.
+static JOINS: [(&str, &str); 6] = [
+    ("- a\n- b\n* c\n* d", "1/1 |1/1 |"),
+    ("# h\n\nx\n\n3. a\n9. b\n\n2. c\n\ny\n1) z", "||1/1 3/2 |||"),
+    ("- a\n\n  b\n- | c | d |\n  | - | - |\n- e", "3/2 5/4 |"),
+    ("-\n- ```\n  x\n  ```\n- [a]: /u\n- b", "1/0 4/0 5/0 |"),
+    ("- a\n  - b\n  - c\n- > d\n  > - e\n- f", "3/3 5/5 |"),
+    ("> - a\n> - b\n\n- c\nlazy\n- d", "|2/1 |"),
+];
+
 #[test]
 fn units_have_their_later_items(rt: HostRuntime) -> Result<(), Fail> {
     let a = rt.alloc();
-    for (text, want) in [
-        ("- a\n- b\n* c\n* d", "1/1 |1/1 |"),
-        ("# h\n\nx\n\n3. a\n9. b\n\n2. c\n\ny\n1) z", "||1/1 3/2 |||"),
-        ("- a\n\n  b\n- | c | d |\n  | - | - |\n- e", "3/2 5/4 |"),
-        ("-\n- ```\n  x\n  ```\n- [a]: /u\n- b", "1/0 4/0 5/0 |"),
-        ("- a\n  - b\n  - c\n- > d\n  > - e\n- f", "3/3 5/5 |"),
-        ("> - a\n> - b\n\n- c\nlazy\n- d", "|2/1 |"),
-    ] {
+    for &(text, want) in &JOINS {
         assert_eq!(rt; joins(a, text)?.as_str(), want);
     }
     Ok(())
@@ -435,16 +413,19 @@ fn reason<E: Error>(alloc: Global, fault: &E) -> Result<String, AllocError> {
     format!(in alloc; "{fault}")
 }
 
+/// Each fault, with its words.
+static FAULTS: [(BlockFault, &str); 3] = [
+    (
+        BlockFault::NestedTooDeep,
+        "a container of the line lies in too many others",
+    ),
+    (BlockFault::NoMemory, "no memory"),
+    (BlockFault::Failed, "an earlier line was not read"),
+];
+
 #[test]
 fn a_fault_says_why(rt: HostRuntime) -> Result<(), Fail> {
-    for (fault, want) in [
-        (
-            BlockFault::NestedTooDeep,
-            "a container of the line lies in too many others",
-        ),
-        (BlockFault::NoMemory, "no memory"),
-        (BlockFault::Failed, "an earlier line was not read"),
-    ] {
+    for &(fault, want) in &FAULTS {
         assert_eq!(rt; reason(rt.alloc(), &fault)?.as_str(), want);
     }
     Ok(())

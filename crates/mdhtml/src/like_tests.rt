@@ -201,29 +201,31 @@ fn shared_items(
     Ok((first, last))
 }
 
+/// Lists with as many texts, each with one that it is made like.
+static CHANGED: [(&str, &str); 14] = [
+    ("- a\n- b\n- c", "- a\n- b\n- c"),
+    ("- a\n- [ ] b\n- c", "- a\n- [x] b\n- c"),
+    ("- a\n- # b\n- c", "- a\n- b\n- c"),
+    ("- a\n\n- b\n\n- c", "- a\n\n- > b\n\n- c"),
+    ("- a\n\n- b\n\n- c", "- a\n- b\n- c"),
+    ("2. a\n3. b\n4. c", "2. a\n3. - b\n4. c"),
+    ("1. a\n2. b\n3. c", "2. a\n3. b\n4. c"),
+    ("- a\n- b\n- c", "> a\n> # b\n>\n> c"),
+    ("- a\n- \n- b\n- c", "- a\n- b\n- c"),
+    ("- a\n- b\n- c", "- a\n-     d\n- ***\n- b\n- c"),
+    ("- a\n- - b\n  - c", "- a\n- + b\n  + c"),
+    ("- |a|b|\n  |-|-|\n- c", "- |a|b|\n  |-|:-|\n- c"),
+    ("- <a>\n\n  a\n- b\n- c", "- <b>\n\n  a\n- b\n- c"),
+    (
+        "- ```x\n  y\n  ```\n  a\n- b\n- c",
+        "- ```x\n  z\n  ```\n  a\n- b\n- c",
+    ),
+];
+
 #[test]
 fn changed_items_are_written(rt: HostRuntime) -> Result<(), Fail> {
     let a = rt.alloc();
-    let rows = [
-        ("- a\n- b\n- c", "- a\n- b\n- c"),
-        ("- a\n- [ ] b\n- c", "- a\n- [x] b\n- c"),
-        ("- a\n- # b\n- c", "- a\n- b\n- c"),
-        ("- a\n\n- b\n\n- c", "- a\n\n- > b\n\n- c"),
-        ("- a\n\n- b\n\n- c", "- a\n- b\n- c"),
-        ("2. a\n3. b\n4. c", "2. a\n3. - b\n4. c"),
-        ("1. a\n2. b\n3. c", "2. a\n3. b\n4. c"),
-        ("- a\n- b\n- c", "> a\n> # b\n>\n> c"),
-        ("- a\n- \n- b\n- c", "- a\n- b\n- c"),
-        ("- a\n- b\n- c", "- a\n-     d\n- ***\n- b\n- c"),
-        ("- a\n- - b\n  - c", "- a\n- + b\n  + c"),
-        ("- |a|b|\n  |-|-|\n- c", "- |a|b|\n  |-|:-|\n- c"),
-        ("- <a>\n\n  a\n- b\n- c", "- <b>\n\n  a\n- b\n- c"),
-        (
-            "- ```x\n  y\n  ```\n  a\n- b\n- c",
-            "- ```x\n  z\n  ```\n  a\n- b\n- c",
-        ),
-    ];
-    for (new, old) in rows {
+    for &(new, old) in &CHANGED {
         for front in 0..4 {
             check_same(&rt, a, new, old, front, 3 - front)?;
         }

@@ -56,12 +56,19 @@ fn check(
     Ok(())
 }
 
-#[test]
-fn inlines_are_written(rt: HostRuntime) -> Result<(), Fail> {
-    let a = rt.alloc();
-    let code = String::from_str(a, "<a>")?;
-    let raw = String::from_str(a, "<b>")?;
-    let same = String::from_str(a, "<b>")?;
+/// The inlines that hold a text alone, each with its HTML.
+fn check_leaves(rt: &impl Abort, a: Global) -> Result<(), AllocError> {
+    let some = Inline::Text(String::from_str(a, "&<>\"'")?);
+    check(rt, a, some, &SAFE, "&amp;&lt;&gt;&quot;'")?;
+    let code = Inline::Code(String::from_str(a, "<a>")?);
+    check(rt, a, code, &SAFE, "<code>&lt;a&gt;</code>")?;
+    let raw = Inline::Html(String::from_str(a, "<b>")?);
+    check(rt, a, raw, &SAFE, "<!-- raw HTML omitted -->")?;
+    let raw = Inline::Html(String::from_str(a, "<b>")?);
+    check(rt, a, raw, &UNSAFE, "<b>")
+}
+
+fn check_breaks(rt: &impl Abort, a: Global) -> Result<(), AllocError> {
     let hard = Options {
         breaks: Breaks::Hard,
         ..SAFE
@@ -70,81 +77,77 @@ fn inlines_are_written(rt: HostRuntime) -> Result<(), Fail> {
         breaks: Breaks::Space,
         ..SAFE
     };
-    check(
-        &rt,
-        a,
-        Inline::Text(String::from_str(a, "&<>\"'")?),
-        &SAFE,
-        "&amp;&lt;&gt;&quot;'",
-    )?;
-    check(&rt, a, Inline::Code(code), &SAFE, "<code>&lt;a&gt;</code>")?;
-    check(
-        &rt,
-        a,
-        Inline::Html(raw),
-        &SAFE,
-        "<!-- raw HTML omitted -->",
-    )?;
-    check(&rt, a, Inline::Html(same), &UNSAFE, "<b>")?;
-    check(&rt, a, Inline::Soft, &SAFE, "\n")?;
-    check(&rt, a, Inline::Soft, &hard, "<br />\n")?;
-    check(&rt, a, Inline::Soft, &space, " ")?;
-    check(&rt, a, Inline::Hard, &SAFE, "<br />\n")?;
-    check(&rt, a, Inline::Emph(text(a, "e")?), &SAFE, "<em>e</em>")?;
-    check(
-        &rt,
-        a,
-        Inline::Strong(text(a, "s")?),
-        &SAFE,
-        "<strong>s</strong>",
-    )?;
-    check(&rt, a, Inline::Strike(text(a, "d")?), &SAFE, "<del>d</del>")?;
-    let link = Inline::Link(target(a, "/\u{E4}", "t\"")?, text(a, "a")?);
-    check(
-        &rt,
-        a,
-        link,
-        &SAFE,
-        "<a href=\"/%C3%A4\" title=\"t&quot;\">a</a>",
-    )?;
+    check(rt, a, Inline::Soft, &SAFE, "\n")?;
+    check(rt, a, Inline::Soft, &hard, "<br />\n")?;
+    check(rt, a, Inline::Soft, &space, " ")?;
+    check(rt, a, Inline::Hard, &SAFE, "<br />\n")
+}
+
+fn check_spans(rt: &impl Abort, a: Global) -> Result<(), AllocError> {
+    check(rt, a, Inline::Emph(text(a, "e")?), &SAFE, "<em>e</em>")?;
+    let strong = Inline::Strong(text(a, "s")?);
+    check(rt, a, strong, &SAFE, "<strong>s</strong>")?;
+    check(rt, a, Inline::Strike(text(a, "d")?), &SAFE, "<del>d</del>")
+}
+
+/// An image whose text has emphasis and a line break.
+fn image(a: Global) -> Result<Inline, AllocError> {
     let mut alt = Vec::new(a);
     alt.push(Inline::Text(String::from_str(a, "foo ")?))?;
     alt.push(Inline::Emph(text(a, "bar")?))?;
     alt.push(Inline::Soft)?;
-    let image = Inline::Image(target(a, "/u", "t")?, alt);
-    check(
-        &rt,
-        a,
-        image,
-        &SAFE,
-        "<img src=\"/u\" alt=\"foo bar \" title=\"t\" />",
-    )?;
+    Ok(Inline::Image(target(a, "/u", "t")?, alt))
+}
+
+fn check_links(rt: &impl Abort, a: Global) -> Result<(), AllocError> {
+    let link = Inline::Link(target(a, "/\u{E4}", "t\"")?, text(a, "a")?);
+    let want = "<a href=\"/%C3%A4\" title=\"t&quot;\">a</a>";
+    check(rt, a, link, &SAFE, want)?;
+    let want = "<img src=\"/u\" alt=\"foo bar \" title=\"t\" />";
+    check(rt, a, image(a)?, &SAFE, want)
+}
+
+#[test]
+fn inlines_are_written(rt: HostRuntime) -> Result<(), Fail> {
+    let a = rt.alloc();
+    check_leaves(&rt, a)?;
+    check_breaks(&rt, a)?;
+    check_spans(&rt, a)?;
+    check_links(&rt, a)?;
     Ok(())
+}
+
+/// Destinations, and what is written of each.
+static DESTINATIONS: [(&str, &str); 9] = [
+    ("JavaScript:x", ""),
+    ("vbscript:x", ""),
+    ("file:///x", ""),
+    ("data:text/html,x", ""),
+    ("data:image/png,x", "data:image/png,x"),
+    ("DATA:IMAGE/WEBP,x", "DATA:IMAGE/WEBP,x"),
+    ("data:image/svg,x", ""),
+    ("java", "java"),
+    ("/javascript:x", "/javascript:x"),
+];
+
+/// A link to this destination is written with that one.
+fn check_destination(
+    rt: &impl Abort,
+    a: Global,
+    url: &str,
+    options: &Options,
+    want: &str,
+) -> Result<(), AllocError> {
+    let link = Inline::Link(target(a, url, "")?, text(a, "a")?);
+    let whole = format!(in a; "<a href=\"{want}\">a</a>")?;
+    check(rt, a, link, options, whole.as_str())
 }
 
 #[test]
 fn harmful_destinations_are_left_out(rt: HostRuntime) -> Result<(), Fail> {
-    let a = rt.alloc();
-    let rows = [
-        ("JavaScript:x", ""),
-        ("vbscript:x", ""),
-        ("file:///x", ""),
-        ("data:text/html,x", ""),
-        ("data:image/png,x", "data:image/png,x"),
-        ("DATA:IMAGE/WEBP,x", "DATA:IMAGE/WEBP,x"),
-        ("data:image/svg,x", ""),
-        ("java", "java"),
-        ("/javascript:x", "/javascript:x"),
-    ];
-    for (url, want) in rows {
-        let link = Inline::Link(target(a, url, "")?, text(a, "a")?);
-        let shown = html_of(a, link, &SAFE)?;
-        let whole = format!(in a; "<a href=\"{want}\">a</a>")?;
-        assert_eq!(rt; shown.as_str(), whole.as_str());
-        let link = Inline::Link(target(a, url, "")?, text(a, "a")?);
-        let shown = html_of(a, link, &UNSAFE)?;
-        let whole = format!(in a; "<a href=\"{url}\">a</a>")?;
-        assert_eq!(rt; shown.as_str(), whole.as_str());
+    for &(url, want) in &DESTINATIONS {
+        check_destination(&rt, rt.alloc(), url, &SAFE, want)?;
+        check_destination(&rt, rt.alloc(), url, &UNSAFE, url)?;
     }
     Ok(())
 }

@@ -200,6 +200,19 @@ fn items_in_front_count(rt: HostRuntime) -> Result<(), Fail> {
     Ok(())
 }
 
+/// Lines that take the place of others.
+static CHANGES: [(usize, &str); 9] = [
+    (700, "- *another* item"),
+    (1, "- i"),
+    (2, "- see [x] and *b*"),
+    (900, "- [x]: /u"),
+    (901, "  - inside"),
+    (902, "- c"),
+    (1_499, "> quote"),
+    (3, ""),
+    (4, "- d"),
+];
+
 /// A piece of more than 16 KB that is made again, longer, shorter or short, is that of a preview made from nothing.
 #[test]
 fn a_long_piece_is_made_again(rt: HostRuntime) -> Result<(), Fail> {
@@ -209,17 +222,7 @@ fn a_long_piece_is_made_again(rt: HostRuntime) -> Result<(), Fail> {
         lines.push("- item")?;
     }
     let mut preview = preview_of(alloc, &lines)?;
-    for (at, line) in [
-        (700, "- *another* item"),
-        (1, "- i"),
-        (2, "- see [x] and *b*"),
-        (900, "- [x]: /u"),
-        (901, "  - inside"),
-        (902, "- c"),
-        (1_499, "> quote"),
-        (3, ""),
-        (4, "- d"),
-    ] {
+    for &(at, line) in &CHANGES {
         if let Some(place) = lines.get_mut(at) {
             *place = line;
         }
@@ -229,6 +232,8 @@ fn a_long_piece_is_made_again(rt: HostRuntime) -> Result<(), Fail> {
     }
     Ok(())
 }
+
+static LETTERS: [&str; 3] = ["- b", "- c", "- d"];
 
 /// A short unit beside a long one that stays, and one in the place of a long one.
 #[test]
@@ -245,8 +250,8 @@ fn a_short_piece_comes_where_a_long_one_is(rt: HostRuntime) -> Result<(), Fail> 
     let items = vec![in alloc; "- item"; 2_000]?;
     let mut preview = preview_of(alloc, &items)?;
     // At the second of these it is known where the items of the long list end.
-    for line in ["- b", "- c", "- d"] {
-        edit(&mut preview, 1, 1, &[line], &mut Tally::new())?;
+    for line in &LETTERS {
+        edit(&mut preview, 1, 1, &[*line], &mut Tally::new())?;
     }
     edit(&mut preview, 1, 1_999, &[], &mut Tally::new())?;
     let cut = "<ul>\n<li>item</li>\n</ul>\n";
