@@ -159,9 +159,9 @@ fn check(rt: &impl Abort, alloc: Global, text: &str, want: &str) -> Result<(), A
 }
 
 /// Texts, each with its units.
-fn check_all(rt: &HostRuntime, rows: &[(&str, &str)]) -> Result<(), Fail> {
+fn check_all(rt: &impl Abort, alloc: Global, rows: &[(&str, &str)]) -> Result<(), Fail> {
     for &(text, want) in rows {
-        check(rt, rt.alloc(), text, want)?;
+        check(rt, alloc, text, want)?;
     }
     Ok(())
 }
@@ -184,7 +184,7 @@ static LEAVES: [(&str, &str); 9] = [
 
 #[test]
 fn leaves_are_read(rt: HostRuntime) -> Result<(), Fail> {
-    check_all(&rt, &LEAVES)
+    check_all(&rt, rt.alloc(), &LEAVES)
 }
 
 /// Texts of containers.
@@ -209,7 +209,7 @@ static CONTAINERS: [(&str, &str); 10] = [
 
 #[test]
 fn containers_are_read(rt: HostRuntime) -> Result<(), Fail> {
-    check_all(&rt, &CONTAINERS)
+    check_all(&rt, rt.alloc(), &CONTAINERS)
 }
 
 /// Texts of tables and task items.
@@ -230,7 +230,7 @@ static TABLES: [(&str, &str); 6] = [
 
 #[test]
 fn tables_and_tasks_are_read(rt: HostRuntime) -> Result<(), Fail> {
-    check_all(&rt, &TABLES)
+    check_all(&rt, rt.alloc(), &TABLES)
 }
 
 /// A line of so many markers of block quotes.
