@@ -1,142 +1,127 @@
 //! What no clause says: that calls succeed with ample memory, and what they answer then.
 
-use crate::calls::{edit, empty, preview_of, set_prelude};
+use crate::calls::{check_edit, check_prelude, empty, preview_of, refused, refused_prelude};
 use mdtext::Tally;
-use mdview::{EditFault, Patch, Preview};
+use mdview::{EditFault, Preview};
 use std::alloc::{AllocError, Global};
+use std::process::Abort;
 use std::test::Fail;
+
+static ADDED: [&str; 4] = ["# a", "", "b", "c"];
+
+/// The pieces one behind the other.
+fn shown(alloc: Global, preview: &Preview) -> Result<String, AllocError> {
+    let mut shown = String::new(alloc);
+    for piece in preview.pieces() {
+        shown.push_str(piece)?;
+    }
+    Ok(shown)
+}
 
 #[test]
 fn previews_a_text(rt: HostRuntime) -> Result<(), Fail> {
     let alloc = rt.alloc();
     let mut preview = empty(alloc)?;
-    let mut count = Tally::new();
-    let added = ["# a", "", "b", "c"];
-    let patch: Patch = edit(&mut preview, 0, 0, added.as_slice(), &mut count).map_err(
-        |_| "refused",
+    let count = check_edit(
+        &rt,
+        rt.alloc(),
+        &mut preview,
+        (0, 0),
+        &ADDED,
+        "0 0 2 []: 0 <h1>a</h1>\n1 <p>b\nc</p>\n",
     )?;
     assert_eq!(rt; (preview.len(), preview.units()), (4, 2));
     assert_eq!(rt; preview.line(3), Some("c"));
     assert_eq!(rt; preview.line(4), None);
     assert_eq!(rt; preview.piece(1), Some("<p>b\nc</p>\n"));
-    assert_eq!(rt; patch.text(&preview, 0), Some("<h1>a</h1>\n"));
-    assert_eq!(rt; patch.text(&preview, 2), None);
     assert_eq!(rt; (count.lines(), count.inlines()), (4, 2));
-    let before = count;
-    let refused = edit(&mut preview, 5, 0, added.as_slice(), &mut count);
-    assert!(rt; matches!(refused, Err(EditFault::OutOfRange { lines: 4 })));
-    let refused = edit(&mut preview, 0, 0, ["a", "b\nc"].as_slice(), &mut count);
-    assert!(rt; matches!(refused, Err(EditFault::BreakInLine { index: 1 })));
-    assert_eq!(rt; count, before);
-    let mut shown = String::new(alloc);
-    for piece in preview.pieces() {
-        shown.push_str(piece)?;
-    }
-    assert_eq!(rt; shown.as_str(), "<h1>a</h1>\n<p>b\nc</p>\n");
+    let mut count = count;
+    let past = refused(&mut preview, (5, 0), &ADDED, &mut count);
+    assert_eq!(rt; past, Some(EditFault::OutOfRange { lines: 4 }));
+    let parted = refused(&mut preview, (0, 0), &["a", "b\nc"], &mut count);
+    assert_eq!(rt; parted, Some(EditFault::BreakInLine { index: 1 }));
+    assert_eq!(rt; (count.lines(), count.inlines()), (4, 2));
+    assert_eq!(rt;
+        shown(alloc, &preview)?.as_str(),
+        "<h1>a</h1>\n<p>b\nc</p>\n"
+    );
     Ok(())
+}
+
+/// What an edit of a line of so many letters is refused for.
+fn refused_letters(
+    alloc: Global,
+    preview: &mut Preview,
+    at: usize,
+    count: usize,
+) -> Result<Option<EditFault>, AllocError> {
+    let line = letters(alloc, count)?;
+    Ok(refused(preview, (at, 0), &[line.as_str()], &mut Tally::new()))
 }
 
 #[test]
 fn keeps_the_limits(rt: HostRuntime) -> Result<(), Fail> {
     let alloc = rt.alloc();
     let mut preview = empty(alloc)?;
-    let many = vec![in alloc; ""; 1_000_001]?;
-    let refused = edit(&mut preview, 0, 0, many.as_slice(), &mut Tally::new());
-    assert!(rt; matches!(refused, Err(EditFault::TooManyLines)));
+    let many = blank_lines(alloc, 1_000_001)?;
+    let fault = refused(&mut preview, (0, 0), &many, &mut Tally::new());
+    assert_eq!(rt; fault, Some(EditFault::TooManyLines));
     // Lines of 16,776,960 and 254 bytes fit, with one for each line's end; one byte more does not.
-    let long = letters(alloc, 16_776_960)?;
-    let fits = edit(
-        &mut preview,
-        0,
-        0,
-        [long.as_str()].as_slice(),
-        &mut Tally::new(),
-    );
-    assert!(rt; fits.is_ok());
-    let more = letters(alloc, 255)?;
-    let refused = edit(
-        &mut preview,
-        1,
-        0,
-        [more.as_str()].as_slice(),
-        &mut Tally::new(),
-    );
-    assert!(rt; matches!(refused, Err(EditFault::TooLarge)));
-    let more = letters(alloc, 254)?;
-    let fits = edit(
-        &mut preview,
-        1,
-        0,
-        [more.as_str()].as_slice(),
-        &mut Tally::new(),
-    );
-    assert!(rt; fits.is_ok());
+    assert_eq!(rt; refused_letters(alloc, &mut preview, 0, 16_776_960)?, None);
+    let fault = refused_letters(alloc, &mut preview, 1, 255)?;
+    assert_eq!(rt; fault, Some(EditFault::TooLarge));
+    assert_eq!(rt; refused_letters(alloc, &mut preview, 1, 254)?, None);
     assert_eq!(rt; (preview.len(), preview.units()), (2, 1));
     Ok(())
 }
 
+/// So many letters.
+fn some_letters(alloc: Global, count: usize) -> Result<String, AllocError> {
+    let mut some = String::with_capacity(alloc, count)?;
+    for _ in 0..count {
+        some.push('a')?;
+    }
+    Ok(some)
+}
+
 /// A line of so many letters.
 fn letters(alloc: Global, count: usize) -> Result<String, AllocError> {
-    let mut chunk = String::new(alloc);
-    for _ in 0..4096 {
-        chunk.push('a')?;
-    }
-    let mut line = String::with_capacity(alloc, count)?;
+    let chunk = some_letters(alloc, 4096)?;
+    let mut line = some_letters(alloc, count % 4096)?;
     for _ in 0..count / 4096 {
         line.push_str(&chunk)?;
-    }
-    for _ in 0..count % 4096 {
-        line.push('a')?;
     }
     Ok(line)
 }
 
-/// The pieces that a patch brings, each behind its number.
-fn brought(alloc: Global, patch: &Patch, preview: &Preview) -> Result<String, Fail> {
-    let mut shown = String::new(alloc);
-    for (number, html) in patch.pieces(preview)? {
-        write!(&mut shown, "{number} {html}")?;
-    }
-    Ok(shown)
-}
-
 #[test]
 fn lends_the_pieces_of_a_patch_in_order(rt: HostRuntime) -> Result<(), Fail> {
-    let alloc = rt.alloc();
-    let mut preview = preview_of(
-        alloc,
-        ["[a]", "", "b", "", "c", "", "d [a]", "", "e"].as_slice(),
-    )?;
-    let patch = edit(
+    let lines = ["[a]", "", "b", "", "c", "", "d [a]", "", "e"];
+    let mut preview = preview_of(rt.alloc(), &lines)?;
+    check_edit(
+        &rt,
+        rt.alloc(),
         &mut preview,
-        4,
-        1,
-        ["f", "", "g"].as_slice(),
-        &mut Tally::new(),
+        (4, 1),
+        &["f", "", "g"],
+        "1 2 3 []: 1 <p>b</p>\n2 <p>f</p>\n3 <p>g</p>\n",
     )?;
-    let shown = brought(alloc, &patch, &preview)?;
-    assert_eq!(rt; shown.as_str(), "1 <p>b</p>\n2 <p>f</p>\n3 <p>g</p>\n");
-    let patch = edit(
+    check_edit(
+        &rt,
+        rt.alloc(),
         &mut preview,
-        4,
-        1,
-        ["# f", "[a]: /b"].as_slice(),
-        &mut Tally::new(),
+        (4, 1),
+        &["# f", "[a]: /b"],
+        "1 2 3 [0, 5]: 0 <p><a href=\"/b\">a</a></p>\n1 <p>b</p>\n2 <h1>f</h1>\n3 5 <p>d <a href=\"/b\">a</a></p>\n",
     )?;
-    let shown = brought(alloc, &patch, &preview)?;
-    assert_eq!(rt;
-        shown.as_str(),
-        "0 <p><a href=\"/b\">a</a></p>\n1 <p>b</p>\n2 <h1>f</h1>\n3 5 <p>d <a href=\"/b\">a</a></p>\n"
-    );
-    let patch = edit(&mut preview, 0, 2, [].as_slice(), &mut Tally::new())?;
-    assert_eq!(rt; brought(alloc, &patch, &preview)?.as_str(), "");
+    check_edit(&rt, rt.alloc(), &mut preview, (0, 2), &[], "0 1 0 []:")?;
     Ok(())
 }
 
 #[test]
 fn walks_over_its_units(rt: HostRuntime) -> Result<(), Fail> {
     let alloc = rt.alloc();
-    let preview = preview_of(alloc, ["# a", "", "- b *c*"].as_slice())?;
+    let preview = preview_of(alloc, &["# a", "", "- b *c*"])?;
     let mut nodes = Vec::new(alloc);
     for number in 0..3 {
         if let Some(walk) = preview.walk(number)? {
@@ -150,52 +135,43 @@ fn walks_over_its_units(rt: HostRuntime) -> Result<(), Fail> {
 
 #[test]
 fn an_edit_reads_its_stretch(rt: HostRuntime) -> Result<(), Fail> {
-    let alloc = rt.alloc();
-    let mut preview = preview_of(alloc, ["[foo]", "", "x", "", "[foo]: /a"].as_slice())?;
+    let mut preview = preview_of(rt.alloc(), &["[foo]", "", "x", "", "[foo]: /a"])?;
     // From line 2 to the end there are three lines; the text of the paragraph before asked for the label.
-    let mut count = Tally::new();
-    let patch = edit(&mut preview, 4, 1, ["[foo]: /b"].as_slice(), &mut count).map_err(
-        |_| "refused",
+    let count = check_edit(
+        &rt,
+        rt.alloc(),
+        &mut preview,
+        (4, 1),
+        &["[foo]: /b"],
+        "1 2 2 [0]: 0 <p><a href=\"/b\">foo</a></p>\n1 <p>x</p>\n2 ",
     )?;
-    assert_eq!(rt; (patch.first, patch.removed, patch.added), (1, 2, 2));
-    assert_eq!(rt; patch.again.as_slice(), [0].as_slice());
     assert!(rt; count.lines() >= 1 && count.lines() <= 4);
     assert!(rt; count.inlines() >= 1 && count.inlines() <= 2);
-    assert_eq!(rt;
-        patch.text(&preview, 0),
-        Some("<p><a href=\"/b\">foo</a></p>\n")
-    );
-    assert_eq!(rt; patch.text(&preview, 3), None);
     Ok(())
 }
 
 /// A text that stays counts as read, in front of the edit and behind it; where it asked for a label that leads elsewhere then it is read.
 #[test]
 fn texts_that_stay_count(rt: HostRuntime) -> Result<(), Fail> {
-    let alloc = rt.alloc();
-    let lines = ["> [foo]", ">", "> b", ">", "> *c*"];
-    let mut preview = preview_of(alloc, lines.as_slice())?;
-    let mut count = Tally::new();
-    let added = ["> B", ">", "> [foo]: /a"];
-    edit(&mut preview, 2, 1, added.as_slice(), &mut count).map_err(|_| "refused")?;
+    let mut preview = preview_of(rt.alloc(), &["> [foo]", ">", "> b", ">", "> *c*"])?;
+    let count = check_edit(
+        &rt,
+        rt.alloc(),
+        &mut preview,
+        (2, 1),
+        &["> B", ">", "> [foo]: /a"],
+        "0 1 1 []: 0 <blockquote>\n<p><a href=\"/a\">foo</a></p>\n<p>B</p>\n<p><em>c</em></p>\n</blockquote>\n",
+    )?;
     assert_eq!(rt; (count.lines(), count.inlines()), (7, 3));
-    assert_eq!(rt;
-        preview.piece(0),
-        Some(
-            "<blockquote>\n<p><a href=\"/a\">foo</a></p>\n<p>B</p>\n<p><em>c</em></p>\n</blockquote>\n"
-        )
-    );
     Ok(())
 }
 
 /// In a list the lines and the texts in front of the item that is read again count as read.
 #[test]
 fn items_in_front_count(rt: HostRuntime) -> Result<(), Fail> {
-    let alloc = rt.alloc();
-    let lines = ["- a", "- b", "- c", "- d", "- e"];
-    let mut preview = preview_of(alloc, lines.as_slice())?;
+    let mut preview = preview_of(rt.alloc(), &["- a", "- b", "- c", "- d", "- e"])?;
     let mut count = Tally::new();
-    edit(&mut preview, 3, 1, &["- D"], &mut count).map_err(|_| "refused")?;
+    assert_eq!(rt; refused(&mut preview, (3, 1), &["- D"], &mut count), None);
     assert_eq!(rt; (count.lines(), count.inlines()), (5, 4));
     Ok(())
 }
@@ -213,118 +189,135 @@ static CHANGES: [(usize, &str); 9] = [
     (4, "- d"),
 ];
 
+/// Whether the first piece is that of a preview made from nothing.
+fn is_made_anew(alloc: Global, preview: &Preview, lines: &[&str]) -> Result<bool, Fail> {
+    let fresh = preview_of(alloc, lines)?;
+    Ok(preview.piece(0) == fresh.piece(0))
+}
+
 /// A piece of more than 16 KB that is made again, longer, shorter or short, is that of a preview made from nothing.
 #[test]
 fn a_long_piece_is_made_again(rt: HostRuntime) -> Result<(), Fail> {
     let alloc = rt.alloc();
-    let mut lines = Vec::new(alloc);
-    for _ in 0..1_500 {
-        lines.push("- item")?;
-    }
+    let mut lines = vec![in alloc; "- item"; 1_500]?;
     let mut preview = preview_of(alloc, &lines)?;
     for &(at, line) in &CHANGES {
         if let Some(place) = lines.get_mut(at) {
             *place = line;
         }
-        edit(&mut preview, at, 1, &[line], &mut Tally::new()).map_err(|_| "refused")?;
-        let fresh = preview_of(alloc, &lines)?;
-        assert_eq!(rt; preview.piece(0), fresh.piece(0), "{line:?}");
+        let fault = refused(&mut preview, (at, 1), &[line], &mut Tally::new());
+        assert_eq!(rt; fault, None);
+        assert!(rt; is_made_anew(alloc, &preview, &lines)?, "{line:?}");
     }
+    Ok(())
+}
+
+/// A short unit comes in front of a long one that stays.
+fn check_beside(rt: &impl Abort, alloc: Global) -> Result<(), Fail> {
+    let mut code = vec![in alloc; "a line of code"; 2_000]?;
+    code[0] = "```";
+    let mut preview = preview_of(alloc, &code)?;
+    let fault = refused(&mut preview, (0, 0), &["y", ""], &mut Tally::new());
+    assert_eq!(rt; fault, None);
+    assert_eq!(rt;
+        (preview.units(), preview.piece(0)),
+        (2, Some("<p>y</p>\n"))
+    );
     Ok(())
 }
 
 static LETTERS: [&str; 3] = ["- b", "- c", "- d"];
 
-/// A short unit beside a long one that stays, and one in the place of a long one.
-#[test]
-fn a_short_piece_comes_where_a_long_one_is(rt: HostRuntime) -> Result<(), Fail> {
-    let alloc = rt.alloc();
-    let mut code = vec![in alloc; "a line of code"; 2_000]?;
-    code[0] = "```";
-    let mut preview = preview_of(alloc, &code)?;
-    edit(&mut preview, 0, 0, &["y", ""], &mut Tally::new())?;
-    assert_eq!(rt;
-        (preview.units(), preview.piece(0)),
-        (2, Some("<p>y</p>\n"))
-    );
+/// A long list is cut to its first item.
+fn check_cut(rt: &impl Abort, alloc: Global) -> Result<(), Fail> {
     let items = vec![in alloc; "- item"; 2_000]?;
     let mut preview = preview_of(alloc, &items)?;
     // At the second of these it is known where the items of the long list end.
     for line in &LETTERS {
-        edit(&mut preview, 1, 1, &[*line], &mut Tally::new())?;
+        assert_eq!(rt;
+            refused(&mut preview, (1, 1), &[*line], &mut Tally::new()),
+            None
+        );
     }
-    edit(&mut preview, 1, 1_999, &[], &mut Tally::new())?;
+    assert_eq!(rt;
+        refused(&mut preview, (1, 1_999), &[], &mut Tally::new()),
+        None
+    );
     let cut = "<ul>\n<li>item</li>\n</ul>\n";
     assert_eq!(rt; (preview.units(), preview.piece(0)), (1, Some(cut)));
     Ok(())
 }
 
+/// A short unit beside a long one that stays, and one in the place of a long one.
+#[test]
+fn a_short_piece_comes_where_a_long_one_is(rt: HostRuntime) -> Result<(), Fail> {
+    check_beside(&rt, rt.alloc())?;
+    check_cut(&rt, rt.alloc())
+}
+
 #[test]
 fn the_first_definition_counts(rt: HostRuntime) -> Result<(), Fail> {
-    let alloc = rt.alloc();
-    let mut preview = preview_of(alloc, ["[foo]", "", "x", "", "[foo]: /a"].as_slice())?;
-    let mut count = Tally::new();
-    let patch = edit(&mut preview, 0, 0, ["[foo]: /c", ""].as_slice(), &mut count).map_err(
-        |_| "refused",
+    let mut preview = preview_of(rt.alloc(), &["[foo]", "", "x", "", "[foo]: /a"])?;
+    let count = check_edit(
+        &rt,
+        rt.alloc(),
+        &mut preview,
+        (0, 0),
+        &["[foo]: /c", ""],
+        "0 0 1 [1]: 0 1 <p><a href=\"/c\">foo</a></p>\n",
     )?;
-    assert_eq!(rt; (patch.first, patch.removed, patch.added), (0, 0, 1));
-    assert_eq!(rt; patch.again.as_slice(), [1].as_slice());
     assert!(rt; count.inlines() <= 1);
-    assert_eq!(rt;
-        patch.text(&preview, 1),
-        Some("<p><a href=\"/c\">foo</a></p>\n")
-    );
-    let mut count = Tally::new();
-    let none: [&str; 0] = [];
-    let patch = edit(&mut preview, 0, 2, none.as_slice(), &mut count).map_err(|_| "refused")?;
-    assert_eq!(rt; (patch.first, patch.removed, patch.added), (0, 1, 0));
-    assert_eq!(rt; patch.again.as_slice(), [0].as_slice());
+    let count = check_edit(
+        &rt,
+        rt.alloc(),
+        &mut preview,
+        (0, 2),
+        &[],
+        "0 1 0 [0]: 0 <p><a href=\"/a\">foo</a></p>\n",
+    )?;
     assert!(rt; count.lines() <= 1);
-    assert_eq!(rt;
-        patch.text(&preview, 0),
-        Some("<p><a href=\"/a\">foo</a></p>\n")
-    );
     Ok(())
 }
 
 #[test]
 fn a_prelude_stands_below_the_text(rt: HostRuntime) -> Result<(), Fail> {
-    let alloc = rt.alloc();
-    let mut preview = preview_of(alloc, ["[foo]", "", "[bar]", "", "x [baz]"].as_slice())?;
-    let mut count = Tally::new();
-    let patch = set_prelude(
+    let mut preview = preview_of(rt.alloc(), &["[foo]", "", "[bar]", "", "x [baz]"])?;
+    let count = check_prelude(
+        &rt,
+        rt.alloc(),
         &mut preview,
-        ["[foo]: /p", "[Bar]: /q", "[foo]: /r"].as_slice(),
-        &mut count,
+        &["[foo]: /p", "[Bar]: /q", "[foo]: /r"],
+        "0 0 0 [0, 1]: 0 <p><a href=\"/p\">foo</a></p>\n1 <p><a href=\"/q\">bar</a></p>\n",
     )?;
-    assert_eq!(rt; (patch.first, patch.removed, patch.added), (0, 0, 0));
-    assert_eq!(rt; patch.again.as_slice(), [0, 1].as_slice());
     assert_eq!(rt; (count.lines(), count.inlines()), (3, 2));
     assert_eq!(rt; preview.piece(0), Some("<p><a href=\"/p\">foo</a></p>\n"));
     assert_eq!(rt; preview.prelude().count(), 3);
-    let patch = edit(
+    check_edit(
+        &rt,
+        rt.alloc(),
         &mut preview,
-        5,
-        0,
-        ["", "[foo]: /t"].as_slice(),
-        &mut Tally::new(),
+        (5, 0),
+        &["", "[foo]: /t"],
+        "2 1 2 [0]: 0 <p><a href=\"/t\">foo</a></p>\n2 <p>x [baz]</p>\n3 ",
     )?;
-    assert_eq!(rt; patch.again.as_slice(), [0].as_slice());
     // What the text defines stays, and what leads where it led is not read again.
-    let mut count = Tally::new();
-    let patch = set_prelude(
+    let count = check_prelude(
+        &rt,
+        rt.alloc(),
         &mut preview,
-        ["[foo]: /u", "[bar]: /q"].as_slice(),
-        &mut count,
+        &["[foo]: /u", "[bar]: /q"],
+        "0 0 0 []:",
     )?;
-    assert_eq!(rt; patch.again.len(), 0);
     assert_eq!(rt; (count.lines(), count.inlines()), (2, 0));
     assert_eq!(rt; preview.piece(0), Some("<p><a href=\"/t\">foo</a></p>\n"));
-    let patch = edit(&mut preview, 5, 2, [].as_slice(), &mut Tally::new())?;
-    assert_eq!(rt;
-        patch.text(&preview, 0),
-        Some("<p><a href=\"/u\">foo</a></p>\n")
-    );
+    check_edit(
+        &rt,
+        rt.alloc(),
+        &mut preview,
+        (5, 2),
+        &[],
+        "2 2 1 [0]: 0 <p><a href=\"/u\">foo</a></p>\n2 <p>x [baz]</p>\n",
+    )?;
     Ok(())
 }
 
@@ -332,24 +325,31 @@ fn blank_lines(alloc: Global, count: usize) -> Result<Vec<&'static str>, AllocEr
     vec![in alloc; ""; count]
 }
 
+/// A prelude of too many lines is refused.
+fn check_too_many(
+    rt: &impl Abort,
+    alloc: Global,
+    preview: &mut Preview,
+    count: &mut Tally,
+) -> Result<(), Fail> {
+    let many = blank_lines(alloc, 1_000_001)?;
+    let fault = refused_prelude(preview, &many, count);
+    assert_eq!(rt; fault, Some(EditFault::TooManyLines));
+    Ok(())
+}
+
 #[test]
 fn a_refused_prelude_is_not_held(rt: HostRuntime) -> Result<(), Fail> {
-    let alloc = rt.alloc();
-    let mut preview = preview_of(alloc, ["[foo]", "", "[bar]"].as_slice())?;
-    set_prelude(&mut preview, ["[foo]: /p"].as_slice(), &mut Tally::new())?;
-    let many = blank_lines(alloc, 1_000_001)?;
+    let mut preview = preview_of(rt.alloc(), &["[foo]", "", "[bar]"])?;
+    let fault = refused_prelude(&mut preview, &["[foo]: /p"], &mut Tally::new());
+    assert_eq!(rt; fault, None);
     let mut count = Tally::new();
-    let refused = set_prelude(&mut preview, &many, &mut count);
-    assert!(rt; matches!(refused, Err(EditFault::TooManyLines)));
-    let refused = set_prelude(&mut preview, ["[bar]: /q", "a\rb"].as_slice(), &mut count);
-    assert!(rt; matches!(refused, Err(EditFault::BreakInLine { index: 1 })));
+    check_too_many(&rt, rt.alloc(), &mut preview, &mut count)?;
+    let fault = refused_prelude(&mut preview, &["[bar]: /q", "a\rb"], &mut count);
+    assert_eq!(rt; fault, Some(EditFault::BreakInLine { index: 1 }));
     assert_eq!(rt; (count.lines(), count.inlines()), (0, 0));
-    let refused = set_prelude(
-        &mut preview,
-        ["[bar]: /q", "", "---"].as_slice(),
-        &mut count,
-    );
-    assert!(rt; matches!(refused, Err(EditFault::NotDefinitions { line: 2 })));
+    let fault = refused_prelude(&mut preview, &["[bar]: /q", "", "---"], &mut count);
+    assert_eq!(rt; fault, Some(EditFault::NotDefinitions { line: 2 }));
     assert_eq!(rt; (count.lines(), count.inlines()), (3, 0));
     let mut lines = preview.prelude();
     assert_eq!(rt; lines.next(), Some("[foo]: /p"));
@@ -361,8 +361,7 @@ fn a_refused_prelude_is_not_held(rt: HostRuntime) -> Result<(), Fail> {
 
 #[test]
 fn units_are_told_by_their_numbers(rt: HostRuntime) -> Result<(), Fail> {
-    let alloc = rt.alloc();
-    let preview = preview_of(alloc, ["", "a *b*", "", "# [c]", "[d]: /u"].as_slice())?;
+    let preview = preview_of(rt.alloc(), &["", "a *b*", "", "# [c]", "[d]: /u"])?;
     assert_eq!(rt; preview.units(), 3);
     assert_eq!(rt; preview.first_line(0), Some(1));
     assert_eq!(rt; preview.first_line(1), Some(3));
