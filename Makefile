@@ -34,7 +34,7 @@ VERSION = $(shell sed -nE 's/^pub const VERSION: &str = "(.*)";$$/\1/p' crates/m
 need = @for made in $(1); do [ -e $$made ] || { echo "$$made is not there: make build first" >&2; exit 1; }; done
 BUILT_PROGRAMS := $(PROGRAMS:%=bin/%)
 
-.PHONY: help run test build programs check more_edits fmt picture bench hostile soak fuzz memory pane_test vim_test c_library c_memory compare counts rows rows_inlines install install-programs uninstall
+.PHONY: help run test build programs check more_edits fmt picture bench hostile soak fuzz memory pane_test vim_test c_library c_memory compare counts rows rows_inlines standards install install-programs uninstall
 
 help:
 	@echo "make run                 runs mdrender on a page and mdpreview on a writer's few edits, and shows what goes in and out (from the sources, unproved, where bin/ is empty); PAGE=FILE and EDITS=FILE show files of yours"
@@ -56,6 +56,7 @@ help:
 	@echo "make soak SECONDS=N      random edits of the repository's own texts through bin/mdpreview, for N seconds ($(SECONDS)): the pieces that a client keeps, html and mdrender's HTML must agree (SEED=$(SEED))"
 	@echo "make fuzz SECONDS=N      random bytes through both programs under a limit on memory, for N seconds ($(SECONDS)): no crash, and no status but 0, 1 and 2 (SEED=$(SEED))"
 	@echo "make memory              refuses each growth of memory in turn: of each call of the libraries, and of both programs over the examples and random scripts of edits (SEED=$(SEED); a C compiler is needed)"
+	@echo "make standards CORPUS=DIR  runs bin/mdrender on the examples of the standards in CORPUS (*.json, as CommonMark's spec.json is), byte for byte"
 	@echo "make rows ORACLE=DIR CORPUS=DIR  proves rows of the definitions of PART=$(PART) from the standards' examples in CORPUS, with what ORACLE/oracle.py says of them"
 	@echo "make compare ORACLE=DIR  builds, and runs DIR/compare on the programs, with TEXTS=$(TEXTS) random texts and SCRIPTS=$(SCRIPTS) random edit scripts"
 	@echo "make counts ORACLE=DIR   compares what each edit of SCRIPTS=$(SCRIPTS) random edit scripts reads with what DIR/oracle.py allows"
@@ -121,6 +122,10 @@ c_library:
 c_memory:
 	$(call need,bin/mdpreview $(LIBRARY))
 	@tools/c_library --memory
+
+standards:
+	$(call need,bin/mdrender)
+	@tools/standards $(wildcard $(CORPUS)/commonmark-*.json $(CORPUS)/gfm-*.json $(CORPUS)/spec.json)
 
 compare: $(if $(BUILT),,build)
 	@tools/compare $(ORACLE) $(TEXTS) $(SCRIPTS)

@@ -1,4 +1,4 @@
-# Completion of mdrender's and mdpreview's words for bash: each option once but --extension, one kind of line breaks, a file behind
+# Completion of mdrender's and mdpreview's words for bash: each option once but --extension, one kind of line breaks and of entities, a file behind
 # --entities and --prelude, the words that --to and --extension may have, nothing behind a number, and one file to read.
 
 # The files that begin as the word does, folders among them.
@@ -14,12 +14,13 @@ _mdrender_files() {
 _mdrender_options() {
     local option
     [ "${1##*/}" != mdpreview ] || [[ $given == *" --lines "* ]] || echo --lines
-    for option in --unsafe --hardbreaks --nobreaks --entities --prelude --max-containers --max-spans --explain --to --extension \
-        --validate-utf8 --width --help --version; do
+    for option in --unsafe --hardbreaks --nobreaks --entities --html-entities --prelude --max-containers --max-spans --explain --to \
+        --extension --validate-utf8 --width --help --version; do
         case "$option $given" in
             --extension*) echo "$option" ;;
             *" $option "*) ;;
             --hardbreaks*" --nobreaks "* | --nobreaks*" --hardbreaks "*) ;;
+            --entities*" --html-entities "* | --html-entities*" --entities "*) ;;
             *) echo "$option" ;;
         esac
     done

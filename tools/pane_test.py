@@ -247,6 +247,18 @@ def ends_with_a_line(address, name):
     ))
 
 
+def hands_on(browser, name):
+    """The program's options are handed on: all names of HTML are known."""
+    save(name, "a &rarr; b\n")
+    server, address = started(name, "--html-entities")
+    try:
+        browser.call("Page.navigate", url=address)
+        return wait(lambda: shown(browser, "<p>a → b</p>\n"))
+    finally:
+        server.terminate()
+        server.wait()
+
+
 def leaks(address, name):
     """Whether a file that is neither an image nor a text, or that lies outside of the folder, is served."""
     home = os.path.dirname(name)
@@ -308,6 +320,7 @@ def main():
                 (writes(browser, name), "what is written on the page is not shown, or the file was changed"),
                 (scrolls(browser, os.path.join(home, "pages", "long.md")), "the page does not scroll with the cursor"),
                 (not answers_strangers(address), "a request from elsewhere was answered"),
+                (hands_on(browser, os.path.join(home, "pages", "names.md")), "an option of the program is not handed on"),
                 (not leaks(address, name), "a file that is not to be served was"),
                 (ends_with_a_line(address, name), "a pane that can't be begun does not say why, or goes on"),
                 (refused_at_first(browser, os.path.join(home, "pages", "other.md")), "a text that is refused at first is not said to be, or a picture is not shown"),

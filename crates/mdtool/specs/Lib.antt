@@ -1,4 +1,5 @@
 pub mod Bytes
+pub mod BuiltInEntities
 pub mod Commands
 pub mod RefusalText
 pub mod ToolRefusals

@@ -1,7 +1,7 @@
--- What each end of the reading of a file says that the words name. Of a file itself nothing is told: neither what it holds, nor why it fails.
-use Rattle.std.specs.Prelude.{◌≡◌, ℕ, List, [], Option, Some, None, Result, Ok, Err, Vec, String, map, string_bytes}
+-- What each end of the reading of a file says that the words name, or of names that are built in. Of a file itself nothing is told: neither what it holds, nor why it fails.
+use Rattle.std.specs.Prelude.{◌≡◌, ℕ, Bool, List, [], Option, Some, None, Result, Ok, Err, Vec, String, map, string_bytes}
 use Rattle.std.specs.Global.{Global}
-use Rattle.mdtext.specs.EntityTable.{builtin_table}
+use Rattle.mdtool.specs.BuiltInEntities.{IsBuiltIn}
 use Rattle.mdtool.specs.Convert.{LinesRead}
 use Rattle.mdtool.specs.Drained.{TakesSome}
 use Rattle.mdtool.specs.EntityTables.{EntitiesRead}
@@ -9,7 +9,6 @@ use Rattle.mdtool.specs.Steps.{Steps}
 use Rattle.mdtool.specs.declared.fault.Stop.{Stop}
 use Rattle.mdtool.specs.declared.fault.Stop.TheVariants.{Words, NotOpened, Tool}
 use Rattle.mdtool.specs.declared.fault.ToolFault.{ToolFault}
-use Rattle.mdtool.specs.declared.fault.ToolFault.TheVariants.{NoMemory}
 use Rattle.mdtool.specs.declared.halt.Halt.{Halt}
 
 -- a file of this name was not opened, or what was opened ended so
@@ -18,12 +17,18 @@ EndsSo name Ends (NotOpened other) = string_bytes other ≡ name
 EndsSo name Ends (Tool fault) = Ends fault
 EndsSo name Ends (Words fault) = ⊥
 
--- the entities of the file of this name, or the usual ones where none is named; else the file was not opened, or its bytes are no table
-abbrev pub EntitiesOf : Option (String Global) → Result (List (List ℕ × List ℕ)) Halt → Type 0
-EntitiesOf None (Ok entities) = entities ≡ builtin_table
-EntitiesOf None (Err halt) = halt.stop ≡ Tool NoMemory
-EntitiesOf (Some name) (Ok entities) = EntitiesRead (Ok entities) None None
-EntitiesOf (Some name) (Err halt) = EndsSo (string_bytes name) (λ fault. EntitiesRead (Err fault) None None) halt.stop
+-- there is no file to open, and what is built in ended so
+abbrev pub EndsBuiltIn : (ToolFault → Type 0) → Stop → Type 0
+EndsBuiltIn Ends (Tool fault) = Ends fault
+EndsBuiltIn Ends (NotOpened other) = ⊥
+EndsBuiltIn Ends (Words fault) = ⊥
+
+-- the entities of the file of this name, or those that are built in where none is named; else the file was not opened, or its bytes are no table
+abbrev pub EntitiesOf : Bool → Option (String Global) → Result (List (List ℕ × List ℕ)) Halt → Type 0
+EntitiesOf html None (Ok entities) = IsBuiltIn html (Ok entities)
+EntitiesOf html None (Err halt) = EndsBuiltIn (λ fault. IsBuiltIn html (Err fault)) halt.stop
+EntitiesOf html (Some name) (Ok entities) = EntitiesRead (Ok entities) None None
+EntitiesOf html (Some name) (Err halt) = EndsSo (string_bytes name) (λ fault. EntitiesRead (Err fault) None None) halt.stop
 
 -- the lines of the file of this name, or none where none is named; else the file was not opened, or not read
 abbrev pub PreludeOf : Option (String Global) → Result (Vec (String Global) Global) Halt → Type 0

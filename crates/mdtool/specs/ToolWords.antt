@@ -41,11 +41,15 @@ with_version app = record app { top = record app.top { has_version = true } }
 abbrev pub with_writing : App → App
 with_writing app = with_rule (with_rule (with_rule app (flag_rule (codes "unsafe"))) (flag_rule (codes "hardbreaks"))) (flag_rule (codes "nobreaks"))
 
+-- the options of which names of entities are known
+abbrev pub with_names : App → App
+with_names app = with_rule (with_rule app (valued_rule (codes "entities"))) (flag_rule (codes "html-entities"))
+
 -- the options of how a text is read, and what a stop says
 abbrev pub with_reading : App → App
 with_reading app =
-    with_rule (with_rule (with_rule (with_rule (with_rule app
-    (valued_rule (codes "entities"))) (valued_rule (codes "prelude"))) (valued_rule (codes "max-containers"))) (valued_rule (codes "max-spans"))) (flag_rule (codes "explain"))
+    with_rule (with_rule (with_rule (with_rule app
+    (valued_rule (codes "prelude"))) (valued_rule (codes "max-containers"))) (valued_rule (codes "max-spans"))) (flag_rule (codes "explain"))
 
 -- the option of what replies tell, which `mdpreview` has
 abbrev pub has_lines : Text → Bool
@@ -65,7 +69,7 @@ with_done_anyway app =
 
 -- the words that a program of this name understands, in the order that its help has them
 abbrev pub tool_app : Text → App
-tool_app name = with_version (with_rule (with_done_anyway (with_replies name (with_reading (with_writing (new_app name))))) file_rule)
+tool_app name = with_version (with_rule (with_done_anyway (with_replies name (with_reading (with_names (with_writing (new_app name)))))) file_rule)
 
 -- the program's name is the first word
 abbrev pub program_of : List Text → Text
@@ -86,6 +90,12 @@ IsBreaks true true breaks = ⊥
 IsBreaks true false breaks = breaks ≡ Hard
 IsBreaks false true breaks = breaks ≡ Space
 IsBreaks false false breaks = breaks ≡ Soft
+
+-- whether all names of HTML are known, where no file of names is given beside them
+abbrev pub IsHtml : Option Text → Bool → Bool → Type 0
+IsHtml None asked html = html ≡ asked
+IsHtml (Some file) true html = ⊥
+IsHtml (Some file) false html = html ≡ false
 
 abbrev pub is_zero : ℕ → Bool
 is_zero byte = byte == 48
@@ -121,6 +131,7 @@ pub record WordsRead (words : List Text) (read : Words) : Type 0 where
   pub rows : rows_of (found_of matches) ≡ matches_of (tool_app (program_of words)) words
   pub options : OptionsRead matches read.options
   pub entities : option_map string_bytes read.entities ≡ first_value (found_of matches) (codes "entities")
+  pub html_entities : IsHtml (first_value (found_of matches) (codes "entities")) (is_on matches (codes "html-entities")) read.html_entities
   pub prelude : option_map string_bytes read.prelude ≡ first_value (found_of matches) (codes "prelude")
   pub file : option_map string_bytes read.file ≡ first_value (found_of matches) (codes "file")
   pub explains : read.explains ≡ is_on matches (codes "explain")

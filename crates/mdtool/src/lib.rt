@@ -2,6 +2,7 @@
 //! changed out.
 #![tactic(auto)]
 
+mod built_in_entities;
 mod command;
 mod converting;
 mod counting;

@@ -5,6 +5,7 @@ ghost use Rattle.mdhtml.specs.Limits.{HasLimits};
 ghost use Rattle.mdtool.specs.Endings.{EndsBy, IsNotOpened, end_status, status_of};
 ghost use Rattle.mdtool.specs.NamedFiles.{EntitiesOf, PreludeOf};
 
+use crate::built_in_entities::built_in_entities;
 use crate::device::Feed;
 use crate::endings::ending;
 use crate::entity_tables::entities_from;
@@ -68,9 +69,9 @@ fn renamed<'a>(
     Ok(words)
 }
 
-/// The entities of the file that the words name, or the usual ones.
+/// The entities of the file that the words name, or those that are built in.
 pub fn entities_of(rt: &HostRuntime, words: &Words) -> Result<Entities, Halt>
-    ensures read { EntitiesOf words.now.entities result }
+    ensures read { EntitiesOf words.now.html_entities words.now.entities result }
     ensures source { IfErr result (λ halt. halt.source ≡ Source.Entities) }
 {
     let source = Source::Entities;
@@ -82,9 +83,9 @@ pub fn entities_of(rt: &HostRuntime, words: &Words) -> Result<Entities, Halt>
                 Err(fault) => Err(halted(fault, source, feed.cause())),
             }
         }
-        None => match Entities::builtin(rt.alloc()) {
+        None => match built_in_entities(rt.alloc(), words.html_entities) {
             Ok(entities) => Ok(entities),
-            Err(_) => Err(halted(ToolFault::NoMemory, source, Cause::Other)),
+            Err(fault) => Err(halted(fault, source, Cause::Other)),
         },
     }
 }

@@ -4,8 +4,8 @@ ghost use Rattle.std.specs.List.{list_all, prefix_len};
 ghost use Rattle.clap.specs.Words.{app_of, first_value, found_of, rule_of};
 ghost use Rattle.mdhtml.specs.Limits.{HasLimits};
 ghost use Rattle.mdtool.specs.Commands.{number};
-ghost use Rattle.mdtool.specs.ToolWords.{IsBreaks, IsDoneAnyway, IsLimit, OptionsRead, WordsRead, flag_rule, has_lines, is_extension, is_on, is_zero, replies_of};
-ghost use Rattle.mdtool.specs.ToolWords.{lettered_rule, program_of, repeated_rule, tool_app, valued_rule, values_of, with_done_anyway, with_lines, with_reading, with_replies, with_version, with_writing};
+ghost use Rattle.mdtool.specs.ToolWords.{IsBreaks, IsDoneAnyway, IsHtml, IsLimit, OptionsRead, WordsRead, flag_rule, has_lines, is_extension, is_on, is_zero, replies_of};
+ghost use Rattle.mdtool.specs.ToolWords.{lettered_rule, program_of, repeated_rule, tool_app, valued_rule, values_of, with_done_anyway, with_lines, with_names, with_reading, with_replies, with_version, with_writing};
 ghost use Rattle.mdtool.specs.Endings.{version};
 
 use crate::fault::WordFault;
@@ -23,6 +23,8 @@ pub struct Words {
     pub options: Options,
     /// The name of the entity file.
     pub entities: Option<String>,
+    /// Whether all of HTML's names of entities are known.
+    pub html_entities: bool,
     /// The name of the prelude's file.
     pub prelude: Option<String>,
     /// The name of the file to read.
@@ -63,7 +65,8 @@ Example:
 ///
 /// `Help` has the text that `--help` asks for, and `Version` answers `--version`. `NotUnderstood` where a word is unknown, a
 /// value is missing, an option is given twice that may stand once, a limit is no whole number from 1 to 256, both
-/// `--hardbreaks` and `--nobreaks` are given, or another format or extension than what is done anyway.
+/// `--hardbreaks` and `--nobreaks` or both `--entities` and `--html-entities` are given, or another format or extension than
+/// what is done anyway.
 pub fn read_words<'a>(alloc: Global, words: &'a [&'a str]) -> Result<Words, WordFault>
     ensures read { IfOk result (WordsRead (map (λ word. word.now) words.entry.now)) }
     ensures limits { IfOk result (λ words. HasLimits words.options) }
@@ -75,12 +78,14 @@ pub fn read_words<'a>(alloc: Global, words: &'a [&'a str]) -> Result<Words, Word
     };
     let options = options_of(&matches)?;
     require_done_anyway(&matches)?;
+    let html_entities = html_entities_of(&matches)?;
     let entities = copied(alloc, matches.get_str("entities"))?;
     let prelude = copied(alloc, matches.get_str("prelude"))?;
     let file = copied(alloc, matches.get_str("file"))?;
     Ok(Words {
         options,
         entities,
+        html_entities,
         prelude,
         file,
         explains: is_on(&matches, "explain"),
@@ -103,6 +108,7 @@ fn command<'a>(alloc: Global, program: &'a str) -> Result<Command<'a>, AllocErro
     ensures { IfOk result (λ command. app_of command ≡ tool_app program.entry.now) }
 {
     let command = with_writing(alloc, Command::new(alloc, program))?;
+    let command = with_names(alloc, command)?;
     let command = with_reading(alloc, command)?;
     let command = with_replies(alloc, command, program)?;
     let command = with_done_anyway(alloc, command)?.arg(
@@ -136,9 +142,9 @@ fn with_writing<'a>(alloc: Global, command: Command<'a>) -> Result<Command<'a>, 
     Ok(all)
 }
 
-/// The options of how a text is read, and what a stop says.
-fn with_reading<'a>(alloc: Global, command: Command<'a>) -> Result<Command<'a>, AllocError>
-    ensures { IfOk result (λ all. app_of all ≡ with_reading (app_of command.entry)) }
+/// The options of which names of entities are known.
+fn with_names<'a>(alloc: Global, command: Command<'a>) -> Result<Command<'a>, AllocError>
+    ensures { IfOk result (λ all. app_of all ≡ with_names (app_of command.entry)) }
 {
     let all = command
         .arg(valued(
@@ -147,6 +153,19 @@ fn with_reading<'a>(alloc: Global, command: Command<'a>) -> Result<Command<'a>, 
             "FILE",
             "Read the names of entities from a JSON file, as HTML's entities.json is",
         ))?
+        .arg(flag(
+            alloc,
+            "html-entities",
+            "Know all 2,125 names of HTML's entities, in place of 23",
+        ))?;
+    Ok(all)
+}
+
+/// The options of how a text is read, and what a stop says.
+fn with_reading<'a>(alloc: Global, command: Command<'a>) -> Result<Command<'a>, AllocError>
+    ensures { IfOk result (λ all. app_of all ≡ with_reading (app_of command.entry)) }
+{
+    let all = command
         .arg(valued(
             alloc,
             "prelude",
@@ -299,6 +318,23 @@ fn options_of(matches: &ArgMatches<'_>) -> Result<Options, WordFault>
         max_containers,
         max_spans,
     })
+}
+
+/// Whether all of HTML's names are known, which a file of names excludes.
+fn html_entities_of(matches: &ArgMatches<'_>) -> Result<bool, WordFault>
+    ensures { IfOk result (IsHtml (first_value (found_of matches.now) (codes "entities")) (is_on matches.now (codes "html-entities"))) }
+{
+    html_of(matches.get_str("entities"), is_on(matches, "html-entities"))
+}
+
+fn html_of(file: Option<&str>, asked: bool) -> Result<bool, WordFault>
+    ensures { IfOk result (IsHtml (option_map (λ name. name.now) file.entry) asked) }
+{
+    match file {
+        None => Ok(asked),
+        Some(_) if asked => Err(WordFault::NotUnderstood),
+        Some(_) => Ok(false),
+    }
 }
 
 /// Whether an option without a value was given.

@@ -14,7 +14,8 @@ pub fn try_texts(alloc: Global, said: &mut String) -> Result<(), AllocError> {
     try_lines_of(alloc, said)?;
     try_cells(alloc, said)?;
     try_builtin(alloc, said)?;
-    try_from_json(alloc, said)
+    try_from_json(alloc, said)?;
+    try_html(alloc, said)
 }
 
 /// What stands before the text that a call appends.
@@ -140,5 +141,17 @@ fn try_from_json(alloc: Global, said: &mut String) -> Result<(), AllocError> {
             say(said, "from_json", entities.get("amp").unwrap_or("none"))
         }
         Err(_) => say_failed(said, "from_json"),
+    }
+}
+
+fn try_html(alloc: Global, said: &mut String) -> Result<(), AllocError> {
+    let mut answer = Entities::html(alloc);
+    if matches!(answer, Err(TableFault::NoMemory)) {
+        say_refused(said, true)?;
+        answer = Entities::html(alloc);
+    }
+    match answer {
+        Ok(entities) => say(said, "html", entities.get("hearts").unwrap_or("none")),
+        Err(_) => say_failed(said, "html"),
     }
 }

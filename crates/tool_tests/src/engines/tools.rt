@@ -294,3 +294,30 @@ fn reads_words(rt: HostRuntime) -> Result<(), Fail> {
     check_words(&rt, alloc, &["mdrender", "a", "b"], bad)?;
     Ok(())
 }
+
+#[test]
+fn reads_which_entity_names_are_known(rt: HostRuntime) -> Result<(), Fail> {
+    let alloc = rt.alloc();
+    let html = "--html-entities";
+    for words in [
+        ["mdrender", html, "--entities", "e"],
+        ["mdpreview", "--entities=e", html, "a"],
+        ["mdrender", "a", html, html],
+        ["mdrender", "--entities", html, "a"],
+    ] {
+        check_words(&rt, alloc, &words, "NotUnderstood")?;
+    }
+    for (words, want) in [
+        (["mdrender", "a"], "false None"),
+        (["mdrender", "--entities=e"], "false Some(\"e\")"),
+        (["mdrender", html], "true None"),
+        (["mdpreview", html], "true None"),
+    ] {
+        let said = match read_words(alloc, &words) {
+            Ok(read) => format!(in alloc; "{} {:?}", read.html_entities, read.entities)?,
+            Err(fault) => format!(in alloc; "{fault:?}")?,
+        };
+        assert_eq!(rt; said.as_str(), want, "{words:?}");
+    }
+    Ok(())
+}

@@ -15,6 +15,7 @@ returns-clause-read c =
       rows = (matched (tool_is_simple program)).0 ∙ ap (λ name. matches_of (tool_app name) words) c.program_of.ensures;
       options = c.in_ok-options.ensures.read;
       entities = c.in_ok-entities.ensures ∙ c.get_str.ensures;
+      html_entities = c.in_ok-html_entities.ensures;
       prelude = c.in_ok-prelude.ensures ∙ c.get_str-2.ensures;
       file = c.in_ok-file.ensures ∙ c.get_str-3.ensures;
       explains = c.is_on.ensures;

@@ -5,7 +5,6 @@ use Rattle.mdtool.proofs.tool_words.with_reading.Goals as goal
 pub returns : goal.returns
 returns c =
     c.in_ok-all.ensures.shape c.flag.ensures.local ∙ ap₂ with_rule
-    (c.in_ok-arg-4.ensures.shape c.valued-4.ensures.local ∙ ap₂ with_rule
     (c.in_ok-arg-3.ensures.shape c.valued-3.ensures.local ∙ ap₂ with_rule
     (c.in_ok-arg-2.ensures.shape c.valued-2.ensures.local ∙ ap₂ with_rule
-    (c.in_ok-arg.ensures.shape c.valued.ensures.local ∙ ap₂ with_rule refl c.valued.ensures.rule) c.valued-2.ensures.rule) c.valued-3.ensures.rule) c.valued-4.ensures.rule) c.flag.ensures.rule
+    (c.in_ok-arg.ensures.shape c.valued.ensures.local ∙ ap₂ with_rule refl c.valued.ensures.rule) c.valued-2.ensures.rule) c.valued-3.ensures.rule) c.flag.ensures.rule
