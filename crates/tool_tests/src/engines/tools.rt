@@ -295,29 +295,43 @@ fn reads_words(rt: HostRuntime) -> Result<(), Fail> {
     Ok(())
 }
 
+/// Words that ask for two kinds of entity names, for one twice, or for a file of no name.
+static BOTH_KINDS: [[&str; 4]; 4] = [
+    ["mdrender", "--html-entities", "--entities", "e"],
+    ["mdpreview", "--entities=e", "--html-entities", "a"],
+    ["mdrender", "a", "--html-entities", "--html-entities"],
+    ["mdrender", "--entities", "--html-entities", "a"],
+];
+
+#[test]
+fn one_kind_of_entity_names_is_known(rt: HostRuntime) -> Result<(), Fail> {
+    let alloc = rt.alloc();
+    for words in &BOTH_KINDS {
+        check_words(&rt, alloc, words, "NotUnderstood")?;
+    }
+    Ok(())
+}
+
+/// Whether all of HTML's names are known by these words, and the name of the file.
+fn names_known(alloc: Global, words: &[&str]) -> Result<String, AllocError> {
+    match read_words(alloc, words) {
+        Ok(read) => format!(in alloc; "{} {:?}", read.html_entities, read.entities),
+        Err(fault) => format!(in alloc; "{fault:?}"),
+    }
+}
+
+static NAMES_KNOWN: [([&str; 2], &str); 4] = [
+    (["mdrender", "a"], "false None"),
+    (["mdrender", "--entities=e"], "false Some(\"e\")"),
+    (["mdrender", "--html-entities"], "true None"),
+    (["mdpreview", "--html-entities"], "true None"),
+];
+
 #[test]
 fn reads_which_entity_names_are_known(rt: HostRuntime) -> Result<(), Fail> {
-    let alloc = rt.alloc();
-    let html = "--html-entities";
-    for words in [
-        ["mdrender", html, "--entities", "e"],
-        ["mdpreview", "--entities=e", html, "a"],
-        ["mdrender", "a", html, html],
-        ["mdrender", "--entities", html, "a"],
-    ] {
-        check_words(&rt, alloc, &words, "NotUnderstood")?;
-    }
-    for (words, want) in [
-        (["mdrender", "a"], "false None"),
-        (["mdrender", "--entities=e"], "false Some(\"e\")"),
-        (["mdrender", html], "true None"),
-        (["mdpreview", html], "true None"),
-    ] {
-        let said = match read_words(alloc, &words) {
-            Ok(read) => format!(in alloc; "{} {:?}", read.html_entities, read.entities)?,
-            Err(fault) => format!(in alloc; "{fault:?}")?,
-        };
-        assert_eq!(rt; said.as_str(), want, "{words:?}");
+    for (words, want) in &NAMES_KNOWN {
+        let known = names_known(rt.alloc(), words)?;
+        assert_eq!(rt; known.as_str(), *want, "{words:?}");
     }
     Ok(())
 }
