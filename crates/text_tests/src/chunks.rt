@@ -1,6 +1,7 @@
 //! A sequence in chunks, beside a plain list.
 
 use mdchunks::{Change, Chunks, Weighed};
+use std::alloc::{AllocError, Global};
 use std::process::Abort;
 use std::test::Fail;
 
@@ -37,7 +38,7 @@ impl Change<Number> for Put {
 }
 
 /// Where, how many members go, and how many come: into one chunk, into new ones, over chunks, at both ends, all, and none.
-const EDITS: [(usize, usize, u32); 16] = [
+static EDITS: [(usize, usize, u32); 16] = [
     (0, 0, 0),
     (0, 0, 1),
     (1, 0, 200),
@@ -56,21 +57,76 @@ const EDITS: [(usize, usize, u32); 16] = [
     (0, 0, 3),
 ];
 
-/// Each member, the weight in front of it, and the members from it on.
+/// What stands at a place: the member, the weight in front of it, and how many members there are from it on.
+fn at_place(chunks: &Chunks<Number>, i: usize) -> Option<(Number, usize, usize)> {
+    if i >= chunks.len() {
+        return None;
+    }
+    let member = *chunks.get(i)?;
+    Some((member, chunks.weight_before(i), chunks.iter_from(i).count()))
+}
+
+/// Each member by its place.
 fn compare(rt: &impl Abort, chunks: &Chunks<Number>, list: &[Number]) {
     assert_eq!(rt; chunks.len(), list.len());
     let mut front: usize = 0;
     for i in 0..list.len() {
-        assert!(rt; i < chunks.len());
-        assert_eq!(rt; chunks.get(i).copied(), list.get(i).copied());
-        assert_eq!(rt; chunks.weight_before(i), front);
-        assert_eq!(rt; chunks.iter_from(i).count(), list.len() - i);
+        let want = Some((list[i], front, list.len() - i));
+        assert_eq!(rt; at_place(chunks, i), want);
         front = front.saturating_add(list[i].0 as usize);
     }
     assert!(rt; chunks.get(list.len()).is_none());
+}
+
+/// The members in turn.
+fn compare_in_turn(rt: &impl Abort, chunks: &Chunks<Number>, list: &[Number]) {
     for (member, wanted) in chunks.iter_from(0).zip(list.iter()) {
         assert_eq!(rt; *member, *wanted);
     }
+}
+
+/// So many numbers, that follow this one.
+fn numbers_behind(alloc: Global, number: u32, count: u32) -> Result<Vec<Number>, AllocError> {
+    let mut numbers = Vec::new(alloc);
+    let mut last = number;
+    for _ in 0..count {
+        last = last.wrapping_add(1);
+        numbers.push(Number(last))?;
+    }
+    Ok(numbers)
+}
+
+/// The list after an edit, or none where the edit is not within it.
+fn spliced_list(
+    alloc: Global,
+    list: &[Number],
+    at: usize,
+    removed: usize,
+    added: &[Number],
+) -> Result<Option<Vec<Number>>, AllocError> {
+    if at > list.len() || removed > list.len() - at {
+        return Ok(None);
+    }
+    let mut next = Vec::new(alloc);
+    next.extend_from_slice(&list[..at])?;
+    next.extend_from_slice(added)?;
+    next.extend_from_slice(&list[at + removed..])?;
+    Ok(Some(next))
+}
+
+/// Makes an edit of the chunks, and tells whether it is within them.
+fn splice(
+    chunks: &mut Chunks<Number>,
+    at: usize,
+    removed: usize,
+    mut added: Vec<Number>,
+) -> Result<bool, AllocError> {
+    chunks.reserve_splice(&mut added)?;
+    let is_within = at <= chunks.len() && removed <= chunks.len() - at;
+    if is_within {
+        chunks.splice(at, removed, added);
+    }
+    Ok(is_within)
 }
 
 #[test]
@@ -79,58 +135,82 @@ fn splices_as_a_list(rt: HostRuntime) -> Result<(), Fail> {
     let mut chunks: Chunks<Number> = Chunks::new(alloc);
     let mut list: Vec<Number> = Vec::new(alloc);
     let mut mark: u32 = 0;
-    for (at, removed, count) in EDITS {
-        let mut added = Vec::new(alloc);
-        let mut next = Vec::new(alloc);
-        assert!(rt; at <= list.len());
-        assert!(rt; removed <= list.len() - at);
-        next.extend_from_slice(&list[..at])?;
-        for _ in 0..count {
-            mark = mark.wrapping_add(1);
-            added.push(Number(mark))?;
-            next.push(Number(mark))?;
-        }
-        next.extend_from_slice(&list[at + removed..])?;
-        chunks.reserve_splice(&mut added)?;
-        assert!(rt; at <= chunks.len());
-        assert!(rt; removed <= chunks.len() - at);
-        chunks.splice(at, removed, added);
-        compare(&rt, &chunks, &next);
-        list = next;
+    for &(at, removed, count) in &EDITS {
+        let added = numbers_behind(alloc, mark, count)?;
+        mark = mark.wrapping_add(count);
+        list = spliced_list(alloc, &list, at, removed, &added)?.ok_or("not within the list")?;
+        assert!(rt; splice(&mut chunks, at, removed, added)?);
+        compare(&rt, &chunks, &list);
+        compare_in_turn(&rt, &chunks, &list);
     }
     Ok(())
 }
 
+/// A hundred members of weights 0, 1, 2, 0, 1, 2 ..
+fn weighed_members(alloc: Global) -> Result<Vec<Number>, AllocError> {
+    let mut members = Vec::new(alloc);
+    for i in 0..100u32 {
+        members.push(Number(i % 3))?;
+    }
+    Ok(members)
+}
+
+fn found(chunks: &Chunks<Number>, weight: usize) -> Option<(usize, usize)> {
+    chunks.find(weight).map(|place| (place.member, place.front))
+}
+
+fn weight_before(chunks: &Chunks<Number>, i: usize) -> Option<usize> {
+    if i > chunks.len() {
+        return None;
+    }
+    Some(chunks.weight_before(i))
+}
+
+/// The member that another took the place of.
+fn exchanged(chunks: &mut Chunks<Number>, i: usize, number: Number) -> Option<Number> {
+    if i >= chunks.len() {
+        return None;
+    }
+    let mut other = number;
+    chunks.exchange(i, &mut other);
+    Some(other)
+}
+
+/// Puts a number in a member's place, and tells what stands there then.
+fn changed(chunks: &mut Chunks<Number>, i: usize, number: Number) -> Option<Number> {
+    if i >= chunks.len() {
+        return None;
+    }
+    chunks.change(i, Put(number));
+    chunks.get(i).copied()
+}
+
+/// Weights, each with a member and the weight in front of it: of those that begin at one weight the last.
+static PLACES: [(usize, usize, usize); 6] = [
+    (0, 1, 0),
+    (1, 2, 1),
+    (2, 2, 1),
+    (3, 4, 3),
+    (98, 98, 97),
+    (1000, 99, 99),
+];
+
 #[test]
 fn finds_by_weight(rt: HostRuntime) -> Result<(), Fail> {
-    let alloc = rt.alloc();
-    let mut chunks: Chunks<Number> = Chunks::new(alloc);
-    assert!(rt; chunks.find(0).is_none());
-    let mut added = Vec::new(alloc);
-    for i in 0..100u32 {
-        added.push(Number(i % 3))?;
+    let mut chunks: Chunks<Number> = Chunks::new(rt.alloc());
+    assert_eq!(rt; found(&chunks, 0), None);
+    let members = weighed_members(rt.alloc())?;
+    assert!(rt; splice(&mut chunks, 0, 0, members)?);
+    for &(weight, member, front) in &PLACES {
+        assert_eq!(rt; found(&chunks, weight), Some((member, front)));
     }
-    chunks.reserve_splice(&mut added)?;
-    chunks.splice(0, 0, added);
-    // members of weights 0, 1, 2, 0, 1, 2 ..: of those that begin at one weight the last
-    for (weight, member, front) in [(0, 1, 0), (1, 2, 1), (2, 2, 1), (3, 4, 3), (98, 98, 97)] {
-        let place = chunks.find(weight).ok_or("none")?;
-        assert_eq!(rt; place.member, member);
-        assert_eq!(rt; place.front, front);
-    }
-    let last = chunks.find(1000).ok_or("none")?;
-    assert_eq!(rt; last.member, 99);
-    assert_eq!(rt; last.front, 99);
-    let mut other = Number(7);
-    assert!(rt; chunks.len() == 100);
-    chunks.exchange(50, &mut other);
-    assert_eq!(rt; other, Number(2));
+    assert_eq!(rt; chunks.len(), 100);
+    assert_eq!(rt; exchanged(&mut chunks, 50, Number(7)), Some(Number(2)));
     // it was 51
-    assert_eq!(rt; chunks.weight_before(51), 56);
-    assert!(rt; chunks.len() == 100);
-    chunks.change(51, Put(Number(9)));
-    assert!(rt; chunks.len() == 100);
-    assert_eq!(rt; chunks.weight_before(52), 65);
-    assert_eq!(rt; chunks.get(51).copied(), Some(Number(9)));
+    assert_eq!(rt; weight_before(&chunks, 51), Some(56));
+    assert_eq!(rt; chunks.len(), 100);
+    assert_eq!(rt; changed(&mut chunks, 51, Number(9)), Some(Number(9)));
+    assert_eq!(rt; chunks.len(), 100);
+    assert_eq!(rt; weight_before(&chunks, 52), Some(65));
     Ok(())
 }

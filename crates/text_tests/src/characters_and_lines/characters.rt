@@ -2,44 +2,52 @@
 
 use mdtext::{Class, Count, Tally, first_special, is_punct, is_white};
 
+static WHITE: [char; 9] = [
+    '\t', '\n', '\u{C}', '\r', ' ', '\u{A0}', '\u{1680}', '\u{2003}', '\u{3000}',
+];
+
+static NOT_WHITE: [char; 9] = [
+    'a', '\u{B}', '\0', '\u{85}', '\u{200B}', '\u{2028}', '\u{2029}', '\u{FEFF}', '.',
+];
+
 #[test]
 fn whitespace_is_zs_and_four_controls(rt: HostRuntime) {
-    for c in [
-        '\t', '\n', '\u{C}', '\r', ' ', '\u{A0}', '\u{1680}', '\u{2003}', '\u{3000}',
-    ] {
+    for &c in &WHITE {
         assert!(rt; is_white(c), "{c:?}");
     }
-    for c in [
-        'a', '\u{B}', '\0', '\u{85}', '\u{200B}', '\u{2028}', '\u{2029}', '\u{FEFF}', '.',
-    ] {
+    for &c in &NOT_WHITE {
         assert!(rt; !is_white(c), "{c:?}");
     }
 }
 
+static PUNCTUATION: [char; 15] = [
+    '!',
+    '"',
+    '$',
+    '+',
+    '<',
+    '^',
+    '`',
+    '|',
+    '~',
+    '_',
+    '\u{A3}',
+    '\u{20AC}',
+    '\u{2014}',
+    '\u{3001}',
+    '\u{1F600}',
+];
+
+static NO_PUNCTUATION: [char; 9] = [
+    'a', '0', ' ', '\n', '\u{E4}', '\u{4E2D}', '\u{301}', '\u{200B}', '\0',
+];
+
 #[test]
 fn punctuation_is_p_and_s(rt: HostRuntime) {
-    for c in [
-        '!',
-        '"',
-        '$',
-        '+',
-        '<',
-        '^',
-        '`',
-        '|',
-        '~',
-        '_',
-        '\u{A3}',
-        '\u{20AC}',
-        '\u{2014}',
-        '\u{3001}',
-        '\u{1F600}',
-    ] {
+    for &c in &PUNCTUATION {
         assert!(rt; is_punct(c), "{c:?}");
     }
-    for c in [
-        'a', '0', ' ', '\n', '\u{E4}', '\u{4E2D}', '\u{301}', '\u{200B}', '\0',
-    ] {
+    for &c in &NO_PUNCTUATION {
         assert!(rt; !is_punct(c), "{c:?}");
     }
 }

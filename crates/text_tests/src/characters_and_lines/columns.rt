@@ -22,18 +22,20 @@ fn marker_and_tabs(rt: HostRuntime) {
     assert_eq!(rt; cursor.rest(), "foo");
 }
 
+static INDENTS: [(&str, usize); 8] = [
+    ("", 0),
+    ("a", 0),
+    ("  a", 2),
+    ("\ta", 4),
+    (" \ta", 4),
+    ("    \ta", 8),
+    (" \t \t", 8),
+    ("\u{A0}a", 0),
+];
+
 #[test]
 fn indentation(rt: HostRuntime) {
-    for (line, want) in [
-        ("", 0),
-        ("a", 0),
-        ("  a", 2),
-        ("\ta", 4),
-        (" \ta", 4),
-        ("    \ta", 8),
-        (" \t \t", 8),
-        ("\u{A0}a", 0),
-    ] {
+    for &(line, want) in &INDENTS {
         assert_eq!(rt; Cursor::new(line).indent(), want, "{line:?}");
     }
 }

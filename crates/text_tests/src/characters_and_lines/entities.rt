@@ -3,110 +3,155 @@
 use mdtext::{Entities, TableFault};
 use std::alloc::{AllocError, Global};
 use std::error::Error;
+use std::process::Abort;
 use std::test::Fail;
 
-fn refusal(rt: &HostRuntime, bytes: &[u8]) -> Option<TableFault> {
-    match Entities::from_json(rt.alloc(), bytes) {
+fn refusal(alloc: Global, bytes: &[u8]) -> Option<TableFault> {
+    match Entities::from_json(alloc, bytes) {
         Ok(_) => None,
         Err(fault) => Some(fault),
     }
 }
+
+/// Whether each name has its text in a file.
+pub(super) fn check_names(
+    rt: &impl Abort,
+    entities: &Entities,
+    names: &[(&str, Option<&str>)],
+    file: &str,
+) {
+    for &(name, want) in names {
+        assert_eq!(rt; entities.get(name), want, "{name:?} in {file:?}");
+    }
+}
+
+/// Reads a file, and compares the texts of these names.
+fn check_file(
+    rt: &impl Abort,
+    alloc: Global,
+    file: &str,
+    names: &[(&str, Option<&str>)],
+) -> Result<(), Fail> {
+    let entities = Entities::from_json(alloc, file.as_bytes())?;
+    check_names(rt, &entities, names, file);
+    Ok(())
+}
+
+/// A file's entities as they are printed: on one line, or on many.
+fn shown_of(alloc: Global, file: &str, is_long: bool) -> Result<String, Fail> {
+    let entities = Entities::from_json(alloc, file.as_bytes())?;
+    let shown = if is_long {
+        format!(in alloc; "{entities:#?}")?
+    } else {
+        format!(in alloc; "{entities:?}")?
+    };
+    Ok(shown)
+}
+
+/// Prints a file's entities, and compares that.
+fn check_shown(
+    rt: &impl Abort,
+    alloc: Global,
+    file: &str,
+    is_long: bool,
+    want: &str,
+) -> Result<(), Fail> {
+    let shown = shown_of(alloc, file, is_long)?;
+    assert_eq!(rt; shown.as_str(), want);
+    Ok(())
+}
+
+static TEXTS_OF_A_FILE: [(&str, Option<&str>); 5] = [
+    ("a", Some("A\u{1F600}")),
+    ("b1", Some("")),
+    ("amp", None),
+    ("x", None),
+    ("", None),
+];
 
 #[test]
 fn entities_of_a_file(rt: HostRuntime) -> Result<(), Fail> {
     let bytes =
         "{\"&a;\":{\"characters\":\"\\u00e4\",\"codepoints\":[228]},\"&b1;\":{\"characters\":\"\"},\
         \"&amp\":{\"characters\":\"&\"},\"x\":0,\"&a;\":{\"characters\":\"A\u{1F600}\"}}";
-    let entities = Entities::from_json(rt.alloc(), bytes.as_bytes())?;
-    for (name, want) in [
-        ("a", Some("A\u{1F600}")),
-        ("b1", Some("")),
-        ("amp", None),
-        ("x", None),
-        ("", None),
-    ] {
-        assert_eq!(rt; entities.get(name), want, "{name:?}");
-    }
-    Ok(())
+    check_file(&rt, rt.alloc(), bytes, &TEXTS_OF_A_FILE)
 }
+
+static WITHOUT_ENTITIES: [&str; 4] = ["{\"&a\":5}", "{}", " {\"\":null}\n", "{\"&a;b\":1}"];
 
 #[test]
 fn files_without_entities(rt: HostRuntime) -> Result<(), Fail> {
-    for bytes in ["{\"&a\":5}", "{}", " {\"\":null}\n", "{\"&a;b\":1}"] {
-        let entities = Entities::from_json(rt.alloc(), bytes.as_bytes())?;
-        assert_eq!(rt; entities.get("a"), None, "{bytes:?}");
-        assert_eq!(rt; entities.get("amp"), None, "{bytes:?}");
+    for &bytes in &WITHOUT_ENTITIES {
+        check_file(&rt, rt.alloc(), bytes, &[("a", None), ("amp", None)])?;
     }
     Ok(())
 }
 
+static OTHER_SHAPES: [&str; 6] = [
+    // Names in no order, and one that begins another.
+    "{\"&b;\":{\"characters\":\"2\"},\"&a1;\":{\"characters\":\"3\"},\"&a;\":{\"characters\":\"1\"}}",
+    // A name twice, the second time with an escape.
+    "{\"&a;\":{\"characters\":\"0\"},\"&a1;\":{\"characters\":\"3\"},\"&b;\":{\"characters\":\"2\"},\"&\\u0061;\":{\"characters\":\"1\"}}",
+    // A bad member that a later one takes the place of.
+    "{\"&a;\":7,\"&a1;\":{\"characters\":\"3\"},\"&b;\":{\"characters\":\"2\"},\"&a;\":{\"characters\":\"1\"}}",
+    // Members with no text that later ones take the place of, and their texts once more.
+    "{\"&b;\":{},\"&a;\":7,\"&a1;\":{\"characters\":\"3\"},\"&b;\":{\"characters\":\"0\"},\"&a;\":{\"characters\":\"1\"},\"&b;\":null,\"&b;\":{\"characters\":\"2\"}}",
+    // `characters` twice.
+    "{\"&a;\":{\"characters\":7,\"characters\":\"1\"},\"&a1;\":{\"characters\":\"3\"},\"&b;\":{\"characters\":\"0\",\"characters\":\"2\"}}",
+    // Values of each kind.
+    "{\"&a;\":{\"x\":[-1.5e3,{\"characters\":\"0\"},[[]],null,true],\"characters\":\"1\"},\"&a1;\":{\"characters\":\"3\",\"y\":[12345678901234567890,123456789012345678901234567890,-9223372036854775809,-0,0.5e-7]},\"&b;\":{\"characters\":\"2\"},\"z\":[{}]}",
+];
+
+static TEXTS_OF_OTHER_SHAPES: [(&str, Option<&str>); 6] = [
+    ("a", Some("1")),
+    ("b", Some("2")),
+    ("a1", Some("3")),
+    ("a2", None),
+    ("", None),
+    ("c", None),
+];
+
 #[test]
 fn files_of_other_shapes(rt: HostRuntime) -> Result<(), Fail> {
-    for bytes in [
-        // Names in no order, and one that begins another.
-        "{\"&b;\":{\"characters\":\"2\"},\"&a1;\":{\"characters\":\"3\"},\"&a;\":{\"characters\":\"1\"}}",
-        // A name twice, the second time with an escape.
-        "{\"&a;\":{\"characters\":\"0\"},\"&a1;\":{\"characters\":\"3\"},\"&b;\":{\"characters\":\"2\"},\"&\\u0061;\":{\"characters\":\"1\"}}",
-        // A bad member that a later one takes the place of.
-        "{\"&a;\":7,\"&a1;\":{\"characters\":\"3\"},\"&b;\":{\"characters\":\"2\"},\"&a;\":{\"characters\":\"1\"}}",
-        // Members with no text that later ones take the place of, and their texts once more.
-        "{\"&b;\":{},\"&a;\":7,\"&a1;\":{\"characters\":\"3\"},\"&b;\":{\"characters\":\"0\"},\"&a;\":{\"characters\":\"1\"},\"&b;\":null,\"&b;\":{\"characters\":\"2\"}}",
-        // `characters` twice.
-        "{\"&a;\":{\"characters\":7,\"characters\":\"1\"},\"&a1;\":{\"characters\":\"3\"},\"&b;\":{\"characters\":\"0\",\"characters\":\"2\"}}",
-        // Values of each kind.
-        "{\"&a;\":{\"x\":[-1.5e3,{\"characters\":\"0\"},[[]],null,true],\"characters\":\"1\"},\"&a1;\":{\"characters\":\"3\",\"y\":[12345678901234567890,123456789012345678901234567890,-9223372036854775809,-0,0.5e-7]},\"&b;\":{\"characters\":\"2\"},\"z\":[{}]}",
-    ] {
-        let entities = Entities::from_json(rt.alloc(), bytes.as_bytes())?;
-        for (name, want) in [
-            ("a", Some("1")),
-            ("b", Some("2")),
-            ("a1", Some("3")),
-            ("a2", None),
-            ("", None),
-            ("c", None),
-        ] {
-            assert_eq!(rt; entities.get(name), want, "{name:?} in {bytes:?}");
-        }
+    for &bytes in &OTHER_SHAPES {
+        check_file(&rt, rt.alloc(), bytes, &TEXTS_OF_OTHER_SHAPES)?;
     }
     Ok(())
+}
+
+/// A file of a name twice, the first time with a text of 110,000 characters.
+fn file_of_a_long_text(alloc: Global) -> Result<String, AllocError> {
+    let mut file = String::from_str(alloc, "{\"&a;\":{\"characters\":\"")?;
+    for _ in 0..10_000 {
+        file.push_str("first text ")?;
+    }
+    file.push_str("\"},\"&b;\":{\"characters\":\"2\"},\"&a;\":{\"characters\":\"1\"}}")?;
+    Ok(file)
 }
 
 #[test]
 fn of_a_name_twice_the_second_text_is_left(rt: HostRuntime) -> Result<(), Fail> {
-    let mut bytes = String::from_str(rt.alloc(), "{\"&a;\":{\"characters\":\"")?;
-    for _ in 0..10_000 {
-        bytes.push_str("first text ")?;
-    }
-    bytes.push_str("\"},\"&b;\":{\"characters\":\"2\"},\"&a;\":{\"characters\":\"1\"}}")?;
-    let entities = Entities::from_json(rt.alloc(), bytes.as_bytes())?;
-    assert_eq!(rt; entities.get("a"), Some("1"));
-    assert_eq!(rt; entities.get("b"), Some("2"));
-    let bytes = "{\"&a;\":{\"characters\":\"1\"},\"&b;\":{\"characters\":\"2\"}}";
-    let once = Entities::from_json(rt.alloc(), bytes.as_bytes())?;
-    let shown = format!(in rt.alloc(); "{entities:?}")?;
-    let want = format!(in rt.alloc(); "{once:?}")?;
-    assert_eq!(rt; shown.as_str(), want.as_str());
-    Ok(())
+    let twice = file_of_a_long_text(rt.alloc())?;
+    check_file(
+        &rt,
+        rt.alloc(),
+        &twice,
+        &[("a", Some("1")), ("b", Some("2"))],
+    )?;
+    let once = "{\"&a;\":{\"characters\":\"1\"},\"&b;\":{\"characters\":\"2\"}}";
+    let want = shown_of(rt.alloc(), once, false)?;
+    check_shown(&rt, rt.alloc(), &twice, false, &want)
 }
 
 #[test]
 fn entities_are_shown_as_a_map(rt: HostRuntime) -> Result<(), Fail> {
-    let bytes = "{\"&b;\":{\"characters\":\"\\\"\\u00a0\"},\"&a;\":{\"characters\":\"1\"}}";
-    let entities = Entities::from_json(rt.alloc(), bytes.as_bytes())?;
-    let shown = format!(in rt.alloc(); "{entities:?}")?;
-    assert_eq!(rt;
-        shown.as_str(),
-        "Entities { texts: {\"a\": \"1\", \"b\": \"\\\"\\u{a0}\"} }"
-    );
-    let shown = format!(in rt.alloc(); "{entities:#?}")?;
-    assert_eq!(rt;
-        shown.as_str(),
-        "Entities {\n    texts: {\n        \"a\": \"1\",\n        \"b\": \"\\\"\\u{a0}\",\n    },\n}"
-    );
-    let none = Entities::from_json(rt.alloc(), b"{}")?;
-    let shown = format!(in rt.alloc(); "{none:?}")?;
-    assert_eq!(rt; shown.as_str(), "Entities { texts: {} }");
-    Ok(())
+    let file = "{\"&b;\":{\"characters\":\"\\\"\\u00a0\"},\"&a;\":{\"characters\":\"1\"}}";
+    let line = "Entities { texts: {\"a\": \"1\", \"b\": \"\\\"\\u{a0}\"} }";
+    check_shown(&rt, rt.alloc(), file, false, line)?;
+    let lines =
+        "Entities {\n    texts: {\n        \"a\": \"1\",\n        \"b\": \"\\\"\\u{a0}\",\n    },\n}";
+    check_shown(&rt, rt.alloc(), file, true, lines)?;
+    check_shown(&rt, rt.alloc(), "{}", false, "Entities { texts: {} }")
 }
 
 /// The number in the name of a file's member, by its place.
@@ -126,72 +171,87 @@ fn file_of(alloc: Global, count: usize, flipped: usize) -> Result<String, AllocE
     Ok(file)
 }
 
+/// Reads a file of so many names, and compares the text of each.
+fn check_numbers(
+    rt: &impl Abort,
+    alloc: Global,
+    file: &str,
+    count: usize,
+    flipped: usize,
+) -> Result<(), Fail> {
+    let entities = Entities::from_json(alloc, file.as_bytes())?;
+    for place in 0..count {
+        let name = format!(in alloc; "n{}", number_at(place, flipped))?;
+        assert_eq!(rt; entities.get(&name), name.get(1..), "{count} {flipped}");
+    }
+    Ok(())
+}
+
+static COUNTS: [usize; 4] = [20, 21, 65, 1500];
+
+static FLIPPED: [usize; 4] = [0, 63, 1023, 2047];
+
 #[test]
 fn many_names_in_any_order(rt: HostRuntime) -> Result<(), Fail> {
-    for count in [20, 21, 65, 1500] {
-        for flipped in [0, 63, 1023, 2047] {
+    for &count in &COUNTS {
+        for &flipped in &FLIPPED {
             let file = file_of(rt.alloc(), count, flipped)?;
-            let entities = Entities::from_json(rt.alloc(), file.as_bytes())?;
-            for place in 0..count {
-                let number = number_at(place, flipped);
-                let name = format!(in rt.alloc(); "n{number}")?;
-                assert_eq!(rt; entities.get(&name), name.get(1..), "{count} {flipped}");
-            }
+            check_numbers(&rt, rt.alloc(), &file, count, flipped)?;
         }
     }
     Ok(())
 }
 
+fn check_refusal(rt: &impl Abort, alloc: Global, file: &[u8], want: TableFault) {
+    assert_eq!(rt; refusal(alloc, file), Some(want), "{file:?}");
+}
+
+static NOT_JSON: [&str; 16] = [
+    "",
+    "[]",
+    "null",
+    "5",
+    "\"&a;\"",
+    "{",
+    "{\"&a;\":{\"characters\":\"x\"}",
+    "{} {}",
+    "{\"&a;\":{\"characters\":\"\\ud800\"}}",
+    "\u{FEFF}{}",
+    "{\"&a;\":{\"characters\":\"x\",\"y\":1e999}}",
+    "{\"&a;\":5,\"&b;\":{\"characters\":\"x\"}",
+    "{\"&a;\":{\"characters\":\"x\",\"y\":01}}",
+    "{\"&a;\":{\"characters\":\"x\",\"y\":-1e999}}",
+    "{\"a;\":{\"characters\":\"x\"}} {}",
+    "{\"&a;\":5,\"b\":[1,]}",
+];
+
+static BAD_ENTRIES: [&str; 16] = [
+    "{\"&;\":{\"characters\":\"x\"}}",
+    "{\";\":{\"characters\":\"x\"}}",
+    "{\"a;\":{\"characters\":\"x\"}}",
+    "{\"&a b;\":{\"characters\":\"x\"}}",
+    "{\"&&a;\":{\"characters\":\"x\"}}",
+    "{\"&\u{E4};\":{\"characters\":\"x\"}}",
+    "{\"&a;;\":{\"characters\":\"x\"}}",
+    "{\"&a;\":5}",
+    "{\"&a;\":\"characters\"}",
+    "{\"&a;\":{}}",
+    "{\"&a;\":{\"characters\":5}}",
+    "{\"&a;\":{\"characters\":[\"x\"]}}",
+    "{\"&a;\":{\"characters\":\"x\"},\"&b;\":null}",
+    "{\"&a;\":{\"characters\":\"x\"},\"&a;\":{}}",
+    "{\"&a;\":[],\"&b;\":{\"characters\":\"x\"},\"&a;\":{\"characters\":null}}",
+    "{\"a;\":{\"characters\":\"x\"},\"a;\":{\"characters\":\"x\"}}",
+];
+
 #[test]
 fn files_that_are_refused(rt: HostRuntime) {
-    for bytes in [
-        "",
-        "[]",
-        "null",
-        "5",
-        "\"&a;\"",
-        "{",
-        "{\"&a;\":{\"characters\":\"x\"}",
-        "{} {}",
-        "{\"&a;\":{\"characters\":\"\\ud800\"}}",
-        "\u{FEFF}{}",
-        "{\"&a;\":{\"characters\":\"x\",\"y\":1e999}}",
-        "{\"&a;\":5,\"&b;\":{\"characters\":\"x\"}",
-        "{\"&a;\":{\"characters\":\"x\",\"y\":01}}",
-        "{\"&a;\":{\"characters\":\"x\",\"y\":-1e999}}",
-        "{\"a;\":{\"characters\":\"x\"}} {}",
-        "{\"&a;\":5,\"b\":[1,]}",
-    ] {
-        assert_eq!(rt;
-            refusal(&rt, bytes.as_bytes()),
-            Some(TableFault::NotJson),
-            "{bytes:?}"
-        );
+    for &file in &NOT_JSON {
+        check_refusal(&rt, rt.alloc(), file.as_bytes(), TableFault::NotJson);
     }
-    assert_eq!(rt; refusal(&rt, b"{\"\xFF\":1}"), Some(TableFault::NotJson));
-    for bytes in [
-        "{\"&;\":{\"characters\":\"x\"}}",
-        "{\";\":{\"characters\":\"x\"}}",
-        "{\"a;\":{\"characters\":\"x\"}}",
-        "{\"&a b;\":{\"characters\":\"x\"}}",
-        "{\"&&a;\":{\"characters\":\"x\"}}",
-        "{\"&\u{E4};\":{\"characters\":\"x\"}}",
-        "{\"&a;;\":{\"characters\":\"x\"}}",
-        "{\"&a;\":5}",
-        "{\"&a;\":\"characters\"}",
-        "{\"&a;\":{}}",
-        "{\"&a;\":{\"characters\":5}}",
-        "{\"&a;\":{\"characters\":[\"x\"]}}",
-        "{\"&a;\":{\"characters\":\"x\"},\"&b;\":null}",
-        "{\"&a;\":{\"characters\":\"x\"},\"&a;\":{}}",
-        "{\"&a;\":[],\"&b;\":{\"characters\":\"x\"},\"&a;\":{\"characters\":null}}",
-        "{\"a;\":{\"characters\":\"x\"},\"a;\":{\"characters\":\"x\"}}",
-    ] {
-        assert_eq!(rt;
-            refusal(&rt, bytes.as_bytes()),
-            Some(TableFault::BadEntry),
-            "{bytes:?}"
-        );
+    check_refusal(&rt, rt.alloc(), b"{\"\xFF\":1}", TableFault::NotJson);
+    for &file in &BAD_ENTRIES {
+        check_refusal(&rt, rt.alloc(), file.as_bytes(), TableFault::BadEntry);
     }
 }
 
@@ -228,17 +288,19 @@ fn reason<E: Error>(alloc: Global, fault: &E) -> Result<String, AllocError> {
     format!(in alloc; "{fault}")
 }
 
+static REASONS: [(TableFault, &str); 3] = [
+    (TableFault::NotJson, "the entity file is not a JSON object"),
+    (
+        TableFault::BadEntry,
+        "an entry of the entity file has a bad name or no characters",
+    ),
+    (TableFault::NoMemory, "no memory"),
+];
+
 #[test]
 fn a_refused_file_says_why(rt: HostRuntime) -> Result<(), Fail> {
-    for (fault, want) in [
-        (TableFault::NotJson, "the entity file is not a JSON object"),
-        (
-            TableFault::BadEntry,
-            "an entry of the entity file has a bad name or no characters",
-        ),
-        (TableFault::NoMemory, "no memory"),
-    ] {
-        assert_eq!(rt; reason(rt.alloc(), &fault)?.as_str(), want);
+    for (fault, want) in &REASONS {
+        assert_eq!(rt; reason(rt.alloc(), fault)?.as_str(), *want);
     }
     Ok(())
 }

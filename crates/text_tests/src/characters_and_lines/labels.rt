@@ -7,51 +7,70 @@ fn folded(rt: &HostRuntime, inside: &str) -> Result<Option<Label>, Fail> {
     Ok(fold_label(rt.alloc(), inside)?)
 }
 
+fn is_label(rt: &HostRuntime, inside: &str) -> Result<bool, Fail> {
+    Ok(folded(rt, inside)?.is_some())
+}
+
+fn are_alike(rt: &HostRuntime, one: &str, other: &str) -> Result<bool, Fail> {
+    Ok(folded(rt, one)? == folded(rt, other)?)
+}
+
+static MATCHING: [(&str, &str); 7] = [
+    (" \u{1E9E}  a ", "SS a"),
+    ("\u{DF}", "ss"),
+    (
+        "\u{39F}\u{394}\u{39F}\u{3A3}",
+        "\u{3BF}\u{3B4}\u{3BF}\u{3C2}",
+    ),
+    ("\u{130}", "i\u{307}"),
+    ("\u{FB03}", "FFI"),
+    ("Foo\n\t bar\r\n", "foo bar"),
+    ("a\\]b", "A\\]B"),
+];
+
+static NOT_MATCHING: [(&str, &str); 6] = [
+    ("a b", "ab"),
+    ("I", "\u{131}"),
+    ("\u{E4}", "a\u{308}"),
+    ("a\u{A0}b", "a b"),
+    ("&amp;", "&"),
+    ("\\a", "a"),
+];
+
 #[test]
 fn labels_that_match(rt: HostRuntime) -> Result<(), Fail> {
-    for (one, other) in [
-        (" \u{1E9E}  a ", "SS a"),
-        ("\u{DF}", "ss"),
-        (
-            "\u{39F}\u{394}\u{39F}\u{3A3}",
-            "\u{3BF}\u{3B4}\u{3BF}\u{3C2}",
-        ),
-        ("\u{130}", "i\u{307}"),
-        ("\u{FB03}", "FFI"),
-        ("Foo\n\t bar\r\n", "foo bar"),
-        ("a\\]b", "A\\]B"),
-    ] {
-        let one_label = folded(&rt, one)?;
-        assert!(rt; one_label.is_some(), "{one:?}");
-        assert_eq!(rt; one_label, folded(&rt, other)?, "{one:?}");
+    for &(one, other) in &MATCHING {
+        assert!(rt; is_label(&rt, one)?, "{one:?}");
+        assert!(rt; are_alike(&rt, one, other)?, "{one:?}");
     }
-    for (one, other) in [
-        ("a b", "ab"),
-        ("I", "\u{131}"),
-        ("\u{E4}", "a\u{308}"),
-        ("a\u{A0}b", "a b"),
-        ("&amp;", "&"),
-        ("\\a", "a"),
-    ] {
-        assert_ne!(rt; folded(&rt, one)?, folded(&rt, other)?, "{one:?}");
+    for &(one, other) in &NOT_MATCHING {
+        assert!(rt; !are_alike(&rt, one, other)?, "{one:?}");
     }
     Ok(())
+}
+
+fn is_behind(rt: &HostRuntime, one: &str, other: &str) -> Result<bool, Fail> {
+    Ok(folded(rt, one)? > folded(rt, other)?)
 }
 
 #[test]
 fn labels_in_order(rt: HostRuntime) -> Result<(), Fail> {
-    assert!(rt; folded(&rt, "B")? > folded(&rt, "a")?);
-    assert!(rt; folded(&rt, "ab")? > folded(&rt, "A")?);
+    assert!(rt; is_behind(&rt, "B", "a")?);
+    assert!(rt; is_behind(&rt, "ab", "A")?);
     Ok(())
 }
 
+static NO_LABELS: [&str; 7] = ["", "  ", "\t\n", "a]", "[a", "a\\\\]", "\\\\["];
+
+static ODD_LABELS: [&str; 4] = ["\\", "\\]", "\\[\\\\", "\u{A0}"];
+
 #[test]
 fn no_labels(rt: HostRuntime) -> Result<(), Fail> {
-    for inside in ["", "  ", "\t\n", "a]", "[a", "a\\\\]", "\\\\["] {
-        assert_eq!(rt; folded(&rt, inside)?, None, "{inside:?}");
+    for &inside in &NO_LABELS {
+        assert!(rt; !is_label(&rt, inside)?, "{inside:?}");
     }
-    for inside in ["\\", "\\]", "\\[\\\\", "\u{A0}"] {
-        assert!(rt; folded(&rt, inside)?.is_some(), "{inside:?}");
+    for &inside in &ODD_LABELS {
+        assert!(rt; is_label(&rt, inside)?, "{inside:?}");
     }
     Ok(())
 }
@@ -62,9 +81,9 @@ fn labels_of_999_characters(rt: HostRuntime) -> Result<(), Fail> {
     for _ in 0..999 {
         letters.push('\u{E4}')?;
     }
-    assert!(rt; folded(&rt, letters.as_str())?.is_some());
+    assert!(rt; is_label(&rt, letters.as_str())?);
     letters.push('a')?;
-    assert_eq!(rt; folded(&rt, letters.as_str())?, None);
+    assert!(rt; !is_label(&rt, letters.as_str())?);
     Ok(())
 }
 
@@ -86,11 +105,13 @@ fn labels_are_shown_by_their_text(rt: HostRuntime) -> Result<(), Fail> {
     Ok(())
 }
 
+static REFUSED: [&str; 5] = ["", " ", "a]", "[", "a\n["];
+
 #[test]
 fn what_is_no_label_leaves_a_label_as_it_was(rt: HostRuntime) -> Result<(), Fail> {
     let mut label = Label::new(rt.alloc());
     assert!(rt; label.fold(rt.alloc(), "Foo bar")?);
-    for inside in ["", " ", "a]", "[", "a\n["] {
+    for &inside in &REFUSED {
         assert!(rt; !label.fold(rt.alloc(), inside)?, "{inside:?}");
         assert_eq!(rt; label.as_str(), "foo bar", "{inside:?}");
     }

@@ -2,7 +2,7 @@
 
 ghost use Rattle.std.specs.Prelude.{◌<◌, IfSome, length};
 
-use super::runs_of;
+use super::{check_match, runs_of};
 use mdpair::{DelimiterRun, Match, pair};
 use std::alloc::{AllocError, Global};
 use std::process::Abort;
@@ -119,20 +119,20 @@ fn compare(rt: &impl Abort, alloc: Global, text: &str) -> Result<(), AllocError>
     let wants = search(alloc, &runs)?;
     assert_eq!(rt; matches.len(), wants.len(), "in {text:?}");
     for (matched, want) in matches.iter().zip(&wants) {
-        assert_eq!(rt; matched.opener, want.opener, "in {text:?}");
-        assert_eq!(rt; matched.closer, want.closer, "in {text:?}");
-        assert_eq!(rt; matched.width, want.width, "in {text:?}");
+        check_match(rt, matched, (want.opener, want.closer, want.width), text);
     }
     Ok(())
 }
+
+/// How many texts of four characters there are of no character, of one, and so on.
+static TEXTS_OF_LENGTH: [usize; 9] = [1, 4, 16, 64, 256, 1024, 4096, 16384, 65536];
 
 /// All texts of up to eight of the characters `*`, `_`, `a` and the space: 87,381.
 #[test]
 fn pairs_as_a_plain_search(rt: HostRuntime) -> Result<(), Fail> {
     let alloc = rt.alloc();
-    let counts = [1, 4, 16, 64, 256, 1024, 4096, 16384, 65536];
-    for (len, count) in counts.into_iter().enumerate() {
-        for number in 0..count {
+    for (len, count) in TEXTS_OF_LENGTH.iter().enumerate() {
+        for number in 0..*count {
             let text = text_of(alloc, number, len)?;
             compare(&rt, alloc, &text)?;
         }

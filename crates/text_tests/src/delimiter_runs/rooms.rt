@@ -5,6 +5,8 @@ use std::alloc::{AllocError, Global};
 use std::process::Abort;
 use std::test::Fail;
 
+static SIDES: [bool; 2] = [true, false];
+
 /// So many runs that open, and as many that close. Tildes are of many lengths, each of which is a kind of its own.
 fn runs_of(
     alloc: Global,
@@ -12,7 +14,7 @@ fn runs_of(
     count: usize,
 ) -> Result<Vec<DelimiterRun>, AllocError> {
     let mut runs = Vec::new(alloc);
-    for opens in [true, false] {
+    for &opens in &SIDES {
         for place in 0..count {
             let length = match delimiter {
                 DelimiterChar::Tilde => place + 1,
@@ -29,22 +31,30 @@ fn runs_of(
     Ok(runs)
 }
 
+fn compare_one(rt: &impl Abort, matched: &Match, want: &Match, count: usize) {
+    let found = (matched.opener, matched.closer, matched.width);
+    let wanted = (want.opener, want.closer, want.width);
+    assert_eq!(rt; found, wanted, "{count} runs");
+}
+
 fn compare(rt: &impl Abort, matches: &[Match], wants: &[Match], count: usize) {
     assert_eq!(rt; matches.len(), wants.len(), "{count} runs");
     for (matched, want) in matches.iter().zip(wants) {
-        assert_eq!(rt; matched.opener, want.opener, "{count} runs");
-        assert_eq!(rt; matched.closer, want.closer, "{count} runs");
-        assert_eq!(rt; matched.width, want.width, "{count} runs");
+        compare_one(rt, matched, want, count);
     }
 }
+
+static DELIMITERS: [DelimiterChar; 2] = [DelimiterChar::Asterisk, DelimiterChar::Tilde];
+
+static COUNTS: [usize; 6] = [63, 64, 65, 200, 66, 3];
 
 /// What is paired after a room was given back is paired as by itself.
 #[test]
 fn a_pairing_pairs_as_the_function(rt: HostRuntime) -> Result<(), Fail> {
     let alloc = rt.alloc();
     let mut pairing = Pairing::new(alloc);
-    for delimiter in [DelimiterChar::Asterisk, DelimiterChar::Tilde] {
-        for count in [63, 64, 65, 200, 66, 3] {
+    for &delimiter in &DELIMITERS {
+        for &count in &COUNTS {
             let runs = runs_of(alloc, delimiter, count)?;
             let wants = pair(alloc, &runs)?;
             for _ in 0..2 {
