@@ -2,6 +2,8 @@
 
 use mdleaf::{Definition, Leading, is_only_definitions, leading_definitions};
 use mdtext::Entities;
+use std::alloc::{AllocError, Global};
+use std::process::Abort;
 use std::test::Fail;
 
 static FRONTS: [(&str, &[(&str, &str, &str)], usize); 52] = [
@@ -128,25 +130,41 @@ fn is_defined(found: &Definition, label: &str, url: &str, title: &str) -> bool {
         && found.target.title.as_str() == title
 }
 
+fn check_front(
+    rt: &impl Abort,
+    leading: &Leading,
+    defined: &[(&str, &str, &str)],
+    rest: usize,
+    text: &str,
+) {
+    assert_eq!(rt; leading.rest, rest, "at {text}");
+    assert!(rt; are_defined(&leading.definitions, defined), "at {text}");
+}
+
 /// The paragraphs of the standard's section, and borders: what is defined, and where the rest begins.
 #[test]
 fn definitions_at_the_front(rt: HostRuntime) -> Result<(), Fail> {
     for &(text, defined, rest) in &FRONTS {
         let leading = lead(&rt, text)?;
-        assert_eq!(rt; leading.rest, rest, "at {text}");
-        assert!(rt; are_defined(&leading.definitions, defined), "at {text}");
+        check_front(&rt, &leading, defined, rest, text);
         assert_eq!(rt; is_only_definitions(text), rest == text.len(), "at {text}");
     }
     Ok(())
 }
 
-/// A thousand definitions in one paragraph, and a line of text.
-#[test]
-fn a_thousand_definitions(rt: HostRuntime) -> Result<(), Fail> {
-    let mut text = String::new(rt.alloc());
+/// A thousand definitions.
+fn thousand(alloc: Global) -> Result<String, AllocError> {
+    let mut text = String::new(alloc);
     for _ in 0..1000 {
         text.push_str("[a]: /u 't'\n")?;
     }
+    Ok(text)
+}
+
+/// A thousand definitions in one paragraph, and a line of text.
+#[test]
+fn a_thousand_definitions(rt: HostRuntime) -> Result<(), Fail> {
+    let mut text = thousand(rt.alloc())?;
     assert!(rt; is_only_definitions(text.as_str()));
     text.push_str("b")?;
     let leading = lead(&rt, text.as_str())?;

@@ -100,13 +100,22 @@ static AUTOLINKS: [(&str, &[Angle]); 19] = [
     ("foo@bar.example.com", &[]),
 ];
 
+fn check_tag(rt: &impl Abort, text: &str, at: usize, want: Option<usize>) {
+    assert!(rt; text.is_char_boundary(at));
+    assert_eq!(rt; html_tag(text, at), want, "at {at} of {text}");
+}
+
+fn check_link(rt: &impl Abort, text: &str, at: usize, want: Option<(usize, bool)>) {
+    assert!(rt; text.is_char_boundary(at));
+    let found = autolink(text, at).map(|it| (it.end, it.mail));
+    assert_eq!(rt; found, want, "at {at} of {text}");
+}
+
 fn compare(rt: &impl Abort, rows: &[(&str, &[Angle])]) {
     for &(text, places) in rows {
         for &(at, tag, link) in places {
-            assert!(rt; text.is_char_boundary(at));
-            assert_eq!(rt; html_tag(text, at), tag, "at {at} of {text}");
-            let found = autolink(text, at).map(|it| (it.end, it.mail));
-            assert_eq!(rt; found, link, "at {at} of {text}");
+            check_tag(rt, text, at, tag);
+            check_link(rt, text, at, link);
         }
     }
 }

@@ -2,6 +2,7 @@
 
 use mdscan::*;
 use std::alloc::AllocError;
+use std::process::Abort;
 
 static THEMATIC_BREAKS: [(&str, bool); 15] = [
     ("***", true),
@@ -296,14 +297,19 @@ static ALIGNMENTS: [(&str, usize, Align); 15] = [
     (":--|--:|:-:|-", 3, Align::Plain),
 ];
 
+/// The alignment of a column, if there is one.
+fn column_align(line: &str, column: usize) -> Option<Align> {
+    match delimiter_row(line) {
+        Some(columns) if column < columns => Some(align_at(line, column)),
+        _ => None,
+    }
+}
+
 /// A colon at either end, at both and at none.
 #[test]
 fn alignments(rt: HostRuntime) {
     for &(line, column, want) in &ALIGNMENTS {
-        let found = match delimiter_row(line) {
-            Some(columns) if column < columns => Some(align_at(line, column)),
-            _ => None,
-        };
+        let found = column_align(line, column);
         assert_eq!(rt; found, Some(want), "at {line}, {column}");
     }
 }
@@ -375,16 +381,20 @@ static ROW_CELLS: [(&str, &[(usize, usize)]); 18] = [
     (" \\| a", &[(1, 5)]),
 ];
 
+fn check_cells(rt: &impl Abort, found: &[Span], want: &[(usize, usize)], row: &str) {
+    assert_eq!(rt; found.len(), want.len(), "at {row}");
+    for (cell, part) in found.iter().zip(want) {
+        assert_eq!(rt; (cell.start, cell.end), *part, "at {row}");
+    }
+}
+
 /// Bars at the ends and after backslashes.
 #[test]
 fn row_cells(rt: HostRuntime) -> Result<(), AllocError> {
     for &(row, want) in &ROW_CELLS {
-        let found = cells(rt.alloc(), row)?;
-        assert_eq!(rt; found.len(), want.len(), "at {row}");
         assert_eq!(rt; cell_count(row), want.len(), "at {row}");
-        for (cell, part) in found.iter().zip(want) {
-            assert_eq!(rt; (cell.start, cell.end), *part, "at {row}");
-        }
+        let found = cells(rt.alloc(), row)?;
+        check_cells(&rt, &found, want, row);
     }
     Ok(())
 }

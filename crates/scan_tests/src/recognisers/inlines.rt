@@ -4,7 +4,7 @@
 ghost use Rattle.std.specs.Str.{IsCharBoundary};
 
 use mdscan::*;
-use std::alloc::AllocError;
+use std::alloc::{AllocError, Global};
 
 type Pair = Option<(usize, usize)>;
 
@@ -345,27 +345,35 @@ fn definitions(rt: HostRuntime) {
     }
 }
 
+/// So many letters in brackets.
+fn label_of(alloc: Global, letter: &str, count: usize) -> Result<String, AllocError> {
+    let mut text = String::from_str(alloc, "[")?;
+    for _ in 0..count {
+        text.push_str(letter)?;
+    }
+    text.push_str("]")?;
+    Ok(text)
+}
+
+/// Whether a label stands at a text's beginning.
+fn has_label(text: &str) -> bool {
+    whole(text);
+    link_label(text, 0).is_some()
+}
+
+static LONG_LABELS: [(&str, usize, bool); 4] = [
+    ("a", 999, true),
+    ("a", 1000, false),
+    ("ä", 999, true),
+    ("ä", 1000, false),
+];
+
 /// Labels of 999 and of 1,000 characters, of one byte and of two.
 #[test]
 fn long_labels(rt: HostRuntime) -> Result<(), AllocError> {
-    let rows: [(&str, usize, bool); 4] = [
-        ("a", 999, true),
-        ("a", 1000, false),
-        ("ä", 999, true),
-        ("ä", 1000, false),
-    ];
-    for (letter, count, want) in rows {
-        let mut text = String::from_str(rt.alloc(), "[")?;
-        for _ in 0..count {
-            text.push_str(letter)?;
-        }
-        text.push_str("]")?;
-        whole(text.as_str());
-        assert_eq!(rt;
-            link_label(text.as_str(), 0).is_some(),
-            want,
-            "at {count} of {letter}"
-        );
+    for &(letter, count, want) in &LONG_LABELS {
+        let text = label_of(rt.alloc(), letter, count)?;
+        assert_eq!(rt; has_label(&text), want, "at {count} of {letter}");
     }
     Ok(())
 }

@@ -430,12 +430,16 @@ static DEFINITIONS: [(&str, &[Label]); 27] = [
     ("[foo]\n\n> [foo]: /url", &[(0, Some(4)), (9, Some(13))]),
 ];
 
+fn check_place(rt: &impl Abort, text: &str, at: usize, end: Option<usize>) {
+    assert!(rt; text.is_char_boundary(at));
+    let found = link_label(text, at).map(|it| (it.start, it.end));
+    assert_eq!(rt; found, end.map(|end| (at + 1, end)), "at {at} of {text}");
+}
+
 fn compare(rt: &impl Abort, rows: &[(&str, &[Label])]) {
     for &(text, places) in rows {
         for &(at, end) in places {
-            assert!(rt; text.is_char_boundary(at));
-            let found = link_label(text, at).map(|it| (it.start, it.end));
-            assert_eq!(rt; found, end.map(|end| (at + 1, end)), "at {at} of {text}");
+            check_place(rt, text, at, end);
         }
     }
 }

@@ -191,16 +191,16 @@ fn ends(span: Option<Span>) -> Pair {
     span.map(|span| (span.start, span.end))
 }
 
+fn check_place(rt: &impl Abort, text: &str, at: usize, want: Option<(Pair, Pair, usize)>) {
+    assert!(rt; text.is_char_boundary(at));
+    let found = inline_tail(text, at).map(|it| (ends(it.destination), ends(it.title), it.end));
+    assert_eq!(rt; found, want, "at {at} of {text}");
+}
+
 fn compare(rt: &impl Abort, rows: &[(&str, &[Inline])]) {
     for &(text, places) in rows {
         for &(at, want) in places {
-            assert!(rt; text.is_char_boundary(at));
-            let found = inline_tail(text, at).map(|it| (
-                ends(it.destination),
-                ends(it.title),
-                it.end,
-            ));
-            assert_eq!(rt; found, want, "at {at} of {text}");
+            check_place(rt, text, at, want);
         }
     }
 }

@@ -223,12 +223,16 @@ static DEFINITIONS: [(&str, &[Part]); 22] = [
     ),
 ];
 
+fn check_place(rt: &impl Abort, text: &str, at: usize, want: Option<(usize, usize, usize)>) {
+    assert!(rt; text.is_char_boundary(at));
+    let found = title(text, at).map(|it| (it.span.start, it.span.end, it.end));
+    assert_eq!(rt; found, want, "at {at} of {text}");
+}
+
 fn compare(rt: &impl Abort, rows: &[(&str, &[Part])]) {
     for &(text, places) in rows {
         for &(at, want) in places {
-            assert!(rt; text.is_char_boundary(at));
-            let found = title(text, at).map(|it| (it.span.start, it.span.end, it.end));
-            assert_eq!(rt; found, want, "at {at} of {text}");
+            check_place(rt, text, at, want);
         }
     }
 }
