@@ -255,28 +255,31 @@ fn files_that_are_refused(rt: HostRuntime) {
     }
 }
 
+/// Some names of HTML, and some that it has not.
+static NAMES_OF_HTML: [(&str, Option<&str>); 17] = [
+    ("AElig", Some("\u{C6}")),
+    ("AMP", Some("&")),
+    ("Afr", Some("\u{1D504}")),
+    ("ClockwiseContourIntegral", Some("\u{2232}")),
+    ("NewLine", Some("\n")),
+    ("NotEqualTilde", Some("\u{2242}\u{338}")),
+    ("QUOT", Some("\"")),
+    ("Tab", Some("\t")),
+    ("bsol", Some("\\")),
+    ("num", Some("#")),
+    ("sup", Some("\u{2283}")),
+    ("sup1", Some("\u{B9}")),
+    ("zwnj", Some("\u{200C}")),
+    ("aelig;", None),
+    ("amP", None),
+    ("MadeUpEntity", None),
+    ("", None),
+];
+
 #[test]
 fn names_of_html(rt: HostRuntime) -> Result<(), Fail> {
     let entities = Entities::html(rt.alloc())?;
-    for (name, want) in [
-        ("AElig", Some("\u{C6}")),
-        ("AMP", Some("&")),
-        ("Afr", Some("\u{1D504}")),
-        ("ClockwiseContourIntegral", Some("\u{2232}")),
-        ("NewLine", Some("\n")),
-        ("NotEqualTilde", Some("\u{2242}\u{338}")),
-        ("QUOT", Some("\"")),
-        ("Tab", Some("\t")),
-        ("bsol", Some("\\")),
-        ("num", Some("#")),
-        ("sup", Some("\u{2283}")),
-        ("sup1", Some("\u{B9}")),
-        ("zwnj", Some("\u{200C}")),
-        ("aelig;", None),
-        ("amP", None),
-        ("MadeUpEntity", None),
-        ("", None),
-    ] {
+    for &(name, want) in &NAMES_OF_HTML {
         assert_eq!(rt; entities.get(name), want, "{name:?}");
     }
     let shown = format!(in rt.alloc(); "{entities:?}")?;
