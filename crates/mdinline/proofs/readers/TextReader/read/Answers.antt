@@ -12,4 +12,4 @@ pub returns-clause-tree : goal.returns-clause-tree
 returns-clause-tree g c =
     let new = c.new-builder.ensures in
     let built = tree_read c.args.self.now.entities.now (g.L.Labels.target c.args.labels.now) c.args.text.now c.new-builder.result c.in_ok-built.built new.events new.frames new.joined c.in_ok-built.ensures.takes in
-    c.in_ok-parsed.ensures.tree ∙ c.in_ok-row.ensures built.closed built.joined ∙ built.tree
+    c.in_ok-parsed.ensures.tree ∙ c.in_ok-row.ensures.tree built.closed built.joined ∙ built.tree
