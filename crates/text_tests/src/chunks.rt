@@ -156,7 +156,8 @@ fn weighed_members(alloc: Global) -> Result<Vec<Number>, AllocError> {
 }
 
 fn found(chunks: &Chunks<Number>, weight: usize) -> Option<(usize, usize)> {
-    chunks.find(weight).map(|place| (place.member, place.front))
+    let place = chunks.find(weight)?;
+    Some((place.member, place.front))
 }
 
 fn weight_before(chunks: &Chunks<Number>, i: usize) -> Option<usize> {

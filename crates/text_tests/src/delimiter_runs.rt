@@ -23,10 +23,19 @@ fn runs_of(alloc: Global, text: &str) -> Result<Vec<DelimiterRun>, AllocError> {
     Ok(runs)
 }
 
-/// Compares a match with an opener, a closer and a width.
-fn check_match(rt: &impl Abort, matched: &Match, want: (usize, usize, usize), text: &str) {
-    let found = (matched.opener, matched.closer, matched.width);
-    assert_eq!(rt; found, want, "in {text:?}");
+/// Whether a match has this opener, this closer and this width.
+fn is_match(matched: &Match, opener: usize, closer: usize, width: usize) -> bool {
+    matched.opener == opener && matched.closer == closer && matched.width == width
+}
+
+/// Whether the matches are those.
+fn are_matches(matches: &[Match], wants: &[Match]) -> bool {
+    for (matched, want) in matches.iter().zip(wants) {
+        if !is_match(matched, want.opener, want.closer, want.width) {
+            return false;
+        }
+    }
+    matches.len() == wants.len()
 }
 
 fn check(
@@ -38,8 +47,8 @@ fn check(
     let runs = runs_of(alloc, text)?;
     let matches = pair(alloc, &runs)?;
     assert_eq!(rt; matches.len(), want.len(), "in {text}");
-    for (matched, want) in matches.iter().zip(want) {
-        check_match(rt, matched, *want, text);
+    for (matched, &(opener, closer, width)) in matches.iter().zip(want) {
+        assert!(rt; is_match(matched, opener, closer, width), "in {text}");
     }
     Ok(())
 }
@@ -87,7 +96,8 @@ fn runs_are_paired(rt: HostRuntime) -> Result<(), Fail> {
 
 /// The length of the run at a byte, and whether it can open and can close.
 fn run_at(text: &str, at: usize) -> Option<(usize, bool, bool)> {
-    delimiter_run(text, at).map(|run| (run.length, run.can_open, run.can_close))
+    let run = delimiter_run(text, at)?;
+    Some((run.length, run.can_open, run.can_close))
 }
 
 /// Texts, and a byte of each at which no run begins.

@@ -2,7 +2,7 @@
 
 ghost use Rattle.std.specs.Prelude.{◌<◌, IfSome, length};
 
-use super::{check_match, runs_of};
+use super::{are_matches, runs_of};
 use mdpair::{DelimiterRun, Match, pair};
 use std::alloc::{AllocError, Global};
 use std::process::Abort;
@@ -117,10 +117,7 @@ fn compare(rt: &impl Abort, alloc: Global, text: &str) -> Result<(), AllocError>
     let runs = runs_of(alloc, text)?;
     let matches = pair(alloc, &runs)?;
     let wants = search(alloc, &runs)?;
-    assert_eq!(rt; matches.len(), wants.len(), "in {text:?}");
-    for (matched, want) in matches.iter().zip(&wants) {
-        check_match(rt, matched, (want.opener, want.closer, want.width), text);
-    }
+    assert!(rt; are_matches(&matches, &wants), "in {text:?}");
     Ok(())
 }
 

@@ -1,8 +1,8 @@
 //! Texts of more and of fewer runs than a pairing keeps room for.
 
+use super::are_matches;
 use mdpair::{DelimiterChar, DelimiterRun, Match, Pairing, pair};
 use std::alloc::{AllocError, Global};
-use std::process::Abort;
 use std::test::Fail;
 
 static SIDES: [bool; 2] = [true, false];
@@ -31,19 +31,6 @@ fn runs_of(
     Ok(runs)
 }
 
-fn compare_one(rt: &impl Abort, matched: &Match, want: &Match, count: usize) {
-    let found = (matched.opener, matched.closer, matched.width);
-    let wanted = (want.opener, want.closer, want.width);
-    assert_eq!(rt; found, wanted, "{count} runs");
-}
-
-fn compare(rt: &impl Abort, matches: &[Match], wants: &[Match], count: usize) {
-    assert_eq!(rt; matches.len(), wants.len(), "{count} runs");
-    for (matched, want) in matches.iter().zip(wants) {
-        compare_one(rt, matched, want, count);
-    }
-}
-
 static DELIMITERS: [DelimiterChar; 2] = [DelimiterChar::Asterisk, DelimiterChar::Tilde];
 
 static COUNTS: [usize; 6] = [63, 64, 65, 200, 66, 3];
@@ -59,7 +46,8 @@ fn a_pairing_pairs_as_the_function(rt: HostRuntime) -> Result<(), Fail> {
             let wants = pair(alloc, &runs)?;
             for _ in 0..2 {
                 pairing.pair(&runs)?;
-                compare(&rt, pairing.matches(), &wants, count);
+                let is_same = are_matches(pairing.matches(), &wants);
+                assert!(rt; is_same, "{count} runs");
             }
             pairing.let_go();
         }
