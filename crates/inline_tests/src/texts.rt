@@ -10,13 +10,12 @@ mod readers;
 mod references;
 mod rows;
 
-ghost use Rattle.std.specs.Prelude.{◌≤◌};
-
 use self::rows::{parsed_of, read_within};
 use mdinline::{Inline, InlineFault, LabelTable, Labels, read};
 use mdtext::{Entities, Label, Tally, Target, fold_label};
 use std::alloc::{AllocError, Global};
 use std::error::Error;
+use std::process::Abort;
 use std::test::Fail;
 
 fn target(alloc: Global, url: &str) -> Result<Target, AllocError> {
@@ -39,34 +38,55 @@ fn url_of<'a>(table: &'a LabelTable, label: &Label) -> &'a str {
     }
 }
 
+fn add(alloc: Global, table: &mut LabelTable, text: &str, url: &str) -> Result<(), Fail> {
+    let name = label(alloc, text)?.ok_or("no label")?;
+    table.add(name, target(alloc, url)?)?;
+    Ok(())
+}
+
+fn check_url(
+    rt: &impl Abort,
+    alloc: Global,
+    table: &LabelTable,
+    text: &str,
+    want: &str,
+) -> Result<(), Fail> {
+    let name = label(alloc, text)?.ok_or("no label")?;
+    assert_eq!(rt; url_of(table, &name), want, "at {text}");
+    Ok(())
+}
+
+static ADDED: [(&str, &str); 4] = [
+    ("foo", "/a"),
+    ("bar", "/b"),
+    ("FOO", "/c"),
+    ("\u{1E9E}", "/d"),
+];
+
+static FOUND: [(&str, &str); 4] = [("Foo", "/a"), ("bar", "/b"), ("SS", "/d"), ("baz", "")];
+
 #[test]
 fn labels_keep_their_first_target(rt: HostRuntime) -> Result<(), Fail> {
     let alloc = rt.alloc();
     let mut table = LabelTable::new(alloc);
-    let rows = [
-        ("foo", "/a"),
-        ("bar", "/b"),
-        ("FOO", "/c"),
-        ("\u{1E9E}", "/d"),
-    ];
-    for (text, url) in rows {
-        let name = label(alloc, text)?.ok_or("no label")?;
-        table.add(name, target(alloc, url)?)?;
+    for &(text, url) in &ADDED {
+        add(alloc, &mut table, text, url)?;
     }
-    let wants = [("Foo", "/a"), ("bar", "/b"), ("SS", "/d"), ("baz", "")];
-    for (text, url) in wants {
-        let name = label(alloc, text)?.ok_or("no label")?;
-        assert_eq!(rt; url_of(&table, &name), url, "at {text}");
+    for &(text, url) in &FOUND {
+        check_url(&rt, alloc, &table, text, url)?;
     }
     Ok(())
 }
 
+fn emphasised(alloc: Global, text: &str) -> Result<Inline, AllocError> {
+    let mut inner = Vec::new(alloc);
+    inner.push(Inline::Text(String::from_str(alloc, text)?))?;
+    Ok(Inline::Emph(inner))
+}
+
 #[test]
 fn trees_are_compared(rt: HostRuntime) -> Result<(), Fail> {
-    let alloc = rt.alloc();
-    let mut inner = Vec::new(alloc);
-    inner.push(Inline::Text(String::from_str(alloc, "a")?))?;
-    let emph = Inline::Emph(inner);
+    let emph = emphasised(rt.alloc(), "a")?;
     assert!(rt; emph == emph);
     assert!(rt; emph != Inline::Hard);
     Ok(())
@@ -99,97 +119,108 @@ fn is_too_deep(
     opener: &str,
     inside: &str,
     closer: &str,
-) -> Result<bool, AllocError>
-    requires least { 1 ≤ limit }
-    requires most { limit ≤ 256 }
-{
+) -> Result<bool, Fail> {
     let text = nested(alloc, count, opener, inside, closer)?;
     let read = read_within(alloc, text.as_str(), &[("k", "/u", "")], limit)?;
     Ok(matches!(read, Err(InlineFault::TooDeep)))
 }
 
-#[test]
-fn spans_nest_up_to_64(rt: HostRuntime) -> Result<(), Fail> {
-    let alloc = rt.alloc();
-    let rows = [
-        (64, "*a ", "b", " a*", false),
-        (65, "*a ", "b", " a*", true),
-        (63, "*a ", "[k]", " a*", false),
-        (64, "*a ", "[k]", " a*", true),
-        (64, "*a ", "[m]", " a*", false),
-        (64, "![", "a", "](/u)", false),
-        (65, "![", "a", "](/u)", true),
-        (128, "*", "a", "*", false),
-        (129, "*", "a", "*", true),
-        (64, "~~a ", "b", " a~~", false),
-        (65, "~~a ", "b", " a~~", true),
-        (63, "*a ", "<ab:c>", " a*", false),
-        (64, "*a ", "<ab:c>", " a*", true),
-        (1000, "[", "a", "](/u)", false),
-        (20000, "*", "a", "*", true),
-    ];
-    for (count, opener, inside, closer, want) in rows {
-        let refused = is_too_deep(alloc, 64, count, opener, inside, closer)?;
-        assert_eq!(rt; refused, want, "at {count} {opener} {inside}");
+/// How many spans may lie in one another, how many do, their opener, what is in the last one, their closer, and
+/// whether the text is refused.
+type Depth = (usize, usize, &'static str, &'static str, &'static str, bool);
+
+fn check_depths(rt: &impl Abort, alloc: Global, rows: &[Depth]) -> Result<(), Fail> {
+    for &(limit, count, opener, inside, closer, want) in rows {
+        let refused = is_too_deep(alloc, limit, count, opener, inside, closer)?;
+        assert_eq!(rt; refused, want, "at {count} {opener} {inside} of {limit}");
     }
     Ok(())
 }
 
+static DEPTHS: [Depth; 15] = [
+    (64, 64, "*a ", "b", " a*", false),
+    (64, 65, "*a ", "b", " a*", true),
+    (64, 63, "*a ", "[k]", " a*", false),
+    (64, 64, "*a ", "[k]", " a*", true),
+    (64, 64, "*a ", "[m]", " a*", false),
+    (64, 64, "![", "a", "](/u)", false),
+    (64, 65, "![", "a", "](/u)", true),
+    (64, 128, "*", "a", "*", false),
+    (64, 129, "*", "a", "*", true),
+    (64, 64, "~~a ", "b", " a~~", false),
+    (64, 65, "~~a ", "b", " a~~", true),
+    (64, 63, "*a ", "<ab:c>", " a*", false),
+    (64, 64, "*a ", "<ab:c>", " a*", true),
+    (64, 1000, "[", "a", "](/u)", false),
+    (64, 20000, "*", "a", "*", true),
+];
+
+#[test]
+fn spans_nest_up_to_64(rt: HostRuntime) -> Result<(), Fail> {
+    check_depths(&rt, rt.alloc(), &DEPTHS)
+}
+
+static OTHER_LIMITS: [Depth; 16] = [
+    (1, 1, "*a ", "b", " a*", false),
+    (1, 2, "*a ", "b", " a*", true),
+    (1, 1, "[", "a", "](/u)", false),
+    (1, 1, "[", "*a*", "](/u)", true),
+    (1, 1, "![", "a", "](/u)", false),
+    (1, 2, "![", "a", "](/u)", true),
+    (1, 1, "", "<ab:c>", "", false),
+    (1, 1, "*", "<ab:c>", "*", true),
+    (2, 2, "*a ", "b", " a*", false),
+    (2, 3, "*a ", "b", " a*", true),
+    (256, 256, "*a ", "b", " a*", false),
+    (256, 256, "![", "b", "](/u)", false),
+    (256, 256, "~~a ", "b", " a~~", false),
+    (256, 257, "*a ", "b", " a*", true),
+    (256, 257, "![", "b", "](/u)", true),
+    (256, 257, "~~a ", "b", " a~~", true),
+];
+
 #[test]
 fn the_limit_is_handed_in(rt: HostRuntime) -> Result<(), Fail> {
-    let alloc = rt.alloc();
-    let rows = [
-        (1, "*a ", "b", " a*", false),
-        (2, "*a ", "b", " a*", true),
-        (1, "[", "a", "](/u)", false),
-        (1, "[", "*a*", "](/u)", true),
-        (1, "![", "a", "](/u)", false),
-        (2, "![", "a", "](/u)", true),
-        (1, "", "<ab:c>", "", false),
-        (1, "*", "<ab:c>", "*", true),
-    ];
-    for (count, opener, inside, closer, want) in rows {
-        let refused = is_too_deep(alloc, 1, count, opener, inside, closer)?;
-        assert_eq!(rt; refused, want, "at {count} {opener} {inside} of 1");
-    }
-    for (count, want) in [(2, false), (3, true)] {
-        let refused = is_too_deep(alloc, 2, count, "*a ", "b", " a*")?;
-        assert_eq!(rt; refused, want, "at {count} of 2");
-    }
-    for (count, want) in [(256, false), (257, true)] {
-        for (opener, closer) in [("*a ", " a*"), ("![", "](/u)"), ("~~a ", " a~~")] {
-            let refused = is_too_deep(alloc, 256, count, opener, "b", closer)?;
-            assert_eq!(rt; refused, want, "at {count} {opener} of 256");
-        }
-    }
+    check_depths(&rt, rt.alloc(), &OTHER_LIMITS)
+}
+
+/// Reads a text without definitions, and counts that.
+fn count(alloc: Global, text: &str, tally: &mut Tally) -> Result<(), AllocError> {
+    let labels = LabelTable::new(alloc);
+    let entities = Entities::builtin(alloc)?;
+    let _ = read(alloc, text, &labels, &entities, 64, tally);
     Ok(())
 }
 
 #[test]
 fn each_text_is_counted_once(rt: HostRuntime) -> Result<(), Fail> {
     let alloc = rt.alloc();
-    let labels = LabelTable::new(alloc);
-    let entities = Entities::builtin(alloc)?;
     let mut tally = Tally::new();
+    count(alloc, "", &mut tally)?;
+    count(alloc, "*a* [b](/u)", &mut tally)?;
     let deep = nested(alloc, 129, "*", "a", "*")?;
-    for text in ["", "*a* [b](/u)", deep.as_str()] {
-        let _ = read(alloc, text, &labels, &entities, 64, &mut tally);
-    }
+    count(alloc, &deep, &mut tally)?;
     assert_eq!(rt; tally.inlines(), 3);
     assert_eq!(rt; tally.lines(), 0);
     Ok(())
 }
 
+/// How many inlines there are in so long a run of a mark.
+fn inlines_of_marks(alloc: Global, mark: &str) -> Result<usize, Fail> {
+    let text = nested(alloc, 500, mark, "", "")?;
+    let parsed = parsed_of(alloc, text.as_str(), &[])?;
+    Ok(parsed.tree().len())
+}
+
+static MARKS: [&str; 12] = [
+    "*", "_", "~", "[", "![", "](", "`", "<", "<!--", "<?", "&", "\\\\",
+];
+
 /// A run of backticks that nothing closes is text, however many there are.
 #[test]
 fn unclosed_runs_are_text(rt: HostRuntime) -> Result<(), Fail> {
-    let alloc = rt.alloc();
-    for mark in [
-        "*", "_", "~", "[", "![", "](", "`", "<", "<!--", "<?", "&", "\\\\",
-    ] {
-        let text = nested(alloc, 500, mark, "", "")?;
-        let parsed = parsed_of(alloc, text.as_str(), &[])?;
-        assert_eq!(rt; parsed.tree().len(), 1, "at {mark}");
+    for &mark in &MARKS {
+        assert_eq!(rt; inlines_of_marks(rt.alloc(), mark)?, 1, "at {mark}");
     }
     Ok(())
 }
@@ -198,16 +229,18 @@ fn reason<E: Error>(alloc: Global, fault: &E) -> Result<String, AllocError> {
     format!(in alloc; "{fault}")
 }
 
+static REASONS: [(InlineFault, &str); 2] = [
+    (
+        InlineFault::TooDeep,
+        "a span of the text lies in too many others",
+    ),
+    (InlineFault::NoMemory, "no memory"),
+];
+
 #[test]
 fn a_fault_says_why(rt: HostRuntime) -> Result<(), Fail> {
-    for (fault, want) in [
-        (
-            InlineFault::TooDeep,
-            "a span of the text lies in too many others",
-        ),
-        (InlineFault::NoMemory, "no memory"),
-    ] {
-        assert_eq!(rt; reason(rt.alloc(), &fault)?.as_str(), want);
+    for (fault, want) in &REASONS {
+        assert_eq!(rt; reason(rt.alloc(), fault)?.as_str(), *want);
     }
     Ok(())
 }

@@ -2,6 +2,7 @@
 
 use super::rows::{Definition, parsed_of};
 use std::alloc::Global;
+use std::process::Abort;
 use std::test::Fail;
 
 /// A reading, as it is printed.
@@ -20,42 +21,52 @@ fn shown_of(
     Ok(format!(in alloc; "{parsed:?}")?)
 }
 
+fn check_reading(
+    rt: &impl Abort,
+    alloc: Global,
+    text: &str,
+    want: &str,
+    is_copied: bool,
+) -> Result<(), Fail> {
+    let shown = shown_of(alloc, text, &[("k", "/k", "")], is_copied)?;
+    assert_eq!(rt; shown.as_str(), want, "in {text:?}");
+    Ok(())
+}
+
+static READINGS: [(&str, &str); 7] = [
+    ("", "Parsed { tree: [], asked: Asked { labels: [] } }"),
+    (
+        "t",
+        "Parsed { tree: [Text(\"t\")], asked: Asked { labels: [] } }",
+    ),
+    (
+        "[t]",
+        "Parsed { tree: [Text(\"[t]\")], asked: Asked { labels: [Label { folded: \"t\" }] } }",
+    ),
+    (
+        "t[`c`\\\n](/u 'v')",
+        "Parsed { tree: [Text(\"t\"), Link(Target { url: \"/u\", title: \"v\" }, [Code(\"c\"), Hard])], asked: Asked { labels: [] } }",
+    ),
+    (
+        "`c`",
+        "Parsed { tree: [Code(\"c\")], asked: Asked { labels: [] } }",
+    ),
+    (
+        "*[t]*",
+        "Parsed { tree: [Emph([Text(\"[t]\")])], asked: Asked { labels: [Label { folded: \"t\" }] } }",
+    ),
+    (
+        "![k][]",
+        "Parsed { tree: [Image(Target { url: \"/k\", title: \"\" }, [Text(\"k\")])], asked: Asked { labels: [Label { folded: \"k\" }] } }",
+    ),
+];
+
 /// A copy stays when what it was made from is let go.
 #[test]
 fn readings_are_copied_whole(rt: HostRuntime) -> Result<(), Fail> {
-    let alloc = rt.alloc();
-    let rows = [
-        ("", "Parsed { tree: [], asked: Asked { labels: [] } }"),
-        (
-            "t",
-            "Parsed { tree: [Text(\"t\")], asked: Asked { labels: [] } }",
-        ),
-        (
-            "[t]",
-            "Parsed { tree: [Text(\"[t]\")], asked: Asked { labels: [Label { folded: \"t\" }] } }",
-        ),
-        (
-            "t[`c`\\\n](/u 'v')",
-            "Parsed { tree: [Text(\"t\"), Link(Target { url: \"/u\", title: \"v\" }, [Code(\"c\"), Hard])], asked: Asked { labels: [] } }",
-        ),
-        (
-            "`c`",
-            "Parsed { tree: [Code(\"c\")], asked: Asked { labels: [] } }",
-        ),
-        (
-            "*[t]*",
-            "Parsed { tree: [Emph([Text(\"[t]\")])], asked: Asked { labels: [Label { folded: \"t\" }] } }",
-        ),
-        (
-            "![k][]",
-            "Parsed { tree: [Image(Target { url: \"/k\", title: \"\" }, [Text(\"k\")])], asked: Asked { labels: [Label { folded: \"k\" }] } }",
-        ),
-    ];
-    for (text, want) in rows {
-        for is_copied in [false, true] {
-            let shown = shown_of(alloc, text, &[("k", "/k", "")], is_copied)?;
-            assert_eq!(rt; shown.as_str(), want, "in {text:?}");
-        }
+    for &(text, want) in &READINGS {
+        check_reading(&rt, rt.alloc(), text, want, false)?;
+        check_reading(&rt, rt.alloc(), text, want, true)?;
     }
     Ok(())
 }

@@ -1,8 +1,6 @@
 //! How tables of texts are read and compared.
 
-ghost use Rattle.std.specs.Prelude.{◌≤◌};
-
-use mdinline::{InlineFault, LabelTable, Parsed, read};
+use mdinline::{Asked, InlineFault, LabelTable, Parsed, read};
 use mdtext::{Entities, Tally, Target, fold_label};
 use std::alloc::{AllocError, Global};
 use std::process::Abort;
@@ -29,25 +27,16 @@ pub(crate) fn table_of(
     Ok(table)
 }
 
-/// Reads a text with the built-in entities, and with the limit of 64 spans.
-fn read_text(
-    alloc: Global,
-    text: &str,
-    definitions: &[Definition],
-) -> Result<Result<Parsed, InlineFault>, AllocError> {
-    read_within(alloc, text, definitions, 64)
-}
-
-/// Reads a text in which no more than `limit` spans may lie in one another.
+/// Reads a text with the built-in entities, in which no more than `limit` spans, 1 to 256, may lie in one another.
 pub(crate) fn read_within(
     alloc: Global,
     text: &str,
     definitions: &[Definition],
     limit: usize,
-) -> Result<Result<Parsed, InlineFault>, AllocError>
-    requires least { 1 ≤ limit }
-    requires most { limit ≤ 256 }
-{
+) -> Result<Result<Parsed, InlineFault>, Fail> {
+    if limit == 0 || limit > 256 {
+        return Err("no such limit".into());
+    }
     let table = table_of(alloc, definitions)?;
     let entities = Entities::builtin(alloc)?;
     let mut tally = Tally::new();
@@ -60,7 +49,7 @@ pub(crate) fn parsed_of(
     text: &str,
     definitions: &[Definition],
 ) -> Result<Parsed, Fail> {
-    match read_text(alloc, text, definitions)? {
+    match read_within(alloc, text, definitions, 64)? {
         Ok(parsed) => Ok(parsed),
         Err(_) => Err("refused")?,
     }
@@ -97,6 +86,15 @@ pub(crate) fn check_defined(rt: &impl Abort, alloc: Global, rows: &[Defined]) ->
     Ok(())
 }
 
+/// Compares the labels that were asked for.
+fn check_labels(rt: &impl Abort, asked: &Asked, labels: &[&str], text: &str) {
+    assert_eq!(rt; asked.len(), labels.len(), "in {text:?}");
+    for i in 0..labels.len() {
+        let found = asked.get(i).map(|label| label.as_str());
+        assert_eq!(rt; found, Some(labels[i]), "in {text:?}");
+    }
+}
+
 pub(crate) fn check_asked(
     rt: &impl Abort,
     alloc: Global,
@@ -104,12 +102,7 @@ pub(crate) fn check_asked(
 ) -> Result<(), Fail> {
     for (text, definitions, labels) in rows {
         let parsed = parsed_of(alloc, text, definitions)?;
-        let asked = parsed.asked();
-        assert_eq!(rt; asked.len(), labels.len(), "in {text:?}");
-        for i in 0..asked.len() {
-            let label = asked.get(i).ok_or("no label")?;
-            assert_eq!(rt; label.as_str(), labels[i], "in {text:?}");
-        }
+        check_labels(rt, parsed.asked(), labels, text);
     }
     Ok(())
 }
