@@ -4,6 +4,7 @@ mod angle_examples;
 mod blocks;
 mod definition_examples;
 mod destination_examples;
+mod found;
 mod inlines;
 mod label_examples;
 mod tail_examples;

@@ -29,11 +29,16 @@ static TASKS: [(&str, Option<(bool, usize)>); 24] = [
     ("\\[ ] a", None),
 ];
 
+/// Whether a mark is ticked, and where the text behind it begins.
+fn mark_parts(text: &str) -> Option<(bool, usize)> {
+    let mark = task_mark(text)?;
+    Some((mark.ticked, mark.after))
+}
+
 /// Ticked and not, spaces and tabs, line endings, and nothing behind.
 #[test]
 fn task_marks(rt: HostRuntime) {
     for &(text, want) in &TASKS {
-        let found = task_mark(text).map(|mark| (mark.ticked, mark.after));
-        assert_eq!(rt; found, want, "at {text}");
+        assert_eq!(rt; mark_parts(text), want, "at {text}");
     }
 }

@@ -1,7 +1,7 @@
 //! Each `<` of the standard's examples of raw HTML and of autolinks (CommonMark 6.5, 6.6). What is wanted is from
 //! another program.
 
-use mdscan::*;
+use super::found::{autolink_at, tag_at};
 use std::process::Abort;
 
 /// A place, the end of raw HTML there, and the end of an autolink there and whether it is of mail.
@@ -102,13 +102,12 @@ static AUTOLINKS: [(&str, &[Angle]); 19] = [
 
 fn check_tag(rt: &impl Abort, text: &str, at: usize, want: Option<usize>) {
     assert!(rt; text.is_char_boundary(at));
-    assert_eq!(rt; html_tag(text, at), want, "at {at} of {text}");
+    assert_eq!(rt; tag_at(text, at), want, "at {at} of {text}");
 }
 
 fn check_link(rt: &impl Abort, text: &str, at: usize, want: Option<(usize, bool)>) {
     assert!(rt; text.is_char_boundary(at));
-    let found = autolink(text, at).map(|it| (it.end, it.mail));
-    assert_eq!(rt; found, want, "at {at} of {text}");
+    assert_eq!(rt; autolink_at(text, at), want, "at {at} of {text}");
 }
 
 fn compare(rt: &impl Abort, rows: &[(&str, &[Angle])]) {

@@ -50,12 +50,17 @@ static ATX_HEADINGS: [(&str, Option<(u8, usize, usize)>); 17] = [
     ("# \t#", Some((1, 3, 3))),
 ];
 
+/// The level of a heading, and where its content starts and ends.
+fn atx_parts(line: &str) -> Option<(u8, usize, usize)> {
+    let it = atx(line)?;
+    Some((it.level, it.content.start, it.content.end))
+}
+
 /// Seven marks, a tab after the marks, closing runs with and without a space before them.
 #[test]
 fn atx_headings(rt: HostRuntime) {
     for &(line, want) in &ATX_HEADINGS {
-        let found = atx(line).map(|it| (it.level, it.content.start, it.content.end));
-        assert_eq!(rt; found, want, "at {line}");
+        assert_eq!(rt; atx_parts(line), want, "at {line}");
     }
 }
 
@@ -93,12 +98,17 @@ static FENCES: [(&str, Option<(u8, usize, usize, usize)>); 10] = [
     ("~~~ä", Some((b'~', 3, 3, 5))),
 ];
 
+/// The mark of a fence, how many there are, and where its info string starts and ends.
+fn fence_parts(line: &str) -> Option<(u8, usize, usize, usize)> {
+    let it = fence(line)?;
+    Some((it.mark, it.length, it.info.start, it.info.end))
+}
+
 /// Two and three marks, and a backtick in the info string of either kind.
 #[test]
 fn fences(rt: HostRuntime) {
     for &(line, want) in &FENCES {
-        let found = fence(line).map(|it| (it.mark, it.length, it.info.start, it.info.end));
-        assert_eq!(rt; found, want, "at {line}");
+        assert_eq!(rt; fence_parts(line), want, "at {line}");
     }
 }
 
@@ -240,12 +250,17 @@ static LIST_MARKERS: [(&str, Option<(u8, Option<u32>, usize)>); 17] = [
     ("1] a", None),
 ];
 
+/// The mark of an item, its number and its width.
+fn marker_parts(line: &str) -> Option<(u8, Option<u32>, usize)> {
+    let it = list_marker(line)?;
+    Some((it.mark, it.start, it.width))
+}
+
 /// Bullets and numbers of nine and of ten digits, with and without something behind.
 #[test]
 fn list_markers(rt: HostRuntime) {
     for &(line, want) in &LIST_MARKERS {
-        let found = list_marker(line).map(|it| (it.mark, it.start, it.width));
-        assert_eq!(rt; found, want, "at {line}");
+        assert_eq!(rt; marker_parts(line), want, "at {line}");
     }
 }
 
@@ -351,12 +366,17 @@ static TASKS: [(&str, Option<(bool, usize)>); 15] = [
     ("[ ] ä", Some((false, 4))),
 ];
 
+/// Whether a task is ticked, and where the text behind it begins.
+fn task_parts(text: &str) -> Option<(bool, usize)> {
+    let it = task(text)?;
+    Some((it.ticked, it.after))
+}
+
 /// Tabs in and after the brackets, and nothing behind.
 #[test]
 fn tasks(rt: HostRuntime) {
     for &(text, want) in &TASKS {
-        let found = task(text).map(|it| (it.ticked, it.after));
-        assert_eq!(rt; found, want, "at {text}");
+        assert_eq!(rt; task_parts(text), want, "at {text}");
     }
 }
 

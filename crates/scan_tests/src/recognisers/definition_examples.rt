@@ -1,13 +1,8 @@
 //! Each paragraph of the standard's examples of definitions, and those of links and images that begin with a bracket
 //! (CommonMark 4.7, 6.3, 6.4). What is wanted is from another program.
 
-use mdscan::*;
+use super::found::{Parts, definition_of};
 use std::process::Abort;
-
-type Pair = (usize, usize);
-
-/// A definition's label, destination, title and end.
-type Parts = (Pair, Pair, Option<Pair>, usize);
 
 static DEFINITIONS: [(&str, Option<Parts>); 32] = [
     (
@@ -221,19 +216,9 @@ static IMAGES: [(&str, Option<Parts>); 7] = [
     ("[[foo]]: /url \"title\"", None),
 ];
 
-fn ends(span: Span) -> Pair {
-    (span.start, span.end)
-}
-
-fn parts(def: Def) -> Parts {
-    let title = def.title.map(|span| ends(span));
-    (ends(def.label), ends(def.destination), title, def.end)
-}
-
 fn compare(rt: &impl Abort, rows: &[(&str, Option<Parts>)]) {
     for &(text, want) in rows {
-        let found = definition(text).map(|it| parts(it));
-        assert_eq!(rt; found, want, "at {text}");
+        assert_eq!(rt; definition_of(text), want, "at {text}");
     }
 }
 

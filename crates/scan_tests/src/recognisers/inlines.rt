@@ -1,21 +1,8 @@
 //! Borders of each recogniser of inline structure and of definitions. What is wanted is from the standard's text
 //! and another program.
 
-ghost use Rattle.std.specs.Str.{IsCharBoundary};
-
-use mdscan::*;
+use super::found::*;
 use std::alloc::{AllocError, Global};
-
-type Pair = Option<(usize, usize)>;
-
-/// A text's beginning cuts no character.
-fn whole(text: &str)
-    ensures { IsCharBoundary text.now 0 }
-{}
-
-fn ends(span: Option<Span>) -> Pair {
-    span.map(|span| (span.start, span.end))
-}
 
 static RAW_HTML_ENDS: [(&str, Option<usize>); 39] = [
     ("<a>", Some(3)),
@@ -66,8 +53,7 @@ static RAW_HTML_ENDS: [(&str, Option<usize>); 39] = [
 #[test]
 fn raw_html_ends(rt: HostRuntime) {
     for &(text, want) in &RAW_HTML_ENDS {
-        whole(text);
-        assert_eq!(rt; html_tag(text, 0), want, "at {text}");
+        assert_eq!(rt; tag_at(text, 0), want, "at {text}");
     }
 }
 
@@ -127,9 +113,7 @@ static AUTOLINKS: [(&str, Option<(usize, bool)>); 37] = [
 #[test]
 fn autolinks(rt: HostRuntime) {
     for &(text, want) in &AUTOLINKS {
-        whole(text);
-        let found = autolink(text, 0).map(|it| (it.end, it.mail));
-        assert_eq!(rt; found, want, "at {text}");
+        assert_eq!(rt; autolink_at(text, 0), want, "at {text}");
     }
 }
 
@@ -153,9 +137,7 @@ static LINK_LABELS: [(&str, Option<(usize, usize)>); 13] = [
 #[test]
 fn link_labels(rt: HostRuntime) {
     for &(text, want) in &LINK_LABELS {
-        whole(text);
-        let found = link_label(text, 0).map(|it| (it.start, it.end));
-        assert_eq!(rt; found, want, "at {text}");
+        assert_eq!(rt; label_at(text, 0), want, "at {text}");
     }
 }
 
@@ -204,9 +186,7 @@ static DESTINATIONS: [(&str, Option<(usize, usize, usize)>); 32] = [
 #[test]
 fn destinations(rt: HostRuntime) {
     for &(text, want) in &DESTINATIONS {
-        whole(text);
-        let found = destination(text, 0).map(|it| (it.span.start, it.span.end, it.end));
-        assert_eq!(rt; found, want, "at {text}");
+        assert_eq!(rt; destination_at(text, 0), want, "at {text}");
     }
 }
 
@@ -234,13 +214,11 @@ static TITLES: [(&str, Option<(usize, usize, usize)>); 17] = [
 #[test]
 fn titles(rt: HostRuntime) {
     for &(text, want) in &TITLES {
-        whole(text);
-        let found = title(text, 0).map(|it| (it.span.start, it.span.end, it.end));
-        assert_eq!(rt; found, want, "at {text}");
+        assert_eq!(rt; title_at(text, 0), want, "at {text}");
     }
 }
 
-static INLINE_TAILS: [(&str, Option<(Pair, Pair, usize)>); 21] = [
+static INLINE_TAILS: [(&str, Option<(Option<Pair>, Option<Pair>, usize)>); 21] = [
     ("(/uri \"title\")", Some((Some((1, 5)), Some((7, 12)), 14))),
     ("(/uri)", Some((Some((1, 5)), None, 6))),
     ("(</my uri>)", Some((Some((2, 9)), None, 11))),
@@ -274,13 +252,11 @@ static INLINE_TAILS: [(&str, Option<(Pair, Pair, usize)>); 21] = [
 #[test]
 fn inline_tails(rt: HostRuntime) {
     for &(text, want) in &INLINE_TAILS {
-        whole(text);
-        let found = inline_tail(text, 0).map(|it| (ends(it.destination), ends(it.title), it.end));
-        assert_eq!(rt; found, want, "at {text}");
+        assert_eq!(rt; tail_at(text, 0), want, "at {text}");
     }
 }
 
-static DEFINITIONS: [(&str, Option<((usize, usize), (usize, usize), Pair, usize)>); 21] = [
+static DEFINITIONS: [(&str, Option<Parts>); 21] = [
     (
         "[foo]: /url \"title\"",
         Some(((1, 4), (7, 11), Some((13, 18)), 19)),
@@ -332,16 +308,7 @@ static DEFINITIONS: [(&str, Option<((usize, usize), (usize, usize), Pair, usize)
 #[test]
 fn definitions(rt: HostRuntime) {
     for &(text, want) in &DEFINITIONS {
-        let found = definition(text).map(|it| {
-            let label = (it.label.start, it.label.end);
-            (
-                label,
-                (it.destination.start, it.destination.end),
-                ends(it.title),
-                it.end,
-            )
-        });
-        assert_eq!(rt; found, want, "at {text}");
+        assert_eq!(rt; definition_of(text), want, "at {text}");
     }
 }
 
@@ -353,12 +320,6 @@ fn label_of(alloc: Global, letter: &str, count: usize) -> Result<String, AllocEr
     }
     text.push_str("]")?;
     Ok(text)
-}
-
-/// Whether a label stands at a text's beginning.
-fn has_label(text: &str) -> bool {
-    whole(text);
-    link_label(text, 0).is_some()
 }
 
 static LONG_LABELS: [(&str, usize, bool); 4] = [
@@ -373,7 +334,11 @@ static LONG_LABELS: [(&str, usize, bool); 4] = [
 fn long_labels(rt: HostRuntime) -> Result<(), AllocError> {
     for &(letter, count, want) in &LONG_LABELS {
         let text = label_of(rt.alloc(), letter, count)?;
-        assert_eq!(rt; has_label(&text), want, "at {count} of {letter}");
+        assert_eq!(rt;
+            label_at(&text, 0).is_some(),
+            want,
+            "at {count} of {letter}"
+        );
     }
     Ok(())
 }

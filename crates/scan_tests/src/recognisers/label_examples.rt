@@ -1,7 +1,7 @@
 //! Each `[` of the standard's examples of links, images and definitions (CommonMark 4.7, 6.3, 6.4). What is wanted is
 //! from another program.
 
-use mdscan::*;
+use super::found::label_at;
 use std::process::Abort;
 
 /// A place, and the end of the inside of the label there.
@@ -432,8 +432,11 @@ static DEFINITIONS: [(&str, &[Label]); 27] = [
 
 fn check_place(rt: &impl Abort, text: &str, at: usize, end: Option<usize>) {
     assert!(rt; text.is_char_boundary(at));
-    let found = link_label(text, at).map(|it| (it.start, it.end));
-    assert_eq!(rt; found, end.map(|end| (at + 1, end)), "at {at} of {text}");
+    let want = match end {
+        Some(end) => Some((at + 1, end)),
+        None => None,
+    };
+    assert_eq!(rt; label_at(text, at), want, "at {at} of {text}");
 }
 
 fn compare(rt: &impl Abort, rows: &[(&str, &[Label])]) {

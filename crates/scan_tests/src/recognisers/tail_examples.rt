@@ -1,13 +1,11 @@
 //! Each `(` after a `]` of the standard's examples of links and images (CommonMark 6.3, 6.4). What is wanted is from
 //! another program.
 
-use mdscan::*;
+use super::found::{Pair, tail_at};
 use std::process::Abort;
 
-type Pair = Option<(usize, usize)>;
-
 /// A place, and the destination, the title and the end of the inline tail there.
-type Inline = (usize, Option<(Pair, Pair, usize)>);
+type Inline = (usize, Option<(Option<Pair>, Option<Pair>, usize)>);
 
 static LINKS: [(&str, &[Inline]); 47] = [
     (
@@ -187,14 +185,14 @@ static IMAGES: [(&str, &[Inline]); 7] = [
     ("![](/url)", &[(3, Some((Some((4, 8)), None, 9)))]),
 ];
 
-fn ends(span: Option<Span>) -> Pair {
-    span.map(|span| (span.start, span.end))
-}
-
-fn check_place(rt: &impl Abort, text: &str, at: usize, want: Option<(Pair, Pair, usize)>) {
+fn check_place(
+    rt: &impl Abort,
+    text: &str,
+    at: usize,
+    want: Option<(Option<Pair>, Option<Pair>, usize)>,
+) {
     assert!(rt; text.is_char_boundary(at));
-    let found = inline_tail(text, at).map(|it| (ends(it.destination), ends(it.title), it.end));
-    assert_eq!(rt; found, want, "at {at} of {text}");
+    assert_eq!(rt; tail_at(text, at), want, "at {at} of {text}");
 }
 
 fn compare(rt: &impl Abort, rows: &[(&str, &[Inline])]) {

@@ -1,7 +1,7 @@
 //! Each place of a title in the standard's examples of links, images and definitions (CommonMark 4.7, 6.3, 6.4): after
 //! a destination and the spacing behind it. What is wanted is from another program.
 
-use mdscan::*;
+use super::found::title_at;
 use std::process::Abort;
 
 /// A place, and the start and the end of the inside of what stands there, and its own end.
@@ -225,8 +225,7 @@ static DEFINITIONS: [(&str, &[Part]); 22] = [
 
 fn check_place(rt: &impl Abort, text: &str, at: usize, want: Option<(usize, usize, usize)>) {
     assert!(rt; text.is_char_boundary(at));
-    let found = title(text, at).map(|it| (it.span.start, it.span.end, it.end));
-    assert_eq!(rt; found, want, "at {at} of {text}");
+    assert_eq!(rt; title_at(text, at), want, "at {at} of {text}");
 }
 
 fn compare(rt: &impl Abort, rows: &[(&str, &[Part])]) {
