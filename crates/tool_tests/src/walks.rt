@@ -59,6 +59,16 @@ fn unit_of(alloc: Global, entities: &Entities, lines: &[&str]) -> Result<Option<
     Ok(reader.finish()?)
 }
 
+/// The readings of a unit's texts.
+fn texts_of(alloc: Global, entities: &Entities, found: &Found) -> Result<Vec<Parsed>, Fail> {
+    let mut texts = Vec::new(alloc);
+    let labels = LabelTable::new(alloc);
+    for text in found.unit().texts() {
+        texts.push(read(alloc, text, &labels, entities, 64, &mut Tally::new())?)?;
+    }
+    Ok(texts)
+}
+
 /// The walk over the only unit of a text: a node's name where it is entered, and a `;` where it is left.
 fn walked(alloc: Global, lines: &[&str]) -> Result<String, Fail> {
     let entities = Entities::builtin(alloc)?;
@@ -66,11 +76,7 @@ fn walked(alloc: Global, lines: &[&str]) -> Result<String, Fail> {
     let Some(found) = unit_of(alloc, &entities, lines)? else {
         return Ok(shown);
     };
-    let mut texts = Vec::new(alloc);
-    let labels = LabelTable::new(alloc);
-    for text in found.unit().texts() {
-        texts.push(read(alloc, text, &labels, &entities, 64, &mut Tally::new())?)?;
-    }
+    let texts = texts_of(alloc, &entities, &found)?;
     for edge in Walk::new(alloc, found.unit().blocks(), &texts)? {
         match edge {
             Edge::Enter(node) => write!(&mut shown, "{} ", name_of(node))?,

@@ -66,88 +66,150 @@ fn texts_meet_their_limits(rt: HostRuntime) -> Result<(), Fail> {
     Ok(())
 }
 
-/// A text with 256 spans in one another, and its HTML.
-fn deepest_spans(alloc: Global) -> Result<(String, String), AllocError> {
-    let opened = "*a ".repeat(alloc, 256)?;
-    let closed = " a*".repeat(alloc, 256)?;
-    let begins = "<em>a ".repeat(alloc, 256)?;
-    let ends = " a</em>".repeat(alloc, 256)?;
-    let text = format!(in alloc; "{opened}x{closed}")?;
-    let html = format!(in alloc; "{begins}x{ends}")?;
-    Ok((text, html))
+/// Adds a part so many times.
+fn add_times(text: &mut String, part: &str, count: usize) -> Result<(), AllocError> {
+    for _ in 0..count {
+        text.push_str(part)?;
+    }
+    Ok(())
 }
 
-/// A line with these spans in 256 block quotes, and its HTML.
-fn in_quotes(alloc: Global, spans: &str, html: &str) -> Result<(String, String), AllocError> {
-    let marks = ">".repeat(alloc, 256)?;
-    let begins = "<blockquote>\n".repeat(alloc, 256)?;
-    let ends = "</blockquote>\n".repeat(alloc, 256)?;
-    let line = format!(in alloc; "{marks} {spans}")?;
-    let html = format!(in alloc; "{begins}<p>{html}</p>\n{ends}")?;
-    Ok((line, html))
+/// Adds so many spans in one another.
+fn add_spans(text: &mut String, count: usize) -> Result<(), AllocError> {
+    add_times(text, "*a ", count)?;
+    text.push_str("x")?;
+    add_times(text, " a*", count)
 }
 
-/// A line with these spans in 256 items, and its HTML.
-fn in_items(alloc: Global, spans: &str, html: &str) -> Result<(String, String), AllocError> {
-    let marks = "- ".repeat(alloc, 256)?;
-    let begins = "<ul>\n<li>\n".repeat(alloc, 255)?;
-    let ends = "</li>\n</ul>\n".repeat(alloc, 256)?;
-    let line = format!(in alloc; "{marks}{spans}")?;
-    let html = format!(in alloc; "{begins}<ul>\n<li>{html}{ends}")?;
-    Ok((line, html))
+/// Adds the HTML of 256 spans in one another.
+fn add_spans_html(html: &mut String) -> Result<(), AllocError> {
+    add_times(html, "<em>a ", 256)?;
+    html.push_str("x")?;
+    add_times(html, " a</em>", 256)
+}
+
+/// Adds the HTML of 256 spans in 256 block quotes.
+fn add_quotes_html(html: &mut String) -> Result<(), AllocError> {
+    add_times(html, "<blockquote>\n", 256)?;
+    html.push_str("<p>")?;
+    add_spans_html(html)?;
+    html.push_str("</p>\n")?;
+    add_times(html, "</blockquote>\n", 256)
+}
+
+/// Adds the HTML of 256 spans in 256 items.
+fn add_items_html(html: &mut String) -> Result<(), AllocError> {
+    add_times(html, "<ul>\n<li>\n", 255)?;
+    html.push_str("<ul>\n<li>")?;
+    add_spans_html(html)?;
+    add_times(html, "</li>\n</ul>\n", 256)
+}
+
+/// So many spans behind so many of a mark and a space.
+fn line_of(alloc: Global, mark: &str, marks: usize, spans: usize) -> Result<String, AllocError> {
+    let mut line = String::new(alloc);
+    add_times(&mut line, mark, marks)?;
+    add_spans(&mut line, spans)?;
+    Ok(line)
+}
+
+fn quotes_html(alloc: Global) -> Result<String, AllocError> {
+    let mut html = String::new(alloc);
+    add_quotes_html(&mut html)?;
+    Ok(html)
+}
+
+fn items_html(alloc: Global) -> Result<String, AllocError> {
+    let mut html = String::new(alloc);
+    add_items_html(&mut html)?;
+    Ok(html)
+}
+
+/// Converts spans behind marks, with the largest limits.
+fn check_deepest(
+    rt: &impl Abort,
+    alloc: Global,
+    line: &str,
+    want: &str,
+    want_end: &str,
+) -> Result<(), AllocError> {
+    check(rt, alloc, line, with_limits(256, 256), want, want_end)
 }
 
 #[test]
 fn the_deepest_texts_are_converted(rt: HostRuntime) -> Result<(), Fail> {
     let alloc = rt.alloc();
-    let (spans, inner) = deepest_spans(alloc)?;
-    let (line, html) = in_quotes(alloc, &spans, &inner)?;
-    check(&rt, alloc, &line, with_limits(256, 256), &html, "Ok(())")?;
-    let deeper = format!(in alloc; ">{line}")?;
     let nested = "Err(Refused(NestedTooDeep { line: 0 }))";
-    check(&rt, alloc, &deeper, with_limits(256, 256), "", nested)?;
-    let (line, html) = in_items(alloc, &spans, &inner)?;
-    check(&rt, alloc, &line, with_limits(256, 256), &html, "Ok(())")?;
-    let deeper = format!(in alloc; "*a {spans} a*")?;
     let deep = "Err(Refused(InlineTooDeep { line: 0 }))";
-    check(&rt, alloc, &deeper, with_limits(256, 256), "", deep)?;
+    let quotes = line_of(alloc, ">", 256, 256)?;
+    check_deepest(&rt, alloc, &quotes, &quotes_html(alloc)?, "Ok(())")?;
+    check_deepest(&rt, alloc, &line_of(alloc, ">", 257, 256)?, "", nested)?;
+    let items = line_of(alloc, "- ", 256, 256)?;
+    check_deepest(&rt, alloc, &items, &items_html(alloc)?, "Ok(())")?;
+    check_deepest(&rt, alloc, &line_of(alloc, "", 0, 257)?, "", deep)?;
     Ok(())
 }
 
-/// The deepest units are made, give way to others, are kept, and one text of them is copied where another is read again.
-#[test]
-fn the_deepest_texts_are_edited(rt: HostRuntime) -> Result<(), Fail> {
-    let alloc = rt.alloc();
-    let (spans, inner) = deepest_spans(alloc)?;
-    let (quotes, quoted) = in_quotes(alloc, &spans, &inner)?;
-    let (items, listed) = in_items(alloc, &spans, &inner)?;
-    let marks = ">".repeat(alloc, 256)?;
-    let script = format!(in alloc;
-        "edit 0 0 1\n{quotes}\nedit 0 1 1\n{items}\nedit 0 1 3\n> {spans}\n>\n> [k]\nedit 3 0 2\n\n[k]: /u\nedit 0 0 1\n{marks}>\n"
-    )?;
-    let kept = format!(in alloc; "<blockquote>\n<p>{inner}</p>\n<p>[k]</p>\n</blockquote>\n")?;
-    let linked = format!(in alloc;
-        "<blockquote>\n<p>{inner}</p>\n<p><a href=\"/u\">k</a></p>\n</blockquote>\n"
-    )?;
-    let first = format!(in alloc; "ok 0 0 1 0\npiece 0 {}\n{quoted}", quoted.len())?;
-    let second = format!(in alloc; "ok 0 1 1 0\npiece 0 {}\n{listed}", listed.len())?;
-    let third = format!(in alloc; "ok 0 1 1 0\npiece 0 {}\n{kept}", kept.len())?;
-    let last = format!(in alloc; "ok 0 1 2 0\npiece 0 {}\n{linked}piece 1 0\n", linked.len())?;
-    let want = format!(in alloc; "{first}{second}{third}{last}refused NestedTooDeep 0\n")?;
+/// Edits by which the deepest units are made, give way to others, are kept, and one text of them is copied where
+/// another is read again; the last one is refused.
+fn deep_edits(alloc: Global) -> Result<String, AllocError> {
+    let mut script = String::from_str(alloc, "edit 0 0 1\n")?;
+    add_times(&mut script, ">", 256)?;
+    add_spans(&mut script, 256)?;
+    script.push_str("\nedit 0 1 1\n")?;
+    add_times(&mut script, "- ", 256)?;
+    add_spans(&mut script, 256)?;
+    script.push_str("\nedit 0 1 3\n> ")?;
+    add_spans(&mut script, 256)?;
+    script.push_str("\n>\n> [k]\nedit 3 0 2\n\n[k]: /u\nedit 0 0 1\n")?;
+    add_times(&mut script, ">", 257)?;
+    script.push_str("\n")?;
+    Ok(script)
+}
+
+/// The HTML of a quote with the deepest spans and this paragraph.
+fn spans_and(alloc: Global, paragraph: &str) -> Result<String, AllocError> {
+    let mut html = String::from_str(alloc, "<blockquote>\n<p>")?;
+    add_spans_html(&mut html)?;
+    html.push_str("</p>\n<p>")?;
+    html.push_str(paragraph)?;
+    html.push_str("</p>\n</blockquote>\n")?;
+    Ok(html)
+}
+
+/// Adds the reply of an edit, and a piece.
+fn add_reply(replies: &mut String, reply: &str, html: &str) -> Result<(), AllocError> {
+    write!(replies, "{reply}\npiece 0 {}\n{html}", html.len())
+}
+
+fn deep_replies(alloc: Global) -> Result<String, AllocError> {
+    let mut replies = String::new(alloc);
+    add_reply(&mut replies, "ok 0 0 1 0", &quotes_html(alloc)?)?;
+    add_reply(&mut replies, "ok 0 1 1 0", &items_html(alloc)?)?;
+    add_reply(&mut replies, "ok 0 1 1 0", &spans_and(alloc, "[k]")?)?;
+    let linked = "<a href=\"/u\">k</a>";
+    add_reply(&mut replies, "ok 0 1 2 0", &spans_and(alloc, linked)?)?;
+    replies.push_str("piece 1 0\nrefused NestedTooDeep 0\n")?;
+    Ok(replies)
+}
+
+/// What `serve` writes for a script with the largest limits, and how it ends.
+fn served(alloc: Global, script: &str) -> Result<(String, String), AllocError> {
     let mut feed = MemoryFeed::new(script.as_bytes(), 4096, None);
     let mut out = MemoryOut::new(alloc, 4096, None);
     let entities = Entities::builtin(alloc)?;
-    let end = serve(
-        alloc,
-        &mut feed,
-        &mut out,
-        entities,
-        with_limits(256, 256),
-        &[],
-    );
+    let limits = with_limits(256, 256);
+    let end = serve(alloc, &mut feed, &mut out, entities, limits, &[]);
     let written = String::from_utf8_lossy(alloc, out.bytes())?;
-    assert!(rt; end.is_ok());
-    assert_eq!(rt; written.as_str(), want.as_str());
+    let end = format!(in alloc; "{end:?}")?;
+    Ok((written, end))
+}
+
+#[test]
+fn the_deepest_texts_are_edited(rt: HostRuntime) -> Result<(), Fail> {
+    let (written, end) = served(rt.alloc(), &deep_edits(rt.alloc())?)?;
+    assert_eq!(rt; end.as_str(), "Ok(())");
+    assert_eq!(rt; written.as_str(), deep_replies(rt.alloc())?.as_str());
     Ok(())
 }
 
@@ -171,25 +233,27 @@ fn check_limit(
     Ok(())
 }
 
+static LIMITS: [(&str, Option<usize>); 14] = [
+    ("1", Some(1)),
+    ("007", Some(7)),
+    ("256", Some(256)),
+    ("0000000000000000000256", Some(256)),
+    ("0", None),
+    ("257", None),
+    ("10000000000", None),
+    ("", None),
+    ("+5", None),
+    ("-5", None),
+    (" 5", None),
+    ("5 ", None),
+    ("1.0", None),
+    ("0x5", None),
+];
+
 #[test]
 fn limits_are_whole_numbers_to_256(rt: HostRuntime) -> Result<(), Fail> {
     let alloc = rt.alloc();
-    for (word, want) in [
-        ("1", Some(1)),
-        ("007", Some(7)),
-        ("256", Some(256)),
-        ("0000000000000000000256", Some(256)),
-        ("0", None),
-        ("257", None),
-        ("10000000000", None),
-        ("", None),
-        ("+5", None),
-        ("-5", None),
-        (" 5", None),
-        ("5 ", None),
-        ("1.0", None),
-        ("0x5", None),
-    ] {
+    for &(word, want) in &LIMITS {
         check_limit(&rt, alloc, word, want)?;
     }
     let twice = ["mdrender", "--max-spans", "5", "--max-spans", "5"];

@@ -36,45 +36,49 @@ fn a_script_sets_preludes(rt: HostRuntime) -> Result<(), Fail> {
     Ok(())
 }
 
+static NO_PRELUDES: [&str; 7] = [
+    "prelude\n",
+    "prelude \n",
+    "prelude  1\n",
+    "prelude 1 \n",
+    "prelude 1000000000\n",
+    "prelude -1\n",
+    "Prelude 0\n",
+];
+
 #[test]
 fn a_script_ends_inside_a_prelude(rt: HostRuntime) -> Result<(), Fail> {
     let alloc = rt.alloc();
     check(&rt, alloc, "prelude 2\n[a]: /u\n", "", "Err(Truncated(1))")?;
-    for script in [
-        "prelude\n",
-        "prelude \n",
-        "prelude  1\n",
-        "prelude 1 \n",
-        "prelude 1000000000\n",
-        "prelude -1\n",
-        "Prelude 0\n",
-    ] {
+    for &script in &NO_PRELUDES {
         check(&rt, alloc, script, "", "Err(BadCommand(1))")?;
     }
     Ok(())
 }
 
+static REFUSED: [(&str, &str); 5] = [
+    ("prelude 2\nx\n[a]\r: /u\n", "refused BreakInLine 1\n"),
+    (
+        "prelude 3\n[a]: /u\n\n    x\n",
+        "refused NotDefinitions 2\n",
+    ),
+    ("prelude 2\n[a]: /u\nx\n", "refused NotDefinitions 0\n"),
+    // The line with a container too many counts, though another block stands above it.
+    (
+        "prelude 3\nx\n\n>>>>>>>>>>>>>>>>>>>>>>>>>>>>>>>>>>>>>>>>>>>>>>>>>>>>>>>>>>>>>>>>>\n",
+        "refused NotDefinitions 2\n",
+    ),
+    (
+        "prelude 2\n\n>>>>>>>>>>>>>>>>>>>>>>>>>>>>>>>>>>>>>>>>>>>>>>>>>>>>>>>>>>>>>>>>\n",
+        "refused NotDefinitions 1\n",
+    ),
+];
+
 /// Each refusal of a prelude, and which of two comes first.
 #[test]
 fn a_prelude_is_refused_by_name(rt: HostRuntime) -> Result<(), Fail> {
     let alloc = rt.alloc();
-    for (script, want) in [
-        ("prelude 2\nx\n[a]\r: /u\n", "refused BreakInLine 1\n"),
-        (
-            "prelude 3\n[a]: /u\n\n    x\n",
-            "refused NotDefinitions 2\n",
-        ),
-        ("prelude 2\n[a]: /u\nx\n", "refused NotDefinitions 0\n"),
-        // The line with a container too many counts, though another block stands above it.
-        (
-            "prelude 3\nx\n\n>>>>>>>>>>>>>>>>>>>>>>>>>>>>>>>>>>>>>>>>>>>>>>>>>>>>>>>>>>>>>>>>>\n",
-            "refused NotDefinitions 2\n",
-        ),
-        (
-            "prelude 2\n\n>>>>>>>>>>>>>>>>>>>>>>>>>>>>>>>>>>>>>>>>>>>>>>>>>>>>>>>>>>>>>>>>\n",
-            "refused NotDefinitions 1\n",
-        ),
-    ] {
+    for &(script, want) in &REFUSED {
         check(&rt, alloc, script, want, "Ok(())")?;
     }
     Ok(())
@@ -148,26 +152,28 @@ fn converted(
     Ok((written, format!(in alloc; "{end:?}")?))
 }
 
+static BESIDE: [(&str, &str, &str, &str); 3] = [
+    (
+        "[a]: /p\n[b]: /q",
+        "[a] [b]\n\n[a]: /t\n",
+        "<p><a href=\"/t\">a</a> <a href=\"/q\">b</a></p>\n",
+        "Ok(())",
+    ),
+    ("", "[a]", "<p>[a]</p>\n", "Ok(())"),
+    (
+        "[a]: /p\n\nb\n",
+        ">>>>>>>>>>>>>>>>>>>>>>>>>>>>>>>>>>>>>>>>>>>>>>>>>>>>>>>>>>>>>>>>>",
+        "",
+        "Err(Refused(NotDefinitions { line: 2 }))",
+    ),
+];
+
 #[test]
 fn a_text_stands_beside_its_prelude(rt: HostRuntime) -> Result<(), Fail> {
     let alloc = rt.alloc();
     let options = options(Breaks::Soft);
-    for (prelude, text, want, want_end) in [
-        (
-            b"[a]: /p\n[b]: /q".as_slice(),
-            "[a] [b]\n\n[a]: /t\n",
-            "<p><a href=\"/t\">a</a> <a href=\"/q\">b</a></p>\n",
-            "Ok(())",
-        ),
-        (b"", "[a]", "<p>[a]</p>\n", "Ok(())"),
-        (
-            b"[a]: /p\n\nb\n",
-            ">>>>>>>>>>>>>>>>>>>>>>>>>>>>>>>>>>>>>>>>>>>>>>>>>>>>>>>>>>>>>>>>>",
-            "",
-            "Err(Refused(NotDefinitions { line: 2 }))",
-        ),
-    ] {
-        let (written, end) = converted(alloc, prelude, text, options)?;
+    for &(prelude, text, want, want_end) in &BESIDE {
+        let (written, end) = converted(alloc, prelude.as_bytes(), text, options)?;
         assert_eq!(rt; written.as_str(), want);
         assert_eq!(rt; end.as_str(), want_end);
     }

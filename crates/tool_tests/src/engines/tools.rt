@@ -166,21 +166,23 @@ fn replied(
     Ok((written, end, out.flushes()))
 }
 
+static FEED_FAULTS: [(u64, u64); 9] = [
+    (0, 0),
+    (1, 0),
+    (2, 0),
+    (3, 0),
+    (4, 0),
+    (5, 1),
+    (6, 1),
+    (7, 1),
+    (8, 2),
+];
+
 /// The script comes in 8 calls of 7 bytes with one more that finds the end; its first edit is whole after 5 calls.
 #[test]
 fn a_script_ends_at_each_feed_fault(rt: HostRuntime) -> Result<(), Fail> {
     let alloc = rt.alloc();
-    for (calls, replies) in [
-        (0, 0),
-        (1, 0),
-        (2, 0),
-        (3, 0),
-        (4, 0),
-        (5, 1),
-        (6, 1),
-        (7, 1),
-        (8, 2),
-    ] {
+    for &(calls, replies) in &FEED_FAULTS {
         let (written, end, flushes) = replied(alloc, Some(calls), None)?;
         assert!(rt; REPLIES.starts_with(written.as_str()), "{calls}");
         assert_eq!(rt; written.len() as u64, replies * REPLY, "{calls}");

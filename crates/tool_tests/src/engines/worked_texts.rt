@@ -161,6 +161,11 @@ fn answered(alloc: Global, text: &str, unsafe_html: bool) -> Result<String, Allo
         script.push_str("\n")?;
     }
     script.push_str("html\n")?;
+    served(alloc, &script, unsafe_html)
+}
+
+/// What `serve` answers to a script.
+fn served(alloc: Global, script: &str, unsafe_html: bool) -> Result<String, AllocError> {
     let mut feed = MemoryFeed::new(script.as_bytes(), 4096, None);
     let mut out = MemoryOut::new(alloc, 4096, None);
     let entities = Entities::builtin(alloc)?;
@@ -234,29 +239,43 @@ fn repeated(
     Ok(text)
 }
 
+/// The HTML of 64 block quotes in one another.
+fn quotes_html(alloc: Global) -> Result<String, AllocError> {
+    let begin = "<blockquote>\n";
+    repeated(alloc, "", begin, "<p>x</p>\n", "</blockquote>\n", 64)
+}
+
+/// The HTML of a paragraph of 64 spans in one another.
+fn paragraph(alloc: Global, begin: &str, inside: &str, end: &str) -> Result<String, AllocError> {
+    let mut html = repeated(alloc, "<p>", begin, inside, end, 64)?;
+    html.push_str("</p>\n")?;
+    Ok(html)
+}
+
+/// Compares the whole answer.
+fn check_answer(rt: &impl Abort, alloc: Global, text: &str, want: &str) -> Result<(), AllocError> {
+    let answer = answered(alloc, text, false)?;
+    assert_eq!(rt; answer.as_str(), want);
+    Ok(())
+}
+
 #[test]
 fn nesting_has_a_limit(rt: HostRuntime) -> Result<(), Fail> {
     let alloc = rt.alloc();
-    let fits = repeated(alloc, "", ">", "x", "", 64)?;
-    let html = repeated(
-        alloc,
-        "",
-        "<blockquote>\n",
-        "<p>x</p>\n",
-        "</blockquote>\n",
-        64,
-    )?;
-    check(&rt, alloc, &fits, false, &html)?;
+    let quotes = repeated(alloc, "", ">", "x", "", 64)?;
+    check(&rt, alloc, &quotes, false, &quotes_html(alloc)?)?;
     let deep = repeated(alloc, "\n", ">", "x", "", 65)?;
-    let answer = answered(alloc, &deep, false)?;
-    assert_eq!(rt; answer.as_str(), "refused NestedTooDeep 1\nhtml 0\n");
-    let fits = repeated(alloc, "", "*a ", "b", " a*", 64)?;
-    let html = repeated(alloc, "<p>", "<em>a ", "b", " a</em>", 64)?;
-    let html = format!(in alloc; "{html}</p>\n")?;
-    check(&rt, alloc, &fits, false, &html)?;
+    check_answer(&rt, alloc, &deep, "refused NestedTooDeep 1\nhtml 0\n")?;
+    let spans = repeated(alloc, "", "*a ", "b", " a*", 64)?;
+    check(
+        &rt,
+        alloc,
+        &spans,
+        false,
+        &paragraph(alloc, "<em>a ", "b", " a</em>")?,
+    )?;
     let deep = repeated(alloc, "", "*a ", "b", " a*", 65)?;
-    let answer = answered(alloc, &deep, false)?;
-    assert_eq!(rt; answer.as_str(), "refused InlineTooDeep 0\nhtml 0\n");
+    check_answer(&rt, alloc, &deep, "refused InlineTooDeep 0\nhtml 0\n")?;
     Ok(())
 }
 
@@ -267,60 +286,63 @@ fn html_len(answer: &str) -> Option<&str> {
     Some(len)
 }
 
+/// Compares the length of the HTML of a part that is repeated.
+fn check_len(
+    rt: &impl Abort,
+    alloc: Global,
+    begin: &str,
+    part: &str,
+    want: &str,
+) -> Result<(), AllocError> {
+    let text = repeated(alloc, begin, part, "", "", 100_000)?;
+    let answer = answered(alloc, &text, false)?;
+    assert_eq!(rt; html_len(&answer), Some(want), "{part}");
+    Ok(())
+}
+
+/// 128 asterisks on either side are 64 spans in one another.
+fn check_strong(rt: &impl Abort, alloc: Global) -> Result<(), AllocError> {
+    let html = paragraph(alloc, "<strong>", "a", "</strong>")?;
+    assert_eq!(rt; html.len(), 1_097);
+    let text = repeated(alloc, "", "*", "a", "*", 128)?;
+    check(rt, alloc, &text, false, &html)
+}
+
+static MALICIOUS: [(&str, &str, &str); 4] = [
+    ("a", "*", "100009"),
+    ("", "[", "100008"),
+    ("a", "`", "100009"),
+    ("a", "<", "400009"),
+];
+
 #[test]
 fn malicious_texts_end(rt: HostRuntime) -> Result<(), Fail> {
     let alloc = rt.alloc();
-    for (begin, part, want) in [
-        ("a", "*", "100009"),
-        ("", "[", "100008"),
-        ("a", "`", "100009"),
-        ("a", "<", "400009"),
-    ] {
-        let text = repeated(alloc, begin, part, "", "", 100_000)?;
-        let answer = answered(alloc, &text, false)?;
-        assert_eq!(rt; html_len(&answer), Some(want), "{part}");
+    for &(begin, part, want) in &MALICIOUS {
+        check_len(&rt, alloc, begin, part, want)?;
     }
-    let text = repeated(alloc, "", ">", "", "", 100_000)?;
-    let answer = answered(alloc, &text, false)?;
-    assert_eq!(rt; answer.as_str(), "refused NestedTooDeep 0\nhtml 0\n");
-    let text = repeated(alloc, "", "*", "a", "*", 128)?;
-    let html = repeated(alloc, "<p>", "<strong>", "a", "</strong>", 64)?;
-    let html = format!(in alloc; "{html}</p>\n")?;
-    assert_eq!(rt; html.len(), 1_097);
-    check(&rt, alloc, &text, false, &html)?;
-    let text = repeated(alloc, "", "*", "a", "*", 129)?;
-    let answer = answered(alloc, &text, false)?;
-    assert_eq!(rt; answer.as_str(), "refused InlineTooDeep 0\nhtml 0\n");
+    let quotes = repeated(alloc, "", ">", "", "", 100_000)?;
+    check_answer(&rt, alloc, &quotes, "refused NestedTooDeep 0\nhtml 0\n")?;
+    check_strong(&rt, alloc)?;
+    let deep = repeated(alloc, "", "*", "a", "*", 129)?;
+    check_answer(&rt, alloc, &deep, "refused InlineTooDeep 0\nhtml 0\n")?;
     Ok(())
+}
+
+/// What is answered last: a refusal, and the HTML as it was.
+fn refusal(alloc: Global) -> Result<String, AllocError> {
+    let mut html = paragraph(alloc, "<em>a ", "[k]", " a</em>")?;
+    html.push_str("<p>x</p>\n")?;
+    format!(in alloc; "refused InlineTooDeep 0\nhtml {}\n{html}", html.len())
 }
 
 #[test]
 fn refused_depth_changes_nothing(rt: HostRuntime) -> Result<(), Fail> {
     let alloc = rt.alloc();
-    let deep = repeated(alloc, "", "*a ", "[k]", " a*", 64)?;
-    let script = format!(in alloc; "edit 0 0 4\n{deep}\n\nx\n\nedit 4 0 1\n[k]: /u\nhtml\n")?;
-    let mut feed = MemoryFeed::new(script.as_bytes(), 4096, None);
-    let mut out = MemoryOut::new(alloc, 4096, None);
-    let options = Options {
-        unsafe_html: false,
-        breaks: Breaks::Soft,
-        max_containers: 64,
-        max_spans: 64,
-    };
-    let end = serve(
-        alloc,
-        &mut feed,
-        &mut out,
-        Entities::builtin(alloc)?,
-        options,
-        &[],
-    );
-    assert!(rt; end.is_ok());
-    let written = String::from_utf8_lossy(alloc, out.bytes())?;
-    let html = repeated(alloc, "<p>", "<em>a ", "[k]", " a</em>", 64)?;
-    let html = format!(in alloc; "{html}</p>\n<p>x</p>\n")?;
-    let want = format!(in alloc; "refused InlineTooDeep 0\nhtml {}\n{html}", html.len())?;
+    let mut script = repeated(alloc, "edit 0 0 4\n", "*a ", "[k]", " a*", 64)?;
+    script.push_str("\n\nx\n\nedit 4 0 1\n[k]: /u\nhtml\n")?;
+    let written = served(alloc, &script, false)?;
     assert!(rt; written.starts_with("ok 0 0 2 0\n"));
-    assert!(rt; written.ends_with(want.as_str()));
+    assert!(rt; written.ends_with(refusal(alloc)?.as_str()));
     Ok(())
 }
