@@ -9,7 +9,7 @@ use memchr::memchr;
 use std::alloc::{AllocError, Global};
 
 // So many bytes are looked at before a bar is searched for.
-const NEAR: usize = 4;
+const NEAR: usize = 8;
 
 /// The cells of a table's row, without the spaces and tabs at their ends (GFM Tables (extension)). A backslash before a bar
 /// is still there.
