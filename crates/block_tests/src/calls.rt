@@ -29,6 +29,20 @@ pub(crate) fn read_line(
     reader.line(text, count)
 }
 
+/// Whether a line is read, and no unit is handed out.
+pub(crate) fn hands_nothing(reader: &mut Reader<'_>, text: &str, count: &mut Tally) -> bool {
+    matches!(read_line(reader, text, count), Ok(None))
+}
+
+/// The fault of a line.
+pub(crate) fn fault_of(
+    reader: &mut Reader<'_>,
+    text: &str,
+    count: &mut Tally,
+) -> Option<BlockFault> {
+    read_line(reader, text, count).err()
+}
+
 pub(crate) fn finish(reader: Reader<'_>) -> Result<Option<Found>, BlockFault> {
     reader.finish()
 }

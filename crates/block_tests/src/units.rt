@@ -2,7 +2,7 @@
 
 ghost use Rattle.std.specs.Prelude.{◌≤◌};
 
-use crate::calls::{LIMIT, finish, new_reader, read_line};
+use crate::calls::{LIMIT, fault_of, finish, hands_nothing, new_reader, read_line};
 use mdblock::{Block, BlockFault, Found, Unit};
 use mdtext::{Entities, Tally};
 use std::alloc::{AllocError, Global};
@@ -277,22 +277,14 @@ fn a_fault_stays(rt: HostRuntime) -> Result<(), Fail> {
     let line = quoted(a, 65)?;
     let mut reader = new_reader(a, &entities, LIMIT);
     assert!(rt; reader.fed() == 0 && reader.open_at().is_none());
-    assert!(rt; matches!(read_line(&mut reader, "", &mut count), Ok(None)));
-    assert!(rt; matches!(read_line(&mut reader, "a", &mut count), Ok(None)));
+    assert!(rt; hands_nothing(&mut reader, "", &mut count));
+    assert!(rt; hands_nothing(&mut reader, "a", &mut count));
     assert_eq!(rt; reader.open_at(), Some(1));
     assert!(rt;
-        matches!(
-            read_line(&mut reader, line.as_str(), &mut count),
-            Err(BlockFault::NestedTooDeep)
-        )
+        fault_of(&mut reader, line.as_str(), &mut count) == Some(BlockFault::NestedTooDeep)
     );
     assert!(rt; reader.fed() == 2 && reader.open_at().is_none());
-    assert!(rt;
-        matches!(
-            read_line(&mut reader, "b", &mut count),
-            Err(BlockFault::Failed)
-        )
-    );
+    assert!(rt; fault_of(&mut reader, "b", &mut count) == Some(BlockFault::Failed));
     assert_eq!(rt; count.lines(), 4);
     assert!(rt; matches!(finish(reader), Err(BlockFault::Failed)));
     Ok(())
@@ -304,9 +296,9 @@ fn units_say_where_they_begin(rt: HostRuntime) -> Result<(), Fail> {
     let entities = Entities::builtin(a)?;
     let mut count = Tally::new();
     let mut reader = new_reader(a, &entities, LIMIT);
-    assert!(rt; matches!(read_line(&mut reader, "", &mut count), Ok(None)));
-    assert!(rt; matches!(read_line(&mut reader, "- a", &mut count), Ok(None)));
-    assert!(rt; matches!(read_line(&mut reader, "", &mut count), Ok(None)));
+    assert!(rt; hands_nothing(&mut reader, "", &mut count));
+    assert!(rt; hands_nothing(&mut reader, "- a", &mut count));
+    assert!(rt; hands_nothing(&mut reader, "", &mut count));
     let Ok(Some(found)) = read_line(&mut reader, "b", &mut count) else {
         return Err("no unit".into());
     };
@@ -358,8 +350,8 @@ fn later_items_are_told(rt: HostRuntime) -> Result<(), Fail> {
     let line = quoted(a, 65)?;
     let mut reader = new_reader(a, &entities, LIMIT);
     assert!(rt; !reader.joined());
-    assert!(rt; matches!(read_line(&mut reader, "- a", &mut count), Ok(None)));
-    assert!(rt; matches!(read_line(&mut reader, "- b", &mut count), Ok(None)));
+    assert!(rt; hands_nothing(&mut reader, "- a", &mut count));
+    assert!(rt; hands_nothing(&mut reader, "- b", &mut count));
     assert!(rt; reader.joined());
     assert!(rt; read_line(&mut reader, line.as_str(), &mut count).is_err());
     assert!(rt; !reader.joined());
@@ -454,10 +446,10 @@ fn parts_are_read(rt: HostRuntime) -> Result<(), Fail> {
     let entities = Entities::builtin(a)?;
     let mut count = Tally::new();
     let mut reader = new_reader(a, &entities, LIMIT);
-    assert!(rt; matches!(read_line(&mut reader, "", &mut count), Ok(None)));
-    assert!(rt; matches!(read_line(&mut reader, "- [A]: /u", &mut count), Ok(None)));
-    assert!(rt; matches!(read_line(&mut reader, "  t", &mut count), Ok(None)));
-    assert!(rt; matches!(read_line(&mut reader, "- b", &mut count), Ok(None)));
+    assert!(rt; hands_nothing(&mut reader, "", &mut count));
+    assert!(rt; hands_nothing(&mut reader, "- [A]: /u", &mut count));
+    assert!(rt; hands_nothing(&mut reader, "  t", &mut count));
+    assert!(rt; hands_nothing(&mut reader, "- b", &mut count));
     let Ok(Some(found)) = finish(reader) else {
         return Err("no unit".into());
     };
