@@ -174,8 +174,8 @@ struct Held {
     prelude: Vec<&'static str>,
 }
 
-/// A preview of so many lines.
-fn held(alloc: Global, lines: Vec<&'static str>) -> Result<Held, Fail> {
+/// A preview of these lines, beside them.
+fn begun(alloc: Global, lines: Vec<&'static str>) -> Result<Held, Fail> {
     Ok(Held {
         preview: preview_of(alloc, &lines)?,
         lines,
@@ -265,7 +265,7 @@ fn edits_leave_what_the_whole_text_gives(rt: HostRuntime) -> Result<(), Fail> {
             "z"
         })?;
     }
-    try_edits(&rt, alloc, held(alloc, lines)?, &LINES, 50, seed)
+    try_edits(&rt, alloc, begun(alloc, lines)?, &LINES, 50, seed)
 }
 
 /// Forty lines of these.
@@ -274,7 +274,7 @@ fn forty(alloc: Global, of: &[&'static str], seed: &mut u64) -> Result<Held, Fai
     for _ in 0..40 {
         lines.push(one_of(of, seed))?;
     }
-    held(alloc, lines)
+    begun(alloc, lines)
 }
 
 #[test]
