@@ -20,25 +20,12 @@ fn may_nest_too_deep(text: &[u8], max_containers: usize) -> bool {
     // A run of so many bytes has one of them at one of these places.
     let mut at = least - 1;
     while at < text.len() {
-        let may_be_one = is_in_prefix(text[at]) && (least == 1 || has_neighbour(text, at));
-        if may_be_one && is_long_prefix(&text[..at], &text[at..], least) {
+        if is_in_prefix(text[at]) && is_long_prefix(&text[..at], &text[at..], least) {
             return true;
         }
         at = at.saturating_add(least);
     }
     false
-}
-
-/// Whether a blank or a marker stands directly before a place or behind it, as in every run of two and more. Between words there is none.
-fn has_neighbour(text: &[u8], at: usize) -> bool {
-    is_prefix_at(text, at.saturating_add(1)) || at > 0 && is_prefix_at(text, at - 1)
-}
-
-fn is_prefix_at(text: &[u8], at: usize) -> bool {
-    match text.get(at) {
-        Some(byte) => is_in_prefix(*byte),
-        None => false,
-    }
 }
 
 /// Whether a line begins with at least so many blanks and markers, some of which stand before a place and the others behind it.
