@@ -279,6 +279,15 @@ fn the_first_definition_counts(rt: HostRuntime) -> Result<(), Fail> {
     Ok(())
 }
 
+/// How many lines the prelude has.
+fn prelude_len(preview: &Preview) -> usize {
+    let mut count: usize = 0;
+    for _line in preview.prelude() {
+        count = count.saturating_add(1);
+    }
+    count
+}
+
 #[test]
 fn a_prelude_stands_below_the_text(rt: HostRuntime) -> Result<(), Fail> {
     let mut preview = preview_of(rt.alloc(), &["[foo]", "", "[bar]", "", "x [baz]"])?;
@@ -291,7 +300,7 @@ fn a_prelude_stands_below_the_text(rt: HostRuntime) -> Result<(), Fail> {
     )?;
     assert_eq!(rt; (count.lines(), count.inlines()), (3, 2));
     assert_eq!(rt; preview.piece(0), Some("<p><a href=\"/p\">foo</a></p>\n"));
-    assert_eq!(rt; preview.prelude().count(), 3);
+    assert_eq!(rt; prelude_len(&preview), 3);
     check_edit(
         &rt,
         rt.alloc(),
