@@ -77,7 +77,8 @@ impl Entities {
         }
     }
 
-    /// HTML's 2,125 names that end with `;`, as `from_json` reads them of HTML's file.
+    /// HTML's 2,125 names that end with `;`, as `from_json` reads them of HTML's file (CommonMark 2.5). `NoMemory` where a growth is refused; of the other faults only one
+    /// that `from_json` has of this constant.
     pub fn html(alloc: Global) -> Result<Entities, TableFault>
         ensures ok { IfOk result (λ entities. file_table HTML_NAMES.now ≡ Ok entities) }
         ensures err { IfErr result (λ fault. fault ≢ TableFault.NoMemory → file_table HTML_NAMES.now ≡ Err fault) }
