@@ -33,8 +33,3 @@ pub use list_ends::append_unit_ends;
 pub use options::{Breaks, Options};
 pub use pieces::{append_unit_html, unit_html};
 pub use unit_writer::UnitWriter;
-
-#[cfg(test)]
-mod like_tests;
-#[cfg(test)]
-mod tests;

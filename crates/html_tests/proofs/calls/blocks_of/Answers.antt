@@ -2,7 +2,7 @@ use Rattle.std.proofs.Common.{◌≡◌, length, string_bytes, sym, subst, ap, �
 use Rattle.std.proofs.lemmas.List.{length-map}
 use Rattle.mdblock.specs.BlockView.{blocks_view}
 use Rattle.mdblock.specs.Positions.{BlocksIn}
-use Rattle.mdhtml.proofs.like_tests.blocks_of.Goals as goal
+use Rattle.html_tests.proofs.calls.blocks_of.Goals as goal
 
 pub returns : goal.returns
 returns c =
