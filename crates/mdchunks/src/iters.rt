@@ -7,7 +7,7 @@ ghost use Rattle.mdchunks.specs.Lists.{IsFilled, joined, weigh};
 ghost use Rattle.mdchunks.specs.Marks.{IsApart};
 
 use crate::blocks::Block;
-use crate::places::{Near, first_marked, locate, locate_near};
+use crate::places::{Near, count_apart, first_marked, locate, locate_near};
 use crate::weights::Weighed;
 use std::marker::Model;
 
@@ -55,17 +55,22 @@ impl<'a, T: Weighed + Drop> Iter<'a, T> {
         Iter::from(self.rest, n - self.inside.len())
     }
 
-    /// Skips whole chunks in which no member has one of these marks, where one begins, and says how many members that are.
+    /// Skips members that have none of these marks, one by one inside a chunk and by whole chunks behind it, and says how many. The first member of a chunk that
+    /// has one of them is not looked at.
     pub fn skip_apart(&mut self, marks: u64) -> usize
         ensures within { result ≤ length self.old }
         ensures rest { self.new ≡ drop result self.old }
         ensures apart { All (IsApart T.marks marks) (take result self.old) }
     {
-        if self.inside.len() > 0 {
-            return 0;
+        let inside = self.inside;
+        let apart = count_apart(inside, marks);
+        if apart < inside.len() {
+            self.inside = &inside[apart..];
+            return apart;
         }
         let rest = self.rest;
-        let place = first_marked(rest, marks);
+        let place = first_marked(rest, marks, apart);
+        self.inside = &[];
         self.rest = &rest[place.block..];
         place.inside
     }

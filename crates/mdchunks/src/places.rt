@@ -175,13 +175,30 @@ pub(crate) fn weight_before<T: Weighed + Drop>(blocks: &[Block<T>], at: usize) -
     sum
 }
 
-/// Where the first chunk begins of which a member may have one of these marks: the chunk, and how many members stand before it.
-pub(crate) fn first_marked<T: Weighed + Drop>(blocks: &[Block<T>], marks: u64) -> Place
+/// How many members at the front have none of these marks.
+pub(crate) fn count_apart<T: Weighed>(items: &[T], marks: u64) -> usize
+    ensures within { result ≤ length items.now }
+    ensures apart { All (IsApart T.marks marks) (take result items.now) }
+{
+    for i in 0..items.len() {
+        if items[i].marks() & marks != 0 {
+            return i;
+        }
+    }
+    items.len()
+}
+
+/// Where the first chunk begins of which a member may have one of these marks: the chunk, and how many members stand before it, with so many before all.
+pub(crate) fn first_marked<T: Weighed + Drop>(
+    blocks: &[Block<T>],
+    marks: u64,
+    before: usize,
+) -> Place
     ensures within { result.block ≤ length blocks.now }
-    ensures members { result.inside ≡ length (joined (take result.block blocks.now)) }
+    ensures members { result.inside ≡ before + length (joined (take result.block blocks.now)) }
     ensures apart { All (IsApart T.marks marks) (joined (take result.block blocks.now)) }
 {
-    let mut skipped: usize = 0;
+    let mut skipped = before;
     for i in 0..blocks.len() {
         let block = &blocks[i];
         if block.marks() & marks != 0 {

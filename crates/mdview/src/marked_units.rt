@@ -1,4 +1,4 @@
-//! The units that may name a label: the others are passed by chunks.
+//! The units that may name a label: the others are passed by their marks, whole chunks at once where none in a chunk has one.
 
 ghost use Rattle.std.specs.Prelude.{◌≡◌, ◌≤◌, ◌<◌, ◌+◌, ◌^◌, drop, length, sum_by};
 ghost use Rattle.std.specs.List.{All};
