@@ -13,9 +13,9 @@ use Rattle.mdview.specs.HeldTexts.{labels_before, labels_behind}
 use Rattle.mdview.specs.HeldUnit.{HeldUnit}
 use Rattle.mdview.specs.KeptTexts.{AreReadingsOf}
 use Rattle.mdview.specs.LabelTargets.{IsElsewhere, at}
-use Rattle.mdview.specs.declared.kept_texts.KeptReadings.{KeptReadings}
-use Rattle.mdview.specs.declared.readings.UnitTextReader.{UnitTextReader}
-use Rattle.mdview.specs.declared.text_room.Alike.{Alike}
+use Rattle.mdview.specs.declared.inlines.kept_texts.KeptReadings.{KeptReadings}
+use Rattle.mdview.specs.declared.inlines.UnitTextReader.{UnitTextReader}
+use Rattle.mdview.specs.declared.pieces.text_room.Alike.{Alike}
 use Rattle.mdview.proofs.NoneAsking.{none_asks}
 
 pub take_within : {A : Type 0} (n m : ℕ) (xs : List A) → n ≤ m → take n (take m xs) ≡ take n xs

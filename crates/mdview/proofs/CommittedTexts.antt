@@ -13,7 +13,7 @@ use Rattle.blockspec.specs.UnitTree.{UnitTree}
 use Rattle.inlinespec.specs.LinkTails.{Table}
 use Rattle.viewlaws.specs.UnitTexts.{asking_units, asks_again, readings_under}
 use Rattle.viewlaws.proofs.ReadingsUnder.{unasked_stays}
-use Rattle.mdview.specs.declared.readings.Again.{Again}
+use Rattle.mdview.specs.declared.inlines.concerned_texts.Again.{Again}
 use Rattle.mdview.specs.HeldTexts.{IsReadUnder, IsReread, asking_in_parts, between, number_again}
 use Rattle.mdview.specs.HeldUnit.{HeldUnit, unit_in}
 use Rattle.mdview.specs.Lists.{replaced}

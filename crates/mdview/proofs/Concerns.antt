@@ -7,7 +7,7 @@ use Rattle.mdinline.specs.ParsedText.{ParsedText}
 use Rattle.viewspec.specs.Changes.{asks_changed, leads_elsewhere}
 use Rattle.mdview.specs.HeldTexts.{labels_before, labels_behind}
 use Rattle.mdview.specs.LabelTargets.{IsElsewhere, at}
-use Rattle.mdview.specs.declared.readings.UnitTextReader.{UnitTextReader}
+use Rattle.mdview.specs.declared.inlines.UnitTextReader.{UnitTextReader}
 use Rattle.mdview.proofs.ReadTexts.{IsTextAt, any_same, count_next, count_within}
 
 -- whether the labels that it asked for are among those that are changed tells it

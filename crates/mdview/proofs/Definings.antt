@@ -23,7 +23,7 @@ use Rattle.viewlaws.proofs.LabelsLead.{labels_more}
 use Rattle.mdview.specs.Defining.{Defines, EndsAt, fault_of, first_other, shown}
 use Rattle.mdview.specs.Preludes.{IsUndefiningAt, OfDefinitions}
 use Rattle.mdview.specs.declared.fault.EditFault.{EditFault}
-use Rattle.mdview.specs.declared.defining.Defined.{Defined}
+use Rattle.mdview.specs.declared.source.defining.Defined.{Defined}
 
 first_of_both : (a b : Option FoundUnit) → option_map (λ (one : FoundUnit). one.begin) (option_or a b)
     ≡ option_or (option_map (λ (one : FoundUnit). one.begin) a) (option_map (λ (one : FoundUnit). one.begin) b)

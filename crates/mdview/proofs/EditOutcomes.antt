@@ -27,9 +27,9 @@ use Rattle.joinspec.specs.Stops.{lines_soon, lines_to_stop}
 use Rattle.viewlaws.specs.UnitTexts.{asking_units, trees_in}
 use Rattle.viewlaws.proofs.AskingUnits.{asking_renumbered, asking_spliced}
 use Rattle.viewlaws.proofs.Counts.{spliced}
-use Rattle.mdview.specs.declared.held_labels.HeldLabels.{HeldLabels}
-use Rattle.mdview.specs.declared.new_text.NewText.{NewText}
-use Rattle.mdview.specs.declared.readings.Again.{Again}
+use Rattle.mdview.specs.declared.held.labels.HeldLabels.{HeldLabels}
+use Rattle.mdview.specs.declared.source.new_text.NewText.{NewText}
+use Rattle.mdview.specs.declared.inlines.concerned_texts.Again.{Again}
 use Rattle.mdview.specs.declared.update.Update.{Update}
 use Rattle.mdview.specs.Document.{Document, pieces_of, readings_of, setting_of, source_of}
 use Rattle.mdview.specs.HeldBlocks.{HoldsUnits, IsReplacing, old_lines, places_of}

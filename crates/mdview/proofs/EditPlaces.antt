@@ -27,7 +27,7 @@ use Rattle.mdview.specs.HeldBlocks.{HoldsUnits, IsReplacing, lines_in, old_lines
 use Rattle.mdview.specs.HeldUnit.{HeldUnit, ReadUnit, first_line, read_of}
 use Rattle.mdview.specs.NewText.{lines_of as new_lines}
 use Rattle.mdview.specs.Update.{IsPatchOf}
-use Rattle.mdview.specs.declared.new_text.NewText.{NewText}
+use Rattle.mdview.specs.declared.source.new_text.NewText.{NewText}
 use Rattle.mdview.specs.declared.update.Update.{Update}
 use Rattle.mdview.proofs.ReadStretches.{is_edit}
 

@@ -39,9 +39,9 @@ use Rattle.joinlaws.proofs.StopTexts.{asking_few}
 use Rattle.mdblock.specs.FoundLists.{found_unit}
 use Rattle.mdview.specs.declared.fault.EditFault.{EditFault}
 use Rattle.mdview.specs.declared.fault.EditFault.TheVariants.{OutOfRange, BreakInLine, TooManyLines, TooLarge, NestedTooDeep, InlineTooDeep, NoMemory, NotDefinitions}
-use Rattle.mdview.specs.declared.new_text.NewText.{NewText}
-use Rattle.mdview.specs.declared.readings.Again.{Again}
-use Rattle.mdview.specs.declared.reparse.Reparsed.{Reparsed}
+use Rattle.mdview.specs.declared.source.new_text.NewText.{NewText}
+use Rattle.mdview.specs.declared.inlines.concerned_texts.Again.{Again}
+use Rattle.mdview.specs.declared.blocks.reparse.Reparsed.{Reparsed}
 use Rattle.mdview.specs.HeldBlocks.{HoldsUnits, IsDeepAt, IsReread as IsReadStretch, held_tile, lines_in, old_lines, places_of, tile_in}
 use Rattle.mdview.specs.HeldTexts.{IsReadUnder, IsRefusedBy, IsReread, IsShallow, IsTextFault, asking_in_parts, between, deep_in_parts, head_read, line_on, texts_in_parts}
 use Rattle.mdview.specs.HeldUnit.{HeldUnit, read_of, texts_in, unit_in}

@@ -18,9 +18,9 @@ use Rattle.viewlaws.proofs.Cuts.{no_units}
 use Rattle.viewlaws.proofs.DeepUnits.{deep_of_text, refused_for_spans}
 use Rattle.viewlaws.proofs.ReadingsUnder.{deep_found_under}
 use Rattle.std.proofs.lemmas.List.{length-map, take_all}
-use Rattle.mdview.specs.declared.held_labels.HeldLabels.{HeldLabels}
-use Rattle.mdview.specs.declared.label_changes.LabelChanges.{LabelChanges}
-use Rattle.mdview.specs.declared.readings.Again.{Again}
+use Rattle.mdview.specs.declared.held.labels.HeldLabels.{HeldLabels}
+use Rattle.mdview.specs.declared.labels.changes.LabelChanges.{LabelChanges}
+use Rattle.mdview.specs.declared.inlines.concerned_texts.Again.{Again}
 use Rattle.mdview.specs.HeldBlocks.{HoldsUnits, held_tile, lines_in}
 use Rattle.mdview.specs.HeldTexts.{HoldsTexts, IsReadUnder, IsReread, IsShallow, asking_in_parts, between, number_again}
 use Rattle.mdview.specs.HeldUnit.{HeldUnit, ReadUnit, read_of, texts_in, texts_of, unit_in}

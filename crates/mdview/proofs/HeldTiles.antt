@@ -18,7 +18,7 @@ use Rattle.mdview.specs.HeldLists.{StandForUnits, list_in, list_read, unplaced}
 use Rattle.mdview.specs.HeldUnit.{HeldUnit, read_of}
 use Rattle.mdview.specs.Lists.{replaced}
 use Rattle.mdview.specs.Update.{all_renewed, map_at, renewed}
-use Rattle.mdview.specs.declared.readings.Again.{Again}
+use Rattle.mdview.specs.declared.inlines.concerned_texts.Again.{Again}
 use Rattle.mdview.proofs.ListSplices.{list_tile, stand_spliced}
 use Rattle.mdview.proofs.MemberChanges.{map_changed}
 use Rattle.mdview.proofs.Sizes.{map_replaced}

@@ -9,7 +9,7 @@ use Rattle.viewspec.specs.LabelTable.{table}
 use Rattle.viewspec.specs.Setting.{Setting}
 use Rattle.viewspec.specs.View.{ViewedUnit, view, viewed}
 use Rattle.viewlaws.specs.UnitTexts.{readings_under, trees_in}
-use Rattle.mdview.specs.declared.held_labels.HeldLabels.{HeldLabels}
+use Rattle.mdview.specs.declared.held.labels.HeldLabels.{HeldLabels}
 use Rattle.mdview.specs.HeldBlocks.{HoldsUnits}
 use Rattle.mdview.specs.HeldTexts.{HoldsTexts, IsReadUnder}
 use Rattle.mdview.specs.HeldUnit.{HeldUnit, IsRendered, html_of, piece_of, read_of, shown_in, unit_in}

@@ -20,8 +20,8 @@ use Rattle.viewlaws.specs.UnitTexts.{deep_found, is_deep_under}
 use Rattle.viewlaws.proofs.DeepUnits.{found_append}
 use Rattle.joinlaws.specs.LaterTexts.{asking_of}
 use Rattle.mdview.specs.declared.fault.EditFault.{EditFault}
-use Rattle.mdview.specs.declared.kept_texts.KeptReadings.{KeptReadings}
-use Rattle.mdview.specs.declared.reparse.KeptTexts.{KeptTexts}
+use Rattle.mdview.specs.declared.inlines.kept_texts.KeptReadings.{KeptReadings}
+use Rattle.mdview.specs.declared.blocks.reparse.KeptTexts.{KeptTexts}
 use Rattle.mdview.specs.HeldTexts.{IsReadUnder, IsShallow, IsTextFault, line_on, text_fault_in}
 use Rattle.mdview.specs.HeldUnit.{HeldUnit, texts_in}
 use Rattle.mdview.specs.KeptTexts.{AreReadingsOf, IsKept, kept_texts, last_texts, number_kept, number_read, texts_with_kept}

@@ -24,9 +24,9 @@ use Rattle.joinlaws.proofs.TakenTexts.{many_in_trees}
 use Rattle.mdview.specs.HeldLists.{StandsAt, list_in}
 use Rattle.mdview.specs.HeldUnit.{HeldUnit, texts_in}
 use Rattle.mdview.specs.NewText.{lines_of}
-use Rattle.mdview.specs.declared.new_text.NewText.{NewText}
-use Rattle.mdview.specs.declared.reparse.Reparsed.{Reparsed}
-use Rattle.mdview.specs.declared.held_places.HeldItem.{HeldItem}
+use Rattle.mdview.specs.declared.source.new_text.NewText.{NewText}
+use Rattle.mdview.specs.declared.blocks.reparse.Reparsed.{Reparsed}
+use Rattle.mdview.specs.declared.blocks.held_places.HeldItem.{HeldItem}
 use Rattle.mdview.proofs.ListsStand.{all_longer, stands_pushed}
 use Rattle.mdview.proofs.NearReadings.{ReadInside, read_inside}
 use Rattle.mdview.proofs.NearStops.{StopsAt, is_stop, stops_near, sums_are}

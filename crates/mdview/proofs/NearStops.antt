@@ -33,8 +33,8 @@ use Rattle.mdview.specs.HeldUnit.{HeldUnit, read_of, texts_in}
 use Rattle.mdview.specs.NewText.{lines_of}
 use Rattle.mdview.specs.StopLines.{stops_of}
 use Rattle.mdblock.specs.Spliced.{mark_at, no_mark}
-use Rattle.mdview.specs.declared.new_text.NewText.{NewText}
-use Rattle.mdview.specs.declared.held_places.HeldItem.{HeldItem}
+use Rattle.mdview.specs.declared.source.new_text.NewText.{NewText}
+use Rattle.mdview.specs.declared.blocks.held_places.HeldItem.{HeldItem}
 use Rattle.mdview.proofs.HeldItems.{HeldOne, held_one, own_items}
 use Rattle.mdview.proofs.HeldLines.{begin_of_held}
 use Rattle.mdview.proofs.ListsStand.{stands_long}

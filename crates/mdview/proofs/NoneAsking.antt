@@ -14,7 +14,7 @@ use Rattle.mdview.specs.HeldBlocks.{held_tile}
 use Rattle.mdview.specs.HeldTexts.{IsShallow, labels_before, labels_behind}
 use Rattle.mdview.specs.HeldUnit.{HeldUnit}
 use Rattle.mdview.specs.LabelTargets.{IsElsewhere, at}
-use Rattle.mdview.specs.declared.readings.UnitTextReader.{UnitTextReader}
+use Rattle.mdview.specs.declared.inlines.UnitTextReader.{UnitTextReader}
 use Rattle.mdview.proofs.MemberChanges.{all_first, all_rest}
 
 any_none : {A : Type 0} (p : A → Bool) → ((x : A) → p x ≡ false) → (xs : List A) → list_any p xs ≡ false

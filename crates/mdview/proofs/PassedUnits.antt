@@ -29,7 +29,7 @@ use Rattle.mdview.specs.HeldUnit.{HeldUnit, unit_in}
 use Rattle.mdview.specs.LabelMarks.{held_marks, label_mark, marks_after}
 use Rattle.mdview.specs.LabelTargets.{IsElsewhere, at, definitions_by}
 use Rattle.mdview.specs.ToldLabels.{first_led, labels_in, told_by}
-use Rattle.mdview.specs.declared.readings.UnitTextReader.{UnitTextReader}
+use Rattle.mdview.specs.declared.inlines.UnitTextReader.{UnitTextReader}
 use Rattle.mdchunks.proofs.MarkSums.{apart_right}
 use Rattle.mdview.proofs.LabelMarkLaws.{asked_apart, kept_apart, none_of_readings}
 use Rattle.mdview.proofs.MemberChanges.{all_first, all_rest}

@@ -23,8 +23,8 @@ use Rattle.viewlaws.proofs.AskingUnits.{asking_all, asking_renumbered, texts_all
 use Rattle.viewlaws.proofs.ReadingsUnder.{asking_texts_under, asking_units_under}
 use Rattle.mdview.specs.declared.fault.EditFault.{EditFault}
 use Rattle.mdview.specs.declared.fault.EditFault.TheVariants.{OutOfRange, BreakInLine, TooManyLines, TooLarge, NestedTooDeep, InlineTooDeep, NoMemory, NotDefinitions}
-use Rattle.mdview.specs.declared.held_labels.HeldLabels.{HeldLabels}
-use Rattle.mdview.specs.declared.readings.Again.{Again}
+use Rattle.mdview.specs.declared.held.labels.HeldLabels.{HeldLabels}
+use Rattle.mdview.specs.declared.inlines.concerned_texts.Again.{Again}
 use Rattle.mdview.specs.declared.update.Update.{Update}
 use Rattle.mdview.specs.Document.{Document, pieces_of, readings_of, setting_of, source_of}
 use Rattle.mdview.specs.HeldBlocks.{HoldsUnits, held_tile}

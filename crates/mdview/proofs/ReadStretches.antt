@@ -16,7 +16,7 @@ use Rattle.viewlaws.proofs.Splices.{IsEdit, found_is, from_cut}
 use Rattle.viewlaws.proofs.StretchReadings.{stretch_begins}
 use Rattle.mdview.specs.HeldBlocks.{old_lines, places_of}
 use Rattle.mdview.specs.NewText.{lines_of as new_lines}
-use Rattle.mdview.specs.declared.new_text.NewText.{NewText}
+use Rattle.mdview.specs.declared.source.new_text.NewText.{NewText}
 use Rattle.mdview.specs.Lists.{replaced}
 use Rattle.mdview.proofs.Sizes.{length_replaced}
 

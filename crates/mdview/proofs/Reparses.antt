@@ -30,7 +30,7 @@ use Rattle.mdview.specs.HeldBlocks.{HoldsUnits, IsDeepAt, fault_in, is_at, line_
 use Rattle.mdview.specs.HeldLists.{StandsAt}
 use Rattle.mdview.specs.HeldUnit.{HeldUnit, read_of}
 use Rattle.mdview.specs.NewText.{lines_of}
-use Rattle.mdview.specs.declared.new_text.NewText.{NewText}
+use Rattle.mdview.specs.declared.source.new_text.NewText.{NewText}
 use Rattle.mdview.proofs.EditPlaces.{begins_are, begins_many}
 use Rattle.mdview.proofs.ListsStand.{all_longer, stands_pushed}
 use Rattle.mdview.proofs.ReadStretches.{is_edit, meets_later, none_more, stretch_next, stretch_rest, stretch_size, tells_begin}

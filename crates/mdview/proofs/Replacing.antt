@@ -13,8 +13,8 @@ use Rattle.mdview.specs.HeldLists.{StandForUnits, list_in, unplaced}
 use Rattle.mdview.specs.HeldUnit.{ReadUnit}
 use Rattle.mdview.specs.NewText.{lines_of}
 use Rattle.mdview.specs.declared.fault.EditFault.{EditFault}
-use Rattle.mdview.specs.declared.new_text.NewText.{NewText}
-use Rattle.mdview.specs.declared.reparse.Reparsed.{Reparsed}
+use Rattle.mdview.specs.declared.source.new_text.NewText.{NewText}
+use Rattle.mdview.specs.declared.blocks.reparse.Reparsed.{Reparsed}
 use Rattle.mdview.specs.declared.update.Update.{Update}
 use Rattle.mdview.proofs.HeldTiles.{tiles_found}
 use Rattle.mdview.proofs.ListsStand.{stand_found, stand_unplaced}

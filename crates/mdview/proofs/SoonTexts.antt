@@ -22,8 +22,8 @@ use Rattle.joinlaws.proofs.NearLines.{IsStop}
 use Rattle.joinlaws.proofs.StopTexts.{soon_by_later}
 use Rattle.joinlaws.proofs.TakenTexts.{many_in_trees}
 use Rattle.mdblock.specs.FoundLists.{found_unit}
-use Rattle.mdview.specs.declared.new_text.NewText.{NewText}
-use Rattle.mdview.specs.declared.reparse.Reparsed.{Reparsed}
+use Rattle.mdview.specs.declared.source.new_text.NewText.{NewText}
+use Rattle.mdview.specs.declared.blocks.reparse.Reparsed.{Reparsed}
 use Rattle.mdview.specs.HeldBlocks.{HoldsUnits, IsReread as IsReadLines, old_lines}
 use Rattle.mdview.specs.HeldTexts.{texts_in_parts}
 use Rattle.mdview.specs.HeldUnit.{HeldUnit, read_of, texts_in}

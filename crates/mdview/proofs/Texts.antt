@@ -5,7 +5,7 @@ use Rattle.std.proofs.lemmas.List.{map-append}
 use Rattle.std.proofs.lemmas.List.Sums.{sum_by-append, sum_by-cons}
 use Rattle.std.proofs.lemmas.Option.{slice_get-map, slice_get-get_or}
 use Rattle.mdhtml.specs.declared.options.Options.{Options}
-use Rattle.mdview.specs.declared.readings.Again.{Again}
+use Rattle.mdview.specs.declared.inlines.concerned_texts.Again.{Again}
 use Rattle.mdview.specs.HeldUnit.{HeldUnit, ReadUnit, unit_in, read_of, texts_in, texts_of, html_of}
 use Rattle.mdtext.specs.EntityTable.{EntityTable}
 use Rattle.inlinespec.specs.LinkTails.{Table}

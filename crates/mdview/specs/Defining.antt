@@ -8,7 +8,7 @@ use Rattle.mdblock.specs.declared.faults.BlockFault.TheVariants as block
 use Rattle.mdtext.specs.declared.labels.Target.{Target}
 use Rattle.viewspec.specs.LabelTable.{with_units}
 use Rattle.viewspec.specs.Refusals.{is_more}
-use Rattle.mdview.specs.declared.defining.Defined.{Defined}
+use Rattle.mdview.specs.declared.source.defining.Defined.{Defined}
 use Rattle.mdview.specs.declared.fault.EditFault.{EditFault}
 use Rattle.mdview.specs.declared.fault.EditFault.TheVariants.{NoMemory, NotDefinitions}
 

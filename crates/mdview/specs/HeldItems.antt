@@ -7,10 +7,10 @@ use Rattle.itemspec.specs.ItemMarks.{ItemMark}
 use Rattle.mdblock.specs.FoundLists.{FoundList, StandsForUnit, found_unit}
 use Rattle.mdblock.specs.held.ReaderState.{ReaderState}
 use Rattle.mdblock.specs.held.Reads.{handed, open_begin}
-use Rattle.mdview.specs.declared.reparse.KeptTexts.{KeptTexts}
-use Rattle.mdview.specs.declared.held_places.HeldItem.{HeldItem}
+use Rattle.mdview.specs.declared.blocks.reparse.KeptTexts.{KeptTexts}
+use Rattle.mdview.specs.declared.blocks.held_places.HeldItem.{HeldItem}
 use Rattle.mdview.specs.HeldUnit.{HeldUnit, first_line, read_of}
-use Rattle.mdview.specs.declared.held_places.UnitStart.{UnitStart}
+use Rattle.mdview.specs.declared.blocks.held_places.UnitStart.{UnitStart}
 use Rattle.mdblock.specs.Spliced.{MeetsAt, mark_at}
 
 -- its mark

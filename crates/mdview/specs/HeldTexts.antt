@@ -11,22 +11,22 @@ use Rattle.viewlaws.specs.UnitTiles.{front_of}
 use Rattle.viewspec.specs.Refusals.{Refusal, break_in_line, inline_refusal, inline_too_deep, nested_too_deep, not_definitions, out_of_range, too_large, too_many_lines}
 use Rattle.viewspec.specs.Setting.{Setting, Source}
 use Rattle.mdblock.specs.FoundLists.{found_unit}
-use Rattle.mdview.specs.declared.new_text.NewText.{NewText}
-use Rattle.mdview.specs.declared.update.HeldText.{HeldText}
+use Rattle.mdview.specs.declared.source.new_text.NewText.{NewText}
+use Rattle.mdview.specs.declared.held.HeldText.{HeldText}
 use Rattle.mdview.specs.NewText.{lines_of as new_lines}
 use Rattle.mdview.specs.HeldBlocks.{held_tile, old_lines}
-use Rattle.mdview.specs.declared.reparse.Reparsed.{Reparsed}
+use Rattle.mdview.specs.declared.blocks.reparse.Reparsed.{Reparsed}
 use Rattle.mdview.specs.declared.fault.EditFault.{EditFault}
 use Rattle.mdview.specs.declared.fault.EditFault.TheVariants.{OutOfRange, BreakInLine, TooManyLines, TooLarge, NestedTooDeep, InlineTooDeep, NoMemory, NotDefinitions}
-use Rattle.mdview.specs.declared.readings.Again.{Again}
-use Rattle.mdview.specs.declared.readings.UnitTextReader.{UnitTextReader}
-use Rattle.mdview.specs.declared.text_room.TextRoom.{TextRoom}
+use Rattle.mdview.specs.declared.inlines.concerned_texts.Again.{Again}
+use Rattle.mdview.specs.declared.inlines.UnitTextReader.{UnitTextReader}
+use Rattle.mdview.specs.declared.pieces.text_room.TextRoom.{TextRoom}
 use Rattle.mdview.specs.HeldUnit.{HeldUnit, unit_in}
 use Rattle.mdview.specs.KeptTexts.{number_kept, texts_with_kept}
 use Rattle.mdview.specs.LabelTargets.{Leads, target_after, target_held}
 use Rattle.std.specs.List.{All}
 use Rattle.mdview.specs.Preludes.{HeldPrelude, IsDefinedBy}
-use Rattle.mdview.specs.declared.held_labels.HeldLabels.{HeldLabels}
+use Rattle.mdview.specs.declared.held.labels.HeldLabels.{HeldLabels}
 
 -- the texts of the unit were read under these labels
 abbrev pub IsReadUnder : EntityTable → Table → HeldUnit → Type 0

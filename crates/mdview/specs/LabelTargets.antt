@@ -12,9 +12,9 @@ use Rattle.mdtext.specs.declared.labels.Target.{Target}
 use Rattle.viewspec.specs.Changes.{leads_elsewhere}
 use Rattle.viewspec.specs.LabelTable.{table_of}
 use Rattle.mdview.specs.Preludes.{HeldPrelude, target_beside}
-use Rattle.mdview.specs.declared.held_labels.HeldLabels.{HeldLabels}
-use Rattle.mdview.specs.declared.held_labels.LabelsAfter.{LabelsAfter}
-use Rattle.mdview.specs.declared.label_changes.LabelChanges.{LabelChanges}
+use Rattle.mdview.specs.declared.held.labels.HeldLabels.{HeldLabels}
+use Rattle.mdview.specs.declared.labels.changes.LabelsAfter.{LabelsAfter}
+use Rattle.mdview.specs.declared.labels.changes.LabelChanges.{LabelChanges}
 
 -- what stands at a label in a map
 abbrev pub at : {A : Type 0} → List ℕ → List (List ℕ × A) → Option A

@@ -1,7 +1,7 @@
 -- The lines that an edit would leave.
 use Rattle.std.specs.Prelude.{ℕ, List, map, string_bytes}
 use Rattle.mdview.specs.Lists.{replaced}
-use Rattle.mdview.specs.declared.new_text.NewText.{NewText}
+use Rattle.mdview.specs.declared.source.new_text.NewText.{NewText}
 
 -- those before the edit, those that it adds, and those behind it
 abbrev pub lines_of : NewText → List (List ℕ)

@@ -6,8 +6,8 @@ use Rattle.viewlaws.specs.UnitTexts.{trees_in}
 use Rattle.joinspec.specs.Stops.{Stops, stop_line}
 use Rattle.joinlaws.specs.LaterTexts.{texts_of, trees_to}
 use Rattle.mdblock.specs.FoundLists.{found_unit}
-use Rattle.mdview.specs.declared.new_text.NewText.{NewText}
-use Rattle.mdview.specs.declared.reparse.Reparsed.{Reparsed}
+use Rattle.mdview.specs.declared.source.new_text.NewText.{NewText}
+use Rattle.mdview.specs.declared.blocks.reparse.Reparsed.{Reparsed}
 use Rattle.mdview.specs.HeldBlocks.{old_lines, places_of}
 use Rattle.mdview.specs.HeldUnit.{texts_in}
 use Rattle.mdview.specs.KeptTexts.{kept_texts, number_kept}

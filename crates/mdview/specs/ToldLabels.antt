@@ -10,8 +10,8 @@ use Rattle.viewspec.specs.Changes.{is_same_target}
 use Rattle.viewspec.specs.LabelTable.{target_defined}
 use Rattle.mdview.specs.LabelTargets.{at, definitions_by, target_held}
 use Rattle.mdview.specs.Preludes.{HeldPrelude, target_beside}
-use Rattle.mdview.specs.declared.held_labels.HeldLabels.{HeldLabels}
-use Rattle.mdview.specs.declared.touched_labels.TouchedLabels.{TouchedLabels}
+use Rattle.mdview.specs.declared.held.labels.HeldLabels.{HeldLabels}
+use Rattle.mdview.specs.declared.labels.touched.TouchedLabels.{TouchedLabels}
 
 -- the labels of definitions
 abbrev pub labels_in : List LinkDefinition → List (List ℕ)

@@ -9,9 +9,9 @@ ghost use Rattle.mdview.specs.HeldUnit.{unit_in};
 ghost use Rattle.mdview.specs.LabelTargets.{HasRoom, led_after, target_held};
 ghost use Rattle.mdview.specs.Update.{Fits, all_renewed, map_at, renewed};
 
-use crate::held_labels::HeldLabels;
-use crate::held_units::HeldUnit;
-use crate::readings::Again;
+use crate::held::labels::HeldLabels;
+use crate::held::units::HeldUnit;
+use crate::inlines::concerned_texts::Again;
 use crate::update::Update;
 use mdchunks::Chunks;
 

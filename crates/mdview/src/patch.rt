@@ -4,7 +4,7 @@ ghost use Rattle.std.specs.Prelude.{◌≡◌, [], None, IfOk, option_map, slice
 ghost use Rattle.viewspec.specs.Patch.{brings, brought};
 ghost use Rattle.mdview.specs.Document.{pieces_of};
 
-use crate::patch_pieces::{PatchPieces, is_within};
+use crate::pieces::patch_pieces::{PatchPieces, is_within};
 use crate::preview::Preview;
 use std::alloc::{AllocError, Global};
 use std::marker::Model;

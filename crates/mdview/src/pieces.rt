@@ -4,7 +4,10 @@ ghost use Rattle.std.specs.Prelude.{◌≡◌, ◌≤◌, drop, length, map};
 ghost use Rattle.mdview.specs.HeldUnit.{HeldUnit, piece_of};
 ghost use Rattle.std.specs.Iterator.{YieldsFirstRef, item_count};
 
-use crate::held_units::HeldUnit;
+pub(crate) mod patch_pieces;
+pub(crate) mod text_room;
+
+use crate::held::units::HeldUnit;
 use mdchunks::Iter;
 use std::marker::Model;
 

@@ -17,19 +17,22 @@ ghost use Rattle.mdview.specs.HeldUnit.{HeldUnit, piece_of, shown_in, unit_edges
 ghost use Rattle.mdview.specs.Outcome.{answer_of, is_starved, outcome_of};
 ghost use Rattle.mdview.specs.Preludes.{IsUndefining};
 
-use crate::clean::clean_lines;
+use crate::blocks::held_places::begin_of;
 use crate::commit::{commit, commit_readings};
 use crate::fault::EditFault;
-use crate::held_labels::HeldLabels;
-use crate::held_places::begin_of;
-use crate::held_units::HeldUnit;
-use crate::limits::{MAX_LINES, MAX_SIZE, SPLICE_ROOM, are_plain, clean_size, first_line_break};
-use crate::lines::Lines;
-use crate::new_text::NewText;
+use crate::held::HeldText;
+use crate::held::labels::HeldLabels;
+use crate::held::units::HeldUnit;
 use crate::patch::Patch;
 use crate::pieces::Pieces;
-use crate::preludes::Prelude;
-use crate::update::{HeldText, Update};
+use crate::source::clean::clean_lines;
+use crate::source::limits::{
+    MAX_LINES, MAX_SIZE, SPLICE_ROOM, are_plain, clean_size, first_line_break,
+};
+use crate::source::lines::Lines;
+use crate::source::new_text::NewText;
+use crate::source::preludes::Prelude;
+use crate::update::Update;
 use mdblock::Unit;
 use mdchunks::Chunks;
 use mdhtml::Options;

@@ -24,35 +24,21 @@ ghost use Rattle.mdview.specs.KeptTexts.{IsKept};
 ghost use Rattle.mdview.specs.StopLines.{stops_of};
 ghost use Rattle.mdview.specs.Update.{IsFitFor, IsPatchOf, number_after};
 
+use crate::blocks::reparse::{Reparsed, reparse};
 use crate::fault::EditFault;
-use crate::held_labels::{HeldLabels, LabelsAfter};
-use crate::held_units::HeldUnit;
-use crate::kept_texts::kept_readings;
-use crate::label_changes::LabelChanges;
-use crate::new_text::NewText;
+use crate::held::HeldText;
+use crate::held::units::HeldUnit;
+use crate::inlines::UnitTextReader;
+use crate::inlines::concerned_texts::Again;
+use crate::inlines::kept_texts::kept_readings;
+use crate::labels::changes::{LabelChanges, LabelsAfter};
 use crate::patch::Patch;
-use crate::preludes::Prelude;
-use crate::readings::{Again, UnitTextReader};
-use crate::reparse::{Reparsed, reparse};
-use crate::text_room::TextRoom;
+use crate::pieces::text_room::TextRoom;
+use crate::source::new_text::NewText;
+use crate::source::preludes::Prelude;
 use mdblock::Found;
-use mdchunks::Chunks;
-use mdhtml::Options;
-use mdtext::{Count, Entities};
+use mdtext::Count;
 use std::alloc::{AllocError, Global};
-
-/// What an edit finds held.
-#[derive(Clone, Copy)]
-pub(crate) struct HeldText<'a> {
-    pub(crate) alloc: Global,
-    pub(crate) entities: &'a Entities,
-    pub(crate) options: &'a Options,
-    /// How many lines stand before the first unit.
-    pub(crate) head: usize,
-    pub(crate) units: &'a Chunks<HeldUnit>,
-    pub(crate) prelude: &'a Prelude,
-    pub(crate) labels: &'a HeldLabels,
-}
 
 /// What an edit brings: `units` take the place of those from number `first` up to `next`, and `head` lines stand before the
 /// first unit then. The units of `again` are held and read again; they are numbered as before the edit.

@@ -8,7 +8,7 @@ use Rattle.mdview.specs.HeldBlocks.{held_tile}
 use Rattle.mdview.specs.HeldTexts.{IsReread, IsTextFault, asking_in_parts, head_read, number_again}
 use Rattle.mdview.specs.HeldUnit.{HeldUnit, unit_in}
 use Rattle.mdview.specs.LabelTargets.{led_after, led_by, target_held}
-use Rattle.mdview.specs.declared.reparse.Reparsed.{Reparsed}
+use Rattle.mdview.specs.declared.blocks.reparse.Reparsed.{Reparsed}
 use Rattle.mdview.specs.declared.update.Update.{Update}
 use Rattle.mdview.proofs.EditTexts.{all_reread_under, deep_by_all, numbers_by_all, texts_by_all}
 use Rattle.mdview.proofs.update.Update.of_prelude.Goals as goal

@@ -1,5 +1,5 @@
 use Rattle.std.proofs.Common.{◌≡◌, ◌++◌, drop, map}
-use Rattle.mdview.specs.declared.readings.Again.{Again}
+use Rattle.mdview.specs.declared.inlines.concerned_texts.Again.{Again}
 use Rattle.mdview.specs.Update.{number_after}
 use Rattle.mdview.proofs.update.Update.patch.Given as goal
 

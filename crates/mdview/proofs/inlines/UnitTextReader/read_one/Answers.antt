@@ -1,0 +1,32 @@
+use Rattle.std.proofs.Common.{◌≡◌, ◌+◌, ◌≤◌, arith, false, ap, ◌∙◌, sym}
+use Rattle.viewspec.specs.Changes.{asks_changed}
+use Rattle.viewspec.specs.Refusals.{is_deep}
+use Rattle.viewspec.specs.View.{reading_of}
+use Rattle.viewlaws.proofs.Readings.{reads_as_before}
+use Rattle.mdview.specs.HeldTexts.{entities_in, labels_before, labels_behind}
+use Rattle.mdview.proofs.Concerns.{concerned}
+use Rattle.mdview.proofs.inlines.UnitTextReader.read_one.Goals as goal
+
+pub returns-then-concern-clause-inlines : goal.returns-then-concern-clause-inlines
+returns-then-concern-clause-inlines g c =
+    let asks = concerned c.args.self.now c.requires.elsewhere c.args.held.now c.asked.result.now c.concern.result c.asked.ensures c.concern.ensures in
+    let once : g.C.Count.inlines c.read_text.new.count ≤ g.C.Count.inlines c.args.count.now + 1 = omega (arith, c.read_text.ensures.inlines) in
+    rw (sym asks ∙ c.if-concern.true) once
+
+pub returns-in_ok-copy-clause-reading : goal.returns-in_ok-copy-clause-reading
+returns-in_ok-copy-clause-reading g c =
+    let old = labels_before c.args.self.now in
+    let new = labels_behind c.args.self.now in
+    let e = entities_in c.args.room.now in
+    let asks = concerned c.args.self.now c.requires.elsewhere c.args.held.now c.asked.result.now c.concern.result c.asked.ensures c.concern.ensures in
+    let none : asks_changed old new (reading_of e old c.args.text.now) ≡ false = ap (asks_changed old new) (sym c.requires.held) ∙ sym asks ∙ c.if-concern.false in
+    c.in_ok-copy.ensures ∙ c.requires.held ∙ reads_as_before e old new c.args.text.now none
+
+pub returns-in_ok-copy-clause-shallow : goal.returns-in_ok-copy-clause-shallow
+returns-in_ok-copy-clause-shallow g c =
+    let old = labels_before c.args.self.now in
+    let new = labels_behind c.args.self.now in
+    let e = entities_in c.args.room.now in
+    let asks = concerned c.args.self.now c.requires.elsewhere c.args.held.now c.asked.result.now c.concern.result c.asked.ensures c.concern.ensures in
+    let none : asks_changed old new (reading_of e old c.args.text.now) ≡ false = ap (asks_changed old new) (sym c.requires.held) ∙ sym asks ∙ c.if-concern.false in
+    ap (is_deep c.args.self.now.options.now.max_spans) (sym (c.requires.held ∙ reads_as_before e old new c.args.text.now none)) ∙ c.requires.shallow

@@ -1,5 +1,0 @@
-use Rattle.mdview.proofs.AlikeTexts.{walk_ends}
-use Rattle.mdview.proofs.readings.next_gone.Goals as goal
-
-pub returns : goal.returns
-returns c = walk_ends (λ x. x.now) c.next.result c.args.held.now c.next.new.self c.next.ensures.steps

@@ -1,0 +1,144 @@
+//! What the inline texts of found units read as, and the pieces of these units.
+
+ghost use Rattle.std.specs.Prelude.{◌≡◌, ◌+◌, ◌≤◌, ◌∷◌, None, take, IfOk, IfSome, IfErr, IsErrOf, OnOk, false, length, map, option_map, sum_by, true, MatchOption};
+ghost use Rattle.std.specs.List.{All};
+ghost use Rattle.mdblock.specs.FoundLists.{found_unit};
+ghost use Rattle.mdhtml.specs.Limits.{HasLimits};
+ghost use Rattle.mdinline.specs.declared.faults.InlineFault.TheVariants.{TooDeep};
+ghost use Rattle.viewlaws.specs.UnitTexts.{deep_found, is_deep_under, readings_under, trees_in};
+ghost use Rattle.mdview.specs.HeldUnit.{IsRendered, texts_in};
+ghost use Rattle.mdview.specs.HeldLists.{list_in, unplaced};
+ghost use Rattle.mdview.specs.HeldTexts.{IsReadUnder, IsShallow, IsTextFault, entities_in, labels_before, labels_behind, line_on};
+ghost use Rattle.mdview.specs.LabelTargets.{IsElsewhere};
+
+use crate::fault::EditFault;
+use crate::held::units::HeldUnit;
+use crate::inlines::{UnitTextReader, fault_in_unit};
+use crate::pieces::text_room::{Alike, TextRoom};
+use crate::source::limits::SPLICE_ROOM;
+use mdblock::{Found, Unit};
+use mdchunks::{Chunks, Iter};
+use mdinline::{InlineFault, Parsed};
+use mdtext::Count;
+
+impl<'a> UnitTextReader<'a> {
+    /// Reads the texts of the units that were found in the lines from `from` on. They may have texts of the held units from
+    /// number `first` up to `next`, in whose place they come, one by one: the readings of those are shared.
+    pub(crate) fn read_units<C: Count>(
+        &self,
+        found: Vec<Found>,
+        held: &Chunks<HeldUnit>,
+        first: usize,
+        next: usize,
+        from: usize,
+        room: &mut TextRoom<'a>,
+        count: &mut C,
+    ) -> Result<Vec<HeldUnit>, EditFault>
+        requires limits { HasLimits self.now.options.now }
+        requires first { first ≤ length held.now.items }
+        requires elsewhere { IsElsewhere self.now.labels.now.held.now self.now.labels.now.changes.now }
+        requires held { All (IsReadUnder (entities_in room.old) (labels_before self.now)) held.now.items }
+        requires held_shallow { All (IsShallow self.now.options.now.max_spans (entities_in room.old) (labels_before self.now)) held.now.items }
+        requires rendered { All (IsRendered self.now.options.now) held.now.items }
+        ensures all { IfOk result (λ units. length units.items ≡ length found.items) }
+        ensures lists { IfOk result (λ units. map list_in units.items ≡ map unplaced found.items) }
+        ensures pieces { IfOk result (λ units. All (IsRendered self.now.options.now) units.items) }
+        ensures read { IfOk result (λ units. All (IsReadUnder (entities_in room.old) (labels_behind self.now)) units.items) }
+        ensures shallow { OnOk result (deep_found self.now.options.now.max_spans (entities_in room.old) (labels_behind self.now) (map found_unit found.items) ≡ None) }
+        ensures deep { IfErr result (IsTextFault (option_map (line_on from) (deep_found self.now.options.now.max_spans (entities_in room.old) (labels_behind self.now) (map found_unit found.items)))) }
+        ensures room { entities_in room.new ≡ entities_in room.old }
+        ensures lines { C.lines count.new ≡ C.lines count.old }
+        ensures inlines { C.inlines count.new ≤ C.inlines count.old + sum_by texts_in (trees_in (map found_unit found.items)) }
+    {
+        // Where nothing is found no memory is asked for.
+        let wanted = if found.is_empty() {
+            0
+        } else {
+            found.len().saturating_add(SPLICE_ROOM)
+        };
+        let mut units = Vec::with_capacity(self.alloc, wanted)?;
+        let mut like = held.iter_from(first);
+        let mut left = next.saturating_sub(first);
+        for one in found {
+            let begin = from.saturating_add(one.begin());
+            let was = next_gone(&mut like, &mut left);
+            match self.read_unit(one, was, room, count) {
+                Ok(unit) => units.push(unit)?,
+                Err(fault) => return Err(fault_in_unit(fault, begin)),
+            }
+        }
+        Ok(units)
+    }
+
+    fn read_unit<C: Count>(
+        &self,
+        found: Found,
+        held: Option<&HeldUnit>,
+        room: &mut TextRoom<'a>,
+        count: &mut C,
+    ) -> Result<HeldUnit, InlineFault>
+        requires limits { HasLimits self.now.options.now }
+        requires elsewhere { IsElsewhere self.now.labels.now.held.now self.now.labels.now.changes.now }
+        requires held { IfSome held (λ u. IsReadUnder (entities_in room.old) (labels_before self.now) u.now) }
+        requires held_shallow { IfSome held (λ u. IsShallow self.now.options.now.max_spans (entities_in room.old) (labels_before self.now) u.now) }
+        requires rendered { IfSome held (λ u. IsRendered self.now.options.now u.now) }
+        ensures unit { IfOk result (λ unit. unit.read.unit ≡ found.unit) }
+        ensures list { IfOk result (λ unit. list_in unit ≡ unplaced found) }
+        ensures piece { IfOk result (IsRendered self.now.options.now) }
+        ensures read { IfOk result (IsReadUnder (entities_in room.old) (labels_behind self.now)) }
+        ensures shallow { OnOk result (is_deep_under self.now.options.now.max_spans (entities_in room.old) (labels_behind self.now) found.unit ≡ false) }
+        ensures deep { IsErrOf result TooDeep → is_deep_under self.now.options.now.max_spans (entities_in room.old) (labels_behind self.now) found.unit ≡ true }
+        ensures room { entities_in room.new ≡ entities_in room.old }
+        ensures lines { C.lines count.new ≡ C.lines count.old }
+        ensures inlines { C.inlines count.new ≤ C.inlines count.old + texts_in found.unit }
+    {
+        let (inlines, same) = self.read_texts(found.unit(), held, room, count)?;
+        let blocks = found.unit().blocks();
+        let piece = match held {
+            Some(unit) => {
+                let like = Alike {
+                    unit,
+                    front: self.read_alike_in(same),
+                    behind: 0,
+                };
+                room.piece_like(blocks, &inlines, self.options, like)?
+            }
+            None => room.unit_piece(blocks, &inlines, self.options, 0)?,
+        };
+        Ok(HeldUnit::new(found, inlines, piece))
+    }
+
+    fn read_texts<C: Count>(
+        &self,
+        unit: &Unit,
+        held: Option<&HeldUnit>,
+        room: &mut TextRoom<'a>,
+        count: &mut C,
+    ) -> Result<(Vec<Parsed>, usize), InlineFault>
+        requires limits { HasLimits self.now.options.now }
+        requires elsewhere { IsElsewhere self.now.labels.now.held.now self.now.labels.now.changes.now }
+        requires held { IfSome held (λ u. IsReadUnder (entities_in room.old) (labels_before self.now) u.now) }
+        requires held_shallow { IfSome held (λ u. IsShallow self.now.options.now.max_spans (entities_in room.old) (labels_before self.now) u.now) }
+        ensures all { IfOk result (λ read. length read.0.items ≡ length unit.now.texts) }
+        ensures readings { IfOk result (λ read. read.0.items ≡ readings_under (entities_in room.old) (labels_behind self.now) unit.now) }
+        ensures front { IfOk result (λ read. (read.1 ≤ length unit.now.texts) × IfSome held.entry (λ u. take read.1 unit.now.texts ≡ take read.1 u.now.read.unit.texts)) }
+        ensures shallow { OnOk result (is_deep_under self.now.options.now.max_spans (entities_in room.old) (labels_behind self.now) unit.now ≡ false) }
+        ensures deep { IsErrOf result TooDeep → is_deep_under self.now.options.now.max_spans (entities_in room.old) (labels_behind self.now) unit.now ≡ true }
+        ensures room { entities_in room.new ≡ entities_in room.old }
+        ensures lines { C.lines count.new ≡ C.lines count.old }
+        ensures inlines { C.inlines count.new ≤ C.inlines count.old + length unit.now.texts }
+    {
+        let texts = unit.texts();
+        let mut inlines = Vec::with_capacity(self.alloc, texts.len())?;
+        let same = self.read_alike(texts, 0, held, &mut inlines, room, count)?;
+        Ok((inlines, same))
+    }
+}
+
+/// The next of the held units that go, of which so many are left. One that stays has its piece and its memory still, so none comes in its place.
+fn next_gone<'b>(held: &mut Iter<'b, HeldUnit>, left: &mut usize) -> Option<&'b HeldUnit>
+    ensures { MatchOption result (held.new ≡ held.old) (λ unit. held.old ≡ unit.now ∷ held.new) }
+{
+    *left = left.checked_sub(1)?;
+    held.next()
+}

@@ -1,0 +1,162 @@
+//! What the reading of texts and the writing of units use again.
+
+ghost use Rattle.std.specs.Prelude.{◌≡◌, [], false, IfOk, IfSome, Some, length, string_bytes};
+ghost use Rattle.mdblock.specs.BlockView.{blocks_view};
+ghost use Rattle.mdblock.specs.Positions.{BlocksIn};
+ghost use Rattle.mdhtml.specs.BlockHtml.{blocks_html, texts_html};
+ghost use Rattle.mdview.specs.HeldTexts.{entities_in};
+ghost use Rattle.mdview.specs.HeldUnit.{AreEnds, IsRendered};
+ghost use Rattle.mdview.specs.AlikeUnits.{AreAlike};
+
+use crate::held::pieces::Piece;
+use crate::held::units::HeldUnit;
+use mdblock::Block;
+use mdhtml::{Like, Options, append_unit_ends, append_unit_html, append_unit_like};
+use mdinline::{Parsed, TextReader};
+use mdtext::{Entities, NoMemory};
+use std::alloc::Global;
+
+/// Room for the HTML of most units, so that it need not grow bit by bit.
+const HTML_ROOM: usize = 1_000;
+
+/// Of a list whose piece has more bytes, in the place of a piece that has more, it is kept where its items end.
+const LONG: usize = 16_384;
+
+/// A held unit that goes, in whose place another comes, and how many texts, from the front on and from the end on, are known to read the same in both.
+#[derive(Clone, Copy)]
+pub(crate) struct Alike<'a> {
+    pub(crate) unit: &'a HeldUnit,
+    pub(crate) front: usize,
+    pub(crate) behind: usize,
+}
+
+/// A reader of texts, and room for the HTML of a unit: both are used again for the next one.
+#[derive(Drop)]
+pub(crate) struct TextRoom<'a> {
+    alloc: Global,
+    pub(crate) reader: TextReader<'a>,
+    html: String,
+}
+
+impl<'a> TextRoom<'a> {
+    /// Takes no memory.
+    pub(crate) fn new(alloc: Global, entities: &'a Entities) -> TextRoom<'a>
+        ensures { entities_in result ≡ entities.now }
+    {
+        TextRoom {
+            alloc,
+            reader: TextReader::new(alloc, entities),
+            html: String::new(alloc),
+        }
+    }
+
+    /// The piece of a unit that comes in the place of a held one: where it is known where the items of the held one end, the HTML of items that are the same in both is taken over.
+    pub(crate) fn piece_like(
+        &mut self,
+        blocks: &[Block],
+        texts: &[Parsed],
+        options: &Options,
+        like: Alike<'_>,
+    ) -> Result<Piece, NoMemory>
+        requires within { BlocksIn (length texts.now) (blocks_view blocks.now) }
+        requires rendered { IsRendered options.now like.unit.now }
+        requires alike { AreAlike texts.now like }
+        ensures html { IfOk result (λ piece. piece.html
+            ≡ blocks_html options.now (texts_html options.now texts.now) false (blocks_view blocks.now) []) }
+        ensures ends { IfOk result (λ piece. AreEnds options.now texts.now (blocks_view blocks.now) piece.ends) }
+        ensures room { entities_in self.new ≡ entities_in self.old }
+    {
+        match like.unit.ends() {
+            Some(ends) => self.list_like(blocks, texts, options, like, ends),
+            None => self.unit_piece(blocks, texts, options, like.unit.piece().len()),
+        }
+    }
+
+    /// The piece of a unit that comes in the place of a held one of which is known where its items end.
+    fn list_like(
+        &mut self,
+        blocks: &[Block],
+        texts: &[Parsed],
+        options: &Options,
+        like: Alike<'_>,
+        like_ends: &[usize],
+    ) -> Result<Piece, NoMemory>
+        requires within { BlocksIn (length texts.now) (blocks_view blocks.now) }
+        requires rendered { IsRendered options.now like.unit.now }
+        requires like_ends { Some like_ends.now ≡ like.unit.now.ends }
+        requires alike { AreAlike texts.now like }
+        ensures html { IfOk result (λ piece. piece.html
+            ≡ blocks_html options.now (texts_html options.now texts.now) false (blocks_view blocks.now) []) }
+        ensures ends { IfOk result (λ piece. AreEnds options.now texts.now (blocks_view blocks.now) piece.ends) }
+        ensures room { entities_in self.new ≡ entities_in self.old }
+    {
+        let was = Like {
+            blocks: like.unit.unit().blocks(),
+            texts: like.unit.inlines(),
+            html: like.unit.piece(),
+            ends: like_ends,
+            front: like.front,
+            behind: like.behind,
+        };
+        self.html.clear();
+        let mut ends = Vec::new(self.alloc);
+        append_unit_like(blocks, texts, options, &was, &mut self.html, &mut ends)?;
+        self.written(ends)
+    }
+
+    /// The piece of a unit: the HTML of its blocks, whose texts read as `texts`. It takes as much memory as it has bytes; `like` is the length of the piece in
+    /// whose place it comes, and 0 where there is none.
+    pub(crate) fn unit_piece(
+        &mut self,
+        blocks: &[Block],
+        texts: &[Parsed],
+        options: &Options,
+        like: usize,
+    ) -> Result<Piece, NoMemory>
+        requires { BlocksIn (length texts.now) (blocks_view blocks.now) }
+        ensures html { IfOk result (λ piece. piece.html
+            ≡ blocks_html options.now (texts_html options.now texts.now) false (blocks_view blocks.now) []) }
+        ensures ends { IfOk result (λ piece. AreEnds options.now texts.now (blocks_view blocks.now) piece.ends) }
+        ensures room { entities_in self.new ≡ entities_in self.old }
+    {
+        if like > LONG {
+            return self.long_piece(blocks, texts, options);
+        }
+        self.html.clear();
+        self.html.reserve(HTML_ROOM)?;
+        append_unit_html(blocks, texts, options, &mut self.html)?;
+        Ok(Piece::new(String::from_str(self.alloc, &self.html)?, None))
+    }
+
+    /// The piece of a unit that comes in the place of a long one.
+    fn long_piece(
+        &mut self,
+        blocks: &[Block],
+        texts: &[Parsed],
+        options: &Options,
+    ) -> Result<Piece, NoMemory>
+        requires { BlocksIn (length texts.now) (blocks_view blocks.now) }
+        ensures html { IfOk result (λ piece. piece.html
+            ≡ blocks_html options.now (texts_html options.now texts.now) false (blocks_view blocks.now) []) }
+        ensures ends { IfOk result (λ piece. AreEnds options.now texts.now (blocks_view blocks.now) piece.ends) }
+        ensures room { entities_in self.new ≡ entities_in self.old }
+    {
+        self.html.clear();
+        self.html.reserve(HTML_ROOM)?;
+        let mut ends = Vec::new(self.alloc);
+        append_unit_ends(blocks, texts, options, &mut self.html, &mut ends)?;
+        self.written(ends)
+    }
+
+    /// The piece that was written; of a long one with where items end in it, if there are any.
+    fn written(&self, ends: Vec<usize>) -> Result<Piece, NoMemory>
+        ensures html { IfOk result (λ piece. piece.html ≡ string_bytes self.now.html) }
+        ensures ends { IfOk result (λ piece. IfSome piece.ends (λ ns. ns ≡ ends.items)) }
+    {
+        let html = String::from_str(self.alloc, &self.html)?;
+        if html.len() <= LONG || ends.is_empty() {
+            return Ok(Piece::new(html, None));
+        }
+        Ok(Piece::new(html, Some(Box::new(self.alloc, ends)?)))
+    }
+}
