@@ -109,6 +109,12 @@ typedef struct {
     size_t max_containers;
     /* How many spans may lie in one another: 1 to 256; 0 stands for 64. */
     size_t max_spans;
+    /* Whether the language of a code block is written as <pre lang="x">, in place of
+     * <code class="language-x">. */
+    bool pre_lang;
+    /* Whether the alignment of a cell is written as style="text-align: center", in place of
+     * align="center". */
+    bool align_style;
 } jirmoans_settings;
 
 /* A preview. Set it to zero, as `jirmoans_preview preview = {0};`, and leave its fields alone. */

@@ -41,7 +41,7 @@ source_of lines prelude = record { lines = lines; prelude = prelude }
 
 abbrev pub limited : (max_containers max_spans : ℕ) → Setting
 limited max_containers max_spans =
-    record { entities = builtin_table; options = record { unsafe_html = false; breaks = Soft; max_containers = max_containers; max_spans = max_spans } }
+    record { entities = builtin_table; options = record { unsafe_html = false; breaks = Soft; pre_lang = false; align_style = false; max_containers = max_containers; max_spans = max_spans } }
 
 abbrev pub plain : Setting
 plain = limited 64 64

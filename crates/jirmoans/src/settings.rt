@@ -18,6 +18,10 @@ pub struct Settings {
     pub max_containers: usize,
     /// How many spans may lie in one another, 1 to 256; 0 stands for 64.
     pub max_spans: usize,
+    /// Whether the language of a code block is written as `<pre lang="x">`, in place of `<code class="language-x">`.
+    pub pre_lang: bool,
+    /// Whether the alignment of a cell is written as `style="text-align: center"`, in place of `align="center"`.
+    pub align_style: bool,
 }
 
 const USUAL_LIMIT: usize = 64;
@@ -41,6 +45,8 @@ impl Settings {
         Ok(Options {
             unsafe_html: self.unsafe_html,
             breaks,
+            pre_lang: self.pre_lang,
+            align_style: self.align_style,
             max_containers,
             max_spans,
         })

@@ -14,9 +14,9 @@ like_text s p q k hp hq lt = record { html = λ T U h. ap (text_html T) hp ∙ h
 
 pub like_cells : (s : SharedTexts) (p q : ℕ) (ps qs : List ℕ) → TextAlike s p q → CellsAlike s ps qs → CellsAlike s (p ∷ ps) (q ∷ qs)
 like_cells s p q ps qs one rest = record {
-  html = λ T U h tag aligns column.
-      ap (λ z. cell_html tag (align_of aligns column) z ++ cells_html T tag aligns (column + 1) ps) (one.html T U h)
-      ∙ ap (λ z. cell_html tag (align_of aligns column) (text_html U q) ++ z) (rest.html T U h tag aligns (column + 1));
+  html = λ T U h o tag aligns column.
+      ap (λ z. cell_html o tag (align_of aligns column) z ++ cells_html o T tag aligns (column + 1) ps) (one.html T U h)
+      ∙ ap (λ z. cell_html o tag (align_of aligns column) (text_html U q) ++ z) (rest.html T U h o tag aligns (column + 1));
 }
 
 -- ---- containers

@@ -40,7 +40,7 @@ mutual
   block_behind o ts tight (paragraph at task) out x e = paragraph_behind out x (task_box task ++ text_html ts at) tight e
   block_behind o ts tight (heading level at) out x e = line_behind out x (heading_html level (text_html ts at)) e
   block_behind o ts tight thematic_break out x e = line_behind out x (codes "<hr />\n") e
-  block_behind o ts tight (code_block lang body) out x e = line_behind out x (code_html lang body) e
+  block_behind o ts tight (code_block lang body) out x e = line_behind out x (code_html o lang body) e
   block_behind o ts tight (html_block lines) out x e = line_behind out x (raw_block_html o lines) e
   block_behind o ts tight (block_quote bs) out x e =
       let inner = blocks_html o ts false bs (fresh x ++ codes "<blockquote>\n") in
@@ -51,7 +51,7 @@ mutual
       ap (λ l. items_html o ts t is l ++ list_close kind) (line_behind out x (list_open kind) e)
       ∙ ap (λ l. l ++ list_close kind) (items_behind o ts t is out (fresh x ++ list_open kind) e)
       ∙ append_assoc out (items_html o ts t is (fresh x ++ list_open kind)) (list_close kind)
-  block_behind o ts tight (table aligns head rows) out x e = line_behind out x (table_html ts aligns head rows) e
+  block_behind o ts tight (table aligns head rows) out x e = line_behind out x (table_html o ts aligns head rows) e
 
   pub blocks_behind : (o : Options) (ts : List (List ℕ)) (tight : Bool) (bs : Blocks) (out x : List ℕ) → ends_line out ≡ true → blocks_html o ts tight bs (out ++ x) ≡ out ++ blocks_html o ts tight bs x
   blocks_behind o ts tight no_blocks out x e = refl

@@ -25,7 +25,7 @@ ends_block o ts (html_block s) out = by_last_two (block_html o ts false (html_bl
 ends_block o ts (block_quote bs) out = by_last (block_html o ts false (block_quote bs) out) _ (codes "</blockquote>\n") refl (omega arith) refl
 ends_block o ts (list (bullet m) t is) out = by_last (block_html o ts false (list (bullet m) t is) out) _ (codes "</ul>\n") refl (omega arith) refl
 ends_block o ts (list (ordered d s) t is) out = by_last (block_html o ts false (list (ordered d s) t is) out) _ (codes "</ol>\n") refl (omega arith) refl
-ends_block o ts (table aligns head rows) out = by_last_two (block_html o ts false (table aligns head rows) out) (fresh out) (codes "<table>\n" ++ head_html ts aligns head ++ body_html ts aligns rows) (codes "</table>\n") refl (omega arith) refl
+ends_block o ts (table aligns head rows) out = by_last_two (block_html o ts false (table aligns head rows) out) (fresh out) (codes "<table>\n" ++ head_html o ts aligns head ++ body_html o ts aligns rows) (codes "</table>\n") refl (omega arith) refl
 
 pub ends_blocks : (o : Options) (ts : List (List ℕ)) (bs : Blocks) (out : List ℕ) → ends_line out ≡ true → ends_line (blocks_html o ts false bs out) ≡ true
 ends_blocks o ts no_blocks out h = h

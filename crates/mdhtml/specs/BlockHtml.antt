@@ -39,11 +39,16 @@ heading_tag level =
 abbrev pub heading_html : ℕ → List ℕ → List ℕ
 heading_html level inner = codes "<" ++ heading_tag level ++ codes ">" ++ inner ++ codes "</" ++ heading_tag level ++ codes ">\n"
 
-abbrev pub code_open : List ℕ → List ℕ
-code_open lang = if length lang == 0 then codes "<pre><code>" else codes "<pre><code class=\"language-" ++ escaped lang ++ codes "\">"
+-- the language is an attribute of `pre`, or a class of `code`
+abbrev pub language_open : (pre_lang : Bool) → List ℕ → List ℕ
+language_open true lang = codes "<pre lang=\"" ++ escaped lang ++ codes "\"><code>"
+language_open false lang = codes "<pre><code class=\"language-" ++ escaped lang ++ codes "\">"
 
-abbrev pub code_html : (lang body : List ℕ) → List ℕ
-code_html lang body = code_open lang ++ escaped body ++ codes "</code></pre>\n"
+abbrev pub code_open : Options → List ℕ → List ℕ
+code_open o lang = if length lang == 0 then codes "<pre><code>" else language_open o.pre_lang lang
+
+abbrev pub code_html : Options → (lang body : List ℕ) → List ℕ
+code_html o lang body = code_open o lang ++ escaped body ++ codes "</code></pre>\n"
 
 abbrev pub raw_block_html : Options → List ℕ → List ℕ
 raw_block_html o lines = raw_html o lines ++ codes "\n"
@@ -65,11 +70,11 @@ abbrev mutual
   block_html o texts tight (paragraph at task) out = paragraph_html tight (task_box task ++ text_html texts at) out
   block_html o texts tight (heading level at) out = fresh out ++ heading_html level (text_html texts at)
   block_html o texts tight thematic_break out = fresh out ++ codes "<hr />\n"
-  block_html o texts tight (code_block lang body) out = fresh out ++ code_html lang body
+  block_html o texts tight (code_block lang body) out = fresh out ++ code_html o lang body
   block_html o texts tight (html_block lines) out = fresh out ++ raw_block_html o lines
   block_html o texts tight (block_quote bs) out = fresh (blocks_html o texts false bs (fresh out ++ codes "<blockquote>\n")) ++ codes "</blockquote>\n"
   block_html o texts tight (list kind t is) out = items_html o texts t is (fresh out ++ list_open kind) ++ list_close kind
-  block_html o texts tight (table aligns head rows) out = fresh out ++ table_html texts aligns head rows
+  block_html o texts tight (table aligns head rows) out = fresh out ++ table_html o texts aligns head rows
 
   pub blocks_html : Options → List (List ℕ) → (tight : Bool) → Blocks → List ℕ → List ℕ
   blocks_html o texts tight no_blocks out = out

@@ -54,12 +54,14 @@ fn write_block(
         Block::Paragraph { text, task } => { write_paragraph(*text, *task, tight, texts, out) }
         Block::Heading { level, text } => write_heading(*level, *text, texts, out),
         Block::Break => write_thematic_break(out),
-        Block::Code { lang, body } => write_code(lang, body, out),
+        Block::Code { lang, body } => write_code(lang, body, options, out),
         Block::Html(lines) => write_html(lines, options, out),
         Block::Quote(inner) => write_quote(inner, texts, options, out),
         Block::List { kind, tight, items } => {
             write_list(*kind, *tight, items, texts, options, out)
         }
-        Block::Table { aligns, head, rows } => { write_table(aligns, head, rows, texts, out) }
+        Block::Table { aligns, head, rows } => {
+            write_table(aligns, head, rows, texts, options, out)
+        }
     }
 }

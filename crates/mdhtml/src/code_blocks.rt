@@ -3,25 +3,35 @@
 ghost use Rattle.std.specs.Prelude.{◌≡◌, ◌++◌, OnOk, string_bytes};
 ghost use Rattle.mdhtml.specs.BlockHtml.{fresh, code_html, code_open};
 
+use crate::options::Options;
 use crate::pieces::write_fresh;
 use mdtext::{NoMemory, escape_text};
 
-pub(crate) fn write_code(lang: &str, body: &str, out: &mut String) -> Result<(), NoMemory>
+pub(crate) fn write_code(
+    lang: &str,
+    body: &str,
+    options: &Options,
+    out: &mut String,
+) -> Result<(), NoMemory>
     ensures { OnOk result (string_bytes out.new
-        ≡ fresh (string_bytes out.old) ++ code_html lang.now body.now) }
+        ≡ fresh (string_bytes out.old) ++ code_html options.now lang.now body.now) }
 {
     write_fresh(out)?;
-    open_code(lang, out)?;
+    open_code(lang, options, out)?;
     escape_text(body, out)?;
     out.push_str("</code></pre>\n")?;
     Ok(())
 }
 
-fn open_code(lang: &str, out: &mut String) -> Result<(), NoMemory>
-    ensures { OnOk result (string_bytes out.new ≡ string_bytes out.old ++ code_open lang.now) }
+fn open_code(lang: &str, options: &Options, out: &mut String) -> Result<(), NoMemory>
+    ensures { OnOk result (string_bytes out.new ≡ string_bytes out.old ++ code_open options.now lang.now) }
 {
     if lang.is_empty() {
         out.push_str("<pre><code>")?;
+    } else if options.pre_lang {
+        out.push_str("<pre lang=\"")?;
+        escape_text(lang, out)?;
+        out.push_str("\"><code>")?;
     } else {
         out.push_str("<pre><code class=\"language-")?;
         escape_text(lang, out)?;

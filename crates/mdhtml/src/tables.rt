@@ -8,6 +8,7 @@ ghost use Rattle.mdhtml.specs.held.UnitTexts.{shown_texts};
 ghost use Rattle.mdhtml.specs.BlockHtml.{fresh, text_html};
 ghost use Rattle.mdhtml.specs.TableHtml.{align_attribute, align_of, cell_html, cells_html, row_html, rows_html, head_html, body_html, table_html};
 
+use crate::options::Options;
 use crate::pieces::write_fresh;
 use crate::unit_texts::UnitTexts;
 use mdblock::Align;
@@ -25,17 +26,18 @@ pub(crate) fn write_table(
     head: &[usize],
     rows: &[Vec<usize>],
     texts: &UnitTexts<'_>,
+    options: &Options,
     out: &mut String,
 ) -> Result<(), NoMemory>
     requires head { CellsIn (length (shown_texts texts.now)) head.now }
     requires rows { AllByRecursion (CellsIn (length (shown_texts texts.now))) (map (λ row. row.items) rows.now) }
     ensures { OnOk result (string_bytes out.new ≡ fresh (string_bytes out.old)
-        ++ table_html (shown_texts texts.now) aligns.now head.now (map (λ row. row.items) rows.now)) }
+        ++ table_html options.now (shown_texts texts.now) aligns.now head.now (map (λ row. row.items) rows.now)) }
 {
     write_fresh(out)?;
     out.push_str("<table>\n")?;
-    write_head(aligns, head, texts, out)?;
-    write_body(aligns, rows, texts, out)?;
+    write_head(aligns, head, texts, options, out)?;
+    write_body(aligns, rows, texts, options, out)?;
     out.push_str("</table>\n")?;
     Ok(())
 }
@@ -45,14 +47,15 @@ fn write_head(
     aligns: &[Align],
     head: &[usize],
     texts: &UnitTexts<'_>,
+    options: &Options,
     out: &mut String,
 ) -> Result<(), NoMemory>
     requires { CellsIn (length (shown_texts texts.now)) head.now }
     ensures { OnOk result (string_bytes out.new ≡ string_bytes out.old
-        ++ head_html (shown_texts texts.now) aligns.now head.now) }
+        ++ head_html options.now (shown_texts texts.now) aligns.now head.now) }
 {
     out.push_str("<thead>\n")?;
-    write_row(CellKind::Head, aligns, head, texts, out)?;
+    write_row(CellKind::Head, aligns, head, texts, options, out)?;
     out.push_str("</thead>\n")?;
     Ok(())
 }
@@ -62,17 +65,18 @@ fn write_body(
     aligns: &[Align],
     rows: &[Vec<usize>],
     texts: &UnitTexts<'_>,
+    options: &Options,
     out: &mut String,
 ) -> Result<(), NoMemory>
     requires { AllByRecursion (CellsIn (length (shown_texts texts.now))) (map (λ row. row.items) rows.now) }
     ensures { OnOk result (string_bytes out.new ≡ string_bytes out.old
-        ++ body_html (shown_texts texts.now) aligns.now (map (λ row. row.items) rows.now)) }
+        ++ body_html options.now (shown_texts texts.now) aligns.now (map (λ row. row.items) rows.now)) }
 {
     if rows.is_empty() {
         return Ok(());
     }
     out.push_str("<tbody>\n")?;
-    write_rows(aligns, rows, texts, out)?;
+    write_rows(aligns, rows, texts, options, out)?;
     out.push_str("</tbody>\n")?;
     Ok(())
 }
@@ -81,14 +85,15 @@ fn write_rows(
     aligns: &[Align],
     rows: &[Vec<usize>],
     texts: &UnitTexts<'_>,
+    options: &Options,
     out: &mut String,
 ) -> Result<(), NoMemory>
     requires { AllByRecursion (CellsIn (length (shown_texts texts.now))) (map (λ row. row.items) rows.now) }
     ensures { OnOk result (string_bytes out.new ≡ string_bytes out.old
-        ++ rows_html (shown_texts texts.now) aligns.now (map (λ row. row.items) rows.now)) }
+        ++ rows_html options.now (shown_texts texts.now) aligns.now (map (λ row. row.items) rows.now)) }
 {
     for row in rows {
-        write_row(CellKind::Data, aligns, row, texts, out)?;
+        write_row(CellKind::Data, aligns, row, texts, options, out)?;
     }
     Ok(())
 }
@@ -98,14 +103,15 @@ fn write_row(
     aligns: &[Align],
     cells: &[usize],
     texts: &UnitTexts<'_>,
+    options: &Options,
     out: &mut String,
 ) -> Result<(), NoMemory>
     requires { CellsIn (length (shown_texts texts.now)) cells.now }
     ensures { OnOk result (string_bytes out.new ≡ string_bytes out.old
-        ++ row_html (shown_texts texts.now) (tag_of kind) aligns.now cells.now) }
+        ++ row_html options.now (shown_texts texts.now) (tag_of kind) aligns.now cells.now) }
 {
     out.push_str("<tr>\n")?;
-    write_cells(kind, aligns, cells, texts, out)?;
+    write_cells(kind, aligns, cells, texts, options, out)?;
     out.push_str("</tr>\n")?;
     Ok(())
 }
@@ -115,14 +121,15 @@ fn write_cells(
     aligns: &[Align],
     cells: &[usize],
     texts: &UnitTexts<'_>,
+    options: &Options,
     out: &mut String,
 ) -> Result<(), NoMemory>
     requires { CellsIn (length (shown_texts texts.now)) cells.now }
     ensures { OnOk result (string_bytes out.new ≡ string_bytes out.old
-        ++ cells_html (shown_texts texts.now) (tag_of kind) aligns.now 0 cells.now) }
+        ++ cells_html options.now (shown_texts texts.now) (tag_of kind) aligns.now 0 cells.now) }
 {
     for (column, cell) in cells.iter().enumerate() {
-        write_cell(kind, align_of(aligns, column), *cell, texts, out)?;
+        write_cell(kind, align_of(aligns, column), *cell, texts, options, out)?;
     }
     Ok(())
 }
@@ -132,13 +139,14 @@ fn write_cell(
     align: Align,
     text: usize,
     texts: &UnitTexts<'_>,
+    options: &Options,
     out: &mut String,
 ) -> Result<(), NoMemory>
     requires { text < length (shown_texts texts.now) }
     ensures { OnOk result (string_bytes out.new ≡ string_bytes out.old
-        ++ cell_html (tag_of kind) align (text_html (shown_texts texts.now) text)) }
+        ++ cell_html options.now (tag_of kind) align (text_html (shown_texts texts.now) text)) }
 {
-    out.push_str(opening_tag(kind, align))?;
+    out.push_str(opening_tag(kind, align, options.align_style))?;
     texts.append_text(text, out)?;
     out.push_str(closing_tag(kind))?;
     Ok(())
@@ -155,18 +163,24 @@ fn align_of(aligns: &[Align], column: usize) -> Align
 }
 
 /// The tag with which a cell begins. Each is whole, so that it is appended at once.
-fn opening_tag(kind: CellKind, align: Align) -> &'static str
-    ensures { result.now ≡ codes "<" ++ tag_of kind ++ align_attribute align ++ codes ">" }
+fn opening_tag(kind: CellKind, align: Align, style: bool) -> &'static str
+    ensures { result.now ≡ codes "<" ++ tag_of kind ++ align_attribute align style ++ codes ">" }
 {
-    match (kind, align) {
-        (CellKind::Head, Align::Plain) => "<th>",
-        (CellKind::Head, Align::Left) => "<th align=\"left\">",
-        (CellKind::Head, Align::Center) => "<th align=\"center\">",
-        (CellKind::Head, Align::Right) => "<th align=\"right\">",
-        (CellKind::Data, Align::Plain) => "<td>",
-        (CellKind::Data, Align::Left) => "<td align=\"left\">",
-        (CellKind::Data, Align::Center) => "<td align=\"center\">",
-        (CellKind::Data, Align::Right) => "<td align=\"right\">",
+    match (kind, align, style) {
+        (CellKind::Head, Align::Plain, _) => "<th>",
+        (CellKind::Head, Align::Left, false) => "<th align=\"left\">",
+        (CellKind::Head, Align::Left, true) => "<th style=\"text-align: left\">",
+        (CellKind::Head, Align::Center, false) => "<th align=\"center\">",
+        (CellKind::Head, Align::Center, true) => "<th style=\"text-align: center\">",
+        (CellKind::Head, Align::Right, false) => "<th align=\"right\">",
+        (CellKind::Head, Align::Right, true) => "<th style=\"text-align: right\">",
+        (CellKind::Data, Align::Plain, _) => "<td>",
+        (CellKind::Data, Align::Left, false) => "<td align=\"left\">",
+        (CellKind::Data, Align::Left, true) => "<td style=\"text-align: left\">",
+        (CellKind::Data, Align::Center, false) => "<td align=\"center\">",
+        (CellKind::Data, Align::Center, true) => "<td style=\"text-align: center\">",
+        (CellKind::Data, Align::Right, false) => "<td align=\"right\">",
+        (CellKind::Data, Align::Right, true) => "<td style=\"text-align: right\">",
     }
 }
 

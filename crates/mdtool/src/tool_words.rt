@@ -43,8 +43,8 @@ const RENDER_ABOUT: &str =
 
 const RENDER_EXAMPLE: &str = "Not there, of cmark-gfm's words:
   other formats (-t xml, commonmark, latex, man, plaintext, ..), other extensions (-e autolink, tagfilter, footnotes, ..),
-  --footnotes, --smart, --sourcepos, --github-pre-lang, --full-info-string, --strikethrough-double-tilde,
-  --table-prefer-style-attributes, --list-extensions, and more than one FILE
+  --footnotes, --smart, --sourcepos, --full-info-string, --strikethrough-double-tilde, --list-extensions,
+  and more than one FILE
 
 Example:
   mdrender --hardbreaks notes.md > notes.html";
@@ -138,6 +138,16 @@ fn with_writing<'a>(alloc: Global, command: Command<'a>) -> Result<Command<'a>, 
             alloc,
             "nobreaks",
             "Write each line break of a paragraph as a space",
+        ))?
+        .arg(flag(
+            alloc,
+            "github-pre-lang",
+            "Write the language of a code block as <pre lang=\"..\">",
+        ))?
+        .arg(flag(
+            alloc,
+            "table-prefer-style-attributes",
+            "Write the alignment of a cell as style=\"text-align: ..\"",
         ))?;
     Ok(all)
 }
@@ -310,11 +320,15 @@ fn options_of(matches: &ArgMatches<'_>) -> Result<Options, WordFault>
 {
     let unsafe_html = is_on(matches, "unsafe");
     let breaks = breaks_of(is_on(matches, "hardbreaks"), is_on(matches, "nobreaks"))?;
+    let pre_lang = is_on(matches, "github-pre-lang");
+    let align_style = is_on(matches, "table-prefer-style-attributes");
     let max_containers = limit_of(matches.get_str("max-containers"))?;
     let max_spans = limit_of(matches.get_str("max-spans"))?;
     Ok(Options {
         unsafe_html,
         breaks,
+        pre_lang,
+        align_style,
         max_containers,
         max_spans,
     })

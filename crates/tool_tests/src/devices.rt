@@ -10,6 +10,8 @@ use mdtool::{Breaks, Options, ToolFault};
 const OPTIONS: Options = Options {
     unsafe_html: true,
     breaks: Breaks::Soft,
+    pre_lang: false,
+    align_style: false,
     max_containers: 64,
     max_spans: 64,
 };

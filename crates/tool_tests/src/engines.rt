@@ -24,6 +24,8 @@ fn options(breaks: Breaks) -> Options
     Options {
         unsafe_html: false,
         breaks,
+        pre_lang: false,
+        align_style: false,
         max_containers: 64,
         max_spans: 64,
     }

@@ -14,6 +14,8 @@ fn options() -> Options
     Options {
         unsafe_html: false,
         breaks: Breaks::Soft,
+        pre_lang: false,
+        align_style: false,
         max_containers: 64,
         max_spans: 64,
     }

@@ -16,12 +16,12 @@ pub record TextAlike (s : SharedTexts) (p q : ℕ) : Type 0 where
   pub html : (T U : List (List ℕ)) → SharedHtml s T U → text_html T p ≡ text_html U q
 
 pub record CellsAlike (s : SharedTexts) (ps qs : List ℕ) : Type 0 where
-  pub html : (T U : List (List ℕ)) → SharedHtml s T U → (tag : List ℕ) (aligns : List Align) (column : ℕ)
-      → cells_html T tag aligns column ps ≡ cells_html U tag aligns column qs
+  pub html : (T U : List (List ℕ)) → SharedHtml s T U → (o : Options) (tag : List ℕ) (aligns : List Align) (column : ℕ)
+      → cells_html o T tag aligns column ps ≡ cells_html o U tag aligns column qs
 
 pub record RowsAlike (s : SharedTexts) (rows others : List (List ℕ)) : Type 0 where
   pub count : length rows ≡ length others
-  pub html : (T U : List (List ℕ)) → SharedHtml s T U → (aligns : List Align) → rows_html T aligns rows ≡ rows_html U aligns others
+  pub html : (T U : List (List ℕ)) → SharedHtml s T U → (o : Options) (aligns : List Align) → rows_html o T aligns rows ≡ rows_html o U aligns others
 
 pub record BlockAlike (s : SharedTexts) (b c : Block) : Type 0 where
   pub html : (T U : List (List ℕ)) → SharedHtml s T U → (o : Options) (tight : Bool) (out : List ℕ) → block_html o T tight b out ≡ block_html o U tight c out

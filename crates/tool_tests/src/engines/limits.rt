@@ -19,6 +19,8 @@ fn with_limits(max_containers: usize, max_spans: usize) -> Options
     Options {
         unsafe_html: false,
         breaks: Breaks::Soft,
+        pre_lang: false,
+        align_style: false,
         max_containers,
         max_spans,
     }

@@ -12,6 +12,8 @@ use std::test::Fail;
 const SOFT: Options = Options {
     unsafe_html: false,
     breaks: Breaks::Soft,
+    pre_lang: false,
+    align_style: false,
     max_containers: 64,
     max_spans: 64,
 };
@@ -57,12 +59,16 @@ fn converts_worked_texts(rt: HostRuntime) -> Result<(), Fail> {
     let raw = Options {
         unsafe_html: true,
         breaks: Breaks::Soft,
+        pre_lang: false,
+        align_style: false,
         max_containers: 64,
         max_spans: 64,
     };
     let spaces = Options {
         unsafe_html: false,
         breaks: Breaks::Space,
+        pre_lang: false,
+        align_style: false,
         max_containers: 64,
         max_spans: 64,
     };
@@ -337,3 +343,80 @@ fn reads_which_entity_names_are_known(rt: HostRuntime) -> Result<(), Fail> {
     }
     Ok(())
 }
+
+/// Whether the language of a code block goes on `pre`, and the alignment of a cell is a style, by these words.
+fn forms_asked(alloc: Global, words: &[&str]) -> Result<String, AllocError> {
+    match read_words(alloc, words) {
+        Ok(read) => format!(in alloc; "{} {}", read.options.pre_lang, read.options.align_style),
+        Err(fault) => format!(in alloc; "{fault:?}"),
+    }
+}
+
+static FORMS_ASKED: [([&str; 3], &str); 6] = [
+    (["mdrender", "--unsafe", "a"], "false false"),
+    (["mdrender", "--github-pre-lang", "a"], "true false"),
+    (
+        ["mdpreview", "--table-prefer-style-attributes", "a"],
+        "false true",
+    ),
+    (
+        [
+            "mdpreview",
+            "--table-prefer-style-attributes",
+            "--github-pre-lang",
+        ],
+        "true true",
+    ),
+    (
+        ["mdrender", "--github-pre-lang", "--github-pre-lang"],
+        "NotUnderstood",
+    ),
+    (["mdrender", "--full-info-string", "a"], "NotUnderstood"),
+];
+
+#[test]
+fn reads_which_forms_are_asked_for(rt: HostRuntime) -> Result<(), Fail> {
+    for (words, want) in &FORMS_ASKED {
+        let asked = forms_asked(rt.alloc(), words)?;
+        assert_eq!(rt; asked.as_str(), *want, "{words:?}");
+    }
+    Ok(())
+}
+
+/// Code blocks and a table, as cmark-gfm writes them with both options.
+#[test]
+fn writes_languages_and_alignments(rt: HostRuntime) -> Result<(), Fail> {
+    let alloc = rt.alloc();
+    let forms = Options {
+        pre_lang: true,
+        align_style: true,
+        ..SOFT
+    };
+    let code = b"~~~ c&<\" x\na\n~~~\n\n    b\n";
+    let html =
+        "<pre lang=\"c&amp;&lt;&quot;\"><code>a\n</code></pre>\n<pre><code>b\n</code></pre>\n";
+    check(&rt, alloc, code, forms, html, "Ok(())")?;
+    let table = b"a|b|c|d\n:-|:-:|-:|-\n1|2|3|4\n";
+    check(&rt, alloc, table, forms, STYLED_TABLE, "Ok(())")?;
+    Ok(())
+}
+
+const STYLED_TABLE: &str = "<table>
+<thead>
+<tr>
+<th style=\"text-align: left\">a</th>
+<th style=\"text-align: center\">b</th>
+<th style=\"text-align: right\">c</th>
+<th>d</th>
+</tr>
+</thead>
+<tbody>
+<tr>
+<td style=\"text-align: left\">1</td>
+<td style=\"text-align: center\">2</td>
+<td style=\"text-align: right\">3</td>
+<td>4</td>
+</tr>
+</tbody>
+</table>
+";

@@ -172,6 +172,8 @@ fn served(alloc: Global, script: &str, unsafe_html: bool) -> Result<String, Allo
     let options = Options {
         unsafe_html,
         breaks: Breaks::Soft,
+        pre_lang: false,
+        align_style: false,
         max_containers: 64,
         max_spans: 64,
     };
