@@ -12,8 +12,8 @@ invariant-blocks::write_blocks-loop-block l = record {
       ≡ blocks_html l.options (shown_texts l.texts) l.tight (blocks_view l.blocks) (string_bytes l.fn.out);
 }
 
-abbrev pub invariant-list_items::write_items-loop-item : goal.invariant-list_items::write_items-loop-item
-invariant-list_items::write_items-loop-item l = record {
+abbrev pub invariant-lists::items::write_items-loop-item : goal.invariant-lists::items::write_items-loop-item
+invariant-lists::items::write_items-loop-item l = record {
   within : ItemsIn (length (shown_texts l.texts)) (items_view (drop l.item-index l.items));
   written : items_html l.options (shown_texts l.texts) l.tight (items_view (drop l.item-index l.items)) (string_bytes l.out)
       ≡ items_html l.options (shown_texts l.texts) l.tight (items_view l.items) (string_bytes l.fn.out);
