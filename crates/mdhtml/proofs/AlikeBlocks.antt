@@ -1,7 +1,7 @@
 -- Blocks that have the same HTML in two units, by their parts.
 use Rattle.std.proofs.Common.{◌≡◌, ℕ, suc, ◌+◌, ◌<◌, Bool, List, ◌∷◌, ◌++◌, codes, length, drop, get_or, sym, ◌∙◌, ap, subst, arith, drop-cons}
 use Rattle.blockspec.specs.BlockTree.{Blocks}
-use Rattle.mdhtml.specs.declared.same_blocks.SharedTexts.{SharedTexts}
+use Rattle.mdhtml.specs.declared.lists.same_blocks.SharedTexts.{SharedTexts}
 use Rattle.mdhtml.specs.held.Alike.{SharedHtml, TextAlike, CellsAlike, BlocksAlike}
 use Rattle.mdhtml.specs.BlockHtml.{fresh, text_html}
 use Rattle.mdhtml.specs.ListEnds.{item_html}

@@ -6,7 +6,7 @@ use Rattle.blockspec.specs.BlockTree.{Blocks, Items, no_items, item}
 use Rattle.mdblock.specs.BlockView.{item_view, items_view}
 use Rattle.mdblock.specs.declared.blocks.Item as i
 use Rattle.mdhtml.specs.declared.options.Options.{Options}
-use Rattle.mdhtml.specs.declared.same_blocks.SharedTexts.{SharedTexts}
+use Rattle.mdhtml.specs.declared.lists.same_blocks.SharedTexts.{SharedTexts}
 use Rattle.mdhtml.specs.held.Alike.{BlocksAlike, ItemsAlike}
 use Rattle.mdhtml.specs.BlockHtml.{fresh, ends_line, blocks_html, items_html}
 use Rattle.mdhtml.specs.ListEnds.{item_html, item_ends}

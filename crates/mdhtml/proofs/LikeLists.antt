@@ -12,11 +12,11 @@ use Rattle.mdblock.specs.BlockView.{items_view, kind_view}
 use Rattle.mdblock.specs.Positions.{ItemsIn}
 use Rattle.mdblock.specs.declared.blocks.Item as i
 use Rattle.mdhtml.specs.declared.options.Options.{Options}
-use Rattle.mdhtml.specs.declared.like_lists.KeptHtml.{KeptHtml}
-use Rattle.mdhtml.specs.declared.like_lists.Like.{Like}
-use Rattle.mdhtml.specs.declared.like_lists.SameEnds.{SameEnds}
-use Rattle.mdhtml.specs.declared.list_ends.OneList.{OneList}
-use Rattle.mdhtml.specs.declared.same_blocks.SharedTexts.{SharedTexts}
+use Rattle.mdhtml.specs.declared.lists.like_lists.KeptHtml.{KeptHtml}
+use Rattle.mdhtml.specs.declared.lists.like_lists.Like.{Like}
+use Rattle.mdhtml.specs.declared.lists.like_lists.SameEnds.{SameEnds}
+use Rattle.mdhtml.specs.declared.lists.item_ends.OneList.{OneList}
+use Rattle.mdhtml.specs.declared.lists.same_blocks.SharedTexts.{SharedTexts}
 use Rattle.mdhtml.specs.held.Alike.{SharedHtml, ItemsAlike}
 use Rattle.mdhtml.specs.held.LikeLists.{SharedReadings, AreSameEnds, AreKept, between_ends}
 use Rattle.mdhtml.specs.held.ListUnits.{unit_of}

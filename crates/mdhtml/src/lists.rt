@@ -7,7 +7,12 @@ ghost use Rattle.mdblock.specs.Positions.{ItemsIn};
 ghost use Rattle.mdhtml.specs.held.UnitTexts.{shown_texts};
 ghost use Rattle.mdhtml.specs.BlockHtml.{block_html, list_open, list_close, numbered_open};
 
-use crate::list_items::write_items;
+pub(crate) mod item_ends;
+pub(crate) mod items;
+pub(crate) mod like_lists;
+mod same_blocks;
+
+use crate::lists::items::write_items;
 use crate::options::Options;
 use crate::pieces::write_fresh;
 use crate::unit_texts::UnitTexts;

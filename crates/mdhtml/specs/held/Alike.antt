@@ -3,7 +3,7 @@ use Rattle.std.specs.Prelude.{◌≡◌, ℕ, ◌+◌, ◌<◌, Bool, List, leng
 use Rattle.blockspec.specs.BlockTree.{Block, Blocks, Items}
 use Rattle.mdscan.specs.declared.delimiter_rows.Align.{Align}
 use Rattle.mdhtml.specs.declared.options.Options.{Options}
-use Rattle.mdhtml.specs.declared.same_blocks.SharedTexts.{SharedTexts}
+use Rattle.mdhtml.specs.declared.lists.same_blocks.SharedTexts.{SharedTexts}
 use Rattle.mdhtml.specs.BlockHtml.{block_html, blocks_html, items_html}
 use Rattle.mdhtml.specs.ListEnds.{item_ends}
 use Rattle.mdhtml.specs.TableHtml.{text_html, cells_html, rows_html}

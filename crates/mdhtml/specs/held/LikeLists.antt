@@ -6,10 +6,10 @@ use Rattle.blockspec.specs.BlockTree.{Items}
 use Rattle.mdblock.specs.BlockView.{items_view}
 use Rattle.mdblock.specs.declared.blocks.Item as i
 use Rattle.mdhtml.specs.declared.options.Options.{Options}
-use Rattle.mdhtml.specs.declared.like_lists.Like.{Like}
-use Rattle.mdhtml.specs.declared.like_lists.KeptHtml.{KeptHtml}
-use Rattle.mdhtml.specs.declared.like_lists.SameEnds.{SameEnds}
-use Rattle.mdhtml.specs.declared.list_ends.OneList.{OneList}
+use Rattle.mdhtml.specs.declared.lists.like_lists.Like.{Like}
+use Rattle.mdhtml.specs.declared.lists.like_lists.KeptHtml.{KeptHtml}
+use Rattle.mdhtml.specs.declared.lists.like_lists.SameEnds.{SameEnds}
+use Rattle.mdhtml.specs.declared.lists.item_ends.OneList.{OneList}
 use Rattle.mdhtml.specs.BlockHtml.{texts_html, items_html}
 use Rattle.mdhtml.specs.ListEnds.{item_ends}
 

@@ -3,7 +3,7 @@ use Rattle.std.specs.Prelude.{◌≡◌, ℕ, List, []}
 use Rattle.blockspec.specs.BlockTree.{list, Blocks, no_blocks, block}
 use Rattle.mdblock.specs.BlockView.{kind_view, items_view}
 use Rattle.mdhtml.specs.declared.options.Options.{Options}
-use Rattle.mdhtml.specs.declared.list_ends.OneList.{OneList}
+use Rattle.mdhtml.specs.declared.lists.item_ends.OneList.{OneList}
 use Rattle.mdhtml.specs.ListEnds.{unit_ends}
 
 abbrev pub unit_of : OneList → Blocks

@@ -1,5 +1,0 @@
-use Rattle.std.proofs.Common.{◌≡◌, drop}
-use Rattle.mdhtml.proofs.same_blocks.same_aligns.Given as goal
-
-abbrev pub invariant-loop-align : goal.invariant-loop-align
-invariant-loop-align l = drop l.align-index l.aligns ≡ l.rest → l.aligns ≡ l.like

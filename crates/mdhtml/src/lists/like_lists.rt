@@ -1,0 +1,232 @@
+//! HTML of a unit that is one list, made from that of a list like it: what stands for the items at the front and at the end that are the same in both is
+//! taken over.
+
+ghost use Rattle.std.specs.Prelude.{◌≡◌, ◌++◌, ◌∷◌, [], ◌+◌, ◌-◌, ◌<◌, ◌≤◌, ◌^◌, OnOk, IfOk, IfSome, false, true, length, map, string_bytes, take, drop, slice_index};
+ghost use Rattle.std.specs.List.{AllByRecursion};
+ghost use Rattle.mdblock.specs.BlockView.{blocks_view, items_view, kind_view};
+ghost use Rattle.mdblock.specs.Positions.{BlocksIn, ItemsIn};
+ghost use Rattle.mdhtml.specs.held.LikeLists.{SharedReadings, AreSameEnds, AreKept, between_ends};
+ghost use Rattle.mdhtml.specs.held.ListUnits.{unit_of};
+ghost use Rattle.mdhtml.specs.BlockHtml.{texts_html, blocks_html, items_html};
+ghost use Rattle.mdhtml.specs.ListEnds.{item_ends, unit_ends};
+
+use crate::lists::close_list;
+use crate::lists::item_ends::{OneList, append_unit_ends, begin_list, one_list, write_item_ends};
+use crate::lists::same_blocks::{SharedTexts, same_behind, same_front};
+use crate::options::Options;
+use crate::unit_texts::UnitTexts;
+use mdblock::Block;
+use mdinline::Parsed;
+use mdtext::NoMemory;
+
+/// Room for the items that are written between those that are taken over, so that it need not grow for a few of them.
+const WRITTEN_ROOM: usize = 1_000;
+
+/// A unit that was written before, with what a unit like it takes over.
+#[derive(Clone, Copy, Drop)]
+pub struct Like<'a> {
+    pub blocks: &'a [Block],
+    pub texts: &'a [Parsed],
+    /// Its HTML.
+    pub html: &'a str,
+    /// The lengths of its HTML behind each item, if it is one list.
+    pub ends: &'a [usize],
+    /// So many texts at the front read as those of the unit that is to be written.
+    pub front: usize,
+    /// So many texts at the end do.
+    pub behind: usize,
+}
+
+/// Writes what `append_unit_ends` does. Where the unit is one list and the one that was written before is one of the same kind, tight or loose as it is, the bytes
+/// of the items that are the same in both, at the front and at the end, are taken from there.
+pub fn append_unit_like(
+    blocks: &[Block],
+    texts: &[Parsed],
+    options: &Options,
+    like: &Like<'_>,
+    out: &mut String,
+    ends: &mut Vec<usize>,
+) -> Result<(), NoMemory>
+    requires within { BlocksIn (length texts.now) (blocks_view blocks.now) }
+    requires no_text { string_bytes out.old ≡ [] }
+    requires no_ends { ends.old.items ≡ [] }
+    requires like_within { BlocksIn (length like.now.texts.now) (blocks_view like.now.blocks.now) }
+    requires like_html { like.now.html.now ≡ blocks_html options.now (texts_html options.now like.now.texts.now) false (blocks_view like.now.blocks.now) [] }
+    requires like_ends { like.now.ends.now ≡ unit_ends options.now (texts_html options.now like.now.texts.now) (blocks_view like.now.blocks.now) }
+    requires front_within { like.now.front ≤ length texts.now }
+    requires front_within_like { like.now.front ≤ length like.now.texts.now }
+    requires front { take like.now.front texts.now ≡ take like.now.front like.now.texts.now }
+    requires behind_within { like.now.behind ≤ length texts.now }
+    requires behind_within_like { like.now.behind ≤ length like.now.texts.now }
+    requires behind { drop (length texts.now - like.now.behind) texts.now ≡ drop (length like.now.texts.now - like.now.behind) like.now.texts.now }
+    ensures html { OnOk result (string_bytes out.new
+        ≡ blocks_html options.now (texts_html options.now texts.now) false (blocks_view blocks.now) []) }
+    ensures ends { OnOk result (ends.new.items ≡ unit_ends options.now (texts_html options.now texts.now) (blocks_view blocks.now)) }
+{
+    let (Some(list), Some(other)) = (one_list(blocks), one_list(like.blocks)) else {
+        return append_unit_ends(blocks, texts, options, out, ends);
+    };
+    if list.kind == other.kind && list.tight == other.tight {
+        if append_list_like(&list, &other, texts, options, like, out, ends)? {
+            return Ok(());
+        }
+    }
+    append_unit_ends(blocks, texts, options, out, ends)
+}
+
+/// Writes a list like another to an empty text, if the HTML of that can be cut; else nothing.
+fn append_list_like(
+    list: &OneList<'_>,
+    other: &OneList<'_>,
+    texts: &[Parsed],
+    options: &Options,
+    like: &Like<'_>,
+    out: &mut String,
+    ends: &mut Vec<usize>,
+) -> Result<bool, NoMemory>
+    requires within { ItemsIn (length texts.now) (items_view list.now.items.now) }
+    requires no_text { string_bytes out.old ≡ [] }
+    requires no_ends { ends.old.items ≡ [] }
+    requires kind { kind_view list.now.kind ≡ kind_view other.now.kind }
+    requires tight { list.now.tight ≡ other.now.tight }
+    requires like_html { like.now.html.now ≡ blocks_html options.now (texts_html options.now like.now.texts.now) false (unit_of other.now) [] }
+    requires like_ends { like.now.ends.now ≡ unit_ends options.now (texts_html options.now like.now.texts.now) (unit_of other.now) }
+    requires shared { SharedReadings texts.now like.now.texts.now like.now.front like.now.behind }
+    ensures html { IfOk result (λ done. done ≡ true → string_bytes out.new
+        ≡ blocks_html options.now (texts_html options.now texts.now) false (unit_of list.now) []) }
+    ensures ends { IfOk result (λ done. done ≡ true → ends.new.items ≡ unit_ends options.now (texts_html options.now texts.now) (unit_of list.now)) }
+    ensures no_text { IfOk result (λ done. done ≡ false → string_bytes out.new ≡ []) }
+    ensures no_ends { IfOk result (λ done. done ≡ false → ends.new.items ≡ []) }
+{
+    let same = same_ends(list, other, texts, like);
+    begin_list(list.kind, out)?;
+    match kept_html(like, out.len(), same.front, other.items.len() - same.behind) {
+        None => {
+            out.clear();
+            Ok(false)
+        }
+        Some(kept) => {
+            ends.reserve(list.items.len())?;
+            let taken_over = kept.front.len().saturating_add(kept.tail.len());
+            out.reserve(taken_over.saturating_add(WRITTEN_ROOM))?;
+            append_kept(list, texts, options, like, &same, &kept, out, ends)?;
+            close_list(list.kind, out)?;
+            Ok(true)
+        }
+    }
+}
+
+/// How many items are the same in both lists: from the front on, and from the end on, where no item is counted twice.
+#[derive(Clone, Copy, Drop)]
+pub(crate) struct SameEnds {
+    pub(crate) front: usize,
+    pub(crate) behind: usize,
+}
+
+fn same_ends(list: &OneList<'_>, other: &OneList<'_>, texts: &[Parsed], like: &Like<'_>) -> SameEnds
+    requires { SharedReadings texts.now like.now.texts.now like.now.front like.now.behind }
+    ensures { AreSameEnds texts.now like.now.texts.now list.now.items.now other.now.items.now result }
+{
+    let at_front = SharedTexts {
+        at: 0,
+        like_at: 0,
+        count: like.front,
+    };
+    let at_end = SharedTexts {
+        at: texts.len() - like.behind,
+        like_at: like.texts.len() - like.behind,
+        count: like.behind,
+    };
+    let front = same_front(list.items, other.items, at_front);
+    let behind = same_behind(&list.items[front..], &other.items[front..], at_end);
+    SameEnds { front, behind }
+}
+
+/// HTML of items that is taken over: of those at the front, and of those at the end and where it stands.
+#[derive(Clone, Copy, Drop)]
+pub(crate) struct KeptHtml<'a> {
+    pub(crate) front: &'a str,
+    pub(crate) tail: &'a str,
+    pub(crate) tail_at: usize,
+}
+
+/// The HTML of so many items at the front, and of those behind the first `tail` ones; the first item begins at `begin`.
+fn kept_html<'a>(like: &Like<'a>, begin: usize, front: usize, tail: usize) -> Option<KeptHtml<'a>>
+    requires front { front ≤ length like.now.ends.now }
+    requires tail { tail ≤ length like.now.ends.now }
+    ensures { IfSome result (λ kept. AreKept like.now begin front tail kept) }
+{
+    let tail_at = place(like.ends, begin, tail);
+    let front_end = place(like.ends, begin, front);
+    let tail_end = place(like.ends, begin, like.ends.len());
+    let front = like.html.get(begin..front_end)?;
+    let tail = like.html.get(tail_at..tail_end)?;
+    Some(KeptHtml {
+        front,
+        tail,
+        tail_at,
+    })
+}
+
+/// Where so many items end, if the first of them begins there.
+fn place(ends: &[usize], begin: usize, count: usize) -> usize
+    requires { count ≤ length ends.now }
+    ensures { result ≡ slice_index (begin ∷ ends.now) count }
+{
+    match count.checked_sub(1) {
+        None => begin,
+        Some(last) => ends[last],
+    }
+}
+
+/// Appends the items of a list, with the HTML of those at both ends that is taken over.
+fn append_kept(
+    list: &OneList<'_>,
+    texts: &[Parsed],
+    options: &Options,
+    like: &Like<'_>,
+    same: &SameEnds,
+    kept: &KeptHtml<'_>,
+    out: &mut String,
+    ends: &mut Vec<usize>,
+) -> Result<(), NoMemory>
+    requires within { ItemsIn (length texts.now) (items_view list.now.items.now) }
+    requires both { same.now.front + same.now.behind ≤ length list.now.items.now }
+    requires front { same.now.front ≤ length like.now.ends.now }
+    requires behind { same.now.behind ≤ length like.now.ends.now }
+    requires tail { AllByRecursion (λ end. (kept.now.tail_at ≤ end) × (end ≤ kept.now.tail_at + length kept.now.tail.now)) (drop (length like.now.ends.now - same.now.behind) like.now.ends.now) }
+    requires no_ends { ends.old.items ≡ [] }
+    ensures html { OnOk result (string_bytes out.new
+        ≡ items_html options.now (texts_html options.now texts.now) list.now.tight (between_ends list.now same.now) (string_bytes out.old ++ kept.now.front.now) ++ kept.now.tail.now) }
+    ensures ends { OnOk result (ends.new.items
+        ≡ (take same.now.front like.now.ends.now
+        ++ item_ends options.now (texts_html options.now texts.now) list.now.tight (between_ends list.now same.now) (string_bytes out.old ++ kept.now.front.now))
+        ++ map (λ end. (end - kept.now.tail_at) + length (items_html options.now (texts_html options.now texts.now) list.now.tight (between_ends list.now same.now) (string_bytes out.old ++ kept.now.front.now)))
+        (drop (length like.now.ends.now - same.now.behind) like.now.ends.now)) }
+{
+    out.push_str(kept.front)?;
+    ends.extend_from_slice(&like.ends[..same.front])?;
+    let between = &list.items[same.front..list.items.len() - same.behind];
+    let texts = UnitTexts::Read(texts, options);
+    write_item_ends(between, list.tight, &texts, options, out, ends)?;
+    out.push_str(kept.tail)?;
+    let to = out.len() - kept.tail.len();
+    let moved = &like.ends[like.ends.len() - same.behind..];
+    push_moved(moved, kept.tail_at, to, ends)
+}
+
+/// Appends numbers, each as far behind one number as it is behind another.
+fn push_moved(
+    moved: &[usize],
+    from: usize,
+    to: usize,
+    ends: &mut Vec<usize>,
+) -> Result<(), NoMemory>
+    requires { AllByRecursion (λ end. (from ≤ end) × ((end - from) + to < 2 ^ 64)) moved.now }
+    ensures { OnOk result (ends.new.items ≡ ends.old.items ++ map (λ end. (end - from) + to) moved.now) }
+{
+    for end in moved {
+        ends.push(*end - from + to)?;
+    }
+    Ok(())
+}
