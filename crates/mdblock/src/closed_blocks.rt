@@ -1,6 +1,4 @@
 //! The blocks that are over, with one more behind them.
-//!
-//! What pushes a block is taken into its caller. What the end of a level calls stands by itself, so that a level takes less of the stack.
 
 ghost use Rattle.std.specs.Prelude.{◌≡◌, ℕ, IfOk, IfSome, OnOk};
 ghost use Rattle.blockspec.specs.BlockTree.{block_quote, no_blocks};
@@ -15,7 +13,6 @@ use crate::container::lists::OpenList;
 use std::alloc::AllocError;
 
 /// Puts a block behind those that are over.
-#[inline(always)]
 pub(crate) fn push_block(over: &mut Vec<Block>, block: Block) -> Result<(), AllocError>
     ensures pushed { OnOk result (blocks_view over.new.items ≡ blocks_before (blocks_view over.old.items) (tree.block (block_view block) no_blocks)) }
     ensures within { OnOk result ((n : ℕ) → BlocksIn n (blocks_view over.old.items) → BlockIn n (block_view block) → BlocksIn n (blocks_view over.new.items)) }
@@ -36,7 +33,6 @@ fn make_room(over: &mut Vec<Block>) -> Result<(), AllocError>
 }
 
 /// The same of a block, where there is one.
-#[inline(always)]
 pub(crate) fn push_found(over: &mut Vec<Block>, found: Option<Block>) -> Result<(), AllocError>
     ensures pushed { OnOk result (blocks_view over.new.items ≡ blocks_before (blocks_view over.old.items) (found_view found)) }
     ensures within { OnOk result ((n : ℕ) → BlocksIn n (blocks_view over.old.items) → IfSome found (λ block. BlockIn n (block_view block))
@@ -49,7 +45,6 @@ pub(crate) fn push_found(over: &mut Vec<Block>, found: Option<Block>) -> Result<
 }
 
 /// The same. `more`: whether another block comes right behind it; then room for that one is taken at once, as much as a push behind one block would take.
-#[inline(always)]
 pub(crate) fn push_found_inside(
     over: &mut Vec<Block>,
     found: Option<Block>,
@@ -76,7 +71,6 @@ fn make_room_for_two(over: &mut Vec<Block>) -> Result<(), AllocError>
 }
 
 /// The blocks with one more, where there is one.
-#[inline(never)]
 pub(crate) fn with_found(
     mut over: Vec<Block>,
     found: Option<Block>,
@@ -90,7 +84,6 @@ pub(crate) fn with_found(
 }
 
 /// The blocks with a block quote of these behind them.
-#[inline(never)]
 pub(crate) fn with_quote(mut over: Vec<Block>, blocks: Vec<Block>) -> Result<Vec<Block>, AllocError>
     ensures pushed { IfOk result (λ all. blocks_view all.items
         ≡ blocks_before (blocks_view over.items) (tree.block (block_quote (blocks_view blocks.items)) no_blocks)) }
@@ -102,7 +95,6 @@ pub(crate) fn with_quote(mut over: Vec<Block>, blocks: Vec<Block>) -> Result<Vec
 }
 
 /// The blocks with a list behind them.
-#[inline(never)]
 pub(crate) fn with_list(mut over: Vec<Block>, list: OpenList) -> Result<Vec<Block>, AllocError>
     ensures pushed { IfOk result (λ all. blocks_view all.items ≡ blocks_before (blocks_view over.items) (tree.block (list_view list) no_blocks)) }
     ensures within { IfOk result (λ all. (n : ℕ) → BlocksIn n (blocks_view over.items) → ItemsIn n (items_view list.items.items)
@@ -113,7 +105,6 @@ pub(crate) fn with_list(mut over: Vec<Block>, list: OpenList) -> Result<Vec<Bloc
 }
 
 /// The blocks with a list behind them that ends with an item of these.
-#[inline(never)]
 pub(crate) fn with_item(
     over: Vec<Block>,
     mut list: OpenList,

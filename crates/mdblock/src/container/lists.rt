@@ -117,7 +117,6 @@ impl OpenList {
     }
 
     /// Ends the open item, which holds these blocks; a gap between two of them makes the list loose.
-    #[inline(always)]
     pub(crate) fn push(&mut self, blocks: Vec<Block>, gap: bool) -> Result<(), AllocError>
         ensures pushed { OnOk result (list_view self.new ≡ list_view_with self.old blocks.items gap) }
         ensures ended { OnOk result (self.new.item_open ≡ false) }

@@ -134,7 +134,6 @@ impl Level {
     }
 
     /// Reads a heading with a mark of its own.
-    #[inline(never)]
     #[tactic(auto, using(crate::proofs::Within::growing))]
     fn begin_heading(
         &mut self,
@@ -178,7 +177,6 @@ impl Level {
     }
 
     /// Puts what a line leaves of a leaf in place.
-    #[inline(never)]
     pub(crate) fn put(&mut self, step: LeafAfter) -> Result<(), AllocError>
         ensures within { OnOk result ((n : ℕ) → BlocksIn n (blocks_view self.old.over.items) → LeafAfterIn n step → LevelIn n self.new) }
         ensures over { OnOk result (blocks_view self.new.over.items ≡ blocks_before (blocks_view self.old.over.items) (found_view step.over)) }
