@@ -120,7 +120,7 @@ static void settings(void) {
     EXPECT(is(jirmoans_open(&preview, &set, names, strlen(names)), JIRMOANS_OK, 0));
     EXPECT(is(jirmoans_html(&preview, "a <b>\n&x;&amp;", 14, &text), JIRMOANS_OK, 0) && reads(text, "<p>a <b><br />\ny&amp;amp;</p>\n"));
     EXPECT(is(jirmoans_html(&preview, "~~~ x\na\n", 8, &text), JIRMOANS_OK, 0) && reads(text, "<pre lang=\"x\"><code>a\n</code></pre>\n"));
-    EXPECT(is(jirmoans_html(&preview, "a\n:-:\n", 6, &text), JIRMOANS_OK, 0)
+    EXPECT(is(jirmoans_html(&preview, "|a\n|:-:\n", 8, &text), JIRMOANS_OK, 0)
            && reads(text, "<table>\n<thead>\n<tr>\n<th style=\"text-align: center\">a</th>\n</tr>\n</thead>\n</table>\n"));
     EXPECT(is(jirmoans_html(&preview, "a\n\n> > b", 8, &text), JIRMOANS_NESTED_TOO_DEEP, 2));
     EXPECT(is(jirmoans_html(&preview, "a\n\n*a **b ~~c~~***", 18, &text), JIRMOANS_INLINE_TOO_DEEP, 2));
