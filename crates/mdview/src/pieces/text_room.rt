@@ -15,6 +15,7 @@ use mdhtml::{Like, Options, append_unit_ends, append_unit_html, append_unit_like
 use mdinline::{Parsed, TextReader};
 use mdtext::{Entities, NoMemory};
 use std::alloc::Global;
+use std::mem::replace;
 
 /// Room for the HTML of most units, so that it need not grow bit by bit.
 const HTML_ROOM: usize = 1_000;
@@ -125,7 +126,7 @@ impl<'a> TextRoom<'a> {
         self.html.clear();
         self.html.reserve(HTML_ROOM)?;
         append_unit_html(blocks, texts, options, &mut self.html)?;
-        Ok(Piece::new(String::from_str(self.alloc, &self.html)?, None))
+        Ok(Piece::new(self.taken_html()?, None))
     }
 
     /// The piece of a unit that comes in the place of a long one.
@@ -149,14 +150,30 @@ impl<'a> TextRoom<'a> {
     }
 
     /// The piece that was written; of a long one with where items end in it, if there are any.
-    fn written(&self, ends: Vec<usize>) -> Result<Piece, NoMemory>
-        ensures html { IfOk result (λ piece. piece.html ≡ string_bytes self.now.html) }
+    fn written(&mut self, ends: Vec<usize>) -> Result<Piece, NoMemory>
+        ensures html { IfOk result (λ piece. piece.html ≡ string_bytes self.old.html) }
         ensures ends { IfOk result (λ piece. IfSome piece.ends (λ ns. ns ≡ ends.items)) }
+        ensures room { entities_in self.new ≡ entities_in self.old }
     {
-        let html = String::from_str(self.alloc, &self.html)?;
+        let html = self.taken_html()?;
         if html.len() <= LONG || ends.is_empty() {
             return Ok(Piece::new(html, None));
         }
+        let mut ends = ends;
+        ends.shrink_to_fit();
         Ok(Piece::new(html, Some(Box::new(self.alloc, ends)?)))
+    }
+
+    /// The HTML that was written, in no more memory than it needs: a copy, or the room itself where it is long.
+    fn taken_html(&mut self) -> Result<String, NoMemory>
+        ensures html { IfOk result (λ html. string_bytes html ≡ string_bytes self.old.html) }
+        ensures room { entities_in self.new ≡ entities_in self.old }
+    {
+        if self.html.len() <= LONG {
+            return String::from_str(self.alloc, &self.html);
+        }
+        let mut html = replace(&mut self.html, String::new(self.alloc));
+        html.shrink_to_fit();
+        Ok(html)
     }
 }
