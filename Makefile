@@ -28,7 +28,7 @@ BASH_COMPLETION_DIR ?= $(PREFIX)/share/bash-completion/completions
 ZSH_COMPLETION_DIR ?= $(PREFIX)/share/zsh/site-functions
 INSTALL ?= install
 # The version stands in one place, which --version prints too.
-VERSION = $(shell sed -nE 's/^pub const VERSION: &str = "(.*)";$$/\1/p' crates/mdtool/src/tool_words.rt)
+VERSION = $(shell sed -nE 's/^pub const VERSION: &str = "(.*)";$$/\1/p' crates/mdwords/src/tool_words.rt)
 
 # Ends a target that takes what is in bin/ where that is not there.
 need = @for made in $(1); do [ -e $$made ] || { echo "$$made is not there: make build first" >&2; exit 1; }; done

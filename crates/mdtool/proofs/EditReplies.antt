@@ -8,7 +8,7 @@ use Rattle.mdview.specs.declared.fault.EditFault.{EditFault}
 use Rattle.mdview.specs.Document.{Document}
 use Rattle.mdview.specs.Outcome.{answer_of, is_starved, outcome_of}
 use Rattle.mdtool.specs.Commands.{Change}
-use Rattle.mdtool.specs.declared.reply_forms.ReplyForm.{ReplyForm}
+use Rattle.mdwords.specs.declared.reply_forms.ReplyForm.{ReplyForm}
 use Rattle.mdtool.specs.Replies.{edit_reply, told_of}
 use Rattle.mdtool.specs.Serve.{Replied}
 

@@ -3,7 +3,6 @@ pub mod EditReplies
 pub mod Refusals
 pub mod ScriptLines
 pub mod Readings
-pub mod Numbers
 pub mod Searches
 pub mod StepEnds
 pub mod Texts
@@ -17,4 +16,3 @@ pub mod PreludeEnds
 pub mod PreludeDue
 pub mod Conversions
 pub mod UnitsBehind
-pub mod ToolApps

@@ -10,7 +10,7 @@ use Rattle.mdview.specs.Outcome.{answer_of, is_starved, outcome_of}
 use Rattle.mdview.proofs.Outcomes.{accepted_holds, accepted_stands, refused_due}
 use Rattle.mdtool.specs.declared.fault.ToolFault.{ToolFault}
 use Rattle.mdtool.specs.declared.fault.ToolFault.TheVariants.{Read, Write, Refused, BadCommand, Truncated, Table, NoMemory}
-use Rattle.mdtool.specs.declared.reply_forms.ReplyForm.{ReplyForm}
+use Rattle.mdwords.specs.declared.reply_forms.ReplyForm.{ReplyForm}
 use Rattle.mdtool.specs.PreludeSet.{PreludeSet, Sets}
 use Rattle.mdtool.specs.Serve.{Served, ServedBeside, out_failures_after}
 use Rattle.mdtool.specs.Steps.{failures_after}

@@ -6,8 +6,9 @@ use Rattle.viewspec.specs.Calls.{edit}
 use Rattle.viewspec.specs.Outcome.{accepted, refused}
 use Rattle.viewspec.specs.Refusals.{nested_too_deep, not_definitions}
 use Rattle.mdview.specs.Document.{empty}
-use Rattle.mdtool.specs.Commands.{Change, HtmlHead, PreludeHead, EditHead, number, split_number, head_of}
-use Rattle.mdtool.specs.declared.reply_forms.ReplyForm.TheVariants.{Plain, WithLines}
+use Rattle.mdtool.specs.Commands.{Change, HtmlHead, PreludeHead, EditHead, split_number, head_of}
+use Rattle.mdwords.specs.Numbers.{number}
+use Rattle.mdwords.specs.declared.reply_forms.ReplyForm.TheVariants.{Plain, WithLines}
 use Rattle.mdtool.specs.Replies.{ScriptTurn, Told, edit_reply, html_reply, replies}
 
 -- a heading, and a paragraph with a hard line break

@@ -5,6 +5,7 @@ use Rattle.std.specs.Cmp.Lexicographic.{pointwise}
 use Rattle.std.specs.Char.{is_ascii_digit}
 use Rattle.std.specs.Str.Lossy.{utf8_lossy}
 use Rattle.viewspec.specs.Calls.{Call, edit, set_prelude}
+use Rattle.mdwords.specs.Numbers.{number}
 
 pub data Command : Type 0 where
   Html : Command
@@ -15,11 +16,6 @@ pub data Head : Type 0 where
   HtmlHead : Head
   PreludeHead : ℕ → Head
   EditHead : ℕ → ℕ → ℕ → Head
-
--- the number that a word of 1 to 9 digits is
-unfoldable pub number : List ℕ → Option ℕ
-number word =
-    if not (length word == 0) && nat_lt (length word) 10 && list_all is_ascii_digit word then Some (fold (λ n digit. n * 10 + (digit - 48)) 0 word) else None
 
 abbrev pub is_space : ℕ → Bool
 is_space byte = byte == 32

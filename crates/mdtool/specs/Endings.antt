@@ -8,17 +8,14 @@ use Rattle.mdtext.specs.declared.entity_file.TableFault.TheVariants.{NoMemory as
 use Rattle.mdtool.specs.declared.fault.ToolFault.{ToolFault}
 use Rattle.mdtool.specs.declared.fault.ToolFault.TheVariants.{Read, Write, Refused, BadCommand, Truncated, Table}
 use Rattle.mdtool.specs.declared.fault.ToolFault.TheVariants.{NoMemory as ToolNoMemory}
-use Rattle.mdtool.specs.declared.fault.WordFault.{WordFault}
-use Rattle.mdtool.specs.declared.fault.WordFault.TheVariants.{Help, Version, NotUnderstood}
-use Rattle.mdtool.specs.declared.fault.WordFault.TheVariants.{NoMemory as WordNoMemory}
+use Rattle.mdwords.specs.declared.word_faults.WordFault.{WordFault}
+use Rattle.mdwords.specs.declared.word_faults.WordFault.TheVariants.{Help, Version, NotUnderstood}
+use Rattle.mdwords.specs.declared.word_faults.WordFault.TheVariants.{NoMemory as WordNoMemory}
+use Rattle.mdwords.specs.ToolWords.{version}
 use Rattle.mdtool.specs.declared.fault.Stop.{Stop}
 use Rattle.mdtool.specs.declared.fault.Stop.TheVariants.{Words, NotOpened, Tool}
 use Rattle.mdtool.specs.declared.halt.Halt.{Halt}
 use Rattle.mdtool.specs.RefusalText.{fault_text}
-
--- what `--version` tells behind the program's name
-abbrev pub version : List ℕ
-version = codes "0.1.0"
 
 abbrev pub no_memory : List ℕ
 no_memory = codes "no memory"

@@ -18,7 +18,7 @@ use Rattle.mdtool.specs.declared.halt.Cause.TheVariants.{Missing, Locked, Folder
 use Rattle.mdtool.specs.declared.halt.Halt.{Halt}
 use Rattle.mdtool.specs.declared.halt.Source.{Source}
 use Rattle.mdtool.specs.declared.halt.Source.TheVariants.{Entities, Prelude, Text}
-use Rattle.mdtool.specs.declared.tool_words.Words.{Words}
+use Rattle.mdwords.specs.declared.tool_words.Words.{Words}
 
 abbrev pub name_or : Option (String Global) → List ℕ → List ℕ
 name_or None other = other

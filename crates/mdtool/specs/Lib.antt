@@ -15,5 +15,4 @@ pub mod Counts
 pub mod Drained
 pub mod EntityTables
 pub mod Convert
-pub mod ToolWords
 pub mod NamedFiles

@@ -2,8 +2,8 @@
 use Rattle.std.specs.Prelude.{ℕ, ◌+◌, ◌-◌, Bool, List, [], ◌∷◌, ◌++◌, Option, Some, None, length, codes, decimal, nat_lt, slice_get, if◌then◌else◌}
 use Rattle.std.specs.List.{concat}
 use Rattle.blockspec.specs.BlockUnits.{begins as begins_of}
-use Rattle.mdtool.specs.declared.reply_forms.ReplyForm.{ReplyForm}
-use Rattle.mdtool.specs.declared.reply_forms.ReplyForm.TheVariants.{Plain, WithLines}
+use Rattle.mdwords.specs.declared.reply_forms.ReplyForm.{ReplyForm}
+use Rattle.mdwords.specs.declared.reply_forms.ReplyForm.TheVariants.{Plain, WithLines}
 use Rattle.mdtool.specs.RefusalText.{refused_text}
 use Rattle.viewspec.specs.ChangedPieces.{ChangedPieces}
 use Rattle.viewspec.specs.Outcome.{Answer, accepted, refused}

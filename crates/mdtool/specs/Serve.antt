@@ -2,7 +2,7 @@
 use Rattle.std.specs.Prelude.{◌≡◌, ◌⊎◌, ℕ, ◌+◌, Bool, true, List, Option, Result, Ok, Err, map}
 use Rattle.mdtool.specs.declared.fault.ToolFault.{ToolFault}
 use Rattle.mdtool.specs.declared.fault.ToolFault.TheVariants.{Read, Write, Refused, BadCommand, Truncated, Table, NoMemory}
-use Rattle.mdtool.specs.declared.reply_forms.ReplyForm.{ReplyForm}
+use Rattle.mdwords.specs.declared.reply_forms.ReplyForm.{ReplyForm}
 use Rattle.mdtool.specs.Bytes.{Takes, AtEnd, Gains, GainsFront}
 use Rattle.mdview.specs.Document.{Document}
 use Rattle.mdtool.specs.Commands.{Command, Stop, Done, Open, Bad, Short, Script, Leads, script_lines}

@@ -6,11 +6,11 @@ ghost use Rattle.mdtool.specs.Endings.{text_of, line_of, reason_of, tool_reason_
 ghost use Rattle.mdtool.specs.RefusalText.{fault_text};
 
 use crate::device::{DeviceFault, Out, put_all};
-use crate::fault::{Stop, ToolFault, WordFault};
-use crate::tool_words::VERSION;
+use crate::fault::{Stop, ToolFault};
 use itoa::Buffer;
 use mdtext::TableFault;
 use mdview::EditFault;
+use mdwords::{VERSION, WordFault};
 
 /// Writes why the program of this name stopped, as one line, or the help or the version that was asked for, and answers the
 /// exit status. A fault of `err` ends the writing alone. Takes no memory.

@@ -8,10 +8,10 @@ use crate::device::{Out, put_all};
 use crate::endings::{put_text, status};
 use crate::fault::{Stop, ToolFault};
 use crate::halt::{Cause, Halt, Source};
-use crate::tool_words::Words;
 use mdhtml::Options;
 use mdtext::TableFault;
 use mdview::EditFault;
+use mdwords::Words;
 use std::alloc::{AllocError, Global};
 
 /// Writes why the program of this name stopped, as `ending` does, and behind it, where the words ask for it, an explanation

@@ -1,10 +1,11 @@
-//! Why an engine stopped, why words are refused, why a program stops.
+//! Why an engine stopped, why a program stops.
 
 ghost use Rattle.std.specs.Prelude.{◌≡◌};
 ghost use Rattle.mdtool.specs.declared.fault.ToolFault.TheVariants.{NoMemory};
 
 use mdtext::TableFault;
 use mdview::EditFault;
+use mdwords::WordFault;
 use std::alloc::{AllocError, AllocFailed};
 use thiserror::Error;
 
@@ -47,34 +48,6 @@ impl<T: Drop> From<AllocFailed<T>> for ToolFault {
 
     fn from(_error: AllocFailed<T>) -> ToolFault {
         ToolFault::NoMemory
-    }
-}
-
-/// Why a program's words were not followed.
-#[derive(Debug, Drop, Error)]
-pub enum WordFault {
-    /// The help was asked for; this is its text.
-    #[error("{0}")]
-    Help(String),
-    /// The version was asked for.
-    #[error("the version was asked for")]
-    Version,
-    /// They are not understood, or not UTF-8.
-    #[error("words not understood")]
-    NotUnderstood,
-    /// A growth was refused.
-    #[error("no memory")]
-    NoMemory,
-}
-
-impl From<AllocError> for WordFault {
-    ghost use Rattle.mdtool.specs.declared.fault.WordFault.TheVariants.{NoMemory};
-    ghost use Rattle.std.specs.Prelude.{◌≡◌};
-
-    ghost from_gives = { λ _ e. e ≡ NoMemory };
-
-    fn from(_error: AllocError) -> WordFault {
-        WordFault::NoMemory
     }
 }
 

@@ -1,13 +1,11 @@
 //! What the first line of a command says.
 ghost use Rattle.std.specs.Prelude.{◌≡◌, option_map};
 ghost use Rattle.std.specs.List.{position};
-ghost use Rattle.mdtool.specs.Commands.{number, split_number, head_of, is_space};
+ghost use Rattle.mdtool.specs.Commands.{split_number, head_of, is_space};
 ghost use Rattle.mdtool.specs.Views.{head_view};
 
 use crate::command::Header;
-
-/// The number of digits at the most.
-const MAX_DIGITS: usize = 9;
+use mdwords::number;
 
 /// What the line says as the first of a command, or nothing where it is none: `html` alone, or `prelude ADD` or
 /// `edit AT DEL ADD` with single spaces.
@@ -43,21 +41,4 @@ fn first_space(text: &[u8]) -> Option<usize>
     ensures { result ≡ position is_space text.now }
 {
     text.iter().position(|byte| *byte == b' ')
-}
-
-/// The number that a word of 1 to 9 digits is.
-pub(crate) fn number(word: &[u8]) -> Option<usize>
-    ensures { result ≡ number word.now }
-{
-    if word.is_empty() || word.len() > MAX_DIGITS {
-        return None;
-    }
-    let mut value = 0;
-    for byte in word {
-        if !byte.is_ascii_digit() {
-            return None;
-        }
-        value = value * 10 + (*byte - b'0') as usize;
-    }
-    Some(value)
 }

@@ -8,9 +8,9 @@ ghost use Rattle.mdview.specs.FaultReasons.{reason_of};
 ghost use Rattle.mdview.specs.Outcome.{answer_of};
 ghost use Rattle.mdtool.specs.Replies.{html_reply, edit_reply, line_part, moved_by, moved_line, refused_reply, piece_reply, pieces_reply, patch_line, told_line, told_of};
 
-use crate::reply_forms::ReplyForm;
 use itoa::Buffer;
 use mdview::{EditFault, Patch, Preview};
+use mdwords::ReplyForm;
 use std::alloc::{AllocError, Global};
 
 /// The reply to `html`: the number of bytes of all pieces, and these.

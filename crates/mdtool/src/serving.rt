@@ -8,18 +8,18 @@ ghost use Rattle.mdtool.specs.Views.{command_view};
 ghost use Rattle.mdtool.specs.Steps.{failures_after};
 ghost use Rattle.mdtool.specs.Serve.{Served, ServedBeside, Replied, out_failures_after};
 ghost use Rattle.mdhtml.specs.Limits.{HasLimits};
-ghost use Rattle.mdtool.specs.declared.reply_forms.ReplyForm.TheVariants.{Plain};
+ghost use Rattle.mdwords.specs.declared.reply_forms.ReplyForm.TheVariants.{Plain};
 
 use crate::command::Command;
 use crate::converting::refusal;
 use crate::device::{DeviceFault, Feed, Out, put_all};
 use crate::fault::ToolFault;
 use crate::replies::{edit_reply, html_reply};
-use crate::reply_forms::ReplyForm;
 use crate::script::Script;
 use mdhtml::Options;
 use mdtext::{Entities, Tally};
 use mdview::Preview;
+use mdwords::ReplyForm;
 use std::alloc::{AllocError, Global};
 use std::mem::forget;
 

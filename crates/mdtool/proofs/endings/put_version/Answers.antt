@@ -2,7 +2,7 @@ use Rattle.std.proofs.Common.{List, ℕ, ◌++◌, ◌∷◌, [], ap, refl}
 use Rattle.std.specs.Result.{is_ok}
 use Rattle.std.proofs.lemmas.Result.{err_from_is_err_and}
 use Rattle.mdtool.proofs.Devices.{puts_then, puts_part}
-use Rattle.mdtool.specs.Endings.{version}
+use Rattle.mdwords.specs.ToolWords.{version}
 use Rattle.mdtool.proofs.endings.put_version.Goals as goal
 
 -- what stands behind the name, and behind the space

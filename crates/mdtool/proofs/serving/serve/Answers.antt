@@ -1,6 +1,6 @@
 use Rattle.std.proofs.lemmas.Result.{err_from_is_err_and}
 use Rattle.mdview.specs.Document.{Document}
-use Rattle.mdtool.specs.declared.reply_forms.ReplyForm.TheVariants.{Plain}
+use Rattle.mdwords.specs.declared.reply_forms.ReplyForm.TheVariants.{Plain}
 use Rattle.mdtool.proofs.PreludeEnds.{serves_beside, prelude_ends_script, no_feed_failed, no_out_failed}
 use Rattle.mdtool.proofs.serving.serve.Goals as goal
 

@@ -1,9 +1,9 @@
 use Rattle.std.proofs.Common.{◌<◌, length, ◌∙◌, sym, ap, Some, arith}
 use Rattle.std.proofs.lemmas.Bool.Decides.{nat_tests}
 use Rattle.std.proofs.lemmas.List.{take_all}
-use Rattle.mdtool.proofs.Numbers.{number_empty, number_long, number_other, number_value}
-use Rattle.mdtool.proofs.header.number.Goals.{then-is_empty-via-then-is_empty, then-is_empty-via-else-is_empty+then-word-gt-MAX_DIGITS}
-use Rattle.mdtool.proofs.header.number.Goals as goal
+use Rattle.mdwords.proofs.NumberValues.{number_empty, number_long, number_other, number_value}
+use Rattle.mdwords.proofs.numbers.number.Goals.{then-is_empty-via-then-is_empty, then-is_empty-via-else-is_empty+then-word-gt-MAX_DIGITS}
+use Rattle.mdwords.proofs.numbers.number.Goals as goal
 
 pub returns-then-is_empty : goal.returns-then-is_empty
 returns-then-is_empty c = sym (elim c.then-is_empty.branch [

@@ -9,10 +9,10 @@ use Rattle.clap.specs.declared.parser.matches.ArgMatches.{ArgMatches}
 use Rattle.mdhtml.specs.declared.options.Breaks.{Breaks}
 use Rattle.mdhtml.specs.declared.options.Breaks.TheVariants.{Soft, Hard, Space}
 use Rattle.mdhtml.specs.declared.options.Options.{Options}
-use Rattle.mdtool.specs.declared.reply_forms.ReplyForm.{ReplyForm}
-use Rattle.mdtool.specs.declared.reply_forms.ReplyForm.TheVariants.{Plain, WithLines}
-use Rattle.mdtool.specs.declared.tool_words.Words.{Words}
-use Rattle.mdtool.specs.Commands.{number}
+use Rattle.mdwords.specs.declared.reply_forms.ReplyForm.{ReplyForm}
+use Rattle.mdwords.specs.declared.reply_forms.ReplyForm.TheVariants.{Plain, WithLines}
+use Rattle.mdwords.specs.declared.tool_words.Words.{Words}
+use Rattle.mdwords.specs.Numbers.{number}
 
 -- an option without a value
 abbrev pub flag_rule : Text → Rule
@@ -141,3 +141,7 @@ pub record WordsRead (words : List Text) (read : Words) : Type 0 where
   pub explains : read.explains ≡ is_on matches (codes "explain")
   pub replies : read.replies ≡ replies_of matches
   pub anyway : IsDoneAnyway matches
+
+-- what `--version` tells behind the program's name
+abbrev pub version : List ℕ
+version = codes "0.1.0"

@@ -1,8 +1,8 @@
 use Rattle.std.proofs.Common.{◌≡◌, ◌∙◌, ap, map, subst}
 use Rattle.clap.specs.Words.{HasMatchesOf, app_of, matches_of}
-use Rattle.mdtool.specs.ToolWords.{tool_app}
-use Rattle.mdtool.proofs.ToolApps.{tool_is_simple}
-use Rattle.mdtool.proofs.tool_words.read_words.Goals as goal
+use Rattle.mdwords.specs.ToolWords.{tool_app}
+use Rattle.mdwords.proofs.ToolApps.{tool_is_simple}
+use Rattle.mdwords.proofs.tool_words.read_words.Goals as goal
 
 pub returns-clause-read : goal.returns-clause-read
 returns-clause-read c =

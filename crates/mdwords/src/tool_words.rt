@@ -3,14 +3,14 @@ ghost use Rattle.std.specs.Prelude.{◌≡◌, ◌≤◌, IfOk, IfSome, IsSome, 
 ghost use Rattle.std.specs.List.{list_all, prefix_len};
 ghost use Rattle.clap.specs.Words.{app_of, first_value, found_of, rule_of};
 ghost use Rattle.mdhtml.specs.Limits.{HasLimits};
-ghost use Rattle.mdtool.specs.Commands.{number};
-ghost use Rattle.mdtool.specs.ToolWords.{IsBreaks, IsDoneAnyway, IsHtml, IsLimit, OptionsRead, WordsRead, flag_rule, has_lines, is_extension, is_on, is_zero, replies_of};
-ghost use Rattle.mdtool.specs.ToolWords.{lettered_rule, program_of, repeated_rule, tool_app, valued_rule, values_of, with_done_anyway, with_lines, with_names, with_reading, with_replies, with_version, with_writing};
-ghost use Rattle.mdtool.specs.Endings.{version};
+ghost use Rattle.mdwords.specs.Numbers.{number};
+ghost use Rattle.mdwords.specs.ToolWords.{IsBreaks, IsDoneAnyway, IsHtml, IsLimit, OptionsRead, WordsRead, flag_rule, has_lines, is_extension, is_on, is_zero, replies_of};
+ghost use Rattle.mdwords.specs.ToolWords.{lettered_rule, program_of, repeated_rule, tool_app, valued_rule, values_of, with_done_anyway, with_lines, with_names, with_reading, with_replies, with_version, with_writing};
+ghost use Rattle.mdwords.specs.ToolWords.{version};
 
-use crate::fault::WordFault;
-use crate::header::number;
+use crate::numbers::number;
 use crate::reply_forms::ReplyForm;
+use crate::word_faults::WordFault;
 use clap::error::ErrorKind;
 use clap::{Arg, ArgAction, ArgMatches, Command, Error};
 use mdhtml::{Breaks, Options};

@@ -5,7 +5,7 @@ use Rattle.std.specs.List.{list_all}
 use Rattle.std.specs.Char.{is_ascii_digit}
 use Rattle.std.proofs.lemmas.Bool.Decides.{nat_tests}
 use Rattle.std.proofs.lemmas.List.Sums.{AllPass-from_list_all}
-use Rattle.mdtool.specs.Commands.{number}
+use Rattle.mdwords.specs.Numbers.{number}
 
 and_false : (x y : Bool) → y ≡ false → (x && y) ≡ false
 and_false true y e = e

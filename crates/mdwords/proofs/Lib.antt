@@ -1,0 +1,2 @@
+pub mod NumberValues
+pub mod ToolApps
