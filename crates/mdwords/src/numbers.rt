@@ -5,7 +5,7 @@ ghost use Rattle.mdwords.specs.Numbers.{number};
 /// The number of digits at the most.
 const MAX_DIGITS: usize = 9;
 
-/// The number that a word of 1 to 9 digits is.
+/// The number that a word of 1 to 9 digits is; any other word is none.
 pub fn number(word: &[u8]) -> Option<usize>
     ensures { result ≡ number word.now }
 {

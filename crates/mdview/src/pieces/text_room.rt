@@ -20,7 +20,7 @@ use std::mem::replace;
 /// Room for the HTML of most units, so that it need not grow bit by bit.
 const HTML_ROOM: usize = 1_000;
 
-/// Of a list whose piece has more bytes, in the place of a piece that has more, it is kept where its items end.
+/// HTML of more bytes goes out in the room in which it was written, with no copy. Of a list whose piece has more, in the place of a piece that has more, it is kept where its items end.
 const LONG: usize = 16_384;
 
 /// A held unit that goes, in whose place another comes, and how many texts, from the front on and from the end on, are known to read the same in both.
