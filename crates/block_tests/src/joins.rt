@@ -50,7 +50,7 @@ fn push_lines(lines: &mut Vec<&'static str>, seed: &mut u64) -> Result<(), Alloc
 }
 
 fn some_lines(alloc: Global, seed: &mut u64) -> Result<Vec<&'static str>, AllocError> {
-    let mut lines = Vec::new(alloc);
+    let mut lines: Vec<&'static str> = Vec::new(alloc);
     push_lines(&mut lines, seed)?;
     Ok(lines)
 }

@@ -113,13 +113,6 @@ fn some_of(
     Ok(some)
 }
 
-fn push_all(lines: &mut Vec<&'static str>, add: &[&'static str]) -> Result<(), AllocError> {
-    for line in add {
-        lines.push(*line)?;
-    }
-    Ok(())
-}
-
 /// The lines with some replaced.
 fn replaced(
     alloc: Global,
@@ -129,9 +122,9 @@ fn replaced(
     add: &[&'static str],
 ) -> Result<Vec<&'static str>, AllocError> {
     let mut new = Vec::new(alloc);
-    push_all(&mut new, lines.get(..at).unwrap_or(&[]))?;
-    push_all(&mut new, add)?;
-    push_all(&mut new, lines.get(at.saturating_add(del)..).unwrap_or(&[]))?;
+    new.extend_from_slice(lines.get(..at).unwrap_or(&[]))?;
+    new.extend_from_slice(add)?;
+    new.extend_from_slice(lines.get(at.saturating_add(del)..).unwrap_or(&[]))?;
     Ok(new)
 }
 
@@ -339,7 +332,7 @@ fn push_parted(lines: &mut Vec<&'static str>, i: usize, seed: &mut u64) -> Resul
 }
 
 fn parted(alloc: Global, seed: &mut u64) -> Result<Held, Fail> {
-    let mut lines = Vec::new(alloc);
+    let mut lines: Vec<&'static str> = Vec::new(alloc);
     for i in 0..300 {
         push_parted(&mut lines, i, seed)?;
     }

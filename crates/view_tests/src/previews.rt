@@ -56,23 +56,23 @@ fn previews_a_text(rt: HostRuntime) -> Result<(), Fail> {
 
 static LIMITS: [Step; 5] = [
     Step::TryBlanks {
-        count: 1_000_001,
+        len: 1_000_001,
         fault: Some(EditFault::TooManyLines),
     },
     // Lines of 16,776,960 and 254 bytes fit, with one for each line's end; one byte more does not.
     Step::TryLetters {
         at: 0,
-        count: 16_776_960,
+        len: 16_776_960,
         fault: None,
     },
     Step::TryLetters {
         at: 1,
-        count: 255,
+        len: 255,
         fault: Some(EditFault::TooLarge),
     },
     Step::TryLetters {
         at: 1,
-        count: 254,
+        len: 254,
         fault: None,
     },
     Step::Sizes { lines: 2, units: 1 },
@@ -295,7 +295,7 @@ static REFUSED_PRELUDES: [Step; 11] = [
     },
     Step::CountAnew,
     Step::TryBlankPrelude {
-        count: 1_000_001,
+        len: 1_000_001,
         fault: Some(EditFault::TooManyLines),
     },
     Step::TryPrelude {

@@ -34,13 +34,13 @@ pub(crate) enum Step {
     },
     /// The same with so many lines of nothing in front.
     TryBlanks {
-        count: usize,
+        len: usize,
         fault: Option<EditFault>,
     },
     /// The same with a new line of so many letters.
     TryLetters {
         at: usize,
-        count: usize,
+        len: usize,
         fault: Option<EditFault>,
     },
     /// Sets the prelude, and is refused for this, if for anything. What is read is counted on.
@@ -50,7 +50,7 @@ pub(crate) enum Step {
     },
     /// The same with so many lines of nothing.
     TryBlankPrelude {
-        count: usize,
+        len: usize,
         fault: Option<EditFault>,
     },
     /// From here on what is read is counted from nothing.
@@ -101,13 +101,6 @@ pub(crate) enum Step {
         number: usize,
         count: Option<usize>,
     },
-}
-
-/// A preview, and what was read for it.
-#[derive(Drop)]
-struct Held {
-    preview: Preview,
-    count: Tally,
 }
 
 /// What a patch says: its numbers, the pieces that are made again, and behind a colon each piece that it brings, behind its number.
@@ -162,26 +155,28 @@ fn says(
 fn edits(
     rt: &impl Abort,
     alloc: Global,
-    held: &mut Held,
+    preview: &mut Preview,
+    count: &mut Tally,
     (at, del): (usize, usize),
     add: &[&str],
     want: &str,
 ) -> Result<bool, AllocError> {
-    held.count = Tally::new();
-    let patch = edit(&mut held.preview, at, del, add, &mut held.count);
-    says(rt, alloc, patch, &held.preview, want)
+    *count = Tally::new();
+    let patch = edit(preview, at, del, add, count);
+    says(rt, alloc, patch, preview, want)
 }
 
 fn sets_prelude(
     rt: &impl Abort,
     alloc: Global,
-    held: &mut Held,
+    preview: &mut Preview,
+    count: &mut Tally,
     lines: &[&str],
     want: &str,
 ) -> Result<bool, AllocError> {
-    held.count = Tally::new();
-    let patch = set_prelude(&mut held.preview, lines, &mut held.count);
-    says(rt, alloc, patch, &held.preview, want)
+    *count = Tally::new();
+    let patch = set_prelude(preview, lines, count);
+    says(rt, alloc, patch, preview, want)
 }
 
 fn is_within(count: u64, (least, most): (u64, u64)) -> bool {
@@ -237,22 +232,24 @@ fn blanks(alloc: Global, count: usize) -> Result<Vec<&'static str>, AllocError> 
 
 fn try_blanks(
     alloc: Global,
-    held: &mut Held,
-    count: usize,
+    preview: &mut Preview,
+    count: &mut Tally,
+    len: usize,
     fault: Option<EditFault>,
 ) -> Result<bool, AllocError> {
-    let blanks = blanks(alloc, count)?;
-    Ok(try_edit(held, (0, 0), &blanks, fault))
+    let blanks = blanks(alloc, len)?;
+    Ok(try_edit(preview, count, (0, 0), &blanks, fault))
 }
 
 fn try_blank_prelude(
     alloc: Global,
-    held: &mut Held,
-    count: usize,
+    preview: &mut Preview,
+    count: &mut Tally,
+    len: usize,
     fault: Option<EditFault>,
 ) -> Result<bool, AllocError> {
-    let blanks = blanks(alloc, count)?;
-    Ok(try_prelude(held, &blanks, fault))
+    let blanks = blanks(alloc, len)?;
+    Ok(try_prelude(preview, count, &blanks, fault))
 }
 
 /// So many letters.
@@ -276,34 +273,41 @@ fn letters(alloc: Global, count: usize) -> Result<String, AllocError> {
 
 fn try_letters(
     alloc: Global,
-    held: &mut Held,
+    preview: &mut Preview,
+    count: &mut Tally,
     at: usize,
-    count: usize,
+    len: usize,
     fault: Option<EditFault>,
 ) -> Result<bool, AllocError> {
-    let line = letters(alloc, count)?;
-    Ok(try_edit(held, (at, 0), &[line.as_str()], fault))
+    let line = letters(alloc, len)?;
+    Ok(try_edit(preview, count, (at, 0), &[line.as_str()], fault))
 }
 
-fn begins(held: &mut Held, lines: &[&str]) -> bool {
-    edit(&mut held.preview, 0, 0, lines, &mut Tally::new()).is_ok()
+fn begins(preview: &mut Preview, lines: &[&str]) -> bool {
+    edit(preview, 0, 0, lines, &mut Tally::new()).is_ok()
 }
 
 fn try_edit(
-    held: &mut Held,
+    preview: &mut Preview,
+    count: &mut Tally,
     (at, del): (usize, usize),
     add: &[&str],
     fault: Option<EditFault>,
 ) -> bool {
-    edit(&mut held.preview, at, del, add, &mut held.count).err() == fault
+    edit(preview, at, del, add, count).err() == fault
 }
 
-fn try_prelude(held: &mut Held, lines: &[&str], fault: Option<EditFault>) -> bool {
-    set_prelude(&mut held.preview, lines, &mut held.count).err() == fault
+fn try_prelude(
+    preview: &mut Preview,
+    count: &mut Tally,
+    lines: &[&str],
+    fault: Option<EditFault>,
+) -> bool {
+    set_prelude(preview, lines, count).err() == fault
 }
 
-fn count_anew(held: &mut Held) -> bool {
-    held.count = Tally::new();
+fn count_anew(count: &mut Tally) -> bool {
+    *count = Tally::new();
     true
 }
 
@@ -316,32 +320,40 @@ fn has_sizes(preview: &Preview, lines: usize, units: usize) -> bool {
 }
 
 /// Does what a step says, and answers whether all is as it says.
-fn is_so(rt: &impl Abort, alloc: Global, held: &mut Held, step: &Step) -> Result<bool, AllocError> {
+fn is_so(
+    rt: &impl Abort,
+    alloc: Global,
+    preview: &mut Preview,
+    count: &mut Tally,
+    step: &Step,
+) -> Result<bool, AllocError> {
     match *step {
-        Step::Begin { lines } => Ok(begins(held, lines)),
-        Step::Edit { at, del, add, says } => edits(rt, alloc, held, (at, del), add, says),
-        Step::SetPrelude { lines, says } => sets_prelude(rt, alloc, held, lines, says),
+        Step::Begin { lines } => Ok(begins(preview, lines)),
+        Step::Edit { at, del, add, says } => edits(rt, alloc, preview, count, (at, del), add, says),
+        Step::SetPrelude { lines, says } => sets_prelude(rt, alloc, preview, count, lines, says),
         Step::TryEdit {
             at,
             del,
             add,
             fault,
-        } => Ok(try_edit(held, (at, del), add, fault)),
-        Step::TryBlanks { count, fault } => try_blanks(alloc, held, count, fault),
-        Step::TryLetters { at, count, fault } => try_letters(alloc, held, at, count, fault),
-        Step::TryPrelude { lines, fault } => Ok(try_prelude(held, lines, fault)),
-        Step::TryBlankPrelude { count, fault } => try_blank_prelude(alloc, held, count, fault),
-        Step::CountAnew => Ok(count_anew(held)),
-        Step::Counted { lines, inlines } => Ok(has_counted(&held.count, lines, inlines)),
-        Step::Sizes { lines, units } => Ok(has_sizes(&held.preview, lines, units)),
-        Step::Line { number, line } => Ok(held.preview.line(number) == line),
-        Step::Piece { number, html } => Ok(held.preview.piece(number) == html),
-        Step::Pieces { html } => has_pieces(alloc, &held.preview, html),
-        Step::Prelude { lines } => Ok(has_prelude(&held.preview, lines)),
-        Step::FirstLine { number, line } => Ok(held.preview.first_line(number) == line),
-        Step::Definitions { number, count } => Ok(definitions(&held.preview, number) == count),
-        Step::Asked { number, labels } => Ok(has_asked(&held.preview, number, labels)),
-        Step::Nodes { number, count } => has_nodes(&held.preview, number, count),
+        } => { Ok(try_edit(preview, count, (at, del), add, fault)) }
+        Step::TryBlanks { len, fault } => try_blanks(alloc, preview, count, len, fault),
+        Step::TryLetters { at, len, fault } => try_letters(alloc, preview, count, at, len, fault),
+        Step::TryPrelude { lines, fault } => Ok(try_prelude(preview, count, lines, fault)),
+        Step::TryBlankPrelude { len, fault } => try_blank_prelude(
+            alloc, preview, count, len, fault,
+        ),
+        Step::CountAnew => Ok(count_anew(count)),
+        Step::Counted { lines, inlines } => Ok(has_counted(count, lines, inlines)),
+        Step::Sizes { lines, units } => Ok(has_sizes(preview, lines, units)),
+        Step::Line { number, line } => Ok(preview.line(number) == line),
+        Step::Piece { number, html } => Ok(preview.piece(number) == html),
+        Step::Pieces { html } => has_pieces(alloc, preview, html),
+        Step::Prelude { lines } => Ok(has_prelude(preview, lines)),
+        Step::FirstLine { number, line } => Ok(preview.first_line(number) == line),
+        Step::Definitions { number, count } => Ok(definitions(preview, number) == count),
+        Step::Asked { number, labels } => Ok(has_asked(preview, number, labels)),
+        Step::Nodes { number, count } => has_nodes(preview, number, count),
     }
 }
 
@@ -349,15 +361,15 @@ fn is_so(rt: &impl Abort, alloc: Global, held: &mut Held, step: &Step) -> Result
 pub(crate) fn run_on(
     rt: &impl Abort,
     alloc: Global,
-    preview: Preview,
+    mut preview: Preview,
     steps: &[Step],
 ) -> Result<(), Fail> {
-    let mut held = Held {
-        preview,
-        count: Tally::new(),
-    };
+    let mut count = Tally::new();
     for (number, step) in steps.iter().enumerate() {
-        assert!(rt; is_so(rt, alloc, &mut held, step)?, "step {number}");
+        assert!(rt;
+            is_so(rt, alloc, &mut preview, &mut count, step)?,
+            "step {number}"
+        );
     }
     Ok(())
 }
