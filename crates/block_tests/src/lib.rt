@@ -6,4 +6,8 @@ mod calls;
 #[cfg(test)]
 mod joins;
 #[cfg(test)]
+mod readings;
+#[cfg(test)]
+mod shown;
+#[cfg(test)]
 mod units;

@@ -2,122 +2,15 @@
 
 ghost use Rattle.std.specs.Prelude.{◌≤◌};
 
-use crate::calls::{LIMIT, fault_of, finish, hands_nothing, new_reader, read_line};
-use mdblock::{Block, BlockFault, Found, Unit};
+use crate::calls::{LIMIT, finish, new_reader, read_line};
+use crate::readings::{End, Step, found_in, quoted, run};
+use crate::shown::show;
+use mdblock::{BlockFault, Definition, Found, Join, Reader, Unit};
 use mdtext::{Entities, Tally};
 use std::alloc::{AllocError, Global};
 use std::error::Error;
 use std::process::Abort;
 use std::test::Fail;
-
-fn show_text(texts: &[String], position: usize, out: &mut String) -> Result<(), AllocError> {
-    out.push_str("(")?;
-    match texts.get(position) {
-        Some(text) => out.push_str(text.as_str())?,
-        None => out.push_str("?")?,
-    }
-    out.push_str(")")
-}
-
-fn show_cells(texts: &[String], cells: &[usize], out: &mut String) -> Result<(), AllocError> {
-    for cell in cells {
-        show_text(texts, *cell, out)?;
-    }
-    Ok(())
-}
-
-fn show_task(task: Option<bool>) -> &'static str {
-    match task {
-        Some(true) => "done",
-        Some(false) => "task",
-        None => "p",
-    }
-}
-
-fn show_heading(level: u8) -> &'static str {
-    match level {
-        1 => "h1",
-        2 => "h2",
-        _ => "h",
-    }
-}
-
-fn show_list(tight: bool) -> &'static str {
-    if tight { "tight{" } else { "loose{" }
-}
-
-fn show_blocks(blocks: &[Block], texts: &[String], out: &mut String) -> Result<(), AllocError> {
-    for block in blocks {
-        match block {
-            Block::Paragraph { text, task } => {
-                out.push_str(show_task(*task))?;
-                show_text(texts, *text, out)?;
-            }
-            Block::Heading { level, text } => {
-                out.push_str(show_heading(*level))?;
-                show_text(texts, *text, out)?;
-            }
-            Block::Break => out.push_str("hr")?,
-            Block::Code { lang, body } => {
-                out.push_str("code:")?;
-                out.push_str(lang.as_str())?;
-                out.push_str("(")?;
-                out.push_str(body.as_str())?;
-                out.push_str(")")?;
-            }
-            Block::Html(lines) => {
-                out.push_str("html(")?;
-                out.push_str(lines.as_str())?;
-                out.push_str(")")?;
-            }
-            Block::Quote(inner) => {
-                out.push_str("quote{")?;
-                show_blocks(inner.as_slice(), texts, out)?;
-                out.push_str("}")?;
-            }
-            Block::List { tight, items, .. } => {
-                out.push_str(show_list(*tight))?;
-                for item in items {
-                    out.push_str("-")?;
-                    show_blocks(item.blocks.as_slice(), texts, out)?;
-                }
-                out.push_str("}")?;
-            }
-            Block::Table { head, rows, .. } => {
-                out.push_str("table")?;
-                show_cells(texts, head.as_slice(), out)?;
-                for row in rows {
-                    out.push_str("/")?;
-                    show_cells(texts, row.as_slice(), out)?;
-                }
-            }
-        }
-        out.push_str(";")?;
-    }
-    Ok(())
-}
-
-pub(crate) fn show_unit(unit: &Unit, out: &mut String) -> Result<(), AllocError> {
-    for definition in unit.definitions() {
-        out.push_str("[")?;
-        out.push_str(definition.label.as_str())?;
-        out.push_str(" ")?;
-        out.push_str(definition.target.url.as_str())?;
-        out.push_str(" ")?;
-        out.push_str(definition.target.title.as_str())?;
-        out.push_str("]")?;
-    }
-    let texts = unit.texts();
-    show_blocks(unit.blocks(), texts, out)
-}
-
-fn show(found: Option<Found>, out: &mut String) -> Result<(), AllocError> {
-    if let Some(found) = found {
-        show_unit(found.unit(), out)?;
-        out.push_str("\n")?;
-    }
-    Ok(())
-}
 
 fn name(fault: BlockFault) -> &'static str {
     match fault {
@@ -127,28 +20,49 @@ fn name(fault: BlockFault) -> &'static str {
     }
 }
 
+/// Appends the unit that was handed out, or the name of the fault. Answers whether there was none.
+fn show_outcome(
+    outcome: Result<Option<Found>, BlockFault>,
+    out: &mut String,
+) -> Result<bool, AllocError> {
+    match outcome {
+        Ok(found) => {
+            show(&found, out)?;
+            Ok(true)
+        }
+        Err(fault) => {
+            out.push_str(name(fault))?;
+            Ok(false)
+        }
+    }
+}
+
+/// Appends the units that the lines of a text hand out, up to a fault. Answers whether there was none.
+fn show_lines(reader: &mut Reader<'_>, text: &str, out: &mut String) -> Result<bool, AllocError> {
+    let mut count = Tally::new();
+    for line in text.lines() {
+        if !show_outcome(read_line(reader, line, &mut count), out)? {
+            return Ok(false);
+        }
+    }
+    Ok(true)
+}
+
+fn show_units(mut reader: Reader<'_>, text: &str, out: &mut String) -> Result<(), AllocError> {
+    if show_lines(&mut reader, text, out)? {
+        show_outcome(finish(reader), out)?;
+    }
+    Ok(())
+}
+
 /// The units of a text whose lines end at LF, or the name of its fault.
 fn units(alloc: Global, text: &str, limit: usize) -> Result<String, AllocError>
     requires some { 1 ≤ limit }
     requires few { limit ≤ 256 }
 {
     let entities = Entities::builtin(alloc)?;
-    let mut reader = new_reader(alloc, &entities, limit);
-    let mut count = Tally::new();
     let mut out = String::new(alloc);
-    for line in text.lines() {
-        match read_line(&mut reader, line, &mut count) {
-            Ok(found) => show(found, &mut out)?,
-            Err(fault) => {
-                out.push_str(name(fault))?;
-                return Ok(out);
-            }
-        }
-    }
-    match finish(reader) {
-        Ok(found) => show(found, &mut out)?,
-        Err(fault) => out.push_str(name(fault))?,
-    }
+    show_units(new_reader(alloc, &entities, limit), text, &mut out)?;
     Ok(out)
 }
 
@@ -233,97 +147,148 @@ fn tables_and_tasks_are_read(rt: HostRuntime) -> Result<(), Fail> {
     check_all(&rt, rt.alloc(), &TABLES)
 }
 
-/// A line of so many markers of block quotes.
-fn quoted(alloc: Global, quotes: usize) -> Result<String, AllocError> {
-    let mut line = String::new(alloc);
-    for _ in 0..quotes {
-        line.push_str(">")?;
-    }
-    line.push_str("x")?;
-    Ok(line)
+/// What a line of so many markers of block quotes is read as, under a limit.
+fn nested(alloc: Global, quotes: usize, limit: usize) -> Result<String, AllocError>
+    requires some { 1 ≤ limit }
+    requires few { limit ≤ 256 }
+{
+    let line = quoted(alloc, quotes)?;
+    units(alloc, &line, limit)
+}
+
+fn is_read(alloc: Global, quotes: usize, limit: usize) -> Result<bool, AllocError>
+    requires some { 1 ≤ limit }
+    requires few { limit ≤ 256 }
+{
+    Ok(nested(alloc, quotes, limit)?.contains("p(x)"))
+}
+
+fn is_too_deep(alloc: Global, quotes: usize, limit: usize) -> Result<bool, AllocError>
+    requires some { 1 ≤ limit }
+    requires few { limit ≤ 256 }
+{
+    Ok(nested(alloc, quotes, limit)?.as_str() == "NestedTooDeep")
 }
 
 #[test]
 fn containers_are_limited(rt: HostRuntime) -> Result<(), Fail> {
-    let a = rt.alloc();
-    let deepest = quoted(a, 64)?;
-    assert!(rt; units(a, deepest.as_str(), LIMIT)?.contains("p(x)"));
-    let line = quoted(a, 65)?;
-    check(&rt, a, line.as_str(), "NestedTooDeep")?;
-    let line = quoted(a, 1000)?;
-    check(&rt, a, line.as_str(), "NestedTooDeep")?;
+    assert!(rt; is_read(rt.alloc(), 64, LIMIT)?);
+    assert!(rt; is_too_deep(rt.alloc(), 65, LIMIT)?);
+    assert!(rt; is_too_deep(rt.alloc(), 1000, LIMIT)?);
     Ok(())
+}
+
+/// Texts, each with its units where one container may be open.
+static LIMITED: [(&str, &str); 3] = [
+    ("> x", "quote{p(x);};\n"),
+    ("> > x", "NestedTooDeep"),
+    ("- > x", "NestedTooDeep"),
+];
+
+fn are_units(alloc: Global, text: &str, limit: usize, want: &str) -> Result<bool, AllocError>
+    requires some { 1 ≤ limit }
+    requires few { limit ≤ 256 }
+{
+    Ok(units(alloc, text, limit)?.as_str() == want)
 }
 
 #[test]
 fn the_limit_is_handed_in(rt: HostRuntime) -> Result<(), Fail> {
-    let a = rt.alloc();
-    assert_eq!(rt; units(a, "> x", 1)?.as_str(), "quote{p(x);};\n");
-    assert_eq!(rt; units(a, "> > x", 1)?.as_str(), "NestedTooDeep");
-    assert_eq!(rt; units(a, "- > x", 1)?.as_str(), "NestedTooDeep");
-    assert!(rt; units(a, "> - x", 2)?.contains("p(x)"));
-    let deepest = quoted(a, 256)?;
-    assert!(rt; units(a, deepest.as_str(), 256)?.contains("p(x)"));
-    let line = quoted(a, 257)?;
-    assert_eq!(rt; units(a, line.as_str(), 256)?.as_str(), "NestedTooDeep");
+    for &(text, want) in &LIMITED {
+        assert!(rt; are_units(rt.alloc(), text, 1, want)?, "{text:?}");
+    }
+    assert!(rt; are_units(rt.alloc(), "> - x", 2, "quote{tight{-p(x);};};\n")?);
+    assert!(rt; is_read(rt.alloc(), 256, 256)?);
+    assert!(rt; is_too_deep(rt.alloc(), 257, 256)?);
     Ok(())
 }
+
+static A_FAULT: [Step; 8] = [
+    Step::State {
+        fed: 0,
+        open_at: None,
+    },
+    Step::Read { line: "" },
+    Step::Read { line: "a" },
+    Step::State {
+        fed: 2,
+        open_at: Some(1),
+    },
+    Step::RefuseQuotes {
+        quotes: 65,
+        fault: BlockFault::NestedTooDeep,
+    },
+    Step::State {
+        fed: 2,
+        open_at: None,
+    },
+    Step::Refuse {
+        line: "b",
+        fault: BlockFault::Failed,
+    },
+    Step::Counted { lines: 4 },
+];
 
 #[test]
 fn a_fault_stays(rt: HostRuntime) -> Result<(), Fail> {
-    let a = rt.alloc();
-    let entities = Entities::builtin(a)?;
-    let mut count = Tally::new();
-    let line = quoted(a, 65)?;
-    let mut reader = new_reader(a, &entities, LIMIT);
-    assert!(rt; reader.fed() == 0 && reader.open_at().is_none());
-    assert!(rt; hands_nothing(&mut reader, "", &mut count));
-    assert!(rt; hands_nothing(&mut reader, "a", &mut count));
-    assert_eq!(rt; reader.open_at(), Some(1));
-    assert!(rt;
-        fault_of(&mut reader, line.as_str(), &mut count) == Some(BlockFault::NestedTooDeep)
-    );
-    assert!(rt; reader.fed() == 2 && reader.open_at().is_none());
-    assert!(rt; fault_of(&mut reader, "b", &mut count) == Some(BlockFault::Failed));
-    assert_eq!(rt; count.lines(), 4);
-    assert!(rt; matches!(finish(reader), Err(BlockFault::Failed)));
-    Ok(())
+    run(&rt, rt.alloc(), &A_FAULT, End::Fault(BlockFault::Failed))
 }
+
+static TWO_UNITS: [Step; 5] = [
+    Step::Read { line: "" },
+    Step::Read { line: "- a" },
+    Step::Read { line: "" },
+    Step::Hand {
+        line: "b",
+        begin: 1,
+        lines: 2,
+    },
+    Step::State {
+        fed: 4,
+        open_at: Some(3),
+    },
+];
 
 #[test]
 fn units_say_where_they_begin(rt: HostRuntime) -> Result<(), Fail> {
-    let a = rt.alloc();
-    let entities = Entities::builtin(a)?;
+    run(
+        &rt,
+        rt.alloc(),
+        &TWO_UNITS,
+        End::Unit { begin: 3, lines: 1 },
+    )
+}
+
+/// How a line is marked: by `!` where it is not read, and by `x` where it begins a later item of a top-level list.
+fn mark(reader: &mut Reader<'_>, line: &str, count: &mut Tally) -> &'static str {
+    match (read_line(reader, line, count).is_ok(), reader.joined()) {
+        (true, true) => "x",
+        (true, false) => ".",
+        (false, true) => "!x",
+        (false, false) => "!.",
+    }
+}
+
+fn push_marks(reader: &mut Reader<'_>, text: &str, out: &mut String) -> Result<(), AllocError> {
     let mut count = Tally::new();
-    let mut reader = new_reader(a, &entities, LIMIT);
-    assert!(rt; hands_nothing(&mut reader, "", &mut count));
-    assert!(rt; hands_nothing(&mut reader, "- a", &mut count));
-    assert!(rt; hands_nothing(&mut reader, "", &mut count));
-    let Ok(Some(found)) = read_line(&mut reader, "b", &mut count) else {
-        return Err("no unit".into());
-    };
-    assert!(rt; found.begin() == 1 && found.lines() == 2);
-    assert_eq!(rt; reader.open_at(), Some(3));
-    let Ok(Some(found)) = finish(reader) else {
-        return Err("no unit".into());
-    };
-    assert!(rt; found.begin() == 3 && found.lines() == 1);
+    for line in text.lines() {
+        out.push_str(mark(reader, line, &mut count))?;
+    }
     Ok(())
 }
 
 /// Which lines of a text begin a later item of a top-level list, as `x`, and which don't, as `.`.
 fn joined(alloc: Global, text: &str) -> Result<String, AllocError> {
     let entities = Entities::builtin(alloc)?;
-    let mut reader = new_reader(alloc, &entities, LIMIT);
-    let mut count = Tally::new();
     let mut out = String::new(alloc);
-    for line in text.lines() {
-        if read_line(&mut reader, line, &mut count).is_err() {
-            out.push_str("!")?;
-        }
-        out.push_str(if reader.joined() { "x" } else { "." })?;
-    }
+    push_marks(&mut new_reader(alloc, &entities, LIMIT), text, &mut out)?;
     Ok(out)
+}
+
+fn check_joined(rt: &impl Abort, alloc: Global, text: &str, want: &str) -> Result<(), AllocError> {
+    let joined = joined(alloc, text)?;
+    assert_eq!(rt; joined.as_str(), want);
+    Ok(())
 }
 
 /// Texts, with which of their lines begin a later item.
@@ -339,39 +304,59 @@ static LATER: [(&str, &str); 6] = [
     ("-\n\n- a\n- - -\n- b", "..x.."),
 ];
 
+static TWO_ITEMS: [Step; 6] = [
+    Step::Joined { joined: false },
+    Step::Read { line: "- a" },
+    Step::Read { line: "- b" },
+    Step::Joined { joined: true },
+    Step::RefuseQuotes {
+        quotes: 65,
+        fault: BlockFault::NestedTooDeep,
+    },
+    Step::Joined { joined: false },
+];
+
 #[test]
 fn later_items_are_told(rt: HostRuntime) -> Result<(), Fail> {
-    let a = rt.alloc();
     for &(text, want) in &LATER {
-        assert_eq!(rt; joined(a, text)?.as_str(), want);
+        check_joined(&rt, rt.alloc(), text, want)?;
     }
-    let entities = Entities::builtin(a)?;
+    run(&rt, rt.alloc(), &TWO_ITEMS, End::Open)
+}
+
+/// Appends the later items of a unit that was handed out.
+fn push_joins(
+    outcome: Result<Option<Found>, BlockFault>,
+    out: &mut String,
+) -> Result<(), AllocError> {
+    match outcome {
+        Ok(Some(found)) => show_joins(&found, out),
+        _ => Ok(()),
+    }
+}
+
+fn push_line_joins(
+    reader: &mut Reader<'_>,
+    text: &str,
+    out: &mut String,
+) -> Result<(), AllocError> {
     let mut count = Tally::new();
-    let line = quoted(a, 65)?;
-    let mut reader = new_reader(a, &entities, LIMIT);
-    assert!(rt; !reader.joined());
-    assert!(rt; hands_nothing(&mut reader, "- a", &mut count));
-    assert!(rt; hands_nothing(&mut reader, "- b", &mut count));
-    assert!(rt; reader.joined());
-    assert!(rt; read_line(&mut reader, line.as_str(), &mut count).is_err());
-    assert!(rt; !reader.joined());
+    for line in text.lines() {
+        push_joins(read_line(reader, line, &mut count), out)?;
+    }
     Ok(())
+}
+
+fn push_all_joins(mut reader: Reader<'_>, text: &str, out: &mut String) -> Result<(), AllocError> {
+    push_line_joins(&mut reader, text, out)?;
+    push_joins(finish(reader), out)
 }
 
 /// The later items of each unit of a text, as the number of its lines before each and that of the inline texts; units are parted by `|`.
 fn joins(alloc: Global, text: &str) -> Result<String, AllocError> {
     let entities = Entities::builtin(alloc)?;
-    let mut reader = new_reader(alloc, &entities, LIMIT);
-    let mut count = Tally::new();
     let mut out = String::new(alloc);
-    for line in text.lines() {
-        if let Ok(Some(found)) = read_line(&mut reader, line, &mut count) {
-            show_joins(&found, &mut out)?;
-        }
-    }
-    if let Ok(Some(found)) = finish(reader) {
-        show_joins(&found, &mut out)?;
-    }
+    push_all_joins(new_reader(alloc, &entities, LIMIT), text, &mut out)?;
     Ok(out)
 }
 
@@ -380,6 +365,12 @@ fn show_joins(found: &Found, out: &mut String) -> Result<(), AllocError> {
         write!(out, "{}/{} ", join.line, join.texts)?;
     }
     out.push_str("|")
+}
+
+fn check_joins(rt: &impl Abort, alloc: Global, text: &str, want: &str) -> Result<(), AllocError> {
+    let joins = joins(alloc, text)?;
+    assert_eq!(rt; joins.as_str(), want);
+    Ok(())
 }
 
 /// Texts, with the joins of their units.
@@ -394,9 +385,8 @@ static JOINS: [(&str, &str); 6] = [
 
 #[test]
 fn units_have_their_later_items(rt: HostRuntime) -> Result<(), Fail> {
-    let a = rt.alloc();
     for &(text, want) in &JOINS {
-        assert_eq!(rt; joins(a, text)?.as_str(), want);
+        check_joins(&rt, rt.alloc(), text, want)?;
     }
     Ok(())
 }
@@ -430,35 +420,36 @@ fn across_threads<T: Send + Sync>(value: T) -> T {
 
 #[test]
 fn found_units_may_cross_threads(rt: HostRuntime) -> Result<(), Fail> {
-    let a = rt.alloc();
-    let entities = Entities::builtin(a)?;
-    let mut reader = new_reader(a, &entities, LIMIT);
-    assert!(rt; reader.fed() == 0);
-    read_line(&mut reader, "- a", &mut Tally::new())?;
-    let found = across_threads(finish(reader)?);
-    assert_eq!(rt; found.map(|found| found.lines()), Some(1));
+    let found = across_threads(found_in(rt.alloc(), &["- a"])?);
+    assert!(rt; found.is_some_and(|found| found.lines() == 1));
     Ok(())
+}
+
+fn has_parts(unit: &Unit) -> bool {
+    unit.blocks().len() == 1 && unit.texts().len() == 2 && defines(unit.definitions(), "a")
+}
+
+/// Whether there is one definition, and of this label.
+fn defines(definitions: &[Definition], label: &str) -> bool {
+    match definitions {
+        [definition] => definition.label.as_str() == label,
+        _ => false,
+    }
+}
+
+/// Whether there is one join, at this line and this inline text.
+fn has_join(joins: &[Join], line: usize, texts: usize) -> bool {
+    match joins {
+        [join] => join.line == line && join.texts == texts,
+        _ => false,
+    }
 }
 
 #[test]
 fn parts_are_read(rt: HostRuntime) -> Result<(), Fail> {
-    let a = rt.alloc();
-    let entities = Entities::builtin(a)?;
-    let mut count = Tally::new();
-    let mut reader = new_reader(a, &entities, LIMIT);
-    assert!(rt; hands_nothing(&mut reader, "", &mut count));
-    assert!(rt; hands_nothing(&mut reader, "- [A]: /u", &mut count));
-    assert!(rt; hands_nothing(&mut reader, "  t", &mut count));
-    assert!(rt; hands_nothing(&mut reader, "- b", &mut count));
-    let Ok(Some(found)) = finish(reader) else {
-        return Err("no unit".into());
-    };
+    let found = found_in(rt.alloc(), &["", "- [A]: /u", "  t", "- b"])?.ok_or("no unit")?;
     assert!(rt; found.begin() == 1 && found.lines() == 3);
-    let unit = found.unit();
-    assert!(rt; unit.blocks().len() == 1 && unit.texts().len() == 2);
-    assert!(rt; unit.definitions().len() == 1);
-    assert_eq!(rt; unit.definitions()[0].label.as_str(), "a");
-    assert!(rt; found.joins().len() == 1);
-    assert!(rt; found.joins()[0].line == 2 && found.joins()[0].texts == 1);
+    assert!(rt; has_parts(found.unit()));
+    assert!(rt; has_join(found.joins(), 2, 1));
     Ok(())
 }

@@ -2,7 +2,7 @@
 
 use crate::calls::{edit, preview_of, set_prelude};
 use mdtext::Tally;
-use mdview::Preview;
+use mdview::{Lines, Preview};
 use std::alloc::{AllocError, Global};
 use std::process::Abort;
 use std::test::Fail;
@@ -121,16 +121,10 @@ fn replaced(
     del: usize,
     add: &[&'static str],
 ) -> Result<Vec<&'static str>, AllocError> {
-    let mut new = Vec::with_capacity(alloc, lines.len() + add.len())?;
-    for line in lines.iter().take(at) {
-        new.push(*line)?;
-    }
-    for line in add {
-        new.push(*line)?;
-    }
-    for line in lines.iter().skip(at).skip(del) {
-        new.push(*line)?;
-    }
+    let mut new = Vec::new(alloc);
+    new.extend_from_slice(lines.get(..at).unwrap_or(&[]))?;
+    new.extend_from_slice(add)?;
+    new.extend_from_slice(lines.get(at.saturating_add(del)..).unwrap_or(&[]))?;
     Ok(new)
 }
 
@@ -140,29 +134,47 @@ fn tell_unit(preview: &Preview, i: usize, out: &mut String) -> Result<(), AllocE
     write!(out, "{begin:?} {piece:?} {unit:?} {inlines:?}\n")
 }
 
-fn tell_lines(preview: &Preview, out: &mut String) -> Result<(), AllocError> {
-    for line in preview.prelude() {
-        write!(out, "[{line}]")?;
-    }
-    for line in preview.lines() {
+fn tell_all(lines: Lines<'_>, out: &mut String) -> Result<(), AllocError> {
+    for line in lines {
         write!(out, "({line})")?;
     }
+    Ok(())
+}
+
+fn tell_lines(preview: &Preview, out: &mut String) -> Result<(), AllocError> {
     for i in 0..preview.len() {
         write!(out, "{:?}", preview.line(i))?;
     }
     Ok(())
 }
 
-/// All that a preview tells of what it holds.
-fn told(alloc: Global, preview: &Preview) -> Result<String, AllocError> {
-    let mut out = String::new(alloc);
-    tell_lines(preview, &mut out)?;
+fn tell_pieces(preview: &Preview, out: &mut String) -> Result<(), AllocError> {
     for piece in preview.pieces() {
         out.push_str(piece)?;
     }
+    Ok(())
+}
+
+fn tell_units(preview: &Preview, out: &mut String) -> Result<(), AllocError> {
     for i in 0..preview.units() {
-        tell_unit(preview, i, &mut out)?;
+        tell_unit(preview, i, out)?;
     }
+    Ok(())
+}
+
+fn tell(preview: &Preview, out: &mut String) -> Result<(), AllocError> {
+    tell_all(preview.prelude(), out)?;
+    out.push_str("\n")?;
+    tell_all(preview.lines(), out)?;
+    tell_lines(preview, out)?;
+    tell_pieces(preview, out)?;
+    tell_units(preview, out)
+}
+
+/// All that a preview tells of what it holds.
+fn told(alloc: Global, preview: &Preview) -> Result<String, AllocError> {
+    let mut out = String::new(alloc);
+    tell(preview, &mut out)?;
     Ok(out)
 }
 
@@ -207,32 +219,91 @@ fn edit_some(
     Ok(count.lines() <= held.lines.len() as u64)
 }
 
-/// Whether both hold the same lines and pieces.
-fn are_same(rt: &impl Abort, one: &Preview, other: &Preview) {
-    assert_eq!(rt; (one.len(), one.units()), (other.len(), other.units()));
-    assert!(rt; one.prelude().eq(other.prelude()));
+fn are_as_many(one: &Preview, other: &Preview) -> bool {
+    one.len() == other.len() && one.units() == other.units()
+}
+
+fn have_same_prelude(one: &Preview, other: &Preview) -> bool {
+    one.prelude().eq(other.prelude())
+}
+
+fn compare_lines(rt: &impl Abort, one: &Preview, other: &Preview) {
     for i in 0..one.len() {
         assert_eq!(rt; one.line(i), other.line(i));
     }
+}
+
+fn compare_unit(rt: &impl Abort, one: &Preview, other: &Preview, i: usize) {
+    assert!(rt; one.first_line(i) == other.first_line(i));
+    assert_eq!(rt; one.piece(i), other.piece(i));
+}
+
+fn compare_units(rt: &impl Abort, one: &Preview, other: &Preview) {
     for i in 0..one.units() {
-        assert_eq!(rt; one.first_line(i), other.first_line(i));
-        assert_eq!(rt; one.piece(i), other.piece(i));
+        compare_unit(rt, one, other, i);
     }
 }
 
-/// Compares a preview with one of the same lines that is made anew, by its trees too where that is asked for.
-fn compare(rt: &impl Abort, alloc: Global, held: &Held, with_trees: bool) -> Result<(), Fail> {
-    let mut anew = preview_of(alloc, &held.lines)?;
-    set_prelude(&mut anew, &held.prelude, &mut Tally::new())?;
-    are_same(rt, &held.preview, &anew);
+/// Compares all that both tell, by their trees too.
+fn compare_told(
+    rt: &impl Abort,
+    alloc: Global,
+    one: &Preview,
+    other: &Preview,
+) -> Result<(), AllocError> {
+    let told_of_one = told(alloc, one)?;
+    let told_of_other = told(alloc, other)?;
+    assert_eq!(rt; told_of_one.as_str(), told_of_other.as_str());
+    Ok(())
+}
+
+fn compare(
+    rt: &impl Abort,
+    alloc: Global,
+    one: &Preview,
+    other: &Preview,
+    with_trees: bool,
+) -> Result<(), AllocError> {
+    assert!(rt; are_as_many(one, other) && have_same_prelude(one, other));
+    compare_lines(rt, one, other);
+    compare_units(rt, one, other);
     if with_trees {
-        let want = told(alloc, &anew)?;
-        assert_eq!(rt; told(alloc, &held.preview)?.as_str(), want.as_str());
+        compare_told(rt, alloc, one, other)?;
     }
     Ok(())
 }
 
-/// A thousand edits, with another prelude at every eighth. The trees are compared at every `often`th.
+/// A preview of what was given, made anew.
+fn made_anew(alloc: Global, held: &Held) -> Result<Preview, Fail> {
+    let mut anew = preview_of(alloc, &held.lines)?;
+    set_prelude(&mut anew, &held.prelude, &mut Tally::new())?;
+    Ok(anew)
+}
+
+/// Compares a preview with one of the same lines that is made anew, by its trees too where that is asked for.
+fn compare_anew(rt: &impl Abort, alloc: Global, held: &Held, with_trees: bool) -> Result<(), Fail> {
+    let anew = made_anew(alloc, held)?;
+    compare(rt, alloc, &held.preview, &anew, with_trees)?;
+    Ok(())
+}
+
+/// An edit, with another prelude before each eighth.
+fn try_edit(
+    rt: &impl Abort,
+    alloc: Global,
+    held: &mut Held,
+    of: &[&'static str],
+    step: usize,
+    seed: &mut u64,
+) -> Result<(), Fail> {
+    if step % 8 == 0 {
+        set_some(alloc, held, seed)?;
+    }
+    assert!(rt; edit_some(alloc, held, of, seed)?);
+    Ok(())
+}
+
+/// A thousand edits. The trees are compared at every `often`th.
 fn try_edits(
     rt: &impl Abort,
     alloc: Global,
@@ -242,30 +313,37 @@ fn try_edits(
     mut seed: u64,
 ) -> Result<(), Fail> {
     for step in 0..1000 {
-        if step % 8 == 0 {
-            set_some(alloc, &mut held, &mut seed)?;
-        }
-        assert!(rt; edit_some(alloc, &mut held, of, &mut seed)?);
-        compare(rt, alloc, &held, often != 0 && step % often == 0)?;
+        try_edit(rt, alloc, &mut held, of, step, &mut seed)?;
+        compare_anew(rt, alloc, &held, often != 0 && step % often == 0)?;
     }
     Ok(())
 }
 
+/// Lines that are read alone, with a paragraph behind two of three.
+fn push_parted(lines: &mut Vec<&'static str>, i: usize, seed: &mut u64) -> Result<(), AllocError> {
+    lines.push("")?;
+    lines.push(one_of(&LINES, seed))?;
+    lines.push(if i % 3 == 0 {
+        one_of(&LINES, seed)
+    } else {
+        "z"
+    })?;
+    Ok(())
+}
+
+fn parted(alloc: Global, seed: &mut u64) -> Result<Held, Fail> {
+    let mut lines: Vec<&'static str> = Vec::new(alloc);
+    for i in 0..300 {
+        push_parted(&mut lines, i, seed)?;
+    }
+    begun(alloc, lines)
+}
+
 #[test]
 fn edits_leave_what_the_whole_text_gives(rt: HostRuntime) -> Result<(), Fail> {
-    let alloc = rt.alloc();
     let mut seed = 41;
-    let mut lines = Vec::new(alloc);
-    for i in 0..300 {
-        lines.push("")?;
-        lines.push(one_of(&LINES, &mut seed))?;
-        lines.push(if i % 3 == 0 {
-            one_of(&LINES, &mut seed)
-        } else {
-            "z"
-        })?;
-    }
-    try_edits(&rt, alloc, begun(alloc, lines)?, &LINES, 50, seed)
+    let held = parted(rt.alloc(), &mut seed)?;
+    try_edits(&rt, rt.alloc(), held, &LINES, 50, seed)
 }
 
 /// Forty lines of these.

@@ -6,4 +6,8 @@ mod calls;
 #[cfg(test)]
 mod edits;
 #[cfg(test)]
+mod long_texts;
+#[cfg(test)]
 mod previews;
+#[cfg(test)]
+mod steps;

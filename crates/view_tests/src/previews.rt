@@ -1,387 +1,377 @@
 //! What no clause says: that calls succeed with ample memory, and what they answer then.
 
-use crate::calls::{check_edit, check_prelude, empty, preview_of, refused, refused_prelude};
-use mdtext::Tally;
-use mdview::{EditFault, Preview};
-use std::alloc::{AllocError, Global};
-use std::process::Abort;
+use crate::steps::{Step, run};
+use mdview::EditFault;
 use std::test::Fail;
 
-static ADDED: [&str; 4] = ["# a", "", "b", "c"];
-
-/// The pieces one behind the other.
-fn shown(alloc: Global, preview: &Preview) -> Result<String, AllocError> {
-    let mut shown = String::new(alloc);
-    for piece in preview.pieces() {
-        shown.push_str(piece)?;
-    }
-    Ok(shown)
-}
+static A_TEXT: [Step; 10] = [
+    Step::Edit {
+        at: 0,
+        del: 0,
+        add: &["# a", "", "b", "c"],
+        says: "0 0 2 []: 0 <h1>a</h1>\n1 <p>b\nc</p>\n",
+    },
+    Step::Sizes { lines: 4, units: 2 },
+    Step::Line {
+        number: 3,
+        line: Some("c"),
+    },
+    Step::Line {
+        number: 4,
+        line: None,
+    },
+    Step::Piece {
+        number: 1,
+        html: Some("<p>b\nc</p>\n"),
+    },
+    Step::Counted {
+        lines: (4, 4),
+        inlines: (2, 2),
+    },
+    Step::TryEdit {
+        at: 5,
+        del: 0,
+        add: &["# a", "", "b", "c"],
+        fault: Some(EditFault::OutOfRange { lines: 4 }),
+    },
+    Step::TryEdit {
+        at: 0,
+        del: 0,
+        add: &["a", "b\nc"],
+        fault: Some(EditFault::BreakInLine { index: 1 }),
+    },
+    Step::Counted {
+        lines: (4, 4),
+        inlines: (2, 2),
+    },
+    Step::Pieces {
+        html: "<h1>a</h1>\n<p>b\nc</p>\n",
+    },
+];
 
 #[test]
 fn previews_a_text(rt: HostRuntime) -> Result<(), Fail> {
-    let alloc = rt.alloc();
-    let mut preview = empty(alloc)?;
-    let count = check_edit(
-        &rt,
-        rt.alloc(),
-        &mut preview,
-        (0, 0),
-        &ADDED,
-        "0 0 2 []: 0 <h1>a</h1>\n1 <p>b\nc</p>\n",
-    )?;
-    assert_eq!(rt; (preview.len(), preview.units()), (4, 2));
-    assert_eq!(rt; preview.line(3), Some("c"));
-    assert_eq!(rt; preview.line(4), None);
-    assert_eq!(rt; preview.piece(1), Some("<p>b\nc</p>\n"));
-    assert_eq!(rt; (count.lines(), count.inlines()), (4, 2));
-    let mut count = count;
-    let past = refused(&mut preview, (5, 0), &ADDED, &mut count);
-    assert_eq!(rt; past, Some(EditFault::OutOfRange { lines: 4 }));
-    let parted = refused(&mut preview, (0, 0), &["a", "b\nc"], &mut count);
-    assert_eq!(rt; parted, Some(EditFault::BreakInLine { index: 1 }));
-    assert_eq!(rt; (count.lines(), count.inlines()), (4, 2));
-    assert_eq!(rt;
-        shown(alloc, &preview)?.as_str(),
-        "<h1>a</h1>\n<p>b\nc</p>\n"
-    );
-    Ok(())
+    run(&rt, rt.alloc(), &A_TEXT)
 }
 
-/// What an edit of a line of so many letters is refused for.
-fn refused_letters(
-    alloc: Global,
-    preview: &mut Preview,
-    at: usize,
-    count: usize,
-) -> Result<Option<EditFault>, AllocError> {
-    let line = letters(alloc, count)?;
-    Ok(refused(preview, (at, 0), &[line.as_str()], &mut Tally::new()))
-}
+static LIMITS: [Step; 5] = [
+    Step::TryBlanks {
+        len: 1_000_001,
+        fault: Some(EditFault::TooManyLines),
+    },
+    // Lines of 16,776,960 and 254 bytes fit, with one for each line's end; one byte more does not.
+    Step::TryLetters {
+        at: 0,
+        len: 16_776_960,
+        fault: None,
+    },
+    Step::TryLetters {
+        at: 1,
+        len: 255,
+        fault: Some(EditFault::TooLarge),
+    },
+    Step::TryLetters {
+        at: 1,
+        len: 254,
+        fault: None,
+    },
+    Step::Sizes { lines: 2, units: 1 },
+];
 
 #[test]
 fn keeps_the_limits(rt: HostRuntime) -> Result<(), Fail> {
-    let alloc = rt.alloc();
-    let mut preview = empty(alloc)?;
-    let many = blank_lines(alloc, 1_000_001)?;
-    let fault = refused(&mut preview, (0, 0), &many, &mut Tally::new());
-    assert_eq!(rt; fault, Some(EditFault::TooManyLines));
-    // Lines of 16,776,960 and 254 bytes fit, with one for each line's end; one byte more does not.
-    assert_eq!(rt; refused_letters(alloc, &mut preview, 0, 16_776_960)?, None);
-    let fault = refused_letters(alloc, &mut preview, 1, 255)?;
-    assert_eq!(rt; fault, Some(EditFault::TooLarge));
-    assert_eq!(rt; refused_letters(alloc, &mut preview, 1, 254)?, None);
-    assert_eq!(rt; (preview.len(), preview.units()), (2, 1));
-    Ok(())
+    run(&rt, rt.alloc(), &LIMITS)
 }
 
-/// So many letters.
-fn some_letters(alloc: Global, count: usize) -> Result<String, AllocError> {
-    let mut some = String::with_capacity(alloc, count)?;
-    for _ in 0..count {
-        some.push('a')?;
-    }
-    Ok(some)
-}
-
-/// A line of so many letters.
-fn letters(alloc: Global, count: usize) -> Result<String, AllocError> {
-    let chunk = some_letters(alloc, 4096)?;
-    let mut line = some_letters(alloc, count % 4096)?;
-    for _ in 0..count / 4096 {
-        line.push_str(&chunk)?;
-    }
-    Ok(line)
-}
+static PATCHES: [Step; 4] = [
+    Step::Begin {
+        lines: &["[a]", "", "b", "", "c", "", "d [a]", "", "e"],
+    },
+    Step::Edit {
+        at: 4,
+        del: 1,
+        add: &["f", "", "g"],
+        says: "1 2 3 []: 1 <p>b</p>\n2 <p>f</p>\n3 <p>g</p>\n",
+    },
+    Step::Edit {
+        at: 4,
+        del: 1,
+        add: &["# f", "[a]: /b"],
+        says: "1 2 3 [0, 5]: 0 <p><a href=\"/b\">a</a></p>\n1 <p>b</p>\n2 <h1>f</h1>\n3 5 <p>d <a href=\"/b\">a</a></p>\n",
+    },
+    Step::Edit {
+        at: 0,
+        del: 2,
+        add: &[],
+        says: "0 1 0 []:",
+    },
+];
 
 #[test]
 fn lends_the_pieces_of_a_patch_in_order(rt: HostRuntime) -> Result<(), Fail> {
-    let lines = ["[a]", "", "b", "", "c", "", "d [a]", "", "e"];
-    let mut preview = preview_of(rt.alloc(), &lines)?;
-    check_edit(
-        &rt,
-        rt.alloc(),
-        &mut preview,
-        (4, 1),
-        &["f", "", "g"],
-        "1 2 3 []: 1 <p>b</p>\n2 <p>f</p>\n3 <p>g</p>\n",
-    )?;
-    check_edit(
-        &rt,
-        rt.alloc(),
-        &mut preview,
-        (4, 1),
-        &["# f", "[a]: /b"],
-        "1 2 3 [0, 5]: 0 <p><a href=\"/b\">a</a></p>\n1 <p>b</p>\n2 <h1>f</h1>\n3 5 <p>d <a href=\"/b\">a</a></p>\n",
-    )?;
-    check_edit(&rt, rt.alloc(), &mut preview, (0, 2), &[], "0 1 0 []:")?;
-    Ok(())
+    run(&rt, rt.alloc(), &PATCHES)
 }
+
+static WALKS: [Step; 4] = [
+    Step::Begin {
+        lines: &["# a", "", "- b *c*"],
+    },
+    // A heading with its text.
+    Step::Nodes {
+        number: 0,
+        count: Some(2),
+    },
+    // A list, its item, the paragraph, its text, the emphasis and what lies in that.
+    Step::Nodes {
+        number: 1,
+        count: Some(6),
+    },
+    Step::Nodes {
+        number: 2,
+        count: None,
+    },
+];
 
 #[test]
 fn walks_over_its_units(rt: HostRuntime) -> Result<(), Fail> {
-    let alloc = rt.alloc();
-    let preview = preview_of(alloc, &["# a", "", "- b *c*"])?;
-    let mut nodes = Vec::new(alloc);
-    for number in 0..3 {
-        if let Some(walk) = preview.walk(number)? {
-            nodes.push(walk.count() / 2)?;
-        }
-    }
-    // A heading with its text; a list, its item, the paragraph, its text, the emphasis and what lies in that.
-    assert_eq!(rt; nodes.as_slice(), [2, 6].as_slice());
-    Ok(())
+    run(&rt, rt.alloc(), &WALKS)
 }
+
+static STRETCH: [Step; 3] = [
+    Step::Begin {
+        lines: &["[foo]", "", "x", "", "[foo]: /a"],
+    },
+    Step::Edit {
+        at: 4,
+        del: 1,
+        add: &["[foo]: /b"],
+        says: "1 2 2 [0]: 0 <p><a href=\"/b\">foo</a></p>\n1 <p>x</p>\n2 ",
+    },
+    // From line 2 to the end there are three lines; the text of the paragraph before asked for the label.
+    Step::Counted {
+        lines: (1, 4),
+        inlines: (1, 2),
+    },
+];
 
 #[test]
 fn an_edit_reads_its_stretch(rt: HostRuntime) -> Result<(), Fail> {
-    let mut preview = preview_of(rt.alloc(), &["[foo]", "", "x", "", "[foo]: /a"])?;
-    // From line 2 to the end there are three lines; the text of the paragraph before asked for the label.
-    let count = check_edit(
-        &rt,
-        rt.alloc(),
-        &mut preview,
-        (4, 1),
-        &["[foo]: /b"],
-        "1 2 2 [0]: 0 <p><a href=\"/b\">foo</a></p>\n1 <p>x</p>\n2 ",
-    )?;
-    assert!(rt; count.lines() >= 1 && count.lines() <= 4);
-    assert!(rt; count.inlines() >= 1 && count.inlines() <= 2);
-    Ok(())
+    run(&rt, rt.alloc(), &STRETCH)
 }
+
+static TEXTS_THAT_STAY: [Step; 3] = [
+    Step::Begin {
+        lines: &["> [foo]", ">", "> b", ">", "> *c*"],
+    },
+    Step::Edit {
+        at: 2,
+        del: 1,
+        add: &["> B", ">", "> [foo]: /a"],
+        says: "0 1 1 []: 0 <blockquote>\n<p><a href=\"/a\">foo</a></p>\n<p>B</p>\n<p><em>c</em></p>\n</blockquote>\n",
+    },
+    Step::Counted {
+        lines: (7, 7),
+        inlines: (3, 3),
+    },
+];
 
 /// A text that stays counts as read, in front of the edit and behind it; where it asked for a label that leads elsewhere then it is read.
 #[test]
 fn texts_that_stay_count(rt: HostRuntime) -> Result<(), Fail> {
-    let mut preview = preview_of(rt.alloc(), &["> [foo]", ">", "> b", ">", "> *c*"])?;
-    let count = check_edit(
-        &rt,
-        rt.alloc(),
-        &mut preview,
-        (2, 1),
-        &["> B", ">", "> [foo]: /a"],
-        "0 1 1 []: 0 <blockquote>\n<p><a href=\"/a\">foo</a></p>\n<p>B</p>\n<p><em>c</em></p>\n</blockquote>\n",
-    )?;
-    assert_eq!(rt; (count.lines(), count.inlines()), (7, 3));
-    Ok(())
+    run(&rt, rt.alloc(), &TEXTS_THAT_STAY)
 }
+
+static ITEMS_IN_FRONT: [Step; 3] = [
+    Step::Begin {
+        lines: &["- a", "- b", "- c", "- d", "- e"],
+    },
+    Step::TryEdit {
+        at: 3,
+        del: 1,
+        add: &["- D"],
+        fault: None,
+    },
+    Step::Counted {
+        lines: (5, 5),
+        inlines: (4, 4),
+    },
+];
 
 /// In a list the lines and the texts in front of the item that is read again count as read.
 #[test]
 fn items_in_front_count(rt: HostRuntime) -> Result<(), Fail> {
-    let mut preview = preview_of(rt.alloc(), &["- a", "- b", "- c", "- d", "- e"])?;
-    let mut count = Tally::new();
-    assert_eq!(rt; refused(&mut preview, (3, 1), &["- D"], &mut count), None);
-    assert_eq!(rt; (count.lines(), count.inlines()), (5, 4));
-    Ok(())
+    run(&rt, rt.alloc(), &ITEMS_IN_FRONT)
 }
 
-/// Lines that take the place of others.
-static CHANGES: [(usize, &str); 9] = [
-    (700, "- *another* item"),
-    (1, "- i"),
-    (2, "- see [x] and *b*"),
-    (900, "- [x]: /u"),
-    (901, "  - inside"),
-    (902, "- c"),
-    (1_499, "> quote"),
-    (3, ""),
-    (4, "- d"),
+static FIRST_DEFINITION: [Step; 5] = [
+    Step::Begin {
+        lines: &["[foo]", "", "x", "", "[foo]: /a"],
+    },
+    Step::Edit {
+        at: 0,
+        del: 0,
+        add: &["[foo]: /c", ""],
+        says: "0 0 1 [1]: 0 1 <p><a href=\"/c\">foo</a></p>\n",
+    },
+    Step::Counted {
+        lines: (0, u64::MAX),
+        inlines: (0, 1),
+    },
+    Step::Edit {
+        at: 0,
+        del: 2,
+        add: &[],
+        says: "0 1 0 [0]: 0 <p><a href=\"/a\">foo</a></p>\n",
+    },
+    Step::Counted {
+        lines: (0, 1),
+        inlines: (0, u64::MAX),
+    },
 ];
-
-/// Whether the first piece is that of a preview made from nothing.
-fn is_made_anew(alloc: Global, preview: &Preview, lines: &[&str]) -> Result<bool, Fail> {
-    let fresh = preview_of(alloc, lines)?;
-    Ok(preview.piece(0) == fresh.piece(0))
-}
-
-/// A piece of more than 16 KB that is made again, longer, shorter or short, is that of a preview made from nothing.
-#[test]
-fn a_long_piece_is_made_again(rt: HostRuntime) -> Result<(), Fail> {
-    let alloc = rt.alloc();
-    let mut lines = vec![in alloc; "- item"; 1_500]?;
-    let mut preview = preview_of(alloc, &lines)?;
-    for &(at, line) in &CHANGES {
-        if let Some(place) = lines.get_mut(at) {
-            *place = line;
-        }
-        let fault = refused(&mut preview, (at, 1), &[line], &mut Tally::new());
-        assert_eq!(rt; fault, None);
-        assert!(rt; is_made_anew(alloc, &preview, &lines)?, "{line:?}");
-    }
-    Ok(())
-}
-
-/// A short unit comes in front of a long one that stays.
-fn check_beside(rt: &impl Abort, alloc: Global) -> Result<(), Fail> {
-    let mut code = vec![in alloc; "a line of code"; 2_000]?;
-    code[0] = "```";
-    let mut preview = preview_of(alloc, &code)?;
-    let fault = refused(&mut preview, (0, 0), &["y", ""], &mut Tally::new());
-    assert_eq!(rt; fault, None);
-    assert_eq!(rt;
-        (preview.units(), preview.piece(0)),
-        (2, Some("<p>y</p>\n"))
-    );
-    Ok(())
-}
-
-static LETTERS: [&str; 3] = ["- b", "- c", "- d"];
-
-/// A long list is cut to its first item.
-fn check_cut(rt: &impl Abort, alloc: Global) -> Result<(), Fail> {
-    let items = vec![in alloc; "- item"; 2_000]?;
-    let mut preview = preview_of(alloc, &items)?;
-    // At the second of these it is known where the items of the long list end.
-    for line in &LETTERS {
-        assert_eq!(rt;
-            refused(&mut preview, (1, 1), &[*line], &mut Tally::new()),
-            None
-        );
-    }
-    assert_eq!(rt;
-        refused(&mut preview, (1, 1_999), &[], &mut Tally::new()),
-        None
-    );
-    let cut = "<ul>\n<li>item</li>\n</ul>\n";
-    assert_eq!(rt; (preview.units(), preview.piece(0)), (1, Some(cut)));
-    Ok(())
-}
-
-/// A short unit beside a long one that stays, and one in the place of a long one.
-#[test]
-fn a_short_piece_comes_where_a_long_one_is(rt: HostRuntime) -> Result<(), Fail> {
-    check_beside(&rt, rt.alloc())?;
-    check_cut(&rt, rt.alloc())
-}
 
 #[test]
 fn the_first_definition_counts(rt: HostRuntime) -> Result<(), Fail> {
-    let mut preview = preview_of(rt.alloc(), &["[foo]", "", "x", "", "[foo]: /a"])?;
-    let count = check_edit(
-        &rt,
-        rt.alloc(),
-        &mut preview,
-        (0, 0),
-        &["[foo]: /c", ""],
-        "0 0 1 [1]: 0 1 <p><a href=\"/c\">foo</a></p>\n",
-    )?;
-    assert!(rt; count.inlines() <= 1);
-    let count = check_edit(
-        &rt,
-        rt.alloc(),
-        &mut preview,
-        (0, 2),
-        &[],
-        "0 1 0 [0]: 0 <p><a href=\"/a\">foo</a></p>\n",
-    )?;
-    assert!(rt; count.lines() <= 1);
-    Ok(())
+    run(&rt, rt.alloc(), &FIRST_DEFINITION)
 }
 
-/// How many lines the prelude has.
-fn prelude_len(preview: &Preview) -> usize {
-    let mut count: usize = 0;
-    for _line in preview.prelude() {
-        count = count.saturating_add(1);
-    }
-    count
-}
+static A_PRELUDE: [Step; 10] = [
+    Step::Begin {
+        lines: &["[foo]", "", "[bar]", "", "x [baz]"],
+    },
+    Step::SetPrelude {
+        lines: &["[foo]: /p", "[Bar]: /q", "[foo]: /r"],
+        says: "0 0 0 [0, 1]: 0 <p><a href=\"/p\">foo</a></p>\n1 <p><a href=\"/q\">bar</a></p>\n",
+    },
+    Step::Counted {
+        lines: (3, 3),
+        inlines: (2, 2),
+    },
+    Step::Piece {
+        number: 0,
+        html: Some("<p><a href=\"/p\">foo</a></p>\n"),
+    },
+    Step::Prelude {
+        lines: &["[foo]: /p", "[Bar]: /q", "[foo]: /r"],
+    },
+    Step::Edit {
+        at: 5,
+        del: 0,
+        add: &["", "[foo]: /t"],
+        says: "2 1 2 [0]: 0 <p><a href=\"/t\">foo</a></p>\n2 <p>x [baz]</p>\n3 ",
+    },
+    // What the text defines stays, and what leads where it led is not read again.
+    Step::SetPrelude {
+        lines: &["[foo]: /u", "[bar]: /q"],
+        says: "0 0 0 []:",
+    },
+    Step::Counted {
+        lines: (2, 2),
+        inlines: (0, 0),
+    },
+    Step::Piece {
+        number: 0,
+        html: Some("<p><a href=\"/t\">foo</a></p>\n"),
+    },
+    Step::Edit {
+        at: 5,
+        del: 2,
+        add: &[],
+        says: "2 2 1 [0]: 0 <p><a href=\"/u\">foo</a></p>\n2 <p>x [baz]</p>\n",
+    },
+];
 
 #[test]
 fn a_prelude_stands_below_the_text(rt: HostRuntime) -> Result<(), Fail> {
-    let mut preview = preview_of(rt.alloc(), &["[foo]", "", "[bar]", "", "x [baz]"])?;
-    let count = check_prelude(
-        &rt,
-        rt.alloc(),
-        &mut preview,
-        &["[foo]: /p", "[Bar]: /q", "[foo]: /r"],
-        "0 0 0 [0, 1]: 0 <p><a href=\"/p\">foo</a></p>\n1 <p><a href=\"/q\">bar</a></p>\n",
-    )?;
-    assert_eq!(rt; (count.lines(), count.inlines()), (3, 2));
-    assert_eq!(rt; preview.piece(0), Some("<p><a href=\"/p\">foo</a></p>\n"));
-    assert_eq!(rt; prelude_len(&preview), 3);
-    check_edit(
-        &rt,
-        rt.alloc(),
-        &mut preview,
-        (5, 0),
-        &["", "[foo]: /t"],
-        "2 1 2 [0]: 0 <p><a href=\"/t\">foo</a></p>\n2 <p>x [baz]</p>\n3 ",
-    )?;
-    // What the text defines stays, and what leads where it led is not read again.
-    let count = check_prelude(
-        &rt,
-        rt.alloc(),
-        &mut preview,
-        &["[foo]: /u", "[bar]: /q"],
-        "0 0 0 []:",
-    )?;
-    assert_eq!(rt; (count.lines(), count.inlines()), (2, 0));
-    assert_eq!(rt; preview.piece(0), Some("<p><a href=\"/t\">foo</a></p>\n"));
-    check_edit(
-        &rt,
-        rt.alloc(),
-        &mut preview,
-        (5, 2),
-        &[],
-        "2 2 1 [0]: 0 <p><a href=\"/u\">foo</a></p>\n2 <p>x [baz]</p>\n",
-    )?;
-    Ok(())
+    run(&rt, rt.alloc(), &A_PRELUDE)
 }
 
-fn blank_lines(alloc: Global, count: usize) -> Result<Vec<&'static str>, AllocError> {
-    vec![in alloc; ""; count]
-}
-
-/// A prelude of too many lines is refused.
-fn check_too_many(
-    rt: &impl Abort,
-    alloc: Global,
-    preview: &mut Preview,
-    count: &mut Tally,
-) -> Result<(), Fail> {
-    let many = blank_lines(alloc, 1_000_001)?;
-    let fault = refused_prelude(preview, &many, count);
-    assert_eq!(rt; fault, Some(EditFault::TooManyLines));
-    Ok(())
-}
+static REFUSED_PRELUDES: [Step; 11] = [
+    Step::Begin {
+        lines: &["[foo]", "", "[bar]"],
+    },
+    Step::TryPrelude {
+        lines: &["[foo]: /p"],
+        fault: None,
+    },
+    Step::CountAnew,
+    Step::TryBlankPrelude {
+        len: 1_000_001,
+        fault: Some(EditFault::TooManyLines),
+    },
+    Step::TryPrelude {
+        lines: &["[bar]: /q", "a\rb"],
+        fault: Some(EditFault::BreakInLine { index: 1 }),
+    },
+    Step::Counted {
+        lines: (0, 0),
+        inlines: (0, 0),
+    },
+    Step::TryPrelude {
+        lines: &["[bar]: /q", "", "---"],
+        fault: Some(EditFault::NotDefinitions { line: 2 }),
+    },
+    Step::Counted {
+        lines: (3, 3),
+        inlines: (0, 0),
+    },
+    Step::Prelude {
+        lines: &["[foo]: /p"],
+    },
+    Step::Piece {
+        number: 0,
+        html: Some("<p><a href=\"/p\">foo</a></p>\n"),
+    },
+    Step::Piece {
+        number: 1,
+        html: Some("<p>[bar]</p>\n"),
+    },
+];
 
 #[test]
 fn a_refused_prelude_is_not_held(rt: HostRuntime) -> Result<(), Fail> {
-    let mut preview = preview_of(rt.alloc(), &["[foo]", "", "[bar]"])?;
-    let fault = refused_prelude(&mut preview, &["[foo]: /p"], &mut Tally::new());
-    assert_eq!(rt; fault, None);
-    let mut count = Tally::new();
-    check_too_many(&rt, rt.alloc(), &mut preview, &mut count)?;
-    let fault = refused_prelude(&mut preview, &["[bar]: /q", "a\rb"], &mut count);
-    assert_eq!(rt; fault, Some(EditFault::BreakInLine { index: 1 }));
-    assert_eq!(rt; (count.lines(), count.inlines()), (0, 0));
-    let fault = refused_prelude(&mut preview, &["[bar]: /q", "", "---"], &mut count);
-    assert_eq!(rt; fault, Some(EditFault::NotDefinitions { line: 2 }));
-    assert_eq!(rt; (count.lines(), count.inlines()), (3, 0));
-    let mut lines = preview.prelude();
-    assert_eq!(rt; lines.next(), Some("[foo]: /p"));
-    assert!(rt; lines.next().is_none());
-    assert_eq!(rt; preview.piece(0), Some("<p><a href=\"/p\">foo</a></p>\n"));
-    assert_eq!(rt; preview.piece(1), Some("<p>[bar]</p>\n"));
-    Ok(())
+    run(&rt, rt.alloc(), &REFUSED_PRELUDES)
 }
+
+static NUMBERED: [Step; 10] = [
+    Step::Begin {
+        lines: &["", "a *b*", "", "# [c]", "[d]: /u"],
+    },
+    Step::Sizes { lines: 5, units: 3 },
+    Step::FirstLine {
+        number: 0,
+        line: Some(1),
+    },
+    Step::FirstLine {
+        number: 1,
+        line: Some(3),
+    },
+    Step::FirstLine {
+        number: 2,
+        line: Some(4),
+    },
+    Step::FirstLine {
+        number: 3,
+        line: None,
+    },
+    Step::Definitions {
+        number: 2,
+        count: Some(1),
+    },
+    Step::Definitions {
+        number: 3,
+        count: None,
+    },
+    Step::Asked {
+        number: 1,
+        labels: Some(&[1]),
+    },
+    Step::Asked {
+        number: 3,
+        labels: None,
+    },
+];
 
 #[test]
 fn units_are_told_by_their_numbers(rt: HostRuntime) -> Result<(), Fail> {
-    let preview = preview_of(rt.alloc(), &["", "a *b*", "", "# [c]", "[d]: /u"])?;
-    assert_eq!(rt; preview.units(), 3);
-    assert_eq!(rt; preview.first_line(0), Some(1));
-    assert_eq!(rt; preview.first_line(1), Some(3));
-    assert_eq!(rt; preview.first_line(2), Some(4));
-    assert_eq!(rt; preview.first_line(3), None);
-    let unit = preview.unit(2).ok_or("no unit")?;
-    assert_eq!(rt; unit.definitions().len(), 1);
-    assert!(rt; preview.unit(3).is_none());
-    let inlines = preview.inlines(1).ok_or("no unit")?;
-    assert_eq!(rt; inlines.len(), 1);
-    assert_eq!(rt; inlines[0].asked().len(), 1);
-    assert!(rt; preview.inlines(3).is_none());
-    Ok(())
+    run(&rt, rt.alloc(), &NUMBERED)
 }
