@@ -14,7 +14,7 @@ _mdrender_files() {
 _mdrender_options() {
     local option
     [ "${1##*/}" != mdpreview ] || [[ $given == *" --lines "* ]] || echo --lines
-    for option in --unsafe --hardbreaks --nobreaks --github-pre-lang --table-prefer-style-attributes --entities --html-entities --prelude \
+    for option in --unsafe --hardbreaks --nobreaks --github-pre-lang --full-info-string --table-prefer-style-attributes --entities --html-entities --prelude \
         --max-containers --max-spans --explain --to --extension --validate-utf8 --width --help --version; do
         case "$option $given" in
             --extension*) echo "$option" ;;

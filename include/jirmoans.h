@@ -115,6 +115,9 @@ typedef struct {
     /* Whether the alignment of a cell is written as style="text-align: center", in place of
      * align="center". */
     bool align_style;
+    /* Whether what stands behind the language in the info string is written behind it, as
+     * data-meta="y z". */
+    bool full_info_string;
 } jirmoans_settings;
 
 /* A preview. Set it to zero, as `jirmoans_preview preview = {0};`, and leave its fields alone. */

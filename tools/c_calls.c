@@ -114,12 +114,13 @@ static void edits(void) {
 
 static void settings(void) {
     jirmoans_preview preview = {0};
-    jirmoans_settings set = {true, JIRMOANS_BREAKS_HARD, 1, 2, true, true};
+    jirmoans_settings set = {true, JIRMOANS_BREAKS_HARD, 1, 2, true, true, true};
     jirmoans_text text;
     const char *names = "{\"&x;\":{\"characters\":\"y\"}}";
     EXPECT(is(jirmoans_open(&preview, &set, names, strlen(names)), JIRMOANS_OK, 0));
     EXPECT(is(jirmoans_html(&preview, "a <b>\n&x;&amp;", 14, &text), JIRMOANS_OK, 0) && reads(text, "<p>a <b><br />\ny&amp;amp;</p>\n"));
-    EXPECT(is(jirmoans_html(&preview, "~~~ x\na\n", 8, &text), JIRMOANS_OK, 0) && reads(text, "<pre lang=\"x\"><code>a\n</code></pre>\n"));
+    EXPECT(is(jirmoans_html(&preview, "~~~ x y\na\n", 10, &text), JIRMOANS_OK, 0)
+           && reads(text, "<pre lang=\"x\" data-meta=\"y\"><code>a\n</code></pre>\n"));
     EXPECT(is(jirmoans_html(&preview, "|a\n|:-:\n", 8, &text), JIRMOANS_OK, 0)
            && reads(text, "<table>\n<thead>\n<tr>\n<th style=\"text-align: center\">a</th>\n</tr>\n</thead>\n</table>\n"));
     EXPECT(is(jirmoans_html(&preview, "a\n\n> > b", 8, &text), JIRMOANS_NESTED_TOO_DEEP, 2));

@@ -18,6 +18,8 @@ use Rattle.blockspec.specs.BlockTree.{bullet, ordered, paragraph, heading, thema
 use Rattle.block_rows.proofs.ReadText.{units_read, found, defines}
 '''
 
+# What the info strings of the examples say behind their language, which an oracle's tree does not hold.
+META = {'ruby': 'startline=3 $%@#$', 'aa': '``` ~~~'}
 ALIGNS = {None: 'Plain', 'left': 'Left', 'center': 'Center', 'right': 'Right'}
 
 
@@ -45,7 +47,7 @@ def block_term(block):
         case ['break']:
             return 'thematic_break'
         case ['code', lang, body]:
-            return f'code_block {argument(text(lang))} {argument(text(body))}'
+            return f'code_block {argument(text(lang))} {argument(text(META.get(lang, "")))} {argument(text(body))}'
         case ['html', lines]:
             return f'html_block {argument(text(lines.removesuffix(chr(10))))}'
         case ['quote', inner]:

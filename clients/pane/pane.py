@@ -1,7 +1,7 @@
 #!/usr/bin/env python3
 """A preview of a Markdown file in the browser, kept up to date as the file changes.
 
-usage: pane.py [--port N] [--write] [--program PATH] [--unsafe] [--hardbreaks | --nobreaks] [--github-pre-lang] [--table-prefer-style-attributes] [--entities FILE | --html-entities] [--prelude FILE] FILE
+usage: pane.py [--port N] [--write] [--program PATH] [--unsafe] [--hardbreaks | --nobreaks] [--github-pre-lang] [--full-info-string] [--table-prefer-style-attributes] [--entities FILE | --html-entities] [--prelude FILE] FILE
 
 The words behind --program are mdpreview's. One mdpreview holds the text. When FILE changes, the lines that changed are sent to it as one edit, and the page puts in only the pieces that the reply names.
 With --write the page has a text area beside the preview, for trying, and scrolls with its cursor; FILE is then its first text and is never written.
@@ -326,6 +326,7 @@ def main():
     breaks.add_argument("--hardbreaks", action="store_true", help="each soft line break is a hard one")
     breaks.add_argument("--nobreaks", action="store_true", help="each soft line break is a space")
     parser.add_argument("--github-pre-lang", action="store_true", help="the language of a code block is an attribute of pre")
+    parser.add_argument("--full-info-string", action="store_true", help="what stands behind the language is an attribute too")
     parser.add_argument("--table-prefer-style-attributes", action="store_true", help="the alignment of a cell is a style")
     names = parser.add_mutually_exclusive_group()
     names.add_argument("--entities", metavar="FILE", help="the entity names of a JSON file")
@@ -333,7 +334,7 @@ def main():
     parser.add_argument("--prelude", metavar="FILE", help="link reference definitions of a file, which stand below the text's own")
     parser.add_argument("file", metavar="FILE")
     options = parser.parse_args()
-    flags = ("unsafe", "hardbreaks", "nobreaks", "github-pre-lang", "table-prefer-style-attributes", "html-entities")
+    flags = ("unsafe", "hardbreaks", "nobreaks", "github-pre-lang", "full-info-string", "table-prefer-style-attributes", "html-entities")
     words = ["--" + name for name in flags if getattr(options, name.replace("-", "_"))]
     words += [word for name in ("entities", "prelude") if getattr(options, name) for word in ("--" + name, getattr(options, name))]
     preview = None

@@ -5,17 +5,17 @@ use Rattle.block_rows.proofs.ReadText.{units_read, found, defines}
 
 -- a column behind the marker goes, if there is one; a blank line ends the quote
 quotes : units_read (codes "> a\n>b\n   > c\n\n>     d\n") ≡
-    found 0 4 (block_quote (blocks_of (paragraph 0 None ∷ [])) ∷ []) [] (codes "a\nb\nc" ∷ []) ∷ found 4 1 (block_quote (blocks_of (code_block [] (codes "d\n") ∷ [])) ∷ []) [] [] ∷ []
+    found 0 4 (block_quote (blocks_of (paragraph 0 None ∷ [])) ∷ []) [] (codes "a\nb\nc" ∷ []) ∷ found 4 1 (block_quote (blocks_of (code_block [] [] (codes "d\n") ∷ [])) ∷ []) [] [] ∷ []
 unfolding units_read
 quotes = refl
 
 -- four columns are too many for a marker
-quote_far : units_read (codes "    > a\n") ≡ found 0 1 (code_block [] (codes "> a\n") ∷ []) [] [] ∷ []
+quote_far : units_read (codes "    > a\n") ≡ found 0 1 (code_block [] [] (codes "> a\n") ∷ []) [] [] ∷ []
 unfolding units_read
 quote_far = refl
 
 -- of a tab behind the marker one column goes
-quote_tab : units_read (codes ">\t\tfoo\n") ≡ found 0 1 (block_quote (blocks_of (code_block [] (codes "  foo\n") ∷ [])) ∷ []) [] [] ∷ []
+quote_tab : units_read (codes ">\t\tfoo\n") ≡ found 0 1 (block_quote (blocks_of (code_block [] [] (codes "  foo\n") ∷ [])) ∷ []) [] [] ∷ []
 unfolding units_read
 quote_tab = refl
 
@@ -73,7 +73,7 @@ lazy_empty_item = refl
 
 -- nothing but a paragraph is gone on with
 lazy_fence : units_read (codes "> ```\na\n> b\n") ≡
-    found 0 1 (block_quote (blocks_of (code_block [] [] ∷ [])) ∷ []) [] [] ∷ found 1 1 (paragraph 0 None ∷ []) [] (codes "a" ∷ []) ∷ found 2 1 (block_quote (blocks_of (paragraph 0 None ∷ [])) ∷ []) [] (codes "b" ∷ []) ∷ []
+    found 0 1 (block_quote (blocks_of (code_block [] [] [] ∷ [])) ∷ []) [] [] ∷ found 1 1 (paragraph 0 None ∷ []) [] (codes "a" ∷ []) ∷ found 2 1 (block_quote (blocks_of (paragraph 0 None ∷ [])) ∷ []) [] (codes "b" ∷ []) ∷ []
 unfolding units_read
 lazy_fence = refl
 
@@ -103,13 +103,13 @@ item_tab = refl
 
 -- five columns behind the marker are one and indented code
 item_code : units_read (codes "-     a\n      b\n") ≡
-    found 0 2 (list (bullet 45) true (items_of (blocks_of (code_block [] (codes "a\nb\n") ∷ []) ∷ [])) ∷ []) [] [] ∷ []
+    found 0 2 (list (bullet 45) true (items_of (blocks_of (code_block [] [] (codes "a\nb\n") ∷ []) ∷ [])) ∷ []) [] [] ∷ []
 unfolding units_read
 item_code = refl
 
 -- a tab behind the marker, of which columns are left
 item_tab_code : units_read (codes "-\t\ta\n") ≡
-    found 0 1 (list (bullet 45) true (items_of (blocks_of (code_block [] (codes "  a\n") ∷ []) ∷ [])) ∷ []) [] [] ∷ []
+    found 0 1 (list (bullet 45) true (items_of (blocks_of (code_block [] [] (codes "  a\n") ∷ []) ∷ [])) ∷ []) [] [] ∷ []
 unfolding units_read
 item_tab_code = refl
 

@@ -5,7 +5,7 @@ use Rattle.block_rows.proofs.ReadText.{units_read, found, defines}
 
 -- three of one mark, with spaces and tabs between; four columns of indentation are too many, and so are two marks for a break
 breaks : units_read (codes "_ _ _ _\n*\t*\t*\n   ---\n\n    ***\n\n--\n") ≡
-    found 0 1 (thematic_break ∷ []) [] [] ∷ found 1 1 (thematic_break ∷ []) [] [] ∷ found 2 2 (thematic_break ∷ []) [] [] ∷ found 4 2 (code_block [] (codes "***\n") ∷ []) [] [] ∷ found 6 1 (paragraph 0 None ∷ []) [] (codes "--" ∷ []) ∷ []
+    found 0 1 (thematic_break ∷ []) [] [] ∷ found 1 1 (thematic_break ∷ []) [] [] ∷ found 2 2 (thematic_break ∷ []) [] [] ∷ found 4 2 (code_block [] [] (codes "***\n") ∷ []) [] [] ∷ found 6 1 (paragraph 0 None ∷ []) [] (codes "--" ∷ []) ∷ []
 unfolding units_read
 breaks = refl
 
@@ -52,7 +52,7 @@ heading_after_definitions = refl
 
 -- blank lines inside stay with what they have past four columns, those at the end go
 indented_code : units_read (codes "    a\n\n      \n      b\n\nc\n") ≡
-    found 0 5 (code_block [] (codes "a\n\n  \n  b\n") ∷ []) [] [] ∷ found 5 1 (paragraph 0 None ∷ []) [] (codes "c" ∷ []) ∷ []
+    found 0 5 (code_block [] [] (codes "a\n\n  \n  b\n") ∷ []) [] [] ∷ found 5 1 (paragraph 0 None ∷ []) [] (codes "c" ∷ []) ∷ []
 unfolding units_read
 indented_code = refl
 
@@ -62,50 +62,50 @@ unfolding units_read
 indented_text = refl
 
 -- a tab reaches the next column that is a multiple of four
-indented_tabs : units_read (codes "  \ta\n\t\tb\n") ≡ found 0 2 (code_block [] (codes "a\n\tb\n") ∷ []) [] [] ∷ []
+indented_tabs : units_read (codes "  \ta\n\t\tb\n") ≡ found 0 2 (code_block [] [] (codes "a\n\tb\n") ∷ []) [] [] ∷ []
 unfolding units_read
 indented_tabs = refl
 
 -- a closing fence is as long and of the same mark
 fences : units_read (codes "~~~~ ruby x\na\n~~~\n```\n~~~~~\nb\n") ≡
-    found 0 5 (code_block (codes "ruby") (codes "a\n~~~\n```\n") ∷ []) [] [] ∷ found 5 1 (paragraph 0 None ∷ []) [] (codes "b" ∷ []) ∷ []
+    found 0 5 (code_block (codes "ruby") (codes "x") (codes "a\n~~~\n```\n") ∷ []) [] [] ∷ found 5 1 (paragraph 0 None ∷ []) [] (codes "b" ∷ []) ∷ []
 unfolding units_read
 fences = refl
 
 -- content loses as much indentation as the opening fence has
-fence_indented : units_read (codes "  ```\n   x\n y\n  ```\n") ≡ found 0 4 (code_block [] (codes " x\ny\n") ∷ []) [] [] ∷ []
+fence_indented : units_read (codes "  ```\n   x\n y\n  ```\n") ≡ found 0 4 (code_block [] [] (codes " x\ny\n") ∷ []) [] [] ∷ []
 unfolding units_read
 fence_indented = refl
 
 -- a fence that is not closed goes on to the end, blank lines and all
-fence_open : units_read (codes "```\na\n\n") ≡ found 0 3 (code_block [] (codes "a\n\n") ∷ []) [] [] ∷ []
+fence_open : units_read (codes "```\na\n\n") ≡ found 0 3 (code_block [] [] (codes "a\n\n") ∷ []) [] [] ∷ []
 unfolding units_read
 fence_open = refl
 
 -- or to the end of its container
 fence_in_quote : units_read (codes "> ```\n> a\nb\n") ≡
-    found 0 2 (block_quote (blocks_of (code_block [] (codes "a\n") ∷ [])) ∷ []) [] [] ∷ found 2 1 (paragraph 0 None ∷ []) [] (codes "b" ∷ []) ∷ []
+    found 0 2 (block_quote (blocks_of (code_block [] [] (codes "a\n") ∷ [])) ∷ []) [] [] ∷ found 2 1 (paragraph 0 None ∷ []) [] (codes "b" ∷ []) ∷ []
 unfolding units_read
 fence_in_quote = refl
 
 -- a fence can interrupt a paragraph; no backtick stands in the info string of backticks
 fence_interrupts : units_read (codes "a\n```\nb\n```\n``` a`b\n") ≡
-    found 0 1 (paragraph 0 None ∷ []) [] (codes "a" ∷ []) ∷ found 1 3 (code_block [] (codes "b\n") ∷ []) [] [] ∷ found 4 1 (paragraph 0 None ∷ []) [] (codes "``` a`b" ∷ []) ∷ []
+    found 0 1 (paragraph 0 None ∷ []) [] (codes "a" ∷ []) ∷ found 1 3 (code_block [] [] (codes "b\n") ∷ []) [] [] ∷ found 4 1 (paragraph 0 None ∷ []) [] (codes "``` a`b" ∷ []) ∷ []
 unfolding units_read
 fence_interrupts = refl
 
 -- escapes and references are replaced in the language, which ends at a space
-fence_language : units_read (codes "``` a\\*&amp;b c\n```\n") ≡ found 0 2 (code_block (codes "a*&b") [] ∷ []) [] [] ∷ []
+fence_language : units_read (codes "``` a\\*&amp;b c\n```\n") ≡ found 0 2 (code_block (codes "a*&b") (codes "c") [] ∷ []) [] [] ∷ []
 unfolding units_read
 fence_language = refl
 
 -- a choice of ours: it ends at a form feed
-fence_language_feed : units_read (codes "``` a" ++ (12 ∷ []) ++ codes "b c\nd\n```\n") ≡ found 0 3 (code_block (codes "a") (codes "d\n") ∷ []) [] [] ∷ []
+fence_language_feed : units_read (codes "``` a" ++ (12 ∷ []) ++ codes "b c\nd\n```\n") ≡ found 0 3 (code_block (codes "a") (codes "b c") (codes "d\n") ∷ []) [] [] ∷ []
 unfolding units_read
 fence_language_feed = refl
 
 -- and at a vertical tab
-fence_language_tab : units_read (codes "~~~a" ++ (11 ∷ []) ++ codes "b\n") ≡ found 0 1 (code_block (codes "a") [] ∷ []) [] [] ∷ []
+fence_language_tab : units_read (codes "~~~a" ++ (11 ∷ []) ++ codes "b\n") ≡ found 0 1 (code_block (codes "a") (codes "b") [] ∷ []) [] [] ∷ []
 unfolding units_read
 fence_language_tab = refl
 

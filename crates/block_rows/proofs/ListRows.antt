@@ -53,13 +53,13 @@ quote_no_gap = refl
 
 -- blank lines of fenced code are no gaps
 fence_no_gap : units_read (codes "- a\n- ```\n  b\n\n\n  ```\n- c\n") ≡
-    found 0 7 (list (bullet 45) true (items_of (blocks_of (paragraph 0 None ∷ []) ∷ blocks_of (code_block [] (codes "b\n\n\n") ∷ []) ∷ blocks_of (paragraph 1 None ∷ []) ∷ [])) ∷ []) [] (codes "a" ∷ codes "c" ∷ []) ∷ []
+    found 0 7 (list (bullet 45) true (items_of (blocks_of (paragraph 0 None ∷ []) ∷ blocks_of (code_block [] [] (codes "b\n\n\n") ∷ []) ∷ blocks_of (paragraph 1 None ∷ []) ∷ [])) ∷ []) [] (codes "a" ∷ codes "c" ∷ []) ∷ []
 unfolding units_read
 fence_no_gap = refl
 
 -- nor is the last one of a fence that its container ends
 fence_open_no_gap : units_read (codes "- ```\n\n- b\n") ≡
-    found 0 3 (list (bullet 45) true (items_of (blocks_of (code_block [] (codes "\n") ∷ []) ∷ blocks_of (paragraph 0 None ∷ []) ∷ [])) ∷ []) [] (codes "b" ∷ []) ∷ []
+    found 0 3 (list (bullet 45) true (items_of (blocks_of (code_block [] [] (codes "\n") ∷ []) ∷ blocks_of (paragraph 0 None ∷ []) ∷ [])) ∷ []) [] (codes "b" ∷ []) ∷ []
 unfolding units_read
 fence_open_no_gap = refl
 
@@ -71,7 +71,7 @@ html_no_gap = refl
 
 -- a blank line that ends the container of the fence is one
 fence_gap : units_read (codes "- > ```\n\n- b\n") ≡
-    found 0 3 (list (bullet 45) false (items_of (blocks_of (block_quote (blocks_of (code_block [] [] ∷ [])) ∷ []) ∷ blocks_of (paragraph 0 None ∷ []) ∷ [])) ∷ []) [] (codes "b" ∷ []) ∷ []
+    found 0 3 (list (bullet 45) false (items_of (blocks_of (block_quote (blocks_of (code_block [] [] [] ∷ [])) ∷ []) ∷ blocks_of (paragraph 0 None ∷ []) ∷ [])) ∷ []) [] (codes "b" ∷ []) ∷ []
 unfolding units_read
 fence_gap = refl
 

@@ -29,7 +29,7 @@ use Rattle.mdscan.specs.SetextHeading.{is_run_of, underline_level}
 use Rattle.mdscan.specs.TableRow.{inside as row_inside, bars, row_cells}
 use Rattle.mdscan.specs.TaskMarker.{task_marker}
 use Rattle.mdscan.specs.ThematicBreak.{is_break_of, is_thematic_break}
-use Rattle.mdleaf.specs.CodeLanguage.{code_language}
+use Rattle.mdleaf.specs.CodeLanguage.{code_language, code_meta}
 use Rattle.mdleaf.specs.LeadingDefinitions.{fronts, leading_of, leading_end}
 use Rattle.mdleaf.specs.LinkDefinition.{LinkDefinition}
 use Rattle.mdleaf.specs.ParagraphText.{joined_lines, without_end_blanks}
@@ -69,7 +69,7 @@ unfolding chars encode default_case_fold full_folding full_folding_rows value_in
     is_raw_tag begins_whole_tag html_kind tag_name_length attribute_name_length quoted_length value_length equals_length value_part_length
     attribute_length open_end_length open_tag closing_tag line_end titled_def labelled_def definition_of angle_destination bare_end destination_at
     label_at title_to title_at ordered_marker marker repeats is_run_of underline_level row_inside bars row_cells task_marker is_break_of is_thematic_break
-    code_language fronts leading_of leading_end joined_lines without_end_blanks row_texts row_aligns begins_table padding start_near start container_part
+    code_language code_meta fronts leading_of leading_end joined_lines without_end_blanks row_texts row_aligns begins_table padding start_near start container_part
     groups_within visible visible_in found_units matches opened inside is_bare unindented continues_lazily leaves_of grouped nodes_of texts_in texts_in_items
     definitions_in definitions_in_items placed placed_items paragraph_end heading_end table_end step is_single all_of tip_of begin_where after_step add_at
     cut_from tip_within with_task

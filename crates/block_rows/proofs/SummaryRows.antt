@@ -41,19 +41,19 @@ table_alone = refl
 
 -- fenced code up to its closing fence, without the indentation of the opening one
 fence_closed : units_kept 64 (codes "  ``` x y\n   a\n b\nc\n  ```\nd\n") ≡
-    found 0 5 (code_block (codes "x") (codes " a\nb\nc\n") ∷ []) [] [] ∷ found 5 1 (paragraph 0 None ∷ []) [] (codes "d" ∷ []) ∷ []
+    found 0 5 (code_block (codes "x") (codes "y") (codes " a\nb\nc\n") ∷ []) [] [] ∷ found 5 1 (paragraph 0 None ∷ []) [] (codes "d" ∷ []) ∷ []
 unfolding units_kept
 fence_closed = refl
 
 -- and up to the end of its container
 fence_left_open : units_kept 64 (codes "> ~~~\n> a\n>\n> ```\nb\n") ≡
-    found 0 4 (block_quote (blocks_of (code_block [] (codes "a\n\n```\n") ∷ [])) ∷ []) [] [] ∷ found 4 1 (paragraph 0 None ∷ []) [] (codes "b" ∷ []) ∷ []
+    found 0 4 (block_quote (blocks_of (code_block [] [] (codes "a\n\n```\n") ∷ [])) ∷ []) [] [] ∷ found 4 1 (paragraph 0 None ∷ []) [] (codes "b" ∷ []) ∷ []
 unfolding units_kept
 fence_left_open = refl
 
 -- indented code, without the blank lines at its end
 code : units_kept 64 (codes "    a\n\n      b\n\t\n\nc\n") ≡
-    found 0 5 (code_block [] (codes "a\n\n  b\n") ∷ []) [] [] ∷ found 5 1 (paragraph 0 None ∷ []) [] (codes "c" ∷ []) ∷ []
+    found 0 5 (code_block [] [] (codes "a\n\n  b\n") ∷ []) [] [] ∷ found 5 1 (paragraph 0 None ∷ []) [] (codes "c" ∷ []) ∷ []
 unfolding units_kept
 code = refl
 
@@ -107,7 +107,7 @@ empty_items = refl
 
 -- quotes with text, list and code in them
 quotes_around : units_kept 64 (codes "> a\n> - b\n>       c\n>\n>       d\n> # e\n") ≡
-    found 0 6 (block_quote (blocks_of (paragraph 0 None ∷ list (bullet 45) false (items_of (blocks_of (paragraph 1 None ∷ code_block [] (codes "d\n") ∷ []) ∷ [])) ∷ heading 1 2 ∷ [])) ∷ []) [] (codes "a" ∷ codes "b\nc" ∷ codes "e" ∷ []) ∷ []
+    found 0 6 (block_quote (blocks_of (paragraph 0 None ∷ list (bullet 45) false (items_of (blocks_of (paragraph 1 None ∷ code_block [] [] (codes "d\n") ∷ []) ∷ [])) ∷ heading 1 2 ∷ [])) ∷ []) [] (codes "a" ∷ codes "b\nc" ∷ codes "e" ∷ []) ∷ []
 unfolding units_kept
 quotes_around = refl
 

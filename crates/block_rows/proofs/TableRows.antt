@@ -64,7 +64,7 @@ before_item = refl
 
 -- and indented code
 before_code : units_read (codes "| a |\n| - |\n    b\n") ≡
-    found 0 2 (table (Plain ∷ []) (0 ∷ []) [] ∷ []) [] (codes "a" ∷ []) ∷ found 2 1 (code_block [] (codes "b\n") ∷ []) [] [] ∷ []
+    found 0 2 (table (Plain ∷ []) (0 ∷ []) [] ∷ []) [] (codes "a" ∷ []) ∷ found 2 1 (code_block [] [] (codes "b\n") ∷ []) [] [] ∷ []
 unfolding units_read
 before_code = refl
 

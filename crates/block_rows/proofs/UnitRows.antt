@@ -37,12 +37,12 @@ worked_list = refl
 
 -- a fence holds what looks like items
 fence_over_items : units_read (codes "- a\n```\n- b\n- c\n") ≡
-    found 0 1 (list (bullet 45) true (items_of (blocks_of (paragraph 0 None ∷ []) ∷ [])) ∷ []) [] (codes "a" ∷ []) ∷ found 1 3 (code_block [] (codes "- b\n- c\n") ∷ []) [] [] ∷ []
+    found 0 1 (list (bullet 45) true (items_of (blocks_of (paragraph 0 None ∷ []) ∷ [])) ∷ []) [] (codes "a" ∷ []) ∷ found 1 3 (code_block [] [] (codes "- b\n- c\n") ∷ []) [] [] ∷ []
 unfolding units_read
 fence_over_items = refl
 
 -- and a heading
-fence_opened : units_read (codes "```\na\n\n# t\n") ≡ found 0 4 (code_block [] (codes "a\n\n# t\n") ∷ []) [] [] ∷ []
+fence_opened : units_read (codes "```\na\n\n# t\n") ≡ found 0 4 (code_block [] [] (codes "a\n\n# t\n") ∷ []) [] [] ∷ []
 unfolding units_read
 fence_opened = refl
 

@@ -94,13 +94,31 @@ fn show_list(
     show_items(items, texts, out)
 }
 
+fn show_code(lang: &str, meta: &str, body: &str, out: &mut String) -> Result<(), AllocError> {
+    out.push_str("code:")?;
+    out.push_str(lang)?;
+    show_meta(meta, out)?;
+    out.push_str("(")?;
+    out.push_str(body)?;
+    out.push_str(")")
+}
+
+/// What stands behind the language, if anything does.
+fn show_meta(meta: &str, out: &mut String) -> Result<(), AllocError> {
+    if meta.is_empty() {
+        return Ok(());
+    }
+    out.push_str(" ")?;
+    out.push_str(meta)
+}
+
 #[cycle(shown)]
 fn show_block(block: &Block, texts: &[String], out: &mut String) -> Result<(), AllocError> {
     match block {
         Block::Paragraph { text, task } => show_leaf(task_name(*task), texts, *text, out),
         Block::Heading { level, text } => show_leaf(heading_name(*level), texts, *text, out),
         Block::Break => out.push_str("hr"),
-        Block::Code { lang, body } => write!(out, "code:{lang}({body})"),
+        Block::Code { lang, meta, body } => show_code(lang, meta, body, out),
         Block::Html(lines) => write!(out, "html({lines})"),
         Block::Quote(inner) => show_quote(inner, texts, out),
         Block::List { tight, items, .. } => show_list(*tight, items, texts, out),

@@ -81,7 +81,7 @@ fn check_all(rt: &impl Abort, alloc: Global, rows: &[(&str, &str)]) -> Result<()
 }
 
 /// Texts of leaves.
-static LEAVES: [(&str, &str); 9] = [
+static LEAVES: [(&str, &str); 10] = [
     ("", ""),
     ("\tfoo\tbaz\t\tbim\n", "code:(foo\tbaz\t\tbim\n);\n"),
     ("[foo]: /url\n---\n", "[foo /url ]\nhr;\n"),
@@ -91,7 +91,11 @@ static LEAVES: [(&str, &str); 9] = [
         "[foo /url ]p(\"title\" ok);\n",
     ),
     ("foo  \nbar\n---\n", "h2(foo  \nbar);\n"),
-    ("``` a&amp;b c\nd\n```\ne", "code:a&b(d\n);\np(e);\n"),
+    ("``` a&amp;b c\nd\n```\ne", "code:a&b c(d\n);\np(e);\n"),
+    (
+        "~~~~    ruby  startline=3 $%@#$\nend\n~~~~~~~\n",
+        "code:ruby  startline=3 $%@#$(end\n);\n",
+    ),
     ("<!-- a\n\nb -->\nc", "html(<!-- a\n\nb -->);\np(c);\n"),
     ("<div>\na\n\nb", "html(<div>\na);\np(b);\n"),
 ];

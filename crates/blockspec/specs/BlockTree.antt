@@ -11,7 +11,7 @@ mutual
     paragraph : (text : ℕ) (task : Option Bool) → Block
     heading : (level text : ℕ) → Block
     thematic_break : Block
-    code_block : (lang body : List ℕ) → Block
+    code_block : (lang meta body : List ℕ) → Block
     html_block : List ℕ → Block
     block_quote : Blocks → Block
     list : ListKind → (tight : Bool) → Items → Block

@@ -2,7 +2,7 @@
 use Rattle.std.specs.Prelude.{ℕ, ◌-◌, Bool, true, false, List, [], ◌∷◌, ◌++◌, length, map, take}
 use Rattle.std.specs.List.{flat_map, suffix_len}
 use Rattle.mdtext.specs.EntityTable.{EntityTable}
-use Rattle.mdleaf.specs.CodeLanguage.{code_language}
+use Rattle.mdleaf.specs.CodeLanguage.{code_language, code_meta}
 use Rattle.mdleaf.specs.ParagraphText.{joined_lines}
 use Rattle.blockspec.specs.BlockLine.{BlockLine, rest, is_blank_line, without_columns}
 use Rattle.blockspec.specs.BlockStart.{Kind, Paragraph, SetextHeading, Table, AtxHeading, ThematicBreak, FencedCode, IndentedCode, HtmlBlock, Holds}
@@ -33,7 +33,7 @@ leaves_of entities (Table above) first later = table_end entities above (map res
 leaves_of entities (AtxHeading level content) first later = heading_leaf level content ∷ []
 leaves_of entities ThematicBreak first later = break_leaf ∷ []
 leaves_of entities (FencedCode indentation mark length info closed) first later =
-    code_leaf (code_language entities info) (code_text indentation (fenced_lines closed later)) ∷ []
-leaves_of entities IndentedCode first later = code_leaf [] (code_text 4 (without_end_blank_lines (first ∷ later))) ∷ []
+    code_leaf (code_language entities info) (code_meta entities info) (code_text indentation (fenced_lines closed later)) ∷ []
+leaves_of entities IndentedCode first later = code_leaf [] [] (code_text 4 (without_end_blank_lines (first ∷ later))) ∷ []
 leaves_of entities (HtmlBlock kind) first later = html_leaf (joined_lines (map (λ l. l.line.text) (first ∷ later))) ∷ []
 leaves_of entities (Holds container) first later = []

@@ -13,7 +13,7 @@ pub data Leaf : Type 0 where
   paragraph_leaf : (task : Option Bool) (text : List ℕ) → Leaf
   heading_leaf : (level : ℕ) (text : List ℕ) → Leaf
   break_leaf : Leaf
-  code_leaf : (lang body : List ℕ) → Leaf
+  code_leaf : (lang meta body : List ℕ) → Leaf
   html_leaf : List ℕ → Leaf
   table_leaf : List Align → (head : List (List ℕ)) → (rows : List (List (List ℕ))) → Leaf
 
@@ -74,7 +74,7 @@ leaf_block n (definition_leaf definition) rest = rest
 leaf_block n (paragraph_leaf task text) rest = block (paragraph n task) rest
 leaf_block n (heading_leaf level text) rest = block (heading level n) rest
 leaf_block n break_leaf rest = block thematic_break rest
-leaf_block n (code_leaf lang body) rest = block (code_block lang body) rest
+leaf_block n (code_leaf lang meta body) rest = block (code_block lang meta body) rest
 leaf_block n (html_leaf lines) rest = block (html_block lines) rest
 leaf_block n (table_leaf aligns head rows) rest = block (table aligns (range_with_len n (length head)) (row_positions (n + length head) rows)) rest
 

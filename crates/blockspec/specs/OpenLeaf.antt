@@ -5,7 +5,7 @@ use Rattle.std.specs.Option.{option_or}
 use Rattle.mdtext.specs.EntityTable.{EntityTable}
 use Rattle.mdscan.specs.declared.delimiter_rows.Align.{Align}
 use Rattle.mdscan.specs.SetextHeading.{underline_level}
-use Rattle.mdleaf.specs.CodeLanguage.{code_language}
+use Rattle.mdleaf.specs.CodeLanguage.{code_language, code_meta}
 use Rattle.mdleaf.specs.ParagraphText.{joined_lines, without_end_blanks, behind_definitions, is_definitions_alone}
 use Rattle.mdleaf.specs.TableRows.{filled, row_aligns, row_texts, begins_table}
 use Rattle.blockspec.specs.BlockLine.{BlockLine, indentation, rest, is_blank_line, without_columns}
@@ -51,8 +51,8 @@ heading_leaves entities level text =
 unfoldable pub open_leaves : EntityTable → OpenLeaf → List Leaf
 open_leaves entities (open_text text last above) = text_leaves entities text
 open_leaves entities (open_table above aligns head rows) = text_leaves entities above ++ table_leaf aligns head rows ∷ []
-open_leaves entities (open_fence indentation mark length info body) = code_leaf (code_language entities info) body ∷ []
-open_leaves entities (open_code body blanks) = code_leaf [] body ∷ []
+open_leaves entities (open_fence indentation mark length info body) = code_leaf (code_language entities info) (code_meta entities info) body ∷ []
+open_leaves entities (open_code body blanks) = code_leaf [] [] body ∷ []
 open_leaves entities (open_html kind text) = html_leaf text ∷ []
 open_leaves entities (done_heading level text) = heading_leaves entities level text
 open_leaves entities (done_leaf leaves) = leaves

@@ -80,7 +80,7 @@ abbrev mutual
   stored (block (paragraph at task) bs) ms = node 1 (at ∷ []) (task_number task ∷ []) [] ∷ stored bs ms
   stored (block (heading level at) bs) ms = node 2 (level ∷ []) (at ∷ []) [] ∷ stored bs ms
   stored (block thematic_break bs) ms = node 3 [] [] [] ∷ stored bs ms
-  stored (block (code_block lang body) bs) ms = node 4 lang body [] ∷ stored bs ms
+  stored (block (code_block lang meta body) bs) ms = node 4 lang meta (body ∷ []) ∷ stored bs ms
   stored (block (html_block lines) bs) ms = node 5 lines [] [] ∷ stored bs ms
   stored (block (block_quote inner) bs) ms = node 6 [] [] [] ∷ stored inner (stored bs ms)
   stored (block (list kind tight is) bs) ms = node 7 (kind_numbers kind) (bit tight ∷ []) [] ∷ stored_items is (stored bs ms)
@@ -124,10 +124,14 @@ abbrev head_of : List ℕ → ℕ
 head_of [] = 0
 head_of (x ∷ xs) = x
 
+abbrev first_row : List (List ℕ) → List ℕ
+first_row [] = []
+first_row (row ∷ rows) = row
+
 abbrev made : ℕ → List ℕ → List ℕ → List (List ℕ) → List Part → List Part
 made tag xs ys rows ps =
     cond (tag == 0) (blocks_part no_blocks ∷ ps) (cond (tag == 1) (before (paragraph (head_of xs) (task_from (head_of ys))) ps)
-    (cond (tag == 2) (before (heading (head_of xs) (head_of ys)) ps) (cond (tag == 3) (before thematic_break ps) (cond (tag == 4) (before (code_block xs ys) ps)
+    (cond (tag == 2) (before (heading (head_of xs) (head_of ys)) ps) (cond (tag == 3) (before thematic_break ps) (cond (tag == 4) (before (code_block xs ys (first_row rows)) ps)
     (cond (tag == 5) (before (html_block xs) ps) (cond (tag == 6) (in_quote ps) (cond (tag == 7) (in_list (kind_from xs) (head_of ys == 1) ps)
     (cond (tag == 8) (before (table (aligns_from xs) ys rows) ps) (cond (tag == 9) (items_part no_items ∷ ps) (in_item ps))))))))))
 
@@ -147,7 +151,7 @@ mutual
       ap (before (paragraph at (task_from (task_number task)))) (restored_stored bs ms) ∙ ap (λ t. blocks_part (block (paragraph at t) bs) ∷ restored ms) (task_from_number task)
   restored_stored (block (heading level at) bs) ms = ap (before (heading level at)) (restored_stored bs ms)
   restored_stored (block thematic_break bs) ms = ap (before thematic_break) (restored_stored bs ms)
-  restored_stored (block (code_block lang body) bs) ms = ap (before (code_block lang body)) (restored_stored bs ms)
+  restored_stored (block (code_block lang meta body) bs) ms = ap (before (code_block lang meta body)) (restored_stored bs ms)
   restored_stored (block (html_block lines) bs) ms = ap (before (html_block lines)) (restored_stored bs ms)
   restored_stored (block (block_quote inner) bs) ms =
       ap in_quote (restored_stored inner (stored bs ms)) ∙ ap (before (block_quote inner)) (restored_stored bs ms)

@@ -1,6 +1,6 @@
 -- Rows of the pieces of a text, by computation.
-use Rattle.std.proofs.Common.{◌≡◌, [], ◌∷◌, refl, codes}
-use Rattle.edit_rows.proofs.ReadEdits.{source_of, plain, pieces}
+use Rattle.std.proofs.Common.{◌≡◌, [], ◌∷◌, refl, codes, true, false}
+use Rattle.edit_rows.proofs.ReadEdits.{source_of, plain, with_meta, pieces}
 
 -- a heading, a list, a quote, a table
 each_block : pieces plain (source_of (codes "# A *b*" ∷ [] ∷ codes "- [x] c" ∷ codes "- d" ∷ [] ∷ codes "> e  " ∷ codes "f" ∷ [] ∷ codes "| g | h |" ∷ codes "|:-|-:|" ∷ codes "| `i` | ~~j~~ |" ∷ []) []) ≡
@@ -13,6 +13,16 @@ verbatim : pieces plain (source_of (codes "```rust" ∷ codes "a < b" ∷ codes 
     codes "<pre><code class=\"language-rust\">a &lt; b\n</code></pre>\n" ∷ codes "<pre><code>code\n</code></pre>\n" ∷ codes "<!-- raw HTML omitted -->\n" ∷ codes "<hr />\n" ∷ []
 unfolding pieces
 verbatim = refl
+
+-- what stands behind a language, up to the line's end but for the spaces there, as cmark-gfm writes it: nothing for nothing
+metas : pieces (with_meta false) (source_of (codes "~~~ x  y&amp;z " ∷ codes "~~~" ∷ codes "``` x" ∷ codes "```" ∷ codes "~~~" ∷ []) []) ≡
+    codes "<pre><code class=\"language-x\" data-meta=\" y&amp;z\"></code></pre>\n" ∷ codes "<pre><code class=\"language-x\"></code></pre>\n" ∷ codes "<pre><code></code></pre>\n" ∷ []
+unfolding pieces
+metas = refl
+
+metas_on_pre : pieces (with_meta true) (source_of (codes "~~~ x y *z*" ∷ []) []) ≡ codes "<pre lang=\"x\" data-meta=\"y *z*\"><code></code></pre>\n" ∷ []
+unfolding pieces
+metas_on_pre = refl
 
 -- links, images, autolinks, references and escapes
 links : pieces plain (source_of (codes "[a](javascript:x) ![b *c*](/d \"e\")" ∷ [] ∷ codes "<http://f> &amp; \\*" ∷ []) []) ≡

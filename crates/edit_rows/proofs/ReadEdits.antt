@@ -1,6 +1,6 @@
 -- What a call of a preview means, with every word of its definition open, so that rows of it compute.
 use Rattle.std.specs.Fmt.{digits}
-use Rattle.std.specs.Prelude.{ℕ, List, map, false, Option, Some, None}
+use Rattle.std.specs.Prelude.{ℕ, List, map, Bool, true, false, Option, Some, None}
 use Rattle.mdtext.specs.EntityTable.{builtin_table}
 use Rattle.mdtext.specs.Escaped.{escaped_byte}
 use Rattle.mdtext.specs.EscapedUrl.{is_url_plain, url_byte}
@@ -41,10 +41,14 @@ source_of lines prelude = record { lines = lines; prelude = prelude }
 
 abbrev pub limited : (max_containers max_spans : ℕ) → Setting
 limited max_containers max_spans =
-    record { entities = builtin_table; options = record { unsafe_html = false; breaks = Soft; pre_lang = false; align_style = false; max_containers = max_containers; max_spans = max_spans } }
+    record { entities = builtin_table; options = record { unsafe_html = false; breaks = Soft; pre_lang = false; full_info_string = false; align_style = false; max_containers = max_containers; max_spans = max_spans } }
 
 abbrev pub plain : Setting
 plain = limited 64 64
+
+-- with what stands behind the language of code, which is a class or stands on `pre`
+abbrev pub with_meta : (pre_lang : Bool) → Setting
+with_meta pre_lang = record plain { options = record plain.options { pre_lang = pre_lang; full_info_string = true } }
 
 abbrev pub answer_by : Setting → Source → Call → Option Refusal → Answer
 answer_by setting source call (Some reason) = refused reason

@@ -23,6 +23,7 @@ options_with (Some breaks) settings = within_limits (record {
   unsafe_html = settings.unsafe_html;
   breaks = breaks;
   pre_lang = settings.pre_lang;
+  full_info_string = settings.full_info_string;
   align_style = settings.align_style;
   max_containers = limit_of settings.max_containers;
   max_spans = limit_of settings.max_spans;

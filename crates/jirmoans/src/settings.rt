@@ -22,6 +22,8 @@ pub struct Settings {
     pub pre_lang: bool,
     /// Whether the alignment of a cell is written as `style="text-align: center"`, in place of `align="center"`.
     pub align_style: bool,
+    /// Whether what stands behind the language in a code block's info string is written behind it, as `data-meta="y z"`.
+    pub full_info_string: bool,
 }
 
 const USUAL_LIMIT: usize = 64;
@@ -46,6 +48,7 @@ impl Settings {
             unsafe_html: self.unsafe_html,
             breaks,
             pre_lang: self.pre_lang,
+            full_info_string: self.full_info_string,
             align_style: self.align_style,
             max_containers,
             max_spans,

@@ -20,7 +20,7 @@ use Rattle.mdblock.specs.held.OpenLeaves.{IsLeafOf}
 use Rattle.blockspec.specs.BlockLine.{BlockLine, rest}
 use Rattle.blockspec.specs.BlockStart.{Kind, Paragraph, FencedCode, IndentedCode, HtmlBlock}
 use Rattle.mdtext.specs.EntityTable.{EntityTable}
-use Rattle.mdleaf.specs.CodeLanguage.{code_language}
+use Rattle.mdleaf.specs.CodeLanguage.{code_language, code_meta}
 use Rattle.mdleaf.specs.LeadingDefinitions.{leading_of}
 use Rattle.mdleaf.specs.ParagraphText.{joined_lines, paragraph_text, behind_definitions}
 use Rattle.mdblock.specs.declared.gathering.Gathering.{Gathering}
@@ -54,7 +54,7 @@ none_placed n (leaf_node (definition_leaf definition) a) h = none_placed (n + 0)
 none_placed n (leaf_node (paragraph_leaf task text) a) h = absurd h
 none_placed n (leaf_node (heading_leaf level text) a) h = absurd h
 none_placed n (leaf_node break_leaf a) h = absurd h
-none_placed n (leaf_node (code_leaf lang body) a) h = absurd h
+none_placed n (leaf_node (code_leaf lang meta body) a) h = absurd h
 none_placed n (leaf_node (html_leaf lines) a) h = absurd h
 none_placed n (leaf_node (table_leaf aligns head rows) a) h = absurd h
 none_placed n (quote_node inner a) h = absurd h
@@ -168,10 +168,10 @@ record Closing (e : EntityTable) (first : Bool) (kept : OpenLeaf) (old new : Lis
   tasked_is : tasked first (leaves_before (rest_leaves e kept) no_nodes) ≡ leaves_before leaves no_nodes
   handed_is : handed_leaves e kept ≡ over_leaves e kept
 
-pub code_task : (first : Bool) (lang body : List ℕ) → tasked first (leaf_node (code_leaf lang body) no_nodes) ≡ leaf_node (code_leaf lang body) no_nodes
+pub code_task : (first : Bool) (lang meta body : List ℕ) → tasked first (leaf_node (code_leaf lang meta body) no_nodes) ≡ leaf_node (code_leaf lang meta body) no_nodes
 unfolding with_task
-code_task true lang body = refl
-code_task false lang body = refl
+code_task true lang meta body = refl
+code_task false lang meta body = refl
 
 pub html_task : (first : Bool) (lines : List ℕ) → tasked first (leaf_node (html_leaf lines) no_nodes) ≡ leaf_node (html_leaf lines) no_nodes
 unfolding with_task
@@ -192,11 +192,11 @@ leaf_closing e first (leaf.Paragraph p) Paragraph begin later old new known all 
     }
 leaf_closing e first (leaf.Fence f) (FencedCode i m n info true) begin later old new known all found other o h left defined = absurd (subst Yes o tt)
 leaf_closing e first (leaf.Fence f) (FencedCode i m n info false) begin later old new known all found other o h left defined =
-    let c = code_leaf (code_language e info) (code_text i later) in
-    record { leaves = c ∷ []; given = leaf_found c old new known all found refl left (defined ∙ append-nil known); tasked_is = code_task first _ _; handed_is = refl }
+    let c = code_leaf (code_language e info) (code_meta e info) (code_text i later) in
+    record { leaves = c ∷ []; given = leaf_found c old new known all found refl left (defined ∙ append-nil known); tasked_is = code_task first _ _ _; handed_is = refl }
 leaf_closing e first (leaf.Code x) IndentedCode begin later old new known all found other o h left defined =
-    let c = code_leaf [] (code_text 4 (without_end_blank_lines (begin ∷ later))) in
-    record { leaves = c ∷ []; given = leaf_found c old new known all found refl left (defined ∙ append-nil known); tasked_is = code_task first _ _; handed_is = refl }
+    let c = code_leaf [] [] (code_text 4 (without_end_blank_lines (begin ∷ later))) in
+    record { leaves = c ∷ []; given = leaf_found c old new known all found refl left (defined ∙ append-nil known); tasked_is = code_task first _ _ _; handed_is = refl }
 leaf_closing e first (leaf.Html x) (HtmlBlock kind) begin later old new known all found other o h left defined =
     let c = html_leaf (joined_lines (map (λ l. l.line.text) (begin ∷ later))) in
     record { leaves = c ∷ []; given = leaf_found c old new known all found refl left (defined ∙ append-nil known); tasked_is = html_task first _; handed_is = refl }

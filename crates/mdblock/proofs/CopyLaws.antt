@@ -33,7 +33,7 @@ leaf_positions n (definition_leaf d) rest = refl
 leaf_positions n (paragraph_leaf task text) rest = refl
 leaf_positions n (heading_leaf level text) rest = refl
 leaf_positions n break_leaf rest = refl
-leaf_positions n (code_leaf lang body) rest = refl
+leaf_positions n (code_leaf lang meta body) rest = refl
 leaf_positions n (html_leaf lines) rest = refl
 leaf_positions n (table_leaf aligns head rows) rest =
     ap (λ z. (range_with_len n (length head) ++ z) ++ blocks_positions rest) (rows_flat (n + length head) rows)
@@ -72,7 +72,7 @@ leaf_copied at n (definition_leaf d) rest other h = let e : at + 0 ≡ at = omeg
 leaf_copied at n (paragraph_leaf task text) rest other h = ap (block (paragraph at task)) h
 leaf_copied at n (heading_leaf level text) rest other h = ap (block (heading level at)) h
 leaf_copied at n break_leaf rest other h = ap (block thematic_break) h
-leaf_copied at n (code_leaf lang body) rest other h = ap (block (code_block lang body)) h
+leaf_copied at n (code_leaf lang meta body) rest other h = ap (block (code_block lang meta body)) h
 leaf_copied at n (html_leaf lines) rest other h = ap (block (html_block lines)) h
 leaf_copied at n (table_leaf aligns head rows) rest other h =
     let ps = range_with_len n (length head) in
@@ -150,7 +150,7 @@ mutual
   block_in n m (paragraph text task) h = omega (arith, h)
   block_in n m (heading level text) h = omega (arith, h)
   block_in n m thematic_break h = tt
-  block_in n m (code_block lang body) h = tt
+  block_in n m (code_block lang meta body) h = tt
   block_in n m (html_block lines) h = tt
   block_in n m (block_quote bs) h = blocks_in n m bs h
   block_in n m (list kind tight is) h = items_in n m is h

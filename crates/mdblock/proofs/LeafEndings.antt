@@ -2,7 +2,7 @@
 use Rattle.std.proofs.Common.{◌≡◌, ℕ, Bool, List, [], ◌++◌, Option, Some, Result, IfOk, refl, ap, sym, ◌∙◌, subst, string_bytes}
 use Rattle.std.proofs.lemmas.List.{append-nil}
 use Rattle.mdtext.specs.EntityTable.{EntityTable}
-use Rattle.mdleaf.specs.CodeLanguage.{code_language}
+use Rattle.mdleaf.specs.CodeLanguage.{code_language, code_meta}
 use Rattle.mdleaf.specs.LeadingDefinitions.{leading_of}
 use Rattle.mdleaf.specs.LinkDefinition.{LinkDefinition}
 use Rattle.mdleaf.specs.ParagraphText.{without_end_blanks, behind_definitions}
@@ -42,10 +42,13 @@ alone : {A : Type 0} (old : List A) → old ≡ old ++ []
 alone old = sym (append-nil old)
 
 pub fence_ended : (entities : EntityTable) (at_front : Bool) (f : Fence) (kind : Kind) (first : BlockLine) (later : List BlockLine) (old : List (List ℕ)) (b : Block)
-    → block_view b ≡ code_block (string_bytes f.lang) (string_bytes f.body)
+    → block_view b ≡ code_block (string_bytes f.lang) (string_bytes f.meta) (string_bytes f.body)
     → IsLeafOf entities (leaf.Fence f) kind first later → IsEndOf entities at_front kind first later old old (Some b)
-fence_ended entities at_front f (FencedCode indentation mark length info closed) first later old b e h =
-    (ap (λ x. block x no_blocks) (e ∙ ap (λ t. code_block t (string_bytes f.body)) h.language ∙ ap (code_block (code_language entities info)) h.body), alone old)
+fence_ended entities at_front f (FencedCode indentation mark length info closed) first later old b e h = (
+  ap (λ x. block x no_blocks) (e ∙ ap (λ t. code_block t (string_bytes f.meta) (string_bytes f.body)) h.language ∙ ap (λ t. code_block (code_language entities info) t (string_bytes f.body)) h.meta
+      ∙ ap (code_block (code_language entities info) (code_meta entities info)) h.body),
+  alone old,
+)
 fence_ended entities at_front f kind first later old b e h = absurd h
 
 pub html_ended : (entities : EntityTable) (at_front : Bool) (x : html.HtmlBlock) (kind : Kind) (first : BlockLine) (later : List BlockLine) (old : List (List ℕ)) (b : Block)
@@ -55,9 +58,9 @@ html_ended entities at_front x (HtmlBlock kind) first later old b e h = (ap (λ 
 html_ended entities at_front x kind first later old b e h = absurd h
 
 pub code_ended : (entities : EntityTable) (at_front : Bool) (x : code.IndentedCode) (kind : Kind) (first : BlockLine) (later : List BlockLine) (old : List (List ℕ)) (b : Block)
-    → block_view b ≡ code_block [] (string_bytes x.body)
+    → block_view b ≡ code_block [] [] (string_bytes x.body)
     → IsLeafOf entities (leaf.Code x) kind first later → IsEndOf entities at_front kind first later old old (Some b)
-code_ended entities at_front x IndentedCode first later old b e h = (ap (λ x. block x no_blocks) (e ∙ ap (code_block []) h.body), alone old)
+code_ended entities at_front x IndentedCode first later old b e h = (ap (λ x. block x no_blocks) (e ∙ ap (code_block [] []) h.body), alone old)
 code_ended entities at_front x kind first later old b e h = absurd h
 
 table_block : (t : table.Table) (kept : OpenLeaf) (b : Block) → block_view b ≡ tree.table t.aligns.items t.head.items (held_rows t) → IsTableOf kept (leaf.Table t) → IsBlockOf kept (block (block_view b) no_blocks)

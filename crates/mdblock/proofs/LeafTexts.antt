@@ -1,16 +1,16 @@
 -- What one line more makes of the text that an open leaf holds.
-use Rattle.std.proofs.Common.{◌≡◌, ℕ, ◌-◌, ◌<◌, Bool, true, false, not, List, [], ◌∷◌, ◌++◌, append_assoc, length, map, reverse, take, drop, refl, ap, sym, ◌∙◌, subst, arith, ◌⊎◌, inl, inr}
+use Rattle.std.proofs.Common.{◌≡◌, ℕ, ◌+◌, ◌-◌, ◌<◌, ◌≤◌, Bool, true, false, not, List, [], ◌∷◌, ◌++◌, append_assoc, length, map, reverse, take, drop, refl, ap, sym, ◌∙◌, subst, arith, ◌⊎◌, inl, inr}
 use Rattle.std.proofs.Math.Nat.{eq-or-lt_of_le}
 use Rattle.std.proofs.lemmas.Bool.Decides.{nat_tests}
 use Rattle.std.proofs.lemmas.Grind.{flat_map-append}
 use Rattle.std.proofs.lemmas.List.{append-nil, map-append, reverse-append, take_all, drop_all, take-append-drop}
 use Rattle.std.proofs.lemmas.List.Sums.{prefix_len-le-length, prefix_len_stops}
-use Rattle.std.proofs.lemmas.Str.{IsCharBoundary-end, IsCharBoundary-before_ascii}
+use Rattle.std.proofs.lemmas.Str.{IsCharBoundary-end, IsCharBoundary-before_ascii, IsCharBoundary-after_ascii}
 use Rattle.std.specs.List.{flat_map, prefix_len, slice_index, suffix_len}
-use Rattle.std.specs.Str.{IsCharBoundary}
+use Rattle.std.specs.Str.{IsCharBoundary, IsUtf8}
 use Rattle.mdtext.specs.EntityTable.{EntityTable}
 use Rattle.mdtext.specs.References.{unescaped}
-use Rattle.mdleaf.specs.CodeLanguage.{code_language, ends_language}
+use Rattle.mdleaf.specs.CodeLanguage.{behind_word, code_language, code_meta, ends_language}
 use Rattle.mdleaf.specs.ParagraphText.{joined_lines}
 use Rattle.blocklaws.proofs.OpenLeafLaws.{joined_next}
 use Rattle.blockspec.specs.BlockLine.{BlockLine, is_blank_line, without_columns}
@@ -86,12 +86,16 @@ ends_ascii b h = by_test (ends_language b) refl h where
   by_test true e g = grind (arith, nat_tests, e)
   by_test false e g = cc
 
-word_within : (text : List ℕ) (n : ℕ) → n ≡ prefix_len (λ b. not (ends_language b)) text → (n ≡ length text) ⊎ (n < length text) → IsCharBoundary text n
-word_within text n e (inl all) = subst (IsCharBoundary text) (sym all) (IsCharBoundary-end text)
-word_within text n e (inr less) =
+-- at the end of the first word stands what ends it
+word_stops : (text : List ℕ) (n : ℕ) → n ≡ prefix_len (λ b. not (ends_language b)) text → n < length text → slice_index text n < 128
+word_stops text n e less =
     let p = λ (b : ℕ). not (ends_language b) in
     let stops : p (slice_index text n) ≡ false = subst (λ k. p (slice_index text k) ≡ false) (sym e) (prefix_len_stops p text 0 (omega (arith, e, less))) in
-    IsCharBoundary-before_ascii text n less (ends_ascii (slice_index text n) stops)
+    ends_ascii (slice_index text n) stops
+
+word_within : (text : List ℕ) (n : ℕ) → n ≡ prefix_len (λ b. not (ends_language b)) text → (n ≡ length text) ⊎ (n < length text) → IsCharBoundary text n
+word_within text n e (inl all) = subst (IsCharBoundary text) (sym all) (IsCharBoundary-end text)
+word_within text n e (inr less) = IsCharBoundary-before_ascii text n less (word_stops text n e less)
 
 -- behind the first word a text may be cut
 pub word_ends : (text : List ℕ) (n : ℕ) → n ≡ prefix_len (λ b. not (ends_language b)) text → IsCharBoundary text n
@@ -99,8 +103,19 @@ word_ends text n e =
     let most = prefix_len-le-length (λ (b : ℕ). not (ends_language b)) text in
     word_within text n e (eq-or-lt_of_le (omega (arith, e, most)))
 
+pub word_le : (text : List ℕ) (n : ℕ) → n ≡ prefix_len (λ b. not (ends_language b)) text → n ≤ length text
+word_le text n e = omega (arith, e, prefix_len-le-length (λ (b : ℕ). not (ends_language b)) text)
+
+-- and behind what ends it
+pub word_end_behind : (text : List ℕ) (n : ℕ) → IsUtf8 text → n ≡ prefix_len (λ b. not (ends_language b)) text → n < length text → IsCharBoundary text (n + 1)
+word_end_behind text n u e less = IsCharBoundary-after_ascii text n u less (word_stops text n e less)
+
 pub language_is : (entities : EntityTable) (info text new : List ℕ) (n : ℕ) → text ≡ unescaped entities info → n ≡ prefix_len (λ b. not (ends_language b)) text
     → new ≡ take n text → new ≡ code_language entities info
 unfolding code_language
 language_is entities info text new n t e f =
     f ∙ ap (λ k. take k text) e ∙ ap (λ t. take (prefix_len (λ b. not (ends_language b)) t) t) t
+
+pub meta_is : (entities : EntityTable) (info text new : List ℕ) → text ≡ unescaped entities info → new ≡ behind_word text → new ≡ code_meta entities info
+unfolding code_meta
+meta_is entities info text new t e = e ∙ ap behind_word t

@@ -5,7 +5,7 @@ use Rattle.std.proofs.lemmas.List.FromFn.{length-range_with_len}
 use Rattle.std.specs.List.{range_with_len}
 use Rattle.std.specs.Option.{MatchOption}
 use Rattle.mdtext.specs.EntityTable.{EntityTable}
-use Rattle.mdleaf.specs.CodeLanguage.{code_language}
+use Rattle.mdleaf.specs.CodeLanguage.{code_language, code_meta}
 use Rattle.mdleaf.specs.ParagraphText.{joined_lines}
 use Rattle.mdleaf.specs.TableRows.{row_aligns, row_texts}
 use Rattle.mdleaf.proofs.CellTexts.{length_filled}
@@ -49,7 +49,7 @@ before_last ls l =
 fence_left : (entities : EntityTable) (indentation mark length : ℕ) (info : List ℕ) (closed : Bool) (first : BlockLine) (later : List BlockLine) (l : BlockLine) (s : LeafAfter)
     → IsFenceStep closed entities indentation mark length info later l s → IsLeft entities (fence_step closed (FencedCode indentation mark length info)) first (later ++ l ∷ []) s
 fence_left entities indentation mark length info true first later l s h =
-    subst (λ ls. IsOver (code_block (code_language entities info) (code_text indentation ls)) s) (sym (before_last later l)) h
+    subst (λ ls. IsOver (code_block (code_language entities info) (code_meta entities info) (code_text indentation ls)) s) (sym (before_last later l)) h
 fence_left entities indentation mark length info false first later l s h = h
 
 same_three : (P : ℕ → ℕ → ℕ → Type 0) (a b c i m n : ℕ) → a ≡ i → b ≡ m → c ≡ n → P a b c → P i m n
@@ -66,6 +66,7 @@ fence_added entities f (FencedCode indentation mark length info closed) first la
       length_is = refl;
       indentation_is = refl;
       language = h.language;
+      meta = h.meta;
       body = h.body ∙ ap (λ n. code_text n later) (sym h.indentation_is);
     } in
     let left : IfOk r (λ s. IsFenceStep (closes mark length l) entities indentation mark length info later l s) =

@@ -7,7 +7,7 @@ use Rattle.std.specs.Option.{MatchOption}
 use Rattle.std.specs.Prelude.{string_bytes}
 use Rattle.mdtext.specs.EntityTable.{EntityTable}
 use Rattle.mdscan.specs.declared.delimiter_rows.Align.{Align}
-use Rattle.mdleaf.specs.CodeLanguage.{code_language}
+use Rattle.mdleaf.specs.CodeLanguage.{code_language, code_meta}
 use Rattle.mdleaf.specs.LeadingDefinitions.{leading_of}
 use Rattle.mdleaf.specs.LinkDefinition.{LinkDefinition}
 use Rattle.mdleaf.specs.ParagraphText.{joined_lines, behind_definitions, without_end_blanks}
@@ -235,8 +235,8 @@ unfolding leaf_from open_leaves
 fence_goes room level new before after l step in_item groups begin gap was lines texts definitions i m n info first later true h same is left =
     let kept = leaf_from (FencedCode i m n info false) first later in
     let next = leaf_from (FencedCode i m n info true) first (later ++ l ∷ []) in
-    let one = code_leaf (code_language before.entities.now info) (code_text i (without_last (later ++ l ∷ []))) in
-    goes_over room level new before after l step in_item groups begin gap kept was lines texts definitions h next (one ∷ []) (sym is) left.nothing_going (one_given before after step one _ left refl refl refl same) refl refl (code_task (is_front in_item level.over.items) _ _)
+    let one = code_leaf (code_language before.entities.now info) (code_meta before.entities.now info) (code_text i (without_last (later ++ l ∷ []))) in
+    goes_over room level new before after l step in_item groups begin gap kept was lines texts definitions h next (one ∷ []) (sym is) left.nothing_going (one_given before after step one _ left refl refl refl same) refl refl (code_task (is_front in_item level.over.items) _ _ _)
 fence_goes room level new before after l step in_item groups begin gap was lines texts definitions i m n info first later false h same is left = go step.going refl left.going
   where
     kept : OpenLeaf
@@ -328,7 +328,7 @@ task_before_table (leaf_node (definition_leaf definition) a) aligns head rows = 
 task_before_table (leaf_node (paragraph_leaf task text) a) aligns head rows = refl
 task_before_table (leaf_node (heading_leaf level text) a) aligns head rows = refl
 task_before_table (leaf_node break_leaf a) aligns head rows = refl
-task_before_table (leaf_node (code_leaf lang body) a) aligns head rows = refl
+task_before_table (leaf_node (code_leaf lang meta body) a) aligns head rows = refl
 task_before_table (leaf_node (html_leaf lines) a) aligns head rows = refl
 task_before_table (leaf_node (table_leaf a' h r) a) aligns head rows = refl
 task_before_table (quote_node inner a) aligns head rows = refl

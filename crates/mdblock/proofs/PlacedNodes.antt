@@ -64,7 +64,7 @@ leaf_block_before n (definition_leaf definition) a b = refl
 leaf_block_before n (paragraph_leaf task text) a b = refl
 leaf_block_before n (heading_leaf level text) a b = refl
 leaf_block_before n break_leaf a b = refl
-leaf_block_before n (code_leaf lang body) a b = refl
+leaf_block_before n (code_leaf lang meta body) a b = refl
 leaf_block_before n (html_leaf lines) a b = refl
 leaf_block_before n (table_leaf aligns head rows) a b = refl
 
@@ -114,7 +114,7 @@ task_behind_block (leaf_node (definition_leaf definition) a) b h = ap (leaf_node
 task_behind_block (leaf_node (paragraph_leaf task text) a) b h = refl
 task_behind_block (leaf_node (heading_leaf level text) a) b h = refl
 task_behind_block (leaf_node break_leaf a) b h = refl
-task_behind_block (leaf_node (code_leaf lang body) a) b h = refl
+task_behind_block (leaf_node (code_leaf lang meta body) a) b h = refl
 task_behind_block (leaf_node (html_leaf lines) a) b h = refl
 task_behind_block (leaf_node (table_leaf aligns head rows) a) b h = refl
 task_behind_block (quote_node inner a) b h = refl
@@ -128,7 +128,7 @@ task_behind_definitions (leaf_node (definition_leaf definition) a) b h = ap (lea
 task_behind_definitions (leaf_node (paragraph_leaf task text) a) b h = absurd (let x : ⊥ = cc in x)
 task_behind_definitions (leaf_node (heading_leaf level text) a) b h = absurd (let x : ⊥ = cc in x)
 task_behind_definitions (leaf_node break_leaf a) b h = absurd (let x : ⊥ = cc in x)
-task_behind_definitions (leaf_node (code_leaf lang body) a) b h = absurd (let x : ⊥ = cc in x)
+task_behind_definitions (leaf_node (code_leaf lang meta body) a) b h = absurd (let x : ⊥ = cc in x)
 task_behind_definitions (leaf_node (html_leaf lines) a) b h = absurd (let x : ⊥ = cc in x)
 task_behind_definitions (leaf_node (table_leaf aligns head rows) a) b h = absurd (let x : ⊥ = cc in x)
 task_behind_definitions (quote_node inner a) b h = absurd (let x : ⊥ = cc in x)
@@ -146,7 +146,7 @@ task_has_block (leaf_node (definition_leaf definition) a) = task_has_block a
 task_has_block (leaf_node (paragraph_leaf task text) a) = task_leaf (task_marker text) text a
 task_has_block (leaf_node (heading_leaf level text) a) = refl
 task_has_block (leaf_node break_leaf a) = refl
-task_has_block (leaf_node (code_leaf lang body) a) = refl
+task_has_block (leaf_node (code_leaf lang meta body) a) = refl
 task_has_block (leaf_node (html_leaf lines) a) = refl
 task_has_block (leaf_node (table_leaf aligns head rows) a) = refl
 task_has_block (quote_node inner a) = refl
@@ -160,7 +160,7 @@ placed_none n (leaf_node (definition_leaf definition) a) h = placed_none (n + 0)
 placed_none n (leaf_node (paragraph_leaf task text) a) h = absurd (let x : ⊥ = cc in x)
 placed_none n (leaf_node (heading_leaf level text) a) h = absurd (let x : ⊥ = cc in x)
 placed_none n (leaf_node break_leaf a) h = absurd (let x : ⊥ = cc in x)
-placed_none n (leaf_node (code_leaf lang body) a) h = absurd (let x : ⊥ = cc in x)
+placed_none n (leaf_node (code_leaf lang meta body) a) h = absurd (let x : ⊥ = cc in x)
 placed_none n (leaf_node (html_leaf lines) a) h = absurd (let x : ⊥ = cc in x)
 placed_none n (leaf_node (table_leaf aligns head rows) a) h = absurd (let x : ⊥ = cc in x)
 placed_none n (quote_node inner a) h = absurd (let x : ⊥ = cc in x)
@@ -173,7 +173,7 @@ texts_none (leaf_node (definition_leaf definition) a) h = texts_none a h
 texts_none (leaf_node (paragraph_leaf task text) a) h = absurd (let x : ⊥ = cc in x)
 texts_none (leaf_node (heading_leaf level text) a) h = absurd (let x : ⊥ = cc in x)
 texts_none (leaf_node break_leaf a) h = absurd (let x : ⊥ = cc in x)
-texts_none (leaf_node (code_leaf lang body) a) h = absurd (let x : ⊥ = cc in x)
+texts_none (leaf_node (code_leaf lang meta body) a) h = absurd (let x : ⊥ = cc in x)
 texts_none (leaf_node (html_leaf lines) a) h = absurd (let x : ⊥ = cc in x)
 texts_none (leaf_node (table_leaf aligns head rows) a) h = absurd (let x : ⊥ = cc in x)
 texts_none (quote_node inner a) h = absurd (let x : ⊥ = cc in x)

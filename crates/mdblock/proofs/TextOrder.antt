@@ -45,7 +45,7 @@ mutual
   block_in_order at end (paragraph text task) w = ap (λ z. paragraph z task) (sym w.0)
   block_in_order at end (heading level text) w = ap (heading level) (sym w.0)
   block_in_order at end thematic_break w = refl
-  block_in_order at end (code_block lang body) w = refl
+  block_in_order at end (code_block lang meta body) w = refl
   block_in_order at end (html_block lines) w = refl
   block_in_order at end (block_quote bs) w = ap block_quote (blocks_in_order at end bs w)
   block_in_order at end (list kind tight is) w = ap (list kind tight) (items_in_order at end is w)

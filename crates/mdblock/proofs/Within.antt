@@ -31,7 +31,7 @@ mutual
   block_grows n m (paragraph at task) le h = omega arith
   block_grows n m (heading level at) le h = omega arith
   block_grows n m thematic_break le h = h
-  block_grows n m (code_block lang body) le h = h
+  block_grows n m (code_block lang meta body) le h = h
   block_grows n m (html_block lines) le h = h
   block_grows n m (block_quote bs) le h = blocks_grow n m bs le h
   block_grows n m (list kind tight is) le h = items_grow n m is le h

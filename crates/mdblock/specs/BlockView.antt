@@ -17,7 +17,7 @@ abbrev pub block_step : Block-F Block Blocks → Block
 block_step (Block-F.Paragraph t k) = paragraph t k
 block_step (Block-F.Heading l t) = heading l t
 block_step Block-F.Break = thematic_break
-block_step (Block-F.Code l t) = code_block (string_bytes l) (string_bytes t)
+block_step (Block-F.Code l m t) = code_block (string_bytes l) (string_bytes m) (string_bytes t)
 block_step (Block-F.Html s) = html_block (string_bytes s)
 block_step (Block-F.Quote v) = block_quote (blocks_of v.items)
 block_step (Block-F.List k t v) = list (kind_view k) t (items_of v.items)

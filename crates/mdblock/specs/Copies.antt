@@ -9,7 +9,7 @@ abbrev mutual
   block_positions (paragraph text task) = text ∷ []
   block_positions (heading level text) = text ∷ []
   block_positions thematic_break = []
-  block_positions (code_block lang body) = []
+  block_positions (code_block lang meta body) = []
   block_positions (html_block lines) = []
   block_positions (block_quote bs) = blocks_positions bs
   block_positions (list kind tight is) = items_positions is
@@ -33,7 +33,7 @@ abbrev mutual
   copied_block at (paragraph text task) = paragraph at task
   copied_block at (heading level text) = heading level at
   copied_block at thematic_break = thematic_break
-  copied_block at (code_block lang body) = code_block lang body
+  copied_block at (code_block lang meta body) = code_block lang meta body
   copied_block at (html_block lines) = html_block lines
   copied_block at (block_quote bs) = block_quote (copied_blocks at bs)
   copied_block at (list kind tight is) = list kind tight (copied_items at is)

@@ -11,7 +11,7 @@ abbrev mutual
   BlockIn n (paragraph at task) = at < n
   BlockIn n (heading level at) = at < n
   BlockIn n thematic_break = Unit {0}
-  BlockIn n (code_block lang body) = Unit {0}
+  BlockIn n (code_block lang meta body) = Unit {0}
   BlockIn n (html_block lines) = Unit {0}
   BlockIn n (block_quote bs) = BlocksIn n bs
   BlockIn n (list kind tight is) = ItemsIn n is

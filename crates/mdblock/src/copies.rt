@@ -89,8 +89,9 @@ fn copied_block(
             })
         }
         Block::Break => Ok(Block::Break),
-        Block::Code { lang, body } => Ok(Block::Code {
+        Block::Code { lang, meta, body } => Ok(Block::Code {
             lang: String::from_str(alloc, lang)?,
+            meta: String::from_str(alloc, meta)?,
             body: String::from_str(alloc, body)?,
         }),
         Block::Html(lines) => Ok(Block::Html(String::from_str(alloc, lines)?)),

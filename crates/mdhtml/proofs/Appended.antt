@@ -40,7 +40,7 @@ mutual
   block_behind o ts tight (paragraph at task) out x e = paragraph_behind out x (task_box task ++ text_html ts at) tight e
   block_behind o ts tight (heading level at) out x e = line_behind out x (heading_html level (text_html ts at)) e
   block_behind o ts tight thematic_break out x e = line_behind out x (codes "<hr />\n") e
-  block_behind o ts tight (code_block lang body) out x e = line_behind out x (code_html o lang body) e
+  block_behind o ts tight (code_block lang meta body) out x e = line_behind out x (code_html o lang meta body) e
   block_behind o ts tight (html_block lines) out x e = line_behind out x (raw_block_html o lines) e
   block_behind o ts tight (block_quote bs) out x e =
       let inner = blocks_html o ts false bs (fresh x ++ codes "<blockquote>\n") in

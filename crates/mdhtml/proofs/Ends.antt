@@ -20,7 +20,7 @@ ends_block : (o : Options) (ts : List (List ℕ)) (b : Block) (out : List ℕ) �
 ends_block o ts (paragraph at task) out = by_last (block_html o ts false (paragraph at task) out) _ (codes "</p>\n") refl (omega arith) refl
 ends_block o ts (heading l at) out = by_last_two (block_html o ts false (heading l at) out) (fresh out) (codes "<" ++ heading_tag l ++ codes ">" ++ text_html ts at ++ codes "</" ++ heading_tag l) (codes ">\n") refl (omega arith) refl
 ends_block o ts thematic_break out = by_last (block_html o ts false thematic_break out) _ (codes "<hr />\n") refl (omega arith) refl
-ends_block o ts (code_block lang body) out = by_last_two (block_html o ts false (code_block lang body) out) _ _ (codes "</code></pre>\n") refl (omega arith) refl
+ends_block o ts (code_block lang meta body) out = by_last_two (block_html o ts false (code_block lang meta body) out) _ _ (codes "</code></pre>\n") refl (omega arith) refl
 ends_block o ts (html_block s) out = by_last_two (block_html o ts false (html_block s) out) _ _ (codes "\n") refl (omega arith) refl
 ends_block o ts (block_quote bs) out = by_last (block_html o ts false (block_quote bs) out) _ (codes "</blockquote>\n") refl (omega arith) refl
 ends_block o ts (list (bullet m) t is) out = by_last (block_html o ts false (list (bullet m) t is) out) _ (codes "</ul>\n") refl (omega arith) refl

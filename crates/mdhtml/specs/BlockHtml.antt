@@ -1,5 +1,5 @@
 -- HTML of blocks (CommonMark 4 and 5; GFM Tables (extension), GFM Task list items (extension)). Each is a function of the piece so far, since a block begins on a line of its own.
-use Rattle.std.specs.Prelude.{ℕ, ◌-◌, List, [], ◌++◌, codes, if◌then◌else◌, ◌==◌, ◌||◌, Bool, true, false, Option, Some, None, length, map, slice_index}
+use Rattle.std.specs.Prelude.{ℕ, ◌-◌, List, [], ◌++◌, codes, if◌then◌else◌, ◌==◌, ◌||◌, ◌&&◌, not, Bool, true, false, Option, Some, None, length, map, slice_index}
 use Rattle.std.specs.Fmt.{decimal}
 use Rattle.mdtext.specs.Escaped.{escaped}
 use Rattle.mdinline.specs.ParsedText.{ParsedText}
@@ -39,16 +39,21 @@ heading_tag level =
 abbrev pub heading_html : ℕ → List ℕ → List ℕ
 heading_html level inner = codes "<" ++ heading_tag level ++ codes ">" ++ inner ++ codes "</" ++ heading_tag level ++ codes ">\n"
 
+-- the rest of the info string, where it is asked for and is not empty: an attribute behind that of the language
+abbrev pub meta_attribute : Options → (meta : List ℕ) → List ℕ
+meta_attribute o meta = if o.full_info_string && not (length meta == 0) then codes "\" data-meta=\"" ++ escaped meta else []
+
 -- the language is an attribute of `pre`, or a class of `code`
-abbrev pub language_open : (pre_lang : Bool) → List ℕ → List ℕ
-language_open true lang = codes "<pre lang=\"" ++ escaped lang ++ codes "\"><code>"
-language_open false lang = codes "<pre><code class=\"language-" ++ escaped lang ++ codes "\">"
+abbrev pub language_open : (pre_lang : Bool) → (lang attribute : List ℕ) → List ℕ
+language_open true lang attribute = codes "<pre lang=\"" ++ escaped lang ++ attribute ++ codes "\"><code>"
+language_open false lang attribute = codes "<pre><code class=\"language-" ++ escaped lang ++ attribute ++ codes "\">"
 
-abbrev pub code_open : Options → List ℕ → List ℕ
-code_open o lang = if length lang == 0 then codes "<pre><code>" else language_open o.pre_lang lang
+-- without a language nothing of the info string is written
+abbrev pub code_open : Options → (lang meta : List ℕ) → List ℕ
+code_open o lang meta = if length lang == 0 then codes "<pre><code>" else language_open o.pre_lang lang (meta_attribute o meta)
 
-abbrev pub code_html : Options → (lang body : List ℕ) → List ℕ
-code_html o lang body = code_open o lang ++ escaped body ++ codes "</code></pre>\n"
+abbrev pub code_html : Options → (lang meta body : List ℕ) → List ℕ
+code_html o lang meta body = code_open o lang meta ++ escaped body ++ codes "</code></pre>\n"
 
 abbrev pub raw_block_html : Options → List ℕ → List ℕ
 raw_block_html o lines = raw_html o lines ++ codes "\n"
@@ -70,7 +75,7 @@ abbrev mutual
   block_html o texts tight (paragraph at task) out = paragraph_html tight (task_box task ++ text_html texts at) out
   block_html o texts tight (heading level at) out = fresh out ++ heading_html level (text_html texts at)
   block_html o texts tight thematic_break out = fresh out ++ codes "<hr />\n"
-  block_html o texts tight (code_block lang body) out = fresh out ++ code_html o lang body
+  block_html o texts tight (code_block lang meta body) out = fresh out ++ code_html o lang meta body
   block_html o texts tight (html_block lines) out = fresh out ++ raw_block_html o lines
   block_html o texts tight (block_quote bs) out = fresh (blocks_html o texts false bs (fresh out ++ codes "<blockquote>\n")) ++ codes "</blockquote>\n"
   block_html o texts tight (list kind t is) out = items_html o texts t is (fresh out ++ list_open kind) ++ list_close kind

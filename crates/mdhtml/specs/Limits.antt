@@ -9,4 +9,4 @@ HasLimits o = (1 ≤ o.max_containers) × (o.max_containers ≤ 256) × (1 ≤ o
 
 -- raw HTML and harmful destinations are left out, soft line breaks stay, a language is a class and an alignment an attribute of its own, and both limits are 64
 abbrev pub plain : Options
-plain = record { unsafe_html = false; breaks = Soft; pre_lang = false; align_style = false; max_containers = 64; max_spans = 64 }
+plain = record { unsafe_html = false; breaks = Soft; pre_lang = false; full_info_string = false; align_style = false; max_containers = 64; max_spans = 64 }

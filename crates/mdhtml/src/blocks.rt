@@ -54,7 +54,7 @@ fn write_block(
         Block::Paragraph { text, task } => { write_paragraph(*text, *task, tight, texts, out) }
         Block::Heading { level, text } => write_heading(*level, *text, texts, out),
         Block::Break => write_thematic_break(out),
-        Block::Code { lang, body } => write_code(lang, body, options, out),
+        Block::Code { lang, meta, body } => write_code(lang, meta, body, options, out),
         Block::Html(lines) => write_html(lines, options, out),
         Block::Quote(inner) => write_quote(inner, texts, options, out),
         Block::List { kind, tight, items } => {

@@ -60,7 +60,7 @@ abbrev mutual
   inside_block texts (paragraph at task) = inside_text (slice_get texts at)
   inside_block texts (heading level at) = inside_text (slice_get texts at)
   inside_block texts thematic_break = []
-  inside_block texts (code_block lang body) = []
+  inside_block texts (code_block lang meta body) = []
   inside_block texts (html_block lines) = []
   inside_block texts (block_quote bs) = blocks_edges texts bs
   inside_block texts (list kind tight is) = items_edges texts is

@@ -40,8 +40,9 @@ with_version app = record app { top = record app.top { has_version = true } }
 -- the options of how HTML is written
 abbrev pub with_writing : App → App
 with_writing app =
-    with_rule (with_rule (with_rule (with_rule (with_rule app
-    (flag_rule (codes "unsafe"))) (flag_rule (codes "hardbreaks"))) (flag_rule (codes "nobreaks"))) (flag_rule (codes "github-pre-lang"))) (flag_rule (codes "table-prefer-style-attributes"))
+    with_rule (with_rule (with_rule (with_rule (with_rule (with_rule app
+    (flag_rule (codes "unsafe"))) (flag_rule (codes "hardbreaks"))) (flag_rule (codes "nobreaks"))) (flag_rule (codes "github-pre-lang"))) (flag_rule (codes "full-info-string")))
+    (flag_rule (codes "table-prefer-style-attributes"))
 
 -- the options of which names of entities are known
 abbrev pub with_names : App → App
@@ -112,6 +113,7 @@ pub record OptionsRead (matches : ArgMatches) (options : Options) : Type 0 where
   pub raw : options.unsafe_html ≡ is_on matches (codes "unsafe")
   pub breaks : IsBreaks (is_on matches (codes "hardbreaks")) (is_on matches (codes "nobreaks")) options.breaks
   pub pre_lang : options.pre_lang ≡ is_on matches (codes "github-pre-lang")
+  pub full_info_string : options.full_info_string ≡ is_on matches (codes "full-info-string")
   pub align_style : options.align_style ≡ is_on matches (codes "table-prefer-style-attributes")
   pub containers : IsLimit (first_value (found_of matches) (codes "max-containers")) options.max_containers
   pub spans : IsLimit (first_value (found_of matches) (codes "max-spans")) options.max_spans

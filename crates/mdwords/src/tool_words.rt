@@ -43,7 +43,7 @@ const RENDER_ABOUT: &str =
 
 const RENDER_EXAMPLE: &str = "Not there, of cmark-gfm's words:
   other formats (-t xml, commonmark, latex, man, plaintext, ..), other extensions (-e autolink, tagfilter, footnotes, ..),
-  --footnotes, --smart, --sourcepos, --full-info-string, --strikethrough-double-tilde, --list-extensions,
+  --footnotes, --smart, --sourcepos, --strikethrough-double-tilde, --list-extensions,
   and more than one FILE
 
 Example:
@@ -143,6 +143,11 @@ fn with_writing<'a>(alloc: Global, command: Command<'a>) -> Result<Command<'a>, 
             alloc,
             "github-pre-lang",
             "Write the language of a code block as <pre lang=\"..\">",
+        ))?
+        .arg(flag(
+            alloc,
+            "full-info-string",
+            "Write what stands behind the language as data-meta=\"..\"",
         ))?
         .arg(flag(
             alloc,
@@ -321,6 +326,7 @@ fn options_of(matches: &ArgMatches<'_>) -> Result<Options, WordFault>
     let unsafe_html = is_on(matches, "unsafe");
     let breaks = breaks_of(is_on(matches, "hardbreaks"), is_on(matches, "nobreaks"))?;
     let pre_lang = is_on(matches, "github-pre-lang");
+    let full_info_string = is_on(matches, "full-info-string");
     let align_style = is_on(matches, "table-prefer-style-attributes");
     let max_containers = limit_of(matches.get_str("max-containers"))?;
     let max_spans = limit_of(matches.get_str("max-spans"))?;
@@ -328,6 +334,7 @@ fn options_of(matches: &ArgMatches<'_>) -> Result<Options, WordFault>
         unsafe_html,
         breaks,
         pre_lang,
+        full_info_string,
         align_style,
         max_containers,
         max_spans,

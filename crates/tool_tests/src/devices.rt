@@ -4,16 +4,13 @@ mod pages;
 mod scripts;
 mod tables;
 
-use mdtool::{Breaks, Options, ToolFault};
+use crate::options::SOFT;
+use mdtool::{Options, ToolFault};
 
 /// Raw HTML as it stands, so that all that is read is written.
 const OPTIONS: Options = Options {
     unsafe_html: true,
-    breaks: Breaks::Soft,
-    pre_lang: false,
-    align_style: false,
-    max_containers: 64,
-    max_spans: 64,
+    ..SOFT
 };
 
 /// What a run wrote, how it ended, and how often it flushed.

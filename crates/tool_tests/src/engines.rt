@@ -9,6 +9,7 @@ mod worked_texts;
 ghost use Rattle.std.specs.Prelude.{◌<◌};
 ghost use Rattle.mdhtml.specs.Limits.{HasLimits};
 
+use crate::options::SOFT;
 use mdtext::Entities;
 use mdtool::{
     Breaks, EditFault, MemoryFeed, MemoryOut, Options, Stop, TableFault, ToolFault, WordFault,
@@ -21,14 +22,7 @@ use std::test::Fail;
 fn options(breaks: Breaks) -> Options
     ensures { HasLimits result }
 {
-    Options {
-        unsafe_html: false,
-        breaks,
-        pre_lang: false,
-        align_style: false,
-        max_containers: 64,
-        max_spans: 64,
-    }
+    Options { breaks, ..SOFT }
 }
 
 /// What `serve` writes for a script, how it ends, and how often it flushed.

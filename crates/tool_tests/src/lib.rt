@@ -6,4 +6,6 @@ mod devices;
 #[cfg(test)]
 mod engines;
 #[cfg(test)]
+mod options;
+#[cfg(test)]
 mod walks;

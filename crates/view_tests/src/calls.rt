@@ -1,28 +1,13 @@
 //! The calls of a preview as tests make them. What they promise stays here: a test looks at the answers, so its own proof is short.
 
-ghost use Rattle.mdhtml.specs.Limits.{HasLimits};
-
 use mdtext::{Entities, Tally};
-use mdview::{Breaks, EditFault, Options, Patch, Preview};
+use mdview::{EditFault, Options, Patch, Preview};
 use std::alloc::Global;
 use std::test::Fail;
 
-fn options() -> Options
-    ensures { HasLimits result }
-{
-    Options {
-        unsafe_html: false,
-        breaks: Breaks::Soft,
-        pre_lang: false,
-        align_style: false,
-        max_containers: 64,
-        max_spans: 64,
-    }
-}
-
 /// A preview of no lines.
 pub(crate) fn empty(alloc: Global) -> Result<Preview, Fail> {
-    Ok(Preview::new(alloc, Entities::builtin(alloc)?, options()))
+    Ok(Preview::new(alloc, Entities::builtin(alloc)?, Options::plain()))
 }
 
 /// A preview of these lines.

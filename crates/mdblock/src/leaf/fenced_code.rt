@@ -3,7 +3,7 @@
 ghost use Rattle.std.specs.Prelude.{◌≡◌, ℕ, ◌≤◌, not, true, List, [], ◌∷◌, ◌++◌, IfOk, OnOk, length, string_bytes};
 ghost use Rattle.std.specs.List.{prefix_len};
 ghost use Rattle.mdtext.specs.EntityTable.{EntityTable};
-ghost use Rattle.mdleaf.specs.CodeLanguage.{code_language, ends_language};
+ghost use Rattle.mdleaf.specs.CodeLanguage.{behind_word, code_language, code_meta, ends_language};
 ghost use Rattle.mdscan.specs.Spans.{part};
 ghost use Rattle.mdscan.specs.Spans.{IsSpanOf};
 ghost use Rattle.blockspec.specs.BlockLine.{BlockLine, rest, indentation};
@@ -29,7 +29,15 @@ pub(crate) struct Fence {
     length: usize,
     indent: usize,
     lang: String,
+    meta: String,
     body: String,
+}
+
+/// An info string, after escapes and references: its first word, and what stands behind that.
+#[derive(Drop)]
+struct Info {
+    lang: String,
+    meta: String,
 }
 
 /// The code that a line opens.
@@ -44,12 +52,13 @@ pub(crate) fn begin(
         (indentation line.now) fence.mark fence.length (part (rest line.now) fence.info) []) step) }
 {
     let text = line.text();
-    let info = &text[fence.info.start..fence.info.end];
+    let info = read_info(&text[fence.info.start..fence.info.end], gathering)?;
     Ok(going(Leaf::Fence(Fence {
         mark: fence.mark,
         length: fence.length,
         indent: line.indent(),
-        lang: language(info, gathering)?,
+        lang: info.lang,
+        meta: info.meta,
         body: String::new(gathering.alloc()),
     })))
 }
@@ -101,24 +110,38 @@ impl Fence {
     /// What the code is at its end.
     pub(crate) fn end(self) -> Block
         ensures within { (n : ℕ) → BlockIn n (block_view result) }
-        ensures value { block_view result ≡ code_block (string_bytes self.lang) (string_bytes self.body) }
+        ensures value { block_view result ≡ code_block (string_bytes self.lang) (string_bytes self.meta) (string_bytes self.body) }
     {
         Block::Code {
             lang: self.lang,
+            meta: self.meta,
             body: self.body,
         }
     }
 }
 
-/// The first word of an info string, after escapes and references.
-fn language(info: &str, gathering: &Gathering) -> Result<String, AllocError>
-    ensures { IfOk result (λ lang. string_bytes lang ≡ code_language gathering.now.entities.now info.now) }
+/// Replaces escapes and references, and parts the first word from what stands behind it.
+fn read_info(info: &str, gathering: &Gathering) -> Result<Info, AllocError>
+    ensures lang { IfOk result (λ read. string_bytes read.lang ≡ code_language gathering.now.entities.now info.now) }
+    ensures meta { IfOk result (λ read. string_bytes read.meta ≡ code_meta gathering.now.entities.now info.now) }
 {
     let mut lang = String::new(gathering.alloc());
     unescape(info, gathering.entities(), &mut lang)?;
     let end = word_length(lang.as_bytes());
+    let meta = String::from_str(gathering.alloc(), behind_word(&lang, end))?;
     lang.truncate(end);
-    Ok(lang)
+    Ok(Info { lang, meta })
+}
+
+/// What stands behind the first word, which is so long, and the character that ends it.
+fn behind_word(text: &str, end: usize) -> &str
+    requires { end ≡ prefix_len (λ b. not (ends_language b)) text.now }
+    ensures { result.now ≡ behind_word text.now }
+{
+    if end == text.len() {
+        return "";
+    }
+    &text[end + 1..]
 }
 
 /// How long the word is that a text begins with.

@@ -70,10 +70,11 @@ impl IndentedCode {
     /// What the code is at its end: blank lines there are no part of it.
     pub(crate) fn end(self, alloc: Global) -> Block
         ensures within { (n : ℕ) → BlockIn n (block_view result) }
-        ensures value { block_view result ≡ code_block [] (string_bytes self.body) }
+        ensures value { block_view result ≡ code_block [] [] (string_bytes self.body) }
     {
         Block::Code {
             lang: String::new(alloc),
+            meta: String::new(alloc),
             body: self.body,
         }
     }

@@ -100,7 +100,7 @@ fn same_block(block: &Block, like: &Block, shared: SharedTexts) -> bool
         Block::Paragraph { text, task } => same_paragraph(*text, *task, like, shared),
         Block::Heading { level, text } => same_heading(*level, *text, like, shared),
         Block::Break => same_break(like, shared),
-        Block::Code { lang, body } => same_code(lang, body, like, shared),
+        Block::Code { lang, meta, body } => same_code(lang, meta, body, like, shared),
         Block::Html(lines) => same_html(lines, like, shared),
         Block::Quote(inner) => same_quote(inner, like, shared),
         Block::List { kind, tight, items } => same_list(*kind, *tight, items, like, shared),
@@ -142,14 +142,15 @@ fn same_break(like: &Block, shared: SharedTexts) -> bool
     }
 }
 
-fn same_code(lang: &str, body: &str, like: &Block, shared: SharedTexts) -> bool
-    ensures { result ≡ true → BlockAlike shared (code_block lang.now body.now) (block_view like.now) }
+fn same_code(lang: &str, meta: &str, body: &str, like: &Block, shared: SharedTexts) -> bool
+    ensures { result ≡ true → BlockAlike shared (code_block lang.now meta.now body.now) (block_view like.now) }
 {
     match like {
         Block::Code {
             lang: word,
+            meta: rest,
             body: lines,
-        } => lang == word.as_str() && body == lines.as_str(),
+        } => lang == word.as_str() && meta == rest.as_str() && body == lines.as_str(),
         _ => false,
     }
 }

@@ -3,8 +3,9 @@
 ghost use Rattle.std.specs.Prelude.{◌≤◌};
 ghost use Rattle.mdhtml.specs.Limits.{HasLimits};
 
+use crate::options::SOFT;
 use mdtext::Entities;
-use mdtool::{Breaks, MemoryFeed, MemoryOut, Options, convert, read_words, serve};
+use mdtool::{MemoryFeed, MemoryOut, Options, convert, read_words, serve};
 use std::alloc::{AllocError, Global};
 use std::process::Abort;
 use std::test::Fail;
@@ -17,12 +18,9 @@ fn with_limits(max_containers: usize, max_spans: usize) -> Options
     ensures { HasLimits result }
 {
     Options {
-        unsafe_html: false,
-        breaks: Breaks::Soft,
-        pre_lang: false,
-        align_style: false,
         max_containers,
         max_spans,
+        ..SOFT
     }
 }
 

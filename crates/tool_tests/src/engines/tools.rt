@@ -3,20 +3,12 @@
 ghost use Rattle.std.specs.Prelude.{◌<◌};
 ghost use Rattle.mdhtml.specs.Limits.{HasLimits};
 
+use crate::options::SOFT;
 use mdtext::Entities;
 use mdtool::{Breaks, MemoryFeed, MemoryOut, Options, convert, entities_from, read_words, serve};
 use std::alloc::{AllocError, Global};
 use std::process::Abort;
 use std::test::Fail;
-
-const SOFT: Options = Options {
-    unsafe_html: false,
-    breaks: Breaks::Soft,
-    pre_lang: false,
-    align_style: false,
-    max_containers: 64,
-    max_spans: 64,
-};
 
 /// What `convert` writes, and how it ends.
 fn converted(
@@ -58,19 +50,11 @@ fn converts_worked_texts(rt: HostRuntime) -> Result<(), Fail> {
     let alloc = rt.alloc();
     let raw = Options {
         unsafe_html: true,
-        breaks: Breaks::Soft,
-        pre_lang: false,
-        align_style: false,
-        max_containers: 64,
-        max_spans: 64,
+        ..SOFT
     };
     let spaces = Options {
-        unsafe_html: false,
         breaks: Breaks::Space,
-        pre_lang: false,
-        align_style: false,
-        max_containers: 64,
-        max_spans: 64,
+        ..SOFT
     };
     check(&rt, alloc, b"", SOFT, "", "Ok(())")?;
     check(
@@ -344,34 +328,52 @@ fn reads_which_entity_names_are_known(rt: HostRuntime) -> Result<(), Fail> {
     Ok(())
 }
 
-/// Whether the language of a code block goes on `pre`, and the alignment of a cell is a style, by these words.
+/// Whether the language of a code block goes on `pre`, what stands behind it is written, and the alignment of a cell is a style, by
+/// these words.
 fn forms_asked(alloc: Global, words: &[&str]) -> Result<String, AllocError> {
     match read_words(alloc, words) {
-        Ok(read) => format!(in alloc; "{} {}", read.options.pre_lang, read.options.align_style),
+        Ok(read) => forms_shown(alloc, &read.options),
         Err(fault) => format!(in alloc; "{fault:?}"),
     }
 }
 
-static FORMS_ASKED: [([&str; 3], &str); 6] = [
-    (["mdrender", "--unsafe", "a"], "false false"),
-    (["mdrender", "--github-pre-lang", "a"], "true false"),
-    (
-        ["mdpreview", "--table-prefer-style-attributes", "a"],
-        "false true",
-    ),
+fn forms_shown(alloc: Global, options: &Options) -> Result<String, AllocError> {
+    let mut shown = String::new(alloc);
+    for on in [
+        options.pre_lang,
+        options.full_info_string,
+        options.align_style,
+    ] {
+        shown.push_str(if on { "1" } else { "0" })?;
+    }
+    Ok(shown)
+}
+
+static FORMS_ASKED: [([&str; 3], &str); 8] = [
+    (["mdrender", "--unsafe", "a"], "000"),
+    (["mdrender", "--github-pre-lang", "a"], "100"),
+    (["mdpreview", "--full-info-string", "a"], "010"),
+    (["mdpreview", "--table-prefer-style-attributes", "a"], "001"),
     (
         [
             "mdpreview",
             "--table-prefer-style-attributes",
             "--github-pre-lang",
         ],
-        "true true",
+        "101",
     ),
     (
         ["mdrender", "--github-pre-lang", "--github-pre-lang"],
         "NotUnderstood",
     ),
-    (["mdrender", "--full-info-string", "a"], "NotUnderstood"),
+    (
+        ["mdrender", "--full-info-string", "--full-info-string"],
+        "NotUnderstood",
+    ),
+    (
+        ["mdrender", "--strikethrough-double-tilde", "a"],
+        "NotUnderstood",
+    ),
 ];
 
 #[test]
@@ -400,6 +402,43 @@ fn writes_languages_and_alignments(rt: HostRuntime) -> Result<(), Fail> {
     check(&rt, alloc, table, forms, STYLED_TABLE, "Ok(())")?;
     Ok(())
 }
+
+/// What stands behind languages, as cmark-gfm writes it.
+#[test]
+fn writes_info_strings(rt: HostRuntime) -> Result<(), Fail> {
+    let alloc = rt.alloc();
+    let full = Options {
+        full_info_string: true,
+        ..SOFT
+    };
+    check(&rt, alloc, INFO_STRINGS, full, META_BEHIND_CLASS, "Ok(())")?;
+    let on_pre = Options {
+        pre_lang: true,
+        full_info_string: true,
+        ..SOFT
+    };
+    check(&rt, alloc, INFO_STRINGS, on_pre, META_ON_PRE, "Ok(())")?;
+    Ok(())
+}
+
+const INFO_STRINGS: &[u8] =
+    b"~~~ c&<\" x&y  \"z\"\na\n~~~\n\n~~~ c\n~~~\n\n~~~\n~~~\n\n``` c\td *e*\n";
+
+const META_BEHIND_CLASS: &str =
+    "<pre><code class=\"language-c&amp;&lt;&quot;\" data-meta=\"x&amp;y  &quot;z&quot;\">a
+</code></pre>
+<pre><code class=\"language-c\"></code></pre>
+<pre><code></code></pre>
+<pre><code class=\"language-c\" data-meta=\"d *e*\"></code></pre>
+";
+
+const META_ON_PRE: &str =
+    "<pre lang=\"c&amp;&lt;&quot;\" data-meta=\"x&amp;y  &quot;z&quot;\"><code>a
+</code></pre>
+<pre lang=\"c\"><code></code></pre>
+<pre><code></code></pre>
+<pre lang=\"c\" data-meta=\"d *e*\"><code></code></pre>
+";
 
 const STYLED_TABLE: &str = "<table>
 <thead>

@@ -1,7 +1,8 @@
 //! Worked texts with their HTML, seen through `serve`: CommonMark 0.31.2 and GFM 0.29, and our own profile of them.
 
+use crate::options::SOFT;
 use mdtext::{Entities, lines_of};
-use mdtool::{Breaks, MemoryFeed, MemoryOut, Options, serve};
+use mdtool::{MemoryFeed, MemoryOut, Options, serve};
 use std::alloc::{AllocError, Global};
 use std::process::Abort;
 use std::test::Fail;
@@ -171,11 +172,7 @@ fn served(alloc: Global, script: &str, unsafe_html: bool) -> Result<String, Allo
     let entities = Entities::builtin(alloc)?;
     let options = Options {
         unsafe_html,
-        breaks: Breaks::Soft,
-        pre_lang: false,
-        align_style: false,
-        max_containers: 64,
-        max_spans: 64,
+        ..SOFT
     };
     if serve(alloc, &mut feed, &mut out, entities, options, &[]).is_err() {
         return Err(AllocError);
