@@ -6,8 +6,8 @@ import sys
 import rows_common as common
 from rows_edits import call_term, is_plain, source_term
 
-CRATES = ['mdtext', 'mdscan', 'mdpair', 'mdleaf', 'blockspec', 'block_rows', 'itemspec', 'inlinespec', 'inlinelaws', 'inline_rows', 'mdinline', 'blocklaws', 'itemlaws', 'mdblock', 'mdhtml',
-          'viewspec', 'edit_rows', 'joinspec', 'join_rows']
+CRATES = ['mdtext', 'mdscan', 'mdpair', 'mdleaf', 'blockspec', 'block_rows', 'inlinespec', 'inlinelaws', 'inline_rows', 'mdinline', 'blocklaws', 'mdblock', 'mdhtml',
+          'viewspec', 'edit_rows']
 IN_A_FILE = 25
 ROWS = 300
 
@@ -15,7 +15,7 @@ HEAD = '''-- Rows of edits inside a list, and of where lists may be parted, by c
 use Rattle.std.proofs.Common.{◌≡◌, ℕ, List, [], ◌∷◌, ◌++◌, refl, codes}
 use Rattle.viewspec.specs.Calls.{edit}
 use Rattle.edit_rows.proofs.ReadEdits.{source_of, plain}
-use Rattle.join_rows.proofs.ReadJoins.{stops_read, joins_read, facts, join}
+use Rattle.edit_rows.proofs.ReadJoins.{stops_read, joins_read, facts, join}
 '''
 
 # The lines of such a text: items of each kind, what stands in items, and what parts a list.
@@ -81,13 +81,13 @@ def random_rows(oracle, seed, count):
 
 def write(workspace, rows):
     """Puts rows in place of the crate's own."""
-    proofs = os.path.join(workspace.path, 'crates', 'join_rows', 'proofs')
+    proofs = os.path.join(workspace.path, 'crates', 'edit_rows', 'proofs')
     for name in os.listdir(proofs):
-        if name != 'ReadJoins.antt':
+        if name not in ('ReadEdits.antt', 'ReadJoins.antt'):
             os.remove(os.path.join(proofs, name))
     files = {f'Joins{at}': HEAD + ''.join('\n' + text for text in part) for at, part in enumerate(common.parted(rows, IN_A_FILE))}
-    files['Lib'] = 'pub mod ReadJoins\n' + ''.join(f'mod {name}\n' for name in files)
-    workspace.write('join_rows', files)
+    files['Lib'] = 'pub mod ReadEdits\npub mod ReadJoins\n' + ''.join(f'mod {name}\n' for name in files)
+    workspace.write('edit_rows', files)
 
 
 def check(oracle, corpus, taken_from=None, kept=None, seed=1):
@@ -95,7 +95,7 @@ def check(oracle, corpus, taken_from=None, kept=None, seed=1):
     rows = random_rows(oracle, seed, ROWS)
     workspace = common.Workspace(CRATES, taken_from, kept)
     write(workspace, rows)
-    refused, proved, seconds = workspace.check('join_rows')
+    refused, proved, seconds = workspace.check('edit_rows')
     print(f'{len(rows)} rows in {seconds:.0f} s')
     if not proved and not refused:
         raise SystemExit(f'the rows were not checked; see {workspace.path}/log')

@@ -16,3 +16,14 @@ pub mod SummaryLaws
 pub mod UnitLaws
 pub mod UnitReaderLaws
 pub mod VisibleLaws
+pub mod TopLaws
+pub mod ItemsMeet
+pub mod JoinLines
+pub mod UnitsMeet
+pub mod DocumentItems
+pub mod JoinCuts
+pub mod LastJoins
+pub mod LastParted
+pub mod MarkLines
+pub mod ListsSpliced
+pub mod MarkedLines

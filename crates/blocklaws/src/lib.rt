@@ -1,9 +1,14 @@
-//! Laws of block structure: what holds of the definitions of `blockspec`, whatever reads a text. Each law is the contract of a
+//! Laws of block structure: what holds of the definitions of `blockspec`, whatever reads a text; and of lists item by item. Each law is the contract of a
 //! function with an empty body.
 #![tactic(auto)]
 
+mod items;
 mod laws;
 
+pub use items::{
+    equal_ends_give_equal_items, lines_before_tell_joins, lists_go_on, lists_keep_their_items,
+    two_parts_are_one_list, units_go_on,
+};
 pub use laws::{
     beginnings_stay, equal_ends_give_equal_units, first_units_define, items_meet,
     lines_before_tell_beginnings, summaries_give_the_units, summaries_tell_the_first_too_deep,

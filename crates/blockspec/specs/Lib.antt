@@ -20,3 +20,7 @@ pub mod TaskItem
 pub mod UnitBegin
 pub mod UnitReader
 pub mod UnitTree
+pub mod ListItems
+pub mod ItemMarks
+pub mod Joins
+pub mod SummaryJoins

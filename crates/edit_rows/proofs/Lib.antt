@@ -4,3 +4,7 @@ mod PieceRows
 mod PreludeRows
 mod RefusalRows
 mod StretchRows
+pub mod ReadJoins
+mod JoinRows
+mod ListEditRows
+mod SeamEditRows

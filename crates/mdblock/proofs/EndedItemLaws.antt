@@ -13,7 +13,7 @@ use Rattle.blockspec.specs.SummaryDepth.{sinks}
 use Rattle.blockspec.specs.UnitBegin.{list_mark, same_mark}
 use Rattle.mdblock.specs.BlockView.{kind_view}
 use Rattle.mdblock.specs.held.EndedItems.{ended_summary, EndsLastItem, IsNextOf, IsNextIn, KeepsNext}
-use Rattle.itemspec.specs.SummaryJoins.{is_parted_first, is_parted_after, gap_in}
+use Rattle.blockspec.specs.SummaryJoins.{is_parted_first, is_parted_after, gap_in}
 use Rattle.mdblock.specs.held.HeldLevel.{StandsFor, StandsForLast, HasGathered, Fits, behind_over, is_list, is_parted_last}
 use Rattle.mdblock.specs.held.HeldNodes.{list_of, handed_groups, handed_last, handed_nodes, tasked}
 use Rattle.mdblock.specs.held.LevelSteps.{EndsItem}

@@ -2,7 +2,7 @@
 use Rattle.std.proofs.Common.{◌≡◌, ℕ, Bool, List, ◌∙◌, ap}
 use Rattle.mdleaf.specs.LinkDefinition.{LinkDefinition}
 use Rattle.blockspec.specs.BlockTree.{Blocks}
-use Rattle.itemspec.specs.ItemMarks.{ItemMark}
+use Rattle.blockspec.specs.ItemMarks.{ItemMark}
 use Rattle.mdblock.specs.FoundLists.{FoundList}
 
 abbrev pub found_of : (parted : Bool) → List ItemMark → (begin lines : ℕ) → Blocks → List LinkDefinition → List (List ℕ) → FoundList

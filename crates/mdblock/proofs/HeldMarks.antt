@@ -21,14 +21,14 @@ use Rattle.blocklaws.proofs.HandedLaws.{IsBehind, front_units, front_lines, fron
 use Rattle.blocklaws.proofs.LimitLaws.{for_next_line}
 use Rattle.blocklaws.proofs.ReaderLaws.{summary_closed, summary_begins}
 use Rattle.blocklaws.proofs.UnitReaderLaws.{IsOne}
-use Rattle.itemspec.specs.ItemMarks.{ItemMark, is_parted, list_marks, mark_behind, marks_next, join_of}
-use Rattle.itemspec.specs.Joins.{block_joins}
-use Rattle.itemspec.specs.ListItems.{top_blocks}
-use Rattle.itemspec.specs.SummaryJoins.{joins_after, is_parted_after, gap_in}
-use Rattle.itemlaws.proofs.LastJoins.{summary_joins}
-use Rattle.itemlaws.proofs.LastParted.{summary_parted, summary_gapped}
-use Rattle.itemlaws.proofs.MarkLines.{held_marks, marks_join}
-use Rattle.itemlaws.proofs.UnitsMeet.{units_meet_inside}
+use Rattle.blockspec.specs.ItemMarks.{ItemMark, is_parted, list_marks, mark_behind, marks_next, join_of}
+use Rattle.blockspec.specs.Joins.{block_joins}
+use Rattle.blockspec.specs.ListItems.{top_blocks}
+use Rattle.blockspec.specs.SummaryJoins.{joins_after, is_parted_after, gap_in}
+use Rattle.blocklaws.proofs.LastJoins.{summary_joins}
+use Rattle.blocklaws.proofs.LastParted.{summary_parted, summary_gapped}
+use Rattle.blocklaws.proofs.MarkLines.{held_marks, marks_join}
+use Rattle.blocklaws.proofs.UnitsMeet.{units_meet_inside}
 use Rattle.mdblock.specs.FoundLists.{AreJoinsOf}
 use Rattle.mdblock.specs.held.HeldLevel.{list_between}
 use Rattle.mdblock.specs.held.Reads.{mark_after, open_begin, last_of}

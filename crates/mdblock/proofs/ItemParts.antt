@@ -5,7 +5,7 @@ use Rattle.std.specs.Prelude.{take}
 use Rattle.mdblock.specs.FoundLists.{join_mark}
 use Rattle.mdblock.specs.declared.units.Join as declared
 use Rattle.blockspec.specs.BlockTree.{item}
-use Rattle.itemspec.specs.ItemMarks.{ItemMark}
+use Rattle.blockspec.specs.ItemMarks.{ItemMark}
 use Rattle.mdblock.specs.BlockView.{item_view, items_view}
 use Rattle.mdblock.specs.Spliced.{take_items, drop_items, mark_at}
 use Rattle.mdblock.specs.held.TreesBehind.{placed_before}

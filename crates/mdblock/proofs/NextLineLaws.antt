@@ -22,11 +22,11 @@ use Rattle.blocklaws.proofs.HandedLaws.{IsFirst, IsBehind, begun_first, front_un
 use Rattle.blocklaws.proofs.OpenLeafLaws.{drops_last}
 use Rattle.blocklaws.proofs.ReaderLaws.{summary_closed, summary_begins}
 use Rattle.blocklaws.proofs.UnitReaderLaws.{IsOne}
-use Rattle.itemspec.specs.ItemMarks.{ItemMark, is_parted, list_marks, marks_next}
-use Rattle.itemspec.specs.ListItems.{top_blocks}
-use Rattle.itemspec.specs.SummaryJoins.{joins_after}
-use Rattle.itemlaws.proofs.LastJoins.{joined_behind_held}
-use Rattle.itemlaws.proofs.LastParted.{summary_parted}
+use Rattle.blockspec.specs.ItemMarks.{ItemMark, is_parted, list_marks, marks_next}
+use Rattle.blockspec.specs.ListItems.{top_blocks}
+use Rattle.blockspec.specs.SummaryJoins.{joins_after}
+use Rattle.blocklaws.proofs.LastJoins.{joined_behind_held}
+use Rattle.blocklaws.proofs.LastParted.{summary_parted}
 use Rattle.mdblock.specs.FoundLists.{FoundList, AreJoinsOf, StandsForUnit, found_unit, join_mark}
 use Rattle.mdblock.specs.held.Continuations.{begins_block, begins_item}
 use Rattle.mdblock.specs.held.LevelSteps.{BeginsBehind}

@@ -6,7 +6,7 @@ use Rattle.blockspec.specs.BlockStart.{Quote, Item}
 use Rattle.blockspec.specs.BlockUnits.{container_part}
 use Rattle.blockspec.specs.LineSummary.{Summary, summary, Last, nothing_yet, ended_block, open_leaf, open_container, last_groups}
 use Rattle.blockspec.specs.ListGroups.{Part, Leaves, Quoted, Listed, Group}
-use Rattle.itemspec.specs.SummaryJoins.{is_parted_part, is_parted_first, is_parted_after}
+use Rattle.blockspec.specs.SummaryJoins.{is_parted_part, is_parted_first, is_parted_after}
 use Rattle.mdblock.specs.held.HeldLevel.{StandsFor, StandsForLast, StandsForList, behind_over, is_list, is_parted_last}
 use Rattle.mdblock.specs.declared.container.lists.OpenList.{OpenList}
 use Rattle.mdblock.specs.declared.open_blocks.Level.{Level}

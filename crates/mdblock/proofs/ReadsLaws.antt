@@ -6,9 +6,9 @@ use Rattle.blockspec.specs.Stretches.{cut_from, all_of}
 use Rattle.blockspec.specs.ListGroups.{grouped}
 use Rattle.blockspec.specs.LineSummary.{no_summary}
 use Rattle.blockspec.specs.UnitReader.{lines_held}
-use Rattle.itemspec.specs.ItemMarks.{list_marks}
-use Rattle.itemspec.specs.Joins.{is_joined}
-use Rattle.itemspec.specs.ListItems.{tops_of}
+use Rattle.blockspec.specs.ItemMarks.{list_marks}
+use Rattle.blockspec.specs.Joins.{is_joined}
+use Rattle.blockspec.specs.ListItems.{tops_of}
 use Rattle.mdblock.specs.held.ReaderState.{UnitSoFar, ReaderState, held_begin, held_joined}
 use Rattle.mdblock.specs.held.Reads.{Reads, HoldsUnit, StandsForHeld, open_begin}
 use Rattle.blocklaws.proofs.ReaderLaws.{summary_none}

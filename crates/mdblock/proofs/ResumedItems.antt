@@ -13,7 +13,7 @@ use Rattle.blockspec.specs.ListGroups.{Listed, kind_of, is_same_list, is_tight_i
 use Rattle.blockspec.specs.NodeTree.{ItemNodes, texts_in, texts_in_items, definitions_in, definitions_in_items, placed, placed_items}
 use Rattle.blockspec.specs.SummaryDepth.{sinks}
 use Rattle.blockspec.specs.UnitBegin.{list_mark, same_mark}
-use Rattle.itemspec.specs.SummaryJoins.{joins_after, gap_in}
+use Rattle.blockspec.specs.SummaryJoins.{joins_after, gap_in}
 use Rattle.mdblock.specs.BlockView.{kind_view, blocks_view, items_view}
 use Rattle.mdblock.specs.held.HandedIn.{gathered_texts, gathered_definitions}
 use Rattle.mdblock.specs.held.HeldLevel.{StandsFor, HasGathered}

@@ -21,14 +21,14 @@ use Rattle.blocklaws.proofs.BeginLaws.{begins_in}
 use Rattle.blocklaws.proofs.HandedLaws.{front_lines, held_next, lines_before_held}
 use Rattle.blocklaws.proofs.LimitLaws.{front_none, summary_limited}
 use Rattle.blocklaws.proofs.ReaderLaws.{summary_closed}
-use Rattle.itemspec.specs.ItemMarks.{ItemMark, is_parted, list_marks, mark_behind}
-use Rattle.itemspec.specs.ListItems.{is_tight_list, nodes_of_items, top_blocks, top_group}
-use Rattle.itemspec.specs.SummaryJoins.{gap_in}
-use Rattle.itemlaws.proofs.ItemsMeet.{blocks_are}
-use Rattle.itemlaws.proofs.LastJoins.{joined_next, summary_joins}
-use Rattle.itemlaws.proofs.LastParted.{summary_gapped}
-use Rattle.itemlaws.proofs.ListsSpliced.{unit_of_list}
-use Rattle.itemlaws.proofs.MarkLines.{marks_more}
+use Rattle.blockspec.specs.ItemMarks.{ItemMark, is_parted, list_marks, mark_behind}
+use Rattle.blockspec.specs.ListItems.{is_tight_list, nodes_of_items, top_blocks, top_group}
+use Rattle.blockspec.specs.SummaryJoins.{gap_in}
+use Rattle.blocklaws.proofs.ItemsMeet.{blocks_are}
+use Rattle.blocklaws.proofs.LastJoins.{joined_next, summary_joins}
+use Rattle.blocklaws.proofs.LastParted.{summary_gapped}
+use Rattle.blocklaws.proofs.ListsSpliced.{unit_of_list}
+use Rattle.blocklaws.proofs.MarkLines.{marks_more}
 use Rattle.mdblock.specs.BlockView.{items_view, kind_view}
 use Rattle.mdblock.specs.Copies.{copied_items, items_positions, texts_at}
 use Rattle.mdblock.specs.FoundLists.{FoundList, StandsForUnit, join_mark}

@@ -12,12 +12,12 @@ use Rattle.blockspec.specs.UnitBegin.{units_of}
 use Rattle.blockspec.specs.UnitTree.{UnitTree, FoundUnit}
 use Rattle.blocklaws.proofs.BeginLaws.{begins_in}
 use Rattle.blocklaws.proofs.UnitReaderLaws.{IsOne}
-use Rattle.itemspec.specs.ItemMarks.{ItemMark, is_parted, list_marks, mark_behind}
-use Rattle.itemspec.specs.ListItems.{ListItem, ItemList, is_tight_list, nodes_of_items, top_blocks, items_behind}
-use Rattle.itemlaws.proofs.ListsSpliced.{ListsSpliced, lists_spliced, moved_mark, marks_spliced, parted_alike, unit_of_list, unit_spliced, unit_before}
-use Rattle.itemlaws.proofs.MarkLines.{behind_is, marks_more}
-use Rattle.itemlaws.proofs.MarkedLines.{MarkedAt, marked_at}
-use Rattle.itemlaws.proofs.UnitsMeet.{list_definitions, list_texts, list_together}
+use Rattle.blockspec.specs.ItemMarks.{ItemMark, is_parted, list_marks, mark_behind}
+use Rattle.blockspec.specs.ListItems.{ListItem, ItemList, is_tight_list, nodes_of_items, top_blocks, items_behind}
+use Rattle.blocklaws.proofs.ListsSpliced.{ListsSpliced, lists_spliced, moved_mark, marks_spliced, parted_alike, unit_of_list, unit_spliced, unit_before}
+use Rattle.blocklaws.proofs.MarkLines.{behind_is, marks_more}
+use Rattle.blocklaws.proofs.MarkedLines.{MarkedAt, marked_at}
+use Rattle.blocklaws.proofs.UnitsMeet.{list_definitions, list_texts, list_together}
 use Rattle.mdblock.specs.FoundLists.{FoundList}
 use Rattle.mdblock.specs.Spliced.{mark_at, mark_further, spliced_unit, spliced_marks, tight_list, spliced_list}
 use Rattle.mdblock.proofs.ItemParts.{last_mark}

@@ -16,7 +16,7 @@ ghost use Rattle.mdblock.specs.held.EndedItems.{IsNextIn};
 ghost use Rattle.mdblock.specs.held.LinesAdded.{ContinuesLevel};
 ghost use Rattle.mdblock.specs.held.HeldLevel.{HoldsSummary, GivesUnit, is_parted_last, list_between};
 ghost use Rattle.blockspec.specs.LineSummary.{Summary, no_summary};
-ghost use Rattle.itemspec.specs.Joins.{is_joined};
+ghost use Rattle.blockspec.specs.Joins.{is_joined};
 ghost use Rattle.mdblock.specs.held.ReaderState.{AreKept, held_begin, held_joined};
 ghost use Rattle.mdblock.specs.held.Reads.{Reads, BeginsUnit, HandsOn, SinksBehind, handed, held_marks, open_begin};
 ghost use Rattle.mdtext.specs.EntityTable.{EntityTable};

@@ -2,7 +2,7 @@
 
 ghost use Rattle.std.specs.Prelude.{◌≡◌, ◌+◌, ◌<◌, ◌≤◌, ◌++◌, ◌*◌, ◌^◌, ◌∷◌, ℕ, List, None, false, true, is_some, length, map, max, string_bytes, take, IfOk, IfErr, IfSome, IsErrOf, OnOk};
 ghost use Rattle.std.specs.List.{list_any};
-ghost use Rattle.itemspec.specs.ItemMarks.{ItemMark};
+ghost use Rattle.blockspec.specs.ItemMarks.{ItemMark};
 ghost use Rattle.blockspec.specs.Nesting.{first_too_deep};
 ghost use Rattle.mdleaf.specs.LinkDefinition.{definition_of};
 ghost use Rattle.mdblock.specs.BlockView.{items_view};

@@ -3,8 +3,8 @@ use Rattle.std.proofs.Common.{◌≡◌, ℕ, ◌+◌, ◌≤◌, List, [], ◌�
 use Rattle.std.proofs.lemmas.List.{map-append}
 use Rattle.mdtool.specs.declared.fault.ToolFault.{ToolFault}
 use Rattle.mdtool.specs.declared.fault.ToolFault.TheVariants.{Read, Write, Refused, BadCommand, Truncated, Table, NoMemory}
-use Rattle.joinspec.specs.SoonTexts.{texts_soon}
-use Rattle.joinspec.specs.Stops.{lines_soon}
+use Rattle.viewspec.specs.SoonTexts.{texts_soon}
+use Rattle.viewspec.specs.Stops.{lines_soon}
 use Rattle.viewspec.specs.Calls.{Call}
 use Rattle.viewspec.specs.ChangedPieces.{ChangedPieces}
 use Rattle.viewspec.specs.Outcome.{Answer}

@@ -21,9 +21,9 @@ use Rattle.viewspec.specs.Setting.{Setting}
 use Rattle.viewspec.specs.Spliced.{IsSpliced}
 use Rattle.viewspec.specs.Stretch.{Places, units_added, units_before, units_removed}
 use Rattle.viewspec.specs.View.{view}
-use Rattle.itemspec.specs.Joins.{joins}
-use Rattle.joinspec.specs.SoonTexts.{texts_of_read, texts_soon, units_read}
-use Rattle.joinspec.specs.Stops.{lines_soon, lines_to_stop}
+use Rattle.blockspec.specs.Joins.{joins}
+use Rattle.viewspec.specs.SoonTexts.{texts_of_read, texts_soon, units_read}
+use Rattle.viewspec.specs.Stops.{lines_soon, lines_to_stop}
 use Rattle.viewlaws.specs.UnitTexts.{asking_units, trees_in}
 use Rattle.viewlaws.proofs.AskingUnits.{asking_renumbered, asking_spliced}
 use Rattle.viewlaws.proofs.Counts.{spliced}

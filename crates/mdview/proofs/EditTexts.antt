@@ -34,8 +34,8 @@ use Rattle.viewlaws.proofs.LabelsLead.{units_lead}
 use Rattle.viewlaws.proofs.ReadingsUnder.{all_under, asking_texts_under, asking_units_under, deep_found_under, deep_from_under}
 use Rattle.viewlaws.proofs.Splices.{MeetsBehind, from_above, meets_behind}
 use Rattle.viewlaws.proofs.UnitTiles.{units_end}
-use Rattle.joinlaws.specs.LaterTexts.{asking_of}
-use Rattle.joinlaws.proofs.StopTexts.{asking_few}
+use Rattle.viewlaws.specs.LaterTexts.{asking_of}
+use Rattle.viewlaws.proofs.StopTexts.{asking_few}
 use Rattle.mdblock.specs.FoundLists.{found_unit}
 use Rattle.mdview.specs.declared.fault.EditFault.{EditFault}
 use Rattle.mdview.specs.declared.fault.EditFault.TheVariants.{OutOfRange, BreakInLine, TooManyLines, TooLarge, NestedTooDeep, InlineTooDeep, NoMemory, NotDefinitions}

@@ -15,16 +15,16 @@ use Rattle.mdtext.specs.EntityTable.{EntityTable}
 use Rattle.blockspec.specs.BlockLine.{document_line}
 use Rattle.blockspec.specs.BlockUnits.{begins, units}
 use Rattle.blockspec.specs.UnitTree.{FoundUnit, UnitTree}
-use Rattle.itemspec.specs.ItemMarks.{ItemMark, list_marks}
-use Rattle.itemspec.specs.Joins.{joins}
+use Rattle.blockspec.specs.ItemMarks.{ItemMark, list_marks}
+use Rattle.blockspec.specs.Joins.{joins}
 use Rattle.mdblock.specs.FoundLists.{FoundList, StandsForUnit}
-use Rattle.joinspec.specs.StoppedInside.{HoldsLine}
-use Rattle.joinspec.specs.UnitItems.{own_joins, own_lines}
-use Rattle.joinlaws.proofs.NearStretch.{never_both}
-use Rattle.joinlaws.proofs.PartedLists.{joins_ascend, joins_within}
-use Rattle.joinspec.specs.MetInside.{first_line}
-use Rattle.joinlaws.proofs.UnitCuts.{split_behind, unit_ends}
-use Rattle.joinlaws.proofs.UnitJoins.{front_tells, unit_marks, unit_tells}
+use Rattle.viewspec.specs.StoppedInside.{HoldsLine}
+use Rattle.viewspec.specs.UnitItems.{own_joins, own_lines}
+use Rattle.viewlaws.proofs.NearStretch.{never_both}
+use Rattle.viewlaws.proofs.PartedLists.{joins_ascend, joins_within}
+use Rattle.viewspec.specs.MetInside.{first_line}
+use Rattle.viewlaws.proofs.UnitCuts.{split_behind, unit_ends}
+use Rattle.viewlaws.proofs.UnitJoins.{front_tells, unit_marks, unit_tells}
 use Rattle.viewlaws.proofs.Cuts.{begins_in}
 use Rattle.viewlaws.proofs.StretchReadings.{Ascends}
 use Rattle.viewlaws.specs.UnitTiles.{tile_of}

@@ -3,7 +3,7 @@ use Rattle.std.proofs.Common.{◌≡◌, ℕ, ◌<◌, List, length, map, get_or
 use Rattle.std.proofs.Math.ListN.{get_or-map}
 use Rattle.std.proofs.lemmas.List.{get_or_default}
 use Rattle.std.proofs.lemmas.Option.{unwrap_or-slice_get}
-use Rattle.itemspec.specs.ItemMarks.{ItemMark}
+use Rattle.blockspec.specs.ItemMarks.{ItemMark}
 use Rattle.mdblock.specs.FoundLists.{FoundList, join_mark}
 use Rattle.mdblock.specs.declared.units.Join.{Join}
 use Rattle.mdblock.specs.Spliced.{mark_at, no_mark}

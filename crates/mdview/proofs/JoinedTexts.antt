@@ -16,9 +16,9 @@ use Rattle.blockspec.specs.UnitTree.{FoundUnit}
 use Rattle.blocklaws.proofs.BeginLaws.{begins_in}
 use Rattle.blocklaws.proofs.DocumentLaws.{document_units, map_length}
 use Rattle.blocklaws.proofs.UnitReaderLaws.{IsOne}
-use Rattle.itemspec.specs.ItemMarks.{ItemMark, list_marks}
-use Rattle.itemlaws.proofs.MarkedLines.{MarkedAt, marked_at}
-use Rattle.itemlaws.proofs.UnitsMeet.{DocumentMeets, document_meets_inside}
+use Rattle.blockspec.specs.ItemMarks.{ItemMark, list_marks}
+use Rattle.blocklaws.proofs.MarkedLines.{MarkedAt, marked_at}
+use Rattle.blocklaws.proofs.UnitsMeet.{DocumentMeets, document_meets_inside}
 use Rattle.mdblock.specs.FoundLists.{FoundList, StandsForUnit, found_unit}
 use Rattle.mdblock.specs.Spliced.{mark_at, no_mark}
 

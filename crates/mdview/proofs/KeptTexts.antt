@@ -18,7 +18,7 @@ use Rattle.viewspec.specs.Refusals.{is_deep}
 use Rattle.viewspec.specs.View.{reading_of}
 use Rattle.viewlaws.specs.UnitTexts.{deep_found, is_deep_under}
 use Rattle.viewlaws.proofs.DeepUnits.{found_append}
-use Rattle.joinlaws.specs.LaterTexts.{asking_of}
+use Rattle.viewlaws.specs.LaterTexts.{asking_of}
 use Rattle.mdview.specs.declared.fault.EditFault.{EditFault}
 use Rattle.mdview.specs.declared.inlines.kept_texts.KeptReadings.{KeptReadings}
 use Rattle.mdview.specs.declared.blocks.reparse.KeptTexts.{KeptTexts}

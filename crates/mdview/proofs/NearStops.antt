@@ -11,17 +11,17 @@ use Rattle.std.proofs.Math.ListN.{get_or-map}
 use Rattle.mdtext.specs.EntityTable.{EntityTable}
 use Rattle.blockspec.specs.BlockUnits.{begins, units}
 use Rattle.blockspec.specs.UnitTree.{FoundUnit, UnitTree}
-use Rattle.itemspec.specs.ItemMarks.{ItemMark}
-use Rattle.itemspec.specs.Joins.{is_joined, joins}
+use Rattle.blockspec.specs.ItemMarks.{ItemMark}
+use Rattle.blockspec.specs.Joins.{is_joined, joins}
 use Rattle.mdblock.specs.FoundLists.{FoundList, found_unit}
 use Rattle.mdblock.specs.held.ReaderState.{ReaderState}
-use Rattle.joinspec.specs.StoppedInside.{HoldsLine}
-use Rattle.joinspec.specs.Stops.{Stops, is_near, lines_to_stop, near_line, stop_line}
-use Rattle.joinspec.specs.UnitItems.{own_joins, own_lines}
-use Rattle.joinlaws.proofs.NearLines.{IsStop}
-use Rattle.joinlaws.proofs.NearStretch.{near_before, near_told, stop_high}
-use Rattle.joinlaws.proofs.PartedLists.{joins_within}
-use Rattle.joinlaws.proofs.UnitJoins.{unit_marks}
+use Rattle.viewspec.specs.StoppedInside.{HoldsLine}
+use Rattle.viewspec.specs.Stops.{Stops, is_near, lines_to_stop, near_line, stop_line}
+use Rattle.viewspec.specs.UnitItems.{own_joins, own_lines}
+use Rattle.viewlaws.proofs.NearLines.{IsStop}
+use Rattle.viewlaws.proofs.NearStretch.{near_before, near_told, stop_high}
+use Rattle.viewlaws.proofs.PartedLists.{joins_within}
+use Rattle.viewlaws.proofs.UnitJoins.{unit_marks}
 use Rattle.viewspec.specs.Stretch.{Places, from_line, is_meeting, meeting_line, old_line}
 use Rattle.viewlaws.specs.UnitTexts.{trees_in}
 use Rattle.viewlaws.proofs.Cuts.{begins_in, begins_within}

@@ -12,12 +12,12 @@ use Rattle.std.proofs.lemmas.Option.{get_or_from_slice_get, slice_get-map, slice
 use Rattle.mdtext.specs.EntityTable.{EntityTable}
 use Rattle.blockspec.specs.BlockUnits.{begins, units}
 use Rattle.blockspec.specs.UnitTree.{FoundUnit}
-use Rattle.itemspec.specs.ItemMarks.{ItemMark}
-use Rattle.itemspec.specs.Joins.{joins}
-use Rattle.joinspec.specs.MetInside.{first_line as first_begin}
-use Rattle.joinspec.specs.UnitItems.{own_lines}
-use Rattle.joinlaws.proofs.UnitCuts.{unit_ends}
-use Rattle.joinlaws.proofs.UnitJoins.{front_tells}
+use Rattle.blockspec.specs.ItemMarks.{ItemMark}
+use Rattle.blockspec.specs.Joins.{joins}
+use Rattle.viewspec.specs.MetInside.{first_line as first_begin}
+use Rattle.viewspec.specs.UnitItems.{own_lines}
+use Rattle.viewlaws.proofs.UnitCuts.{unit_ends}
+use Rattle.viewlaws.proofs.UnitJoins.{front_tells}
 use Rattle.viewlaws.specs.UnitTiles.{IsAhead, front_of, tile_of}
 use Rattle.viewlaws.proofs.Cuts.{begins_within}
 use Rattle.mdview.specs.HeldBlocks.{HoldsUnits, lines_in, tile_in}

@@ -10,17 +10,17 @@ use Rattle.blockspec.specs.BlockUnits.{begins, units}
 use Rattle.blockspec.specs.LeafContents.{without_last}
 use Rattle.blockspec.specs.Nesting.{first_too_deep}
 use Rattle.blockspec.specs.UnitTree.{FoundUnit}
-use Rattle.itemspec.specs.ItemMarks.{ItemMark}
+use Rattle.blockspec.specs.ItemMarks.{ItemMark}
 use Rattle.mdblock.specs.FoundLists.{FoundList, StandsForUnit}
 use Rattle.mdblock.specs.Spliced.{mark_at}
 use Rattle.mdblock.specs.held.ReaderState.{ReaderState}
 use Rattle.mdblock.specs.held.Reads.{Reads, handed}
-use Rattle.joinspec.specs.MetInside.{first_line as first_begin}
-use Rattle.joinspec.specs.Stops.{Stops, lines_to_stop, near_line}
-use Rattle.joinspec.specs.UnitItems.{own_lines}
-use Rattle.joinlaws.proofs.NearLines.{IsStop, NearBehind, near_behind}
-use Rattle.joinlaws.proofs.NearStretch.{stop_high}
-use Rattle.joinlaws.proofs.UnitCuts.{next_cut, split_behind, unit_alone, unit_ends, units_parted}
+use Rattle.viewspec.specs.MetInside.{first_line as first_begin}
+use Rattle.viewspec.specs.Stops.{Stops, lines_to_stop, near_line}
+use Rattle.viewspec.specs.UnitItems.{own_lines}
+use Rattle.viewlaws.proofs.NearLines.{IsStop, NearBehind, near_behind}
+use Rattle.viewlaws.proofs.NearStretch.{stop_high}
+use Rattle.viewlaws.proofs.UnitCuts.{next_cut, split_behind, unit_alone, unit_ends, units_parted}
 use Rattle.viewspec.specs.Stretch.{Places, from_line, is_meeting, meeting_line, old_line}
 use Rattle.viewlaws.proofs.Cuts.{IsCut, begins_before_end, begins_in, beginning_kept}
 use Rattle.viewlaws.proofs.Depths.{deep_cut, neither}

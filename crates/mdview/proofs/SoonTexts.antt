@@ -15,12 +15,12 @@ use Rattle.viewspec.specs.Setting.{Setting, Source}
 use Rattle.viewspec.specs.Stretch.{from_line, meeting_line}
 use Rattle.viewlaws.specs.UnitTexts.{asking_in, trees_in}
 use Rattle.viewlaws.proofs.ReadingsUnder.{asking_texts_under}
-use Rattle.joinspec.specs.SoonTexts.{texts_of_read, units_read}
-use Rattle.joinspec.specs.Stops.{Stops, stop_line}
-use Rattle.joinlaws.specs.LaterTexts.{asking_of, later_texts, texts_of, trees_to}
-use Rattle.joinlaws.proofs.NearLines.{IsStop}
-use Rattle.joinlaws.proofs.StopTexts.{soon_by_later}
-use Rattle.joinlaws.proofs.TakenTexts.{many_in_trees}
+use Rattle.viewspec.specs.SoonTexts.{texts_of_read, units_read}
+use Rattle.viewspec.specs.Stops.{Stops, stop_line}
+use Rattle.viewlaws.specs.LaterTexts.{asking_of, later_texts, texts_of, trees_to}
+use Rattle.viewlaws.proofs.NearLines.{IsStop}
+use Rattle.viewlaws.proofs.StopTexts.{soon_by_later}
+use Rattle.viewlaws.proofs.TakenTexts.{many_in_trees}
 use Rattle.mdblock.specs.FoundLists.{found_unit}
 use Rattle.mdview.specs.declared.source.new_text.NewText.{NewText}
 use Rattle.mdview.specs.declared.blocks.reparse.Reparsed.{Reparsed}

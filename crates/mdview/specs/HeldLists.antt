@@ -1,7 +1,7 @@
 -- Which lines units that were found, or are held, stand for.
 use Rattle.std.specs.Prelude.{ℕ, List, [], ◌∷◌, drop, take}
 use Rattle.mdtext.specs.EntityTable.{EntityTable}
-use Rattle.itemspec.specs.ItemMarks.{ItemMark}
+use Rattle.blockspec.specs.ItemMarks.{ItemMark}
 use Rattle.mdblock.specs.FoundLists.{FoundList, StandsForUnit}
 use Rattle.mdview.specs.HeldUnit.{HeldUnit, ReadUnit}
 

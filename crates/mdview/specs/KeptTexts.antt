@@ -7,7 +7,7 @@ use Rattle.inlinespec.specs.LinkTails.{Table}
 use Rattle.viewspec.specs.Refusals.{is_deep}
 use Rattle.viewspec.specs.View.{reading_of}
 use Rattle.viewlaws.specs.UnitTexts.{is_deep_under, readings_under}
-use Rattle.joinlaws.specs.LaterTexts.{asking_of}
+use Rattle.viewlaws.specs.LaterTexts.{asking_of}
 use Rattle.mdview.specs.declared.inlines.kept_texts.KeptReadings.{KeptReadings}
 use Rattle.mdview.specs.declared.blocks.reparse.KeptTexts.{KeptTexts}
 use Rattle.mdview.specs.HeldUnit.{HeldUnit, texts_in}

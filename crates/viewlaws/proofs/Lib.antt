@@ -18,3 +18,16 @@ pub mod UnitPlaces
 pub mod DeepUnits
 pub mod ReadingsUnder
 pub mod AskingUnits
+pub mod PartedLists
+pub mod NearLines
+pub mod ReadJoins
+pub mod UnitCuts
+pub mod AheadUnits
+pub mod OwnLines
+pub mod UnitJoins
+pub mod JoinDepths
+pub mod NearDepths
+pub mod NearStretch
+pub mod StoppedLists
+pub mod TakenTexts
+pub mod StopTexts

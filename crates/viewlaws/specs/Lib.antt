@@ -1,3 +1,4 @@
 pub mod ReadStretch
 pub mod UnitTiles
 pub mod UnitTexts
+pub mod LaterTexts

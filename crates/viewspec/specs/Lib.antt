@@ -9,3 +9,8 @@ pub mod Patch
 pub mod Changes
 pub mod Spliced
 pub mod Outcome
+pub mod Stops
+pub mod SoonTexts
+pub mod MetInside
+pub mod UnitItems
+pub mod StoppedInside

@@ -6,8 +6,8 @@ use Rattle.mdleaf.specs.LinkDefinition.{LinkDefinition, definition_of}
 use Rattle.blockspec.specs.BlockLine.{BlockLine, is_blank_line}
 use Rattle.blockspec.specs.BlockStart.{Kind, FencedCode, Quote, Item}
 use Rattle.blockspec.specs.Laziness.{Text, is_text}
-use Rattle.itemspec.specs.ItemMarks.{ItemMark}
-use Rattle.itemspec.specs.SummaryJoins.{is_parted_after}
+use Rattle.blockspec.specs.ItemMarks.{ItemMark}
+use Rattle.blockspec.specs.SummaryJoins.{is_parted_after}
 use Rattle.mdblock.specs.BlockView.{kind_view, blocks_view, items_view}
 use Rattle.mdblock.specs.FoundLists.{FoundList, join_mark}
 use Rattle.mdblock.specs.held.HeldNodes.{ListSoFar, list_of, over_nodes, handed_nodes, closed_nodes, tasked}

@@ -15,9 +15,9 @@ use Rattle.mdblock.specs.held.ReaderState.{UnitSoFar, ReaderState}
 use Rattle.blockspec.specs.SummaryDepth.{sinks}
 use Rattle.blockspec.specs.UnitReader.{lines_held, read_behind}
 use Rattle.blockspec.specs.UnitTree.{FoundUnit}
-use Rattle.itemspec.specs.ItemMarks.{ItemMark, list_marks, marks_next}
-use Rattle.itemspec.specs.Joins.{is_joined}
-use Rattle.itemspec.specs.SummaryJoins.{joins_after, is_parted_after, gap_in}
+use Rattle.blockspec.specs.ItemMarks.{ItemMark, list_marks, marks_next}
+use Rattle.blockspec.specs.Joins.{is_joined}
+use Rattle.blockspec.specs.SummaryJoins.{joins_after, is_parted_after, gap_in}
 use Rattle.mdblock.specs.declared.readers.OpenUnit.{OpenUnit}
 
 abbrev pub last_of : List ℕ → Option ℕ

@@ -3,7 +3,7 @@ use Rattle.std.specs.Prelude.{◌≡◌, ◌<◌, ℕ, false, List, [], ◌∷�
 use Rattle.mdtext.specs.EntityTable.{EntityTable}
 use Rattle.blockspec.specs.BlockLine.{document_line}
 use Rattle.blockspec.specs.LineSummary.{summary_of}
-use Rattle.itemspec.specs.ItemMarks.{list_marks}
+use Rattle.blockspec.specs.ItemMarks.{list_marks}
 use Rattle.mdblock.specs.FoundLists.{FoundList, StandsForUnit, join_mark}
 use Rattle.mdblock.specs.Spliced.{mark_at}
 use Rattle.mdblock.specs.held.LinesAdded.{IsAdded}

@@ -8,7 +8,7 @@ ghost use Rattle.viewspec.specs.Stretch.{count_between};
 ghost use Rattle.viewlaws.specs.UnitTiles.{IsAhead, begins_from};
 ghost use Rattle.mdview.specs.HeldBlocks.{HoldsUnits, lines_in};
 ghost use Rattle.mdview.specs.HeldItems.{IsCounted, IsItemAt, IsItemOf};
-ghost use Rattle.itemspec.specs.Joins.{joins};
+ghost use Rattle.blockspec.specs.Joins.{joins};
 ghost use Rattle.mdview.specs.HeldUnit.{first_line, read_of};
 
 use crate::held::units::HeldUnit;

@@ -4,7 +4,7 @@ use Rattle.std.specs.Prelude.{take}
 use Rattle.blocklaws.proofs.DocumentLaws.{map_length}
 use Rattle.blockspec.specs.BlockTree.{no_items}
 use Rattle.blockspec.specs.UnitTree.{UnitTree}
-use Rattle.itemspec.specs.ItemMarks.{ItemMark}
+use Rattle.blockspec.specs.ItemMarks.{ItemMark}
 use Rattle.mdleaf.specs.LinkDefinition.{definition_of}
 use Rattle.mdblock.specs.BlockView.{items_view}
 use Rattle.mdblock.specs.Copies.{copied_items, items_positions, texts_at}

@@ -8,7 +8,7 @@ use Rattle.blockspec.specs.BlockStart.{Holds, Item, begun}
 use Rattle.blockspec.specs.ContainerLines.{opened}
 use Rattle.blockspec.specs.UnitBegin.{list_mark, same_mark}
 use Rattle.blockspec.specs.UnitTree.{UnitTree}
-use Rattle.itemspec.specs.ItemMarks.{ItemMark}
+use Rattle.blockspec.specs.ItemMarks.{ItemMark}
 use Rattle.mdblock.specs.BlockView.{items_view, kind_view}
 use Rattle.mdblock.specs.FoundLists.{join_mark}
 use Rattle.mdblock.specs.Spliced.{first_kind}

@@ -3,7 +3,7 @@ use Rattle.std.proofs.lemmas.List.{drop-map, take-map}
 use Rattle.std.specs.Prelude.{min, option_map, take, ◌^◌}
 use Rattle.blocklaws.proofs.DocumentLaws.{map_length}
 use Rattle.blockspec.specs.BlockTree.{paragraph, heading, thematic_break, code_block, html_block, block_quote, list, table, Blocks, no_blocks, block, Items}
-use Rattle.itemspec.specs.ItemMarks.{ItemMark}
+use Rattle.blockspec.specs.ItemMarks.{ItemMark}
 use Rattle.mdleaf.specs.LinkDefinition.{LinkDefinition, definition_of}
 use Rattle.mdblock.specs.BlockView.{blocks_view, items_view, kind_view}
 use Rattle.mdblock.specs.Copies.{copied_items, items_positions, texts_at}

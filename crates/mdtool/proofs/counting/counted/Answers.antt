@@ -1,7 +1,7 @@
 use Rattle.std.proofs.Common.{◌≡◌, ◌+◌, ◌≤◌, ℕ, List, map, length, string_bytes, ap, subst, sym, ◌∙◌}
 use Rattle.std.proofs.lemmas.List.{length-map}
-use Rattle.joinspec.specs.SoonTexts.{texts_soon}
-use Rattle.joinspec.specs.Stops.{lines_soon}
+use Rattle.viewspec.specs.SoonTexts.{texts_soon}
+use Rattle.viewspec.specs.Stops.{lines_soon}
 use Rattle.viewspec.specs.Calls.{edit, set_prelude}
 use Rattle.mdview.specs.Document.{setting_of, source_of}
 use Rattle.mdview.specs.Outcome.{answer_of, is_starved, outcome_of}

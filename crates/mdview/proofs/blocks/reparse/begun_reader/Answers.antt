@@ -1,6 +1,6 @@
 use Rattle.std.proofs.Common.{false, [], Option, Some, None, Result, Ok, Err, ◌≡◌, ◌+◌, arith, map, get_or, ap, ◌∙◌, sym, subst}
 use Rattle.std.specs.Prelude.{IfSome, OnErr, is_some}
-use Rattle.itemspec.specs.ItemMarks.{ItemMark}
+use Rattle.blockspec.specs.ItemMarks.{ItemMark}
 use Rattle.mdblock.specs.FoundLists.{FoundList}
 use Rattle.mdblock.specs.Spliced.{mark_at}
 use Rattle.mdblock.specs.declared.units.Join.{Join}

@@ -2,7 +2,7 @@ use Rattle.std.proofs.Common.{rules, false, [], ◌∷◌, ℕ, List, ◌≡◌,
 use Rattle.std.specs.Prelude.{string_bytes}
 use Rattle.std.proofs.lemmas.List.{length-map}
 use Rattle.blockspec.specs.UnitTree.{UnitTree}
-use Rattle.itemspec.specs.ItemMarks.{ItemMark}
+use Rattle.blockspec.specs.ItemMarks.{ItemMark}
 use Rattle.mdblock.specs.FoundLists.{FoundList, StandsForUnit}
 use Rattle.mdblock.specs.declared.units.Join.{Join}
 use Rattle.mdview.specs.HeldItems.{mark_in}

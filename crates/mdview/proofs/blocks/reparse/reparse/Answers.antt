@@ -24,14 +24,14 @@ use Rattle.mdview.proofs.ListsStand.{stands_pushed}
 use Rattle.mdview.proofs.ReadStretches.{is_edit, stretch_next}
 use Rattle.mdview.proofs.Reparses.{ReadAbove, begin_told, begins_reading, deep_at, deep_told, ended, found_all, met_all, met_told, new_fits, next_ends, next_is, in_new, read_next, stands_read, units_pushed, unmet_told}
 use Rattle.mdview.proofs.ResumedReading.{few_above, res_above, res_near}
-use Rattle.joinspec.specs.Stops.{near_line}
-use Rattle.joinlaws.proofs.NearStretch.{near_told}
+use Rattle.viewspec.specs.Stops.{near_line}
+use Rattle.viewlaws.proofs.NearStretch.{near_told}
 use Rattle.std.specs.Prelude.{IfOk}
 use Rattle.std.proofs.lemmas.Bool.Decides.{nat_tests}
 use Rattle.blocklaws.proofs.NestingLaws.{moved_on}
-use Rattle.itemspec.specs.Joins.{is_joined}
-use Rattle.joinspec.specs.Stops.{is_near}
-use Rattle.joinlaws.proofs.NearDepths.{near_deep}
+use Rattle.blockspec.specs.Joins.{is_joined}
+use Rattle.viewspec.specs.Stops.{is_near}
+use Rattle.viewlaws.proofs.NearDepths.{near_deep}
 use Rattle.viewspec.specs.Stretch.{units_before}
 use Rattle.mdview.specs.HeldBlocks.{HoldsUnits}
 use Rattle.mdview.specs.HeldItems.{IsCounted, IsItemOf}

@@ -4,7 +4,7 @@ use Rattle.mdblock.specs.FoundLists.{found_unit}
 use Rattle.viewspec.specs.Stretch.{from_line}
 use Rattle.viewlaws.specs.UnitTiles.{IsAhead}
 use Rattle.mdview.specs.HeldBlocks.{line_before, lines_in, places_of}
-use Rattle.joinspec.specs.Stops.{near_line}
+use Rattle.viewspec.specs.Stops.{near_line}
 use Rattle.mdview.specs.HeldItems.{IsCounted}
 use Rattle.mdview.specs.StopLines.{stops_of}
 use Rattle.mdview.specs.HeldLists.{StandsAt}

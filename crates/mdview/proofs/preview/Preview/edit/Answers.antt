@@ -1,8 +1,8 @@
 use Rattle.std.proofs.Common.{◌≡◌, ◌+◌, ℕ, false, ◌-◌, ◌^◌, ◌<◌, ◌≤◌, List, map, length, string_bytes, arith, ap, sym, ◌∙◌, refl, subst}
 use Rattle.std.proofs.lemmas.List.{length-map}
 use Rattle.viewspec.specs.Calls.{Call, put}
-use Rattle.joinspec.specs.SoonTexts.{texts_soon}
-use Rattle.joinspec.specs.Stops.{lines_soon}
+use Rattle.viewspec.specs.SoonTexts.{texts_soon}
+use Rattle.viewspec.specs.Stops.{lines_soon}
 use Rattle.viewspec.specs.Outcome.{accepted}
 use Rattle.viewspec.specs.Patch.{Brings}
 use Rattle.viewspec.specs.Refusals.{nesting_refusal}

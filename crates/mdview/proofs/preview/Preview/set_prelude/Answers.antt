@@ -2,8 +2,8 @@ use Rattle.std.proofs.Common.{sym, ◌≡◌, ℕ, false, None, Option, ◌≤�
 use Rattle.std.proofs.lemmas.List.{length-map}
 use Rattle.inlinespec.specs.LabelMap.{LinkTarget}
 use Rattle.viewspec.specs.Calls.{Call, set_prelude}
-use Rattle.joinspec.specs.SoonTexts.{texts_soon}
-use Rattle.joinlaws.proofs.StopTexts.{soon_of_prelude}
+use Rattle.viewspec.specs.SoonTexts.{texts_soon}
+use Rattle.viewlaws.proofs.StopTexts.{soon_of_prelude}
 use Rattle.viewspec.specs.Changes.{texts_read}
 use Rattle.viewspec.specs.Outcome.{accepted}
 use Rattle.viewspec.specs.Patch.{Brings}

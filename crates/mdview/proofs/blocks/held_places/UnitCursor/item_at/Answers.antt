@@ -2,7 +2,7 @@ use Rattle.std.proofs.Common.{rules, zero, suc, ◌≡◌, ◌≤◌, ◌<◌, �
 use Rattle.std.specs.List.{list_any}
 use Rattle.std.specs.Prelude.{IfSome, slice_get}
 use Rattle.blockspec.specs.BlockUnits.{begins}
-use Rattle.itemspec.specs.Joins.{joins}
+use Rattle.blockspec.specs.Joins.{joins}
 use Rattle.mdchunks.specs.Sequences.{Sequence}
 use Rattle.viewlaws.specs.UnitTiles.{IsAhead}
 use Rattle.std.proofs.lemmas.List.{length-map}

@@ -1,4 +1,0 @@
-pub mod ListItems
-pub mod ItemMarks
-pub mod Joins
-pub mod SummaryJoins

@@ -1,4 +1,0 @@
-pub mod ReadJoins
-mod JoinRows
-mod ListEditRows
-mod SeamEditRows

@@ -1,5 +1,0 @@
-use Rattle.joinlaws.proofs.StopTexts.{soon_of_prelude}
-use Rattle.joinlaws.proofs.texts.preludes_stop_nowhere.Goals as goal
-
-pub returns : goal.returns
-returns c = soon_of_prelude
