@@ -24,8 +24,8 @@ pub record IsFenceOf (entities : EntityTable) (indentation mark length : ℕ) (i
   pub mark_is : f.mark ≡ mark
   pub length_is : f.length ≡ length
   pub indentation_is : f.indent ≡ indentation
-  pub language : string_bytes f.lang ≡ code_language entities info
-  pub meta : string_bytes f.meta ≡ code_meta entities info
+  pub language : string_bytes f.info.value.lang ≡ code_language entities info
+  pub meta : string_bytes f.info.value.meta ≡ code_meta entities info
   pub body : string_bytes f.body ≡ code_text indentation later
 
 pub record IsHtmlOf (kind : ℕ) (lines : List BlockLine) (h : html.HtmlBlock) : Type 0 where

@@ -28,8 +28,8 @@ pub(crate) struct Fence {
     mark: u8,
     length: usize,
     indent: usize,
-    lang: String,
-    meta: String,
+    /// Apart, since each open level has room for a leaf.
+    info: Box<Info>,
     body: String,
 }
 
@@ -57,8 +57,7 @@ pub(crate) fn begin(
         mark: fence.mark,
         length: fence.length,
         indent: line.indent(),
-        lang: info.lang,
-        meta: info.meta,
+        info: Box::new(gathering.alloc(), info)?,
         body: String::new(gathering.alloc()),
     })))
 }
@@ -110,11 +109,12 @@ impl Fence {
     /// What the code is at its end.
     pub(crate) fn end(self) -> Block
         ensures within { (n : ℕ) → BlockIn n (block_view result) }
-        ensures value { block_view result ≡ code_block (string_bytes self.lang) (string_bytes self.meta) (string_bytes self.body) }
+        ensures value { block_view result ≡ code_block (string_bytes self.info.value.lang) (string_bytes self.info.value.meta) (string_bytes self.body) }
     {
+        let info = Box::into_inner(self.info);
         Block::Code {
-            lang: self.lang,
-            meta: self.meta,
+            lang: info.lang,
+            meta: info.meta,
             body: self.body,
         }
     }
