@@ -148,6 +148,14 @@ run_size text at below some =
     (run_begins d (slice_index text at) (drop (at + 1) text) (ap (option_and_then delimiter_of) (sym (get_at text at below)) ∙ h)))
     some
 
+kept_size : (entities : EntityTable) (rest : List ℕ) (o : Option DelimiterRun) → 0 < length rest → IsSizeIn rest (run_lexeme rest o).size → IsSizeIn rest (run_lexeme rest (kept_run entities o)).size
+kept_size entities rest None some h = h
+kept_size entities rest (Some run) some h = by (is_lone_tilde run.delimiter run.length && entities.double_tilde)
+  where
+    by : (t : Bool) → IsSizeIn rest (run_lexeme rest (if t then None else Some run)).size
+    by true = (omega arith, some)
+    by false = h
+
 -- what begins at a place
 
 backtick_only : (b : ℕ) → sign_of b ≡ Backtick → nat_eq b 96 ≡ true
@@ -190,7 +198,7 @@ lexeme_size entities text at below s e = by s e
     by Backtick e = code_size (drop at text) (ticks e)
     by LessThan e = angle_size entities text at (autolink_at text at) (raw_html (drop at text)) below (autolink_ends text at) (raw_html_size (drop at text))
     by Blank e = break_size (drop at text) (spaced_break (drop at text)) some (spaced_size (drop at text))
-    by DelimiterMark e = run_size text at below some
+    by DelimiterMark e = kept_size entities (drop at text) (run_at text at) some (run_size text at below some)
     by Bracket e = single
     by Exclamation e = image (begins_with 91 (drop 1 (drop at text))) (begins_below 91 1 (drop at text))
     by ClosingBracket e = single
