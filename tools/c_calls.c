@@ -114,7 +114,7 @@ static void edits(void) {
 
 static void settings(void) {
     jirmoans_preview preview = {0};
-    jirmoans_settings set = {true, JIRMOANS_BREAKS_HARD, 1, 2, true, true, true};
+    jirmoans_settings set = {true, JIRMOANS_BREAKS_HARD, 1, 2, true, true, true, true};
     jirmoans_text text;
     const char *names = "{\"&x;\":{\"characters\":\"y\"}}";
     EXPECT(is(jirmoans_open(&preview, &set, names, strlen(names)), JIRMOANS_OK, 0));
@@ -123,6 +123,7 @@ static void settings(void) {
            && reads(text, "<pre lang=\"x\" data-meta=\"y\"><code>a\n</code></pre>\n"));
     EXPECT(is(jirmoans_html(&preview, "|a\n|:-:\n", 8, &text), JIRMOANS_OK, 0)
            && reads(text, "<table>\n<thead>\n<tr>\n<th style=\"text-align: center\">a</th>\n</tr>\n</thead>\n</table>\n"));
+    EXPECT(is(jirmoans_html(&preview, "~a~ ~~b~~", 9, &text), JIRMOANS_OK, 0) && reads(text, "<p>~a~ <del>b</del></p>\n"));
     EXPECT(is(jirmoans_html(&preview, "a\n\n> > b", 8, &text), JIRMOANS_NESTED_TOO_DEEP, 2));
     EXPECT(is(jirmoans_html(&preview, "a\n\n*a **b ~~c~~***", 18, &text), JIRMOANS_INLINE_TOO_DEEP, 2));
     jirmoans_close(&preview);

@@ -3,7 +3,7 @@ use Rattle.std.proofs.Common.{◌≡◌, ℕ, zero, suc, ◌+◌, ◌≤◌, ◌
 use Rattle.std.proofs.lemmas.List.{map-append, append-nil, length-append, length-map}
 use Rattle.std.specs.Option.{option_or, option_map}
 use Rattle.std.specs.Prelude.{if◌then◌else◌, unwrap_or}
-use Rattle.mdtext.specs.EntityTable.{EntityTable}
+use Rattle.mdtext.specs.EntityTable.{EntityTable, usual_table}
 use Rattle.blockspec.specs.BlockLine.{BlockLine, document_line, is_blank_line}
 use Rattle.blockspec.specs.BlockStart.{Free, Container, Kind, Paragraph, SetextHeading, Table, AtxHeading, ThematicBreak, FencedCode, IndentedCode, HtmlBlock, Holds, start_where, start, begun}
 use Rattle.blockspec.specs.BlockUnits.{visible, visible_in, groups_within}
@@ -343,7 +343,7 @@ deep_stays limit ls [] n e = ap (deep_within limit) (append-nil ls) ∙ e
 deep_stays limit ls (l ∷ more) n e =
     let d = suc (visible_in (ls ++ l ∷ [])) in
     let here : deep_within limit (ls ++ l ∷ []) ≡ Some n =
-    deep_next [] limit d ls l (omega arith) ∙ ap (λ z. option_or z (line_if (sinks limit (summary_within [] d ls) l) (length ls))) e in
+    deep_next (usual_table []) limit d ls l (omega arith) ∙ ap (λ z. option_or z (line_if (sinks limit (summary_within (usual_table []) d ls) l) (length ls))) e in
     ap (deep_within limit) (sym (append_assoc ls (l ∷ []) more)) ∙ deep_stays limit (ls ++ l ∷ []) more n here
 
 pub too_deep_stays : (limit : ℕ) (lines more : List (List ℕ)) (n : ℕ) → first_too_deep limit lines ≡ Some n → first_too_deep limit (lines ++ more) ≡ Some n

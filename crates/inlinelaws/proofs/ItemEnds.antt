@@ -1,5 +1,5 @@
 -- Each item takes some bytes, and no more than there are.
-use Rattle.std.proofs.Common.{◌≡◌, ℕ, ◌+◌, ◌-◌, ◌<◌, ◌≤◌, Bool, true, false, ◌||◌, cond, eqb, List, [], ◌∷◌, length, take, drop, length-drop, length-take, Option, Some, None, IfSome, option_map, option_and_then, refl, sym, ap, ◌∙◌, subst, add-one, arith}
+use Rattle.std.proofs.Common.{◌≡◌, ℕ, ◌+◌, ◌-◌, ◌<◌, ◌≤◌, Bool, true, false, ◌&&◌, ◌||◌, cond, eqb, List, [], ◌∷◌, length, take, drop, length-drop, length-take, Option, Some, None, IfSome, option_map, option_and_then, refl, sym, ap, ◌∙◌, subst, add-one, arith}
 use Rattle.std.specs.Prelude.{if◌then◌else◌, nat_eq, nat_le, slice_index, slice_get}
 use Rattle.std.proofs.Math.Seq.{drop-cons}
 use Rattle.std.proofs.lemmas.Bool.{eqb-true}
@@ -21,12 +21,13 @@ use Rattle.mdtext.specs.Labels.{label_of}
 use Rattle.mdscan.specs.Spans.{part}
 use Rattle.mdpair.specs.declared.runs.DelimiterChar.{DelimiterChar}
 use Rattle.mdpair.specs.declared.runs.DelimiterChar.TheVariants.{Asterisk, Underscore, Tilde}
+use Rattle.mdpair.specs.declared.runs.DelimiterRun.{DelimiterRun}
 use Rattle.mdpair.specs.Neighbours.{delimiter_of, run_length, run_of, run_at}
 use Rattle.inlinespec.specs.LabelMap.{LinkTarget}
 use Rattle.inlinespec.specs.InlineEvents.{written}
 use Rattle.inlinespec.specs.CodeSpans.{backticks, before_backticks, code_inside}
 use Rattle.inlinespec.specs.LineBreaks.{LineBreak, spaces, break_after, spaced_break, backslash_break}
-use Rattle.inlinespec.specs.Lexing.{Kind, Leaf, Delimiters, OpenBracket, CloseBracket, leaf, as_written, Sign, Backslash, Ampersand, Backtick, LessThan, Blank, DelimiterMark, Bracket, Exclamation, ClosingBracket, Other, sign_of, break_or_written, escape_lexeme, reference_lexeme, code_lexeme, angle_lexeme, run_lexeme, bracket_lexeme, lexeme_by, lex}
+use Rattle.inlinespec.specs.Lexing.{Kind, Leaf, Delimiters, OpenBracket, CloseBracket, leaf, as_written, Sign, Backslash, Ampersand, Backtick, LessThan, Blank, DelimiterMark, Bracket, Exclamation, ClosingBracket, Other, sign_of, break_or_written, escape_lexeme, reference_lexeme, code_lexeme, angle_lexeme, is_lone_tilde, kept_run, run_lexeme, bracket_lexeme, lexeme_by, lex}
 use Rattle.inlinespec.specs.LinkTails.{Table, LinkTail, Direct, ByLabel, NoLabel, by_label, empty_brackets_at, link_tail_by, link_tail_at}
 use Rattle.inlinespec.specs.Settled.{Piece}
 use Rattle.inlinespec.specs.TextReading.{Opened, nearest_opener, is_live, closing_bracket, looked_up, by_link_tail, closing, item_by, item_at}
@@ -148,6 +149,14 @@ run_size text at below some =
     (run_begins d (slice_index text at) (drop (at + 1) text) (ap (option_and_then delimiter_of) (sym (get_at text at below)) ∙ h)))
     some
 
+kept_size : (entities : EntityTable) (rest : List ℕ) (o : Option DelimiterRun) → 0 < length rest → IsSizeIn rest (run_lexeme rest o).size → IsSizeIn rest (run_lexeme rest (kept_run entities o)).size
+kept_size entities rest None some h = h
+kept_size entities rest (Some run) some h = by (is_lone_tilde run.delimiter run.length && entities.double_tilde)
+  where
+    by : (t : Bool) → IsSizeIn rest (run_lexeme rest (if t then None else Some run)).size
+    by true = (omega arith, some)
+    by false = h
+
 -- what begins at a place
 
 backtick_only : (b : ℕ) → sign_of b ≡ Backtick → nat_eq b 96 ≡ true
@@ -190,7 +199,7 @@ lexeme_size entities text at below s e = by s e
     by Backtick e = code_size (drop at text) (ticks e)
     by LessThan e = angle_size entities text at (autolink_at text at) (raw_html (drop at text)) below (autolink_ends text at) (raw_html_size (drop at text))
     by Blank e = break_size (drop at text) (spaced_break (drop at text)) some (spaced_size (drop at text))
-    by DelimiterMark e = run_size text at below some
+    by DelimiterMark e = kept_size entities (drop at text) (run_at text at) some (run_size text at below some)
     by Bracket e = single
     by Exclamation e = image (begins_with 91 (drop 1 (drop at text))) (begins_below 91 1 (drop at text))
     by ClosingBracket e = single

@@ -10,13 +10,12 @@ use Rattle.mdscan.specs.Blanks.{begins_with}
 use Rattle.mdscan.specs.Escapes.{begins_escape}
 use Rattle.mdscan.specs.RawHtml.{raw_html}
 use Rattle.mdpair.specs.declared.runs.DelimiterRun.{DelimiterRun}
-use Rattle.mdpair.specs.Neighbours.{run_at}
 use Rattle.inlinespec.specs.LabelMap.{LinkTarget}
 use Rattle.inlinespec.specs.AutolinkText.{autolink_text, autolink_target}
 use Rattle.inlinespec.specs.CodeSpans.{backticks, code_content, code_inside}
 use Rattle.inlinespec.specs.InlineEvents.{Event, HardBreak, SoftBreak, LinkTo, written, rows_of}
 use Rattle.inlinespec.specs.LineBreaks.{LineBreak, spaced_break, backslash_break}
-use Rattle.inlinespec.specs.Lexing.{Kind, Leaf, Delimiters, OpenBracket, CloseBracket, leaf, as_written, Sign, Backslash, Ampersand, Backtick, LessThan, Blank, DelimiterMark, Bracket, Exclamation, ClosingBracket, Other, sign_of, break_or_written, escape_lexeme, reference_lexeme, code_lexeme, angle_lexeme, run_lexeme, bracket_lexeme, lexeme_by, lex}
+use Rattle.inlinespec.specs.Lexing.{Kind, Leaf, Delimiters, OpenBracket, CloseBracket, leaf, as_written, Sign, Backslash, Ampersand, Backtick, LessThan, Blank, DelimiterMark, Bracket, Exclamation, ClosingBracket, Other, sign_of, break_or_written, escape_lexeme, reference_lexeme, code_lexeme, angle_lexeme, delimiters_at, run_lexeme, bracket_lexeme, lexeme_by, lex}
 use Rattle.inlinespec.specs.LinkTails.{Table, LinkTail, Direct, ByLabel, NoLabel, link_tail_at}
 use Rattle.inlinespec.specs.Settled.{Piece, Made, Run, Opening, settled}
 use Rattle.inlinespec.specs.TextReading.{Opened, opened_with, nearest_opener, is_live, Deed, Adds, Spends, Links, closing_bracket, looked_up, by_link_tail, closing, item_by, item_at, spent, span_to, linked, after_deed, items_from, reading, pieces_after}
@@ -89,7 +88,7 @@ lexeme_balanced entities text at rest Ampersand = reference_balanced rest (refer
 lexeme_balanced entities text at rest Backtick = ticks_balanced rest (code_inside rest)
 lexeme_balanced entities text at rest LessThan = angle_balanced entities text at (autolink_at text at) (raw_html rest)
 lexeme_balanced entities text at rest Blank = break_balanced rest (spaced_break rest)
-lexeme_balanced entities text at rest DelimiterMark = run_balanced rest (run_at text at)
+lexeme_balanced entities text at rest DelimiterMark = run_balanced rest (delimiters_at entities text at)
 lexeme_balanced entities text at rest Bracket = tt
 lexeme_balanced entities text at rest Exclamation = image_balanced rest
 lexeme_balanced entities text at rest ClosingBracket = tt

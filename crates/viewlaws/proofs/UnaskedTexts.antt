@@ -12,10 +12,9 @@ use Rattle.mdscan.specs.Blanks.{begins_with}
 use Rattle.mdscan.specs.Escapes.{begins_escape}
 use Rattle.mdscan.specs.RawHtml.{raw_html}
 use Rattle.mdpair.specs.declared.runs.DelimiterRun.{DelimiterRun}
-use Rattle.mdpair.specs.Neighbours.{run_at}
 use Rattle.inlinespec.specs.CodeSpans.{code_inside}
 use Rattle.inlinespec.specs.InlineEvents.{written}
-use Rattle.inlinespec.specs.Lexing.{Kind, Leaf, Delimiters, OpenBracket, CloseBracket, leaf, as_written, Sign, Backslash, Ampersand, Backtick, LessThan, Blank, DelimiterMark, Bracket, Exclamation, ClosingBracket, Other, sign_of, break_or_written, escape_lexeme, reference_lexeme, code_lexeme, angle_lexeme, run_lexeme, bracket_lexeme, lexeme_by, lex}
+use Rattle.inlinespec.specs.Lexing.{Kind, Leaf, Delimiters, OpenBracket, CloseBracket, leaf, as_written, Sign, Backslash, Ampersand, Backtick, LessThan, Blank, DelimiterMark, Bracket, Exclamation, ClosingBracket, Other, sign_of, break_or_written, escape_lexeme, reference_lexeme, code_lexeme, angle_lexeme, delimiters_at, run_lexeme, bracket_lexeme, lexeme_by, lex}
 use Rattle.inlinespec.specs.LineBreaks.{LineBreak, spaced_break, backslash_break}
 use Rattle.inlinespec.specs.LinkTails.{Table}
 use Rattle.inlinespec.specs.Settled.{Piece}
@@ -100,7 +99,7 @@ lexeme_is_other e text at rest Ampersand h = reference_is_other rest (reference 
 lexeme_is_other e text at rest Backtick h = code_is_other rest (code_inside rest)
 lexeme_is_other e text at rest LessThan h = angle_is_other e text at (autolink_at text at) (raw_html rest)
 lexeme_is_other e text at rest Blank h = break_is_other rest (spaced_break rest)
-lexeme_is_other e text at rest DelimiterMark h = run_is_other rest (run_at text at)
+lexeme_is_other e text at rest DelimiterMark h = run_is_other rest (delimiters_at e text at)
 lexeme_is_other e text at rest Bracket h = tt
 lexeme_is_other e text at rest Exclamation h = image_is_other (begins_with 91 (drop 1 rest)) rest
 lexeme_is_other e text at rest ClosingBracket h = absurd h

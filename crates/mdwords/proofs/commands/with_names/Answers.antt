@@ -1,6 +1,6 @@
 use Rattle.std.proofs.Common.{ap₂, refl, ◌∙◌}
 use Rattle.clap.specs.Words.{with_rule}
-use Rattle.mdwords.proofs.tool_words.with_names.Goals as goal
+use Rattle.mdwords.proofs.commands.with_names.Goals as goal
 
 pub returns : goal.returns
 returns c =

@@ -1,7 +1,7 @@
 use Rattle.std.proofs.Common.{rules, ap, ap₂, ◌≡◌, ◌∙◌}
 use Rattle.clap.specs.Words.{rule_of, with_rule}
 use Rattle.mdwords.specs.ToolWords.{file_rule, with_done_anyway, with_names, with_reading, with_replies, with_version, with_writing}
-use Rattle.mdwords.proofs.tool_words.command.Goals as goal
+use Rattle.mdwords.proofs.commands.command.Goals as goal
 
 pub returns : goal.returns
 returns c =
