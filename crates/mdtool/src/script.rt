@@ -129,6 +129,7 @@ impl Script {
     }
 
     /// How long the next line is, without its LF, or nothing at the end.
+    #[inline(always)]
     fn find_line<R: Feed>(&mut self, feed: &mut R) -> Result<Option<usize>, ToolFault>
         requires { R.failures feed.old < 2 ^ 64 - 1 }
         ensures steps { Steps result
@@ -158,6 +159,7 @@ impl Script {
     }
 
     /// Takes a chunk from the feed, or finds that it has ended.
+    #[inline(never)]
     fn take_more<R: Feed>(&mut self, feed: &mut R) -> Result<(), ToolFault>
         requires feed { R.failures feed.old < 2 ^ 64 - 1 }
         requires open { self.old.is_ended ≡ false }
