@@ -33,11 +33,6 @@ next_length lens rest i below are =
     let next : drop i lens ≡ get_or lens i 0 ∷ drop (i + 1) lens = rw add-one (drop-cons lens i 0 below) in
     subst (λ ls. AreLengths ls rest) next are
 
-pub next_cut : (lens rest : List ℕ) (i : ℕ) → i < length lens → cut (drop i lens) rest ≡ take (get_or lens i 0) rest ∷ cut (drop (i + 1) lens) (drop (get_or lens i 0) rest)
-next_cut lens rest i below =
-    let next : drop i lens ≡ get_or lens i 0 ∷ drop (i + 1) lens = rw add-one (drop-cons lens i 0 below) in
-    ap (λ ls. cut ls rest) next
-
 -- an empty line at the end
 pub lengths_empty : (lens bytes : List ℕ) → AreLengths lens bytes → AreLengths (lens ++ 0 ∷ []) bytes
 lengths_empty lens bytes are = subst (AreLengths (lens ++ 0 ∷ [])) (append-nil bytes) (lengths_more lens bytes [] are IsUtf8-nil)
