@@ -118,6 +118,16 @@ IsLeafStart (Some (o.Html kind)) = Unit {0}
 IsLeafStart (Some o.Break) = Unit {0}
 IsLeafStart (Some o.Code) = Unit {0}
 
+-- neither a container nor a heading, which is over with its line
+abbrev pub OpensLeaf : BlockStart → Type 0
+OpensLeaf o.Quote = ⊥
+OpensLeaf (o.Item marker) = ⊥
+OpensLeaf (o.Heading heading) = ⊥
+OpensLeaf (o.Fence fence) = Unit {0}
+OpensLeaf (o.Html kind) = Unit {0}
+OpensLeaf o.Break = Unit {0}
+OpensLeaf o.Code = Unit {0}
+
 -- the list of the last group, if it is one
 abbrev pub last_mark : List Group → Option ListKind
 last_mark [] = None
