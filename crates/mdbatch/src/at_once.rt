@@ -93,6 +93,7 @@ fn written_units<'a>(
 }
 
 /// Writes the next unit, if there is one. The answer is false where it defines a label or spans lie too deep in it.
+/// It is inlined, since it is called behind each line, and most lines end no unit.
 #[inline(always)]
 fn write_found<'a>(
     found: Option<Found>,

@@ -54,7 +54,7 @@ impl Gathered {
         })
     }
 
-    /// Takes the next unit, if there is one.
+    /// Takes the next unit, if there is one. It is inlined, since it is called behind each line, and most lines end no unit.
     #[inline(always)]
     pub(crate) fn take<'a>(
         &mut self,

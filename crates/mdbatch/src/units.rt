@@ -53,7 +53,7 @@ pub(crate) fn gathered_units(
     Ok(gathered)
 }
 
-/// The first line of a text that is not empty, and the text after its ending: an empty line at once.
+/// The first line of a text that is not empty, and the text after its ending: an empty line at once. It is inlined, so that an empty line takes no call.
 #[inline(always)]
 pub(crate) fn next_line(text: &str) -> (&str, &str)
     requires { 0 < length text.now }

@@ -1,7 +1,7 @@
 use Rattle.std.proofs.Common.{ap, sym, ◌∙◌}
 use Rattle.mdscan.specs.Blanks.{begins_with}
 use Rattle.mdblock.proofs.NoDefinitions.{all_left, none_found}
-use Rattle.mdblock.proofs.gathering.Gathering.definitions.Goals as goal
+use Rattle.mdblock.proofs.leaf.link_definitions.take_definitions.Goals as goal
 
 pub returns-then-not-may_define-clause-left : goal.returns-then-not-may_define-clause-left
 returns-then-not-may_define-clause-left c =
