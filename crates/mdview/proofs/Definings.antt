@@ -9,7 +9,7 @@ use Rattle.blockspec.specs.BlockTree.{Blocks}
 use Rattle.blockspec.specs.BlockUnits.{units}
 use Rattle.blockspec.specs.Nesting.{first_too_deep}
 use Rattle.blockspec.specs.UnitTree.{FoundUnit}
-use Rattle.blocklaws.proofs.NestingLaws.{too_deep_stays}
+use Rattle.blockspec.proofs.NestingLaws.{too_deep_stays}
 use Rattle.inlinespec.specs.LabelMap.{LabelMap, LinkTarget, put_first, target_of}
 use Rattle.mdblock.specs.BlockView.{blocks_view}
 use Rattle.mdblock.specs.declared.faults.BlockFault.{BlockFault}
@@ -19,7 +19,7 @@ use Rattle.mdblock.specs.declared.blocks.Block.{Block}
 use Rattle.viewspec.specs.LabelTable.{with_definitions, with_units}
 use Rattle.viewspec.specs.Refusals.{is_more, undefining_line}
 use Rattle.viewspec.specs.Setting.{Setting}
-use Rattle.viewlaws.proofs.LabelsLead.{labels_more}
+use Rattle.viewspec.proofs.LabelsLead.{labels_more}
 use Rattle.mdview.specs.Defining.{Defines, EndsAt, fault_of, first_other, shown}
 use Rattle.mdview.specs.Preludes.{IsUndefiningAt, OfDefinitions}
 use Rattle.mdview.specs.declared.fault.EditFault.{EditFault}

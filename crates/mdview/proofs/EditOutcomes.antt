@@ -24,9 +24,9 @@ use Rattle.viewspec.specs.View.{view}
 use Rattle.blockspec.specs.Joins.{joins}
 use Rattle.viewspec.specs.SoonTexts.{texts_of_read, texts_soon, units_read}
 use Rattle.viewspec.specs.Stops.{lines_soon, lines_to_stop}
-use Rattle.viewlaws.specs.UnitTexts.{asking_units, trees_in}
-use Rattle.viewlaws.proofs.AskingUnits.{asking_renumbered, asking_spliced}
-use Rattle.viewlaws.proofs.Counts.{spliced}
+use Rattle.viewspec.specs.UnitTexts.{asking_units, trees_in}
+use Rattle.viewspec.proofs.AskingUnits.{asking_renumbered, asking_spliced}
+use Rattle.viewspec.proofs.Counts.{spliced}
 use Rattle.mdview.specs.declared.held.labels.HeldLabels.{HeldLabels}
 use Rattle.mdview.specs.declared.source.new_text.NewText.{NewText}
 use Rattle.mdview.specs.declared.inlines.concerned_texts.Again.{Again}

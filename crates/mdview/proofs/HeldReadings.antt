@@ -9,14 +9,14 @@ use Rattle.inlinespec.specs.LinkTails.{Table}
 use Rattle.viewspec.specs.LabelTable.{table, with_units}
 use Rattle.viewspec.specs.Refusals.{inline_refusal, inline_too_deep, nesting_refusal}
 use Rattle.viewspec.specs.Setting.{Setting, Source}
-use Rattle.viewlaws.specs.UnitTexts.{asking_in, asking_texts, asking_units, deep_found, deep_from, readings_under}
+use Rattle.viewspec.specs.UnitTexts.{asking_in, asking_texts, asking_units, deep_found, deep_from, readings_under}
 use Rattle.viewspec.specs.Changes.{asks_changed}
 use Rattle.viewspec.specs.View.{reading_of}
 use Rattle.std.proofs.lemmas.List.Sums.{sum_by-cons}
-use Rattle.viewlaws.specs.UnitTiles.{tile_of}
-use Rattle.viewlaws.proofs.Cuts.{no_units}
-use Rattle.viewlaws.proofs.DeepUnits.{deep_of_text, refused_for_spans}
-use Rattle.viewlaws.proofs.ReadingsUnder.{deep_found_under}
+use Rattle.viewspec.specs.UnitTiles.{tile_of}
+use Rattle.viewspec.proofs.Cuts.{no_units}
+use Rattle.viewspec.proofs.DeepUnits.{deep_of_text, refused_for_spans}
+use Rattle.viewspec.proofs.ReadingsUnder.{deep_found_under}
 use Rattle.std.proofs.lemmas.List.{length-map, take_all}
 use Rattle.mdview.specs.declared.held.labels.HeldLabels.{HeldLabels}
 use Rattle.mdview.specs.declared.labels.changes.LabelChanges.{LabelChanges}

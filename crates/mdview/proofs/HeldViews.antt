@@ -8,7 +8,7 @@ use Rattle.mdinline.specs.ParsedText.{ParsedText}
 use Rattle.viewspec.specs.LabelTable.{table}
 use Rattle.viewspec.specs.Setting.{Setting}
 use Rattle.viewspec.specs.View.{ViewedUnit, view, viewed}
-use Rattle.viewlaws.specs.UnitTexts.{readings_under, trees_in}
+use Rattle.viewspec.specs.UnitTexts.{readings_under, trees_in}
 use Rattle.mdview.specs.declared.held.labels.HeldLabels.{HeldLabels}
 use Rattle.mdview.specs.HeldBlocks.{HoldsUnits}
 use Rattle.mdview.specs.HeldTexts.{HoldsTexts, IsReadUnder}

@@ -16,9 +16,9 @@ use Rattle.mdinline.specs.declared.faults.InlineFault.{InlineFault}
 use Rattle.mdinline.specs.declared.faults.InlineFault.TheVariants.{TooDeep, NoMemory}
 use Rattle.viewspec.specs.Refusals.{is_deep}
 use Rattle.viewspec.specs.View.{reading_of}
-use Rattle.viewlaws.specs.UnitTexts.{deep_found, is_deep_under}
-use Rattle.viewlaws.proofs.DeepUnits.{found_append}
-use Rattle.viewlaws.specs.LaterTexts.{asking_of}
+use Rattle.viewspec.specs.UnitTexts.{deep_found, is_deep_under}
+use Rattle.viewspec.proofs.DeepUnits.{found_append}
+use Rattle.viewspec.specs.LaterTexts.{asking_of}
 use Rattle.mdview.specs.declared.fault.EditFault.{EditFault}
 use Rattle.mdview.specs.declared.inlines.kept_texts.KeptReadings.{KeptReadings}
 use Rattle.mdview.specs.declared.blocks.reparse.KeptTexts.{KeptTexts}

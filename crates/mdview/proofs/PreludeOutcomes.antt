@@ -18,9 +18,9 @@ use Rattle.viewspec.specs.Patch.{Brings}
 use Rattle.viewspec.specs.Refusals.{inline_refusal, inline_too_deep, not_definitions, prelude_refusal, undefining_line}
 use Rattle.viewspec.specs.Setting.{Setting, Source}
 use Rattle.viewspec.specs.View.{view}
-use Rattle.viewlaws.specs.UnitTexts.{asking_texts, asking_units, deep_from}
-use Rattle.viewlaws.proofs.AskingUnits.{asking_all, asking_renumbered, texts_all}
-use Rattle.viewlaws.proofs.ReadingsUnder.{asking_texts_under, asking_units_under}
+use Rattle.viewspec.specs.UnitTexts.{asking_texts, asking_units, deep_from}
+use Rattle.viewspec.proofs.AskingUnits.{asking_all, asking_renumbered, texts_all}
+use Rattle.viewspec.proofs.ReadingsUnder.{asking_texts_under, asking_units_under}
 use Rattle.mdview.specs.declared.fault.EditFault.{EditFault}
 use Rattle.mdview.specs.declared.fault.EditFault.TheVariants.{OutOfRange, BreakInLine, TooManyLines, TooLarge, NestedTooDeep, InlineTooDeep, NoMemory, NotDefinitions}
 use Rattle.mdview.specs.declared.held.labels.HeldLabels.{HeldLabels}

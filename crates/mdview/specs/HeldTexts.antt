@@ -6,8 +6,8 @@ use Rattle.blockspec.specs.UnitTree.{UnitTree}
 use Rattle.inlinespec.specs.LinkTails.{Table}
 use Rattle.mdinline.specs.declared.faults.InlineFault.{InlineFault}
 use Rattle.mdinline.specs.declared.faults.InlineFault.TheVariants as inline
-use Rattle.viewlaws.specs.UnitTexts.{asking_texts, asking_units, deep_found, deep_from, is_deep_under, readings_under, trees_in}
-use Rattle.viewlaws.specs.UnitTiles.{front_of}
+use Rattle.viewspec.specs.UnitTexts.{asking_texts, asking_units, deep_found, deep_from, is_deep_under, readings_under, trees_in}
+use Rattle.viewspec.specs.UnitTiles.{front_of}
 use Rattle.viewspec.specs.Refusals.{Refusal, break_in_line, inline_refusal, inline_too_deep, nested_too_deep, not_definitions, out_of_range, too_large, too_many_lines}
 use Rattle.viewspec.specs.Setting.{Setting, Source}
 use Rattle.mdblock.specs.FoundLists.{found_unit}

@@ -8,8 +8,8 @@ ghost use Rattle.mdinline.specs.declared.faults.InlineFault.TheVariants.{TooDeep
 ghost use Rattle.viewspec.specs.Changes.{asks_changed};
 ghost use Rattle.viewspec.specs.Refusals.{is_deep};
 ghost use Rattle.viewspec.specs.View.{reading_of};
-ghost use Rattle.viewlaws.specs.UnitTexts.{asking_in, asking_texts, asking_units, deep_from, is_deep_under, readings_under};
-ghost use Rattle.viewlaws.specs.LaterTexts.{asking_of};
+ghost use Rattle.viewspec.specs.UnitTexts.{asking_in, asking_texts, asking_units, deep_from, is_deep_under, readings_under};
+ghost use Rattle.viewspec.specs.LaterTexts.{asking_of};
 ghost use Rattle.mdview.specs.HeldUnit.{AreEnds, html_of, unit_in};
 ghost use Rattle.mdview.specs.Update.{Fits, IsWritten};
 ghost use Rattle.mdview.specs.HeldBlocks.{held_tile, lines_in};

@@ -2,7 +2,7 @@ use Rattle.std.proofs.Common.{◌≡◌, ◌+◌, ◌∙◌, Err, ap, arith, map
 use Rattle.std.proofs.lemmas.List.{length-map}
 use Rattle.mdblock.specs.held.Reads.{Reads, handed}
 use Rattle.viewspec.specs.Setting.{Setting}
-use Rattle.viewlaws.proofs.ReadLines.{none_deep, none_handed}
+use Rattle.viewspec.proofs.ReadLines.{none_deep, none_handed}
 use Rattle.mdview.specs.Defining.{Defines}
 use Rattle.mdview.specs.Preludes.{IsUndefiningAt}
 use Rattle.mdview.proofs.Definings.{all_lines, definitions_alone, undefined, undefined_at}
