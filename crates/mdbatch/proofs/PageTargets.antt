@@ -6,7 +6,7 @@ use Rattle.inlinespec.specs.LabelMap.{LabelMap, LinkTarget, target_in, target_of
 use Rattle.viewspec.proofs.LabelsLead.{units_lead}
 use Rattle.viewspec.specs.LabelTable.{with_units}
 use Rattle.mdtext.specs.declared.labels.Target.{Target}
-use Rattle.mdview.specs.Preludes.{HeldPrelude, target_beside}
+use Rattle.mdsource.specs.Preludes.{HeldPrelude, target_beside}
 use Rattle.mdbatch.specs.TextLabels.{page_table, target_by}
 
 -- the text's own definition counts

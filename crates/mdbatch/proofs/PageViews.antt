@@ -17,12 +17,12 @@ use Rattle.viewspec.specs.Setting.{Setting}
 use Rattle.viewspec.specs.View.{ViewedUnit, view, viewed}
 use Rattle.viewspec.proofs.Cuts.{no_units}
 use Rattle.viewspec.proofs.LabelsLead.{units_lead}
-use Rattle.mdview.specs.declared.fault.EditFault.{EditFault}
-use Rattle.mdview.specs.declared.fault.EditFault.TheVariants.{OutOfRange, BreakInLine, TooManyLines, TooLarge, NestedTooDeep, InlineTooDeep, NoMemory, NotDefinitions}
-use Rattle.mdview.specs.Edit.{refusal}
-use Rattle.mdview.specs.FaultReasons.{reason_of}
-use Rattle.mdview.specs.Preludes.{HeldPrelude, IsDefinedBy}
-use Rattle.mdview.proofs.DueReasons.{size_reason}
+use Rattle.mdsource.specs.declared.fault.EditFault.{EditFault}
+use Rattle.mdsource.specs.declared.fault.EditFault.TheVariants.{OutOfRange, BreakInLine, TooManyLines, TooLarge, NestedTooDeep, InlineTooDeep, NoMemory, NotDefinitions}
+use Rattle.mdsource.specs.SourceLimits.{refusal}
+use Rattle.mdsource.specs.FaultReasons.{reason_of}
+use Rattle.mdsource.specs.Preludes.{HeldPrelude, IsDefinedBy}
+use Rattle.mdsource.proofs.DueReasons.{size_reason}
 use Rattle.mdbatch.specs.BatchHtml.{TextHtml, begin_in, deep_on_page, piece_in}
 use Rattle.mdbatch.specs.TextLabels.{page_table}
 use Rattle.mdbatch.specs.ViewHtml.{ViewHtml}

@@ -38,7 +38,7 @@ use Rattle.mdview.specs.HeldUnit.{HeldUnit, IsRendered, piece_of, read_of, shown
 use Rattle.mdview.specs.LabelTargets.{led_after, target_held}
 use Rattle.mdview.specs.Lists.{replaced}
 use Rattle.mdview.specs.NewText.{lines_of}
-use Rattle.mdview.specs.Preludes.{HeldPrelude}
+use Rattle.mdsource.specs.Preludes.{HeldPrelude}
 use Rattle.mdview.specs.StopLines.{stops_of}
 use Rattle.mdview.specs.Update.{IsFitFor, IsPatchOf, all_renewed, number_after}
 use Rattle.mdview.proofs.Committed.{committed_brings, committed_rendered}

@@ -26,7 +26,7 @@ use Rattle.mdview.specs.HeldTexts.{HoldsTexts, IsReadUnder, IsReread, IsShallow,
 use Rattle.mdview.specs.HeldUnit.{HeldUnit, ReadUnit, read_of, texts_in, texts_of, unit_in}
 use Rattle.mdview.specs.LabelTargets.{at, changed, led_after, led_by, target_held}
 use Rattle.mdview.specs.Lists.{replaced}
-use Rattle.mdview.specs.Preludes.{HeldPrelude, IsDefinedBy}
+use Rattle.mdsource.specs.Preludes.{HeldPrelude, IsDefinedBy}
 use Rattle.mdview.specs.Update.{all_renewed}
 use Rattle.mdview.proofs.CommittedTexts.{committed_read}
 use Rattle.mdview.proofs.EditTexts.{all_read_under, all_shallow, led_by_text, lines_are, nested_in_none, none_deep_before, tiles_are, trees_are}

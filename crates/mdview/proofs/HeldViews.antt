@@ -15,7 +15,7 @@ use Rattle.mdview.specs.HeldTexts.{HoldsTexts, IsReadUnder}
 use Rattle.mdview.specs.HeldUnit.{HeldUnit, IsRendered, html_of, piece_of, read_of, shown_in, unit_in}
 use Rattle.mdview.specs.Document.{shown_of}
 use Rattle.mdview.specs.LabelTargets.{target_held}
-use Rattle.mdview.specs.Preludes.{HeldPrelude}
+use Rattle.mdsource.specs.Preludes.{HeldPrelude}
 use Rattle.mdview.proofs.EditTexts.{all_read_under, trees_are}
 use Rattle.mdview.proofs.HeldReadings.{led_by_held}
 use Rattle.mdview.proofs.MemberChanges.{all_first, all_rest}

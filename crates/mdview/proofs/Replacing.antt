@@ -12,7 +12,7 @@ use Rattle.mdview.specs.HeldBlocks.{HoldsUnits, IsReplacing, IsReread, old_lines
 use Rattle.mdview.specs.HeldLists.{StandForUnits, list_in, unplaced}
 use Rattle.mdview.specs.HeldUnit.{ReadUnit}
 use Rattle.mdview.specs.NewText.{lines_of}
-use Rattle.mdview.specs.declared.fault.EditFault.{EditFault}
+use Rattle.mdsource.specs.declared.fault.EditFault.{EditFault}
 use Rattle.mdview.specs.declared.source.new_text.NewText.{NewText}
 use Rattle.mdview.specs.declared.blocks.reparse.Reparsed.{Reparsed}
 use Rattle.mdview.specs.declared.update.Update.{Update}

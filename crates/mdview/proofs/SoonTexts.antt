@@ -29,7 +29,7 @@ use Rattle.mdview.specs.HeldTexts.{texts_in_parts}
 use Rattle.mdview.specs.HeldUnit.{HeldUnit, read_of, texts_in}
 use Rattle.mdview.specs.KeptTexts.{kept_texts, last_texts, number_kept}
 use Rattle.mdview.specs.NewText.{lines_of as new_lines}
-use Rattle.mdview.specs.Preludes.{HeldPrelude}
+use Rattle.mdsource.specs.Preludes.{HeldPrelude}
 use Rattle.mdview.specs.StopLines.{IsReadToStop, stops_of}
 use Rattle.mdview.proofs.EditTexts.{found_is, texts_by_kept}
 use Rattle.mdview.proofs.ReadStretches.{is_edit}

@@ -15,7 +15,8 @@ use Rattle.viewspec.specs.UnitTexts.{asking_in, asking_texts, asking_units, deep
 use Rattle.viewspec.proofs.AskingUnits.{asking_append}
 use Rattle.viewspec.proofs.DeepUnits.{deep_append}
 use Rattle.mdview.specs.HeldBlocks.{held_tile, lines_in}
-use Rattle.mdview.specs.HeldTexts.{IsShallow, IsTextFault, between, text_fault_in}
+use Rattle.mdview.specs.HeldTexts.{IsShallow, between}
+use Rattle.mdsource.specs.TextFaults.{IsTextFault, text_fault_in}
 use Rattle.mdview.specs.HeldUnit.{HeldUnit, unit_in}
 
 -- a fault of the texts of a unit, where spans lie too deep in it if that is the fault

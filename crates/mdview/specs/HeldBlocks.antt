@@ -12,8 +12,8 @@ use Rattle.viewspec.specs.UnitTiles.{front_of, tile_of}
 use Rattle.mdview.specs.NewText.{lines_of as new_lines}
 use Rattle.mdview.specs.declared.source.new_text.NewText.{NewText}
 use Rattle.mdview.specs.declared.blocks.reparse.Reparsed.{Reparsed}
-use Rattle.mdview.specs.declared.fault.EditFault.{EditFault}
-use Rattle.mdview.specs.declared.fault.EditFault.TheVariants.{OutOfRange, BreakInLine, TooManyLines, TooLarge, NestedTooDeep, InlineTooDeep, NoMemory, NotDefinitions}
+use Rattle.mdsource.specs.declared.fault.EditFault.{EditFault}
+use Rattle.mdsource.specs.declared.fault.EditFault.TheVariants.{OutOfRange, BreakInLine, TooManyLines, TooLarge, NestedTooDeep, InlineTooDeep, NoMemory, NotDefinitions}
 use Rattle.mdview.specs.declared.update.Update.{Update}
 use Rattle.mdview.specs.HeldLists.{StandForUnits, StandsAt, list_in, list_read}
 use Rattle.mdview.specs.HeldUnit.{HeldUnit, ReadUnit, read_of}

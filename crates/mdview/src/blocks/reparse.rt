@@ -21,18 +21,18 @@ ghost use Rattle.mdview.specs.HeldUnit.{read_of};
 ghost use Rattle.mdview.specs.KeptTexts.{IsKept};
 ghost use Rattle.mdview.specs.StopLines.{IsReadToStop, stops_of};
 ghost use Rattle.mdblock.specs.CountedLines.{counted_by};
-ghost use Rattle.mdview.specs.Document.{size_of};
+ghost use Rattle.mdsource.specs.SourceLimits.{size_of};
 ghost use Rattle.mdview.specs.NewText.{lines_of};
 ghost use Rattle.mdview.specs.ReadingFaults.{OfBlocks};
-ghost use Rattle.mdview.specs.declared.fault.EditFault.TheVariants.{NoMemory};
+ghost use Rattle.mdsource.specs.declared.fault.EditFault.TheVariants.{NoMemory};
 
 use crate::blocks::held_places::{HeldItem, Resume, UnitCursor, UnitStart, resume_at};
-use crate::fault::EditFault;
 use crate::held::HeldText;
 use crate::held::units::HeldUnit;
 use crate::source::new_text::NewText;
 use mdblock::{BlockFault, Found, Reader, splice};
 use mdchunks::Chunks;
+use mdsource::EditFault;
 use mdtext::Count;
 use std::alloc::AllocError;
 

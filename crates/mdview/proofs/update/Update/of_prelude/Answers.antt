@@ -5,7 +5,8 @@ use Rattle.std.proofs.lemmas.Result.{IfOk-weaker, on_ok_weaker}
 use Rattle.viewspec.specs.UnitTexts.{asking_units}
 use Rattle.viewspec.proofs.ReadingsUnder.{asking_texts_under, asking_units_under, deep_from_under}
 use Rattle.mdview.specs.HeldBlocks.{held_tile}
-use Rattle.mdview.specs.HeldTexts.{IsReread, IsTextFault, asking_in_parts, head_read, number_again}
+use Rattle.mdview.specs.HeldTexts.{IsReread, asking_in_parts, head_read, number_again}
+use Rattle.mdsource.specs.TextFaults.{IsTextFault}
 use Rattle.mdview.specs.HeldUnit.{HeldUnit, unit_in}
 use Rattle.mdview.specs.LabelTargets.{led_after, led_by, target_held}
 use Rattle.mdview.specs.declared.blocks.reparse.Reparsed.{Reparsed}
