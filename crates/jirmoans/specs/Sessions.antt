@@ -10,13 +10,13 @@ use Rattle.mdtext.specs.Lines.{split_lines, text_lines}
 use Rattle.mdtext.specs.declared.entity_file.TableFault.{TableFault}
 use Rattle.mdtext.specs.declared.entity_file.TableFault.TheVariants.{NoMemory as TableNoMemory}
 use Rattle.mdhtml.specs.declared.options.Options.{Options}
-use Rattle.mdview.specs.declared.fault.EditFault.{EditFault}
-use Rattle.mdview.specs.declared.fault.EditFault.TheVariants.{NoMemory}
+use Rattle.mdsource.specs.declared.fault.EditFault.{EditFault}
+use Rattle.mdsource.specs.declared.fault.EditFault.TheVariants.{NoMemory}
 use Rattle.blockspec.specs.BlockUnits.{begins}
 use Rattle.mdview.specs.Document.{empty, pieces_of, readings_of}
 use Rattle.mdview.specs.Edit.{call_of}
 use Rattle.mdview.specs.Outcome.{answer_of, is_starved, outcome_of}
-use Rattle.mdview.specs.Preludes.{HeldPrelude}
+use Rattle.mdsource.specs.Preludes.{HeldPrelude}
 use Rattle.viewspec.specs.Outcome.{accepted}
 use Rattle.viewspec.specs.Calls.{Call, set_prelude}
 use Rattle.viewspec.specs.ChangedPieces.{ChangedPieces}

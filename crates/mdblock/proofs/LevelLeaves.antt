@@ -22,8 +22,8 @@ use Rattle.blockspec.specs.OpenLeaf.{OpenLeaf, leaf_from, open_leaves}
 use Rattle.blockspec.specs.Stretches.{ends_html, is_single, first_of}
 use Rattle.blockspec.specs.TaskItem.{with_task}
 use Rattle.blockspec.specs.UnitBegin.{same_mark}
-use Rattle.blocklaws.proofs.LeafSteps.{IsLeaf}
-use Rattle.blocklaws.proofs.SummaryLaws.{leaf_begun, new_leaf}
+use Rattle.blockspec.proofs.LeafSteps.{IsLeaf}
+use Rattle.blockspec.proofs.SummaryLaws.{leaf_begun, new_leaf}
 use Rattle.mdblock.specs.BlockView.{block_view, blocks_view}
 use Rattle.mdblock.specs.held.ClosedViews.{found_view}
 use Rattle.mdblock.specs.held.HandedIn.{gathered_texts, gathered_definitions}

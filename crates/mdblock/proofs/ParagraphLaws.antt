@@ -21,7 +21,7 @@ use Rattle.mdblock.specs.declared.open_blocks.Continuation.TheVariants as contin
 use Rattle.blockspec.specs.UnitBegin.{is_stop}
 use Rattle.mdblock.specs.declared.block_starts.BlockStart.{BlockStart}
 use Rattle.mdblock.specs.declared.block_starts.BlockStart.TheVariants as o
-use Rattle.blocklaws.proofs.OpenLeafLaws.{joined_next, last_next}
+use Rattle.blockspec.proofs.OpenLeafLaws.{joined_next, last_next}
 use Rattle.mdblock.proofs.LeafTexts.{joined_more, joined_one}
 use Rattle.mdblock.proofs.StartLaws.{near_in_parts}
 

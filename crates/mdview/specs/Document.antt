@@ -1,5 +1,5 @@
 -- What a preview is: a text and a prelude, and what they are read with. All else that it shows is their view.
-use Rattle.std.specs.Prelude.{ℕ, List, [], ◌+◌, length, map, sum_by}
+use Rattle.std.specs.Prelude.{ℕ, List, [], map}
 use Rattle.mdtext.specs.EntityTable.{EntityTable}
 use Rattle.mdinline.specs.ParsedText.{ParsedText}
 use Rattle.blockspec.specs.UnitTree.{UnitTree}
@@ -52,7 +52,3 @@ shown_of v = (v.unit, v.readings)
 -- the blocks of each, and what its texts read as
 abbrev pub readings_of : Document → List (UnitTree × List ParsedText)
 readings_of held = map shown_of (view_of held)
-
--- the bytes of a text, with one for each line
-abbrev pub size_of : List (List ℕ) → ℕ
-size_of lines = sum_by (λ line. length line + 1) lines
