@@ -9,14 +9,14 @@ ghost use Rattle.mdscan.specs.Spans.{IsSpanOf};
 ghost use Rattle.blockspec.specs.BlockLine.{BlockLine, rest, indentation};
 ghost use Rattle.blockspec.specs.BlockTree.{code_block};
 ghost use Rattle.mdblock.specs.BlockView.{block_view};
-ghost use Rattle.mdblock.specs.held.OpenLeaves.{IsFenceOf, IsFenceLeaf, IsFenceStep, IsGoing};
+ghost use Rattle.mdblock.specs.held.OpenLeaves.{IsFenceOf, IsFenceLeaf, IsGoing};
 ghost use Rattle.mdblock.specs.held.OpenPositions.{LeafAfterIn};
 ghost use Rattle.mdblock.specs.Positions.{BlockIn};
 ghost use Rattle.blockspec.specs.Stretches.{closes};
 
 use crate::blocks::Block;
 use crate::gathering::Gathering;
-use crate::leaf::{Leaf, LeafAfter, going, over};
+use crate::leaf::{Leaf, LeafAfter, going};
 use crate::lines::{Line, make_room};
 use mdscan::{FenceLine, fence_end};
 use mdtext::unescape;
@@ -77,23 +77,7 @@ impl Fence {
         line.is_near_margin() && fence_end(line.text(), self.mark, self.length)
     }
 
-    /// Reads a line: what closes the code, or a line of it.
-    #[inline(always)]
-    pub(crate) fn add(mut self, line: &mut Line) -> Result<LeafAfter, AllocError>
-        ensures within { (n : ℕ) → IfOk result (λ step. LeafAfterIn n step) }
-        ensures step { (entities : EntityTable) (info : List ℕ) (later : List BlockLine)
-            → IsFenceOf entities self.indent self.mark self.length info later self
-            → IfOk result (λ step. IsFenceStep (closes self.mark self.length line.old) entities
-            self.indent self.mark self.length info later line.old step) }
-    {
-        if self.closes(line) {
-            return Ok(over(self.end()));
-        }
-        self.push_line(line)?;
-        Ok(going(Leaf::Fence(self)))
-    }
-
-    /// Appends a line of the code.
+    /// Appends a line of the code. It is inlined, since each line goes this way.
     #[inline(always)]
     pub(crate) fn push_line(&mut self, line: &mut Line) -> Result<(), AllocError>
         ensures step { OnOk result ((entities : EntityTable) (info : List ℕ) (later : List BlockLine)
