@@ -2,7 +2,7 @@
 
 ghost use Rattle.std.specs.Prelude.{◌≡◌, ◌≤◌, ◌+◌, ◌<◌, ◌-◌, ◌^◌, ◌++◌, ◌&&◌, ◌∷◌, ℕ, List, None, Some, IfErr, IfOk, IfSome, OnErr, OnOk, [], drop, is_some, length, map, min, sum_by, take, true};
 ghost use Rattle.std.specs.Option.{option_to_list};
-ghost use Rattle.mdtext.specs.EntityTable.{EntityTable};
+ghost use Rattle.mdtext.specs.EntityTable.{EntityTable, usual_table};
 ghost use Rattle.blockspec.specs.BlockUnits.{begins, units};
 ghost use Rattle.blockspec.specs.Nesting.{first_too_deep};
 ghost use Rattle.blockspec.specs.Joins.{is_joined};
@@ -283,7 +283,7 @@ fn met_at(
     ensures met { (limit : ℕ) (e : EntityTable) (ls : List (List ℕ)) → Reads limit e reader.now ls → let p = places_of e text.entry in
         IsAhead (map lines_in cursor.old.units.now.items) p.old_begins cursor.old.next.unit cursor.old.next.line (line_before p line)
         → is_some result ≡ (is_at (line - from) (open_begin e ls) && is_meeting p line) }
-    ensures here { is_some result ≡ true → cursor.new.next.line ≡ line_before (places_of [] text.entry) line }
+    ensures here { is_some result ≡ true → cursor.new.next.line ≡ line_before (places_of (usual_table []) text.entry) line }
     ensures counted { (head : ℕ) → IsCounted head cursor.old.units.now.items cursor.old.next → IsCounted head cursor.old.units.now.items cursor.new.next }
 {
     if begins_at(reader, line - from) {
@@ -335,7 +335,7 @@ fn held_at(cursor: &mut UnitCursor<'_>, text: NewText<'_>, line: usize) -> Optio
         IsAhead (map lines_in cursor.old.units.now.items) p.old_begins cursor.old.next.unit cursor.old.next.line (line_before p line)
         → IsAhead (map lines_in cursor.old.units.now.items) p.old_begins cursor.new.next.unit cursor.new.next.line (line_before p line)
         × (is_some result ≡ is_meeting p line) }
-    ensures here { is_some result ≡ true → cursor.new.next.line ≡ line_before (places_of [] text.entry) line }
+    ensures here { is_some result ≡ true → cursor.new.next.line ≡ line_before (places_of (usual_table []) text.entry) line }
     ensures counted { (head : ℕ) → IsCounted head cursor.old.units.now.items cursor.old.next → IsCounted head cursor.old.units.now.items cursor.new.next }
 {
     cursor.unit_at(text.old_line(line)?)
