@@ -28,10 +28,12 @@ BASH_COMPLETION_DIR ?= $(PREFIX)/share/bash-completion/completions
 ZSH_COMPLETION_DIR ?= $(PREFIX)/share/zsh/site-functions
 INSTALL ?= install
 # The version stands in one place, which --version prints too.
-VERSION = $(shell sed -nE 's/^pub const VERSION: &str = "(.*)";$$/\1/p' crates/mdwords/src/tool_words.rt)
+VERSION = $(shell sed -nE 's/^pub const VERSION: &str = "(.*)";$$/\1/p' crates/mdwords/src/commands.rt)
 
 # Ends a target that takes what is in bin/ where that is not there.
 need = @for made in $(1); do [ -e $$made ] || { echo "$$made is not there: make build first" >&2; exit 1; }; done
+# Ends a target that takes the toolchain where that is not there.
+need_rt = @command -v $(RT) > /dev/null || { echo "there is no $(RT) on the path: it is the command of the Rattle toolchain (rattle-kit-13f)" >&2; exit 1; }
 BUILT_PROGRAMS := $(PROGRAMS:%=bin/%)
 
 .PHONY: help run test build programs check more_edits fmt picture bench hostile soak fuzz memory pane_test vim_test c_library c_memory compare counts rows rows_inlines standards install install-programs uninstall
@@ -45,7 +47,8 @@ help:
 	@echo "make more_edits NAMES=\"mdtext mdview\"  tries the must-fail edits that the gate leaves out, of these crates or of all (a minute each)"
 	@echo "make fmt                 lays out the sources"
 	@echo "make picture             draws docs/preview.svg, the README's picture, from a run of bin/mdpreview"
-	@echo "make install PREFIX=DIR  installs what bin/ has of the programs, with their man pages, completions for bash and zsh and HTML's file of entities (share/jirmoans), and of the library with its header, below DIR ($(PREFIX)), and names what it has not; DESTDIR is honoured; make install-programs leaves the library out"
+	@echo "make install PREFIX=DIR  installs what bin/ has of the programs, with their man pages, completions for bash and zsh and HTML's file of entities (share/jirmoans), and of the library with its header, below DIR ($(PREFIX)), and names what it has not; DESTDIR is honoured"
+	@echo "make install-programs    installs what bin/ has of the programs, with what belongs to them, and leaves the library out"
 	@echo "make uninstall           removes what make install put there"
 	@echo "make bench               measures bin/mdrender beside cmark-gfm and md4c: instructions, times and memory on 22 kinds of texts, of which docs/PERF.md has a run"
 	@echo "make pane_test           looks at clients/pane in a headless Chromium, and compares the page with mdrender's HTML after each change of a file"
@@ -75,12 +78,14 @@ test:
 	@tools/gate
 
 check:
+	$(need_rt)
 	@$(RT) all check
 
 more_edits:
 	@tools/more_edits $(NAMES)
 
 fmt:
+	$(need_rt)
 	@for crate in crates/*/; do (cd $$crate && $(RT) fmt) || exit 1; done
 
 picture:

@@ -14,8 +14,8 @@ _mdrender_files() {
 _mdrender_options() {
     local option
     [ "${1##*/}" != mdpreview ] || [[ $given == *" --lines "* ]] || echo --lines
-    for option in --unsafe --hardbreaks --nobreaks --github-pre-lang --full-info-string --table-prefer-style-attributes --entities --html-entities --prelude \
-        --max-containers --max-spans --explain --to --extension --validate-utf8 --width --help --version; do
+    for option in --unsafe --hardbreaks --nobreaks --github-pre-lang --full-info-string --table-prefer-style-attributes --entities --html-entities \
+        --strikethrough-double-tilde --prelude --max-containers --max-spans --explain --to --extension --validate-utf8 --width --help --version; do
         case "$option $given" in
             --extension*) echo "$option" ;;
             *" $option "*) ;;

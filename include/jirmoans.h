@@ -118,6 +118,8 @@ typedef struct {
     /* Whether what stands behind the language in the info string is written behind it, as
      * data-meta="y z". */
     bool full_info_string;
+    /* Whether one tilde alone is text, and two strike through. */
+    bool double_tilde;
 } jirmoans_settings;
 
 /* A preview. Set it to zero, as `jirmoans_preview preview = {0};`, and leave its fields alone. */

@@ -114,7 +114,7 @@ static void edits(void) {
 
 static void settings(void) {
     jirmoans_preview preview = {0};
-    jirmoans_settings set = {true, JIRMOANS_BREAKS_HARD, 1, 2, true, true, true};
+    jirmoans_settings set = {true, JIRMOANS_BREAKS_HARD, 1, 2, true, true, true, true};
     jirmoans_text text;
     const char *names = "{\"&x;\":{\"characters\":\"y\"}}";
     EXPECT(is(jirmoans_open(&preview, &set, names, strlen(names)), JIRMOANS_OK, 0));
@@ -123,9 +123,43 @@ static void settings(void) {
            && reads(text, "<pre lang=\"x\" data-meta=\"y\"><code>a\n</code></pre>\n"));
     EXPECT(is(jirmoans_html(&preview, "|a\n|:-:\n", 8, &text), JIRMOANS_OK, 0)
            && reads(text, "<table>\n<thead>\n<tr>\n<th style=\"text-align: center\">a</th>\n</tr>\n</thead>\n</table>\n"));
+    EXPECT(is(jirmoans_html(&preview, "~a~ ~~b~~", 9, &text), JIRMOANS_OK, 0) && reads(text, "<p>~a~ <del>b</del></p>\n"));
     EXPECT(is(jirmoans_html(&preview, "a\n\n> > b", 8, &text), JIRMOANS_NESTED_TOO_DEEP, 2));
     EXPECT(is(jirmoans_html(&preview, "a\n\n*a **b ~~c~~***", 18, &text), JIRMOANS_INLINE_TOO_DEEP, 2));
     jirmoans_close(&preview);
+}
+
+/* What a preview with these settings makes of code with an info string, of a centred cell and of one tilde. */
+static bool shows(const jirmoans_settings *set, const char *code, const char *cell, const char *tilde) {
+    jirmoans_preview preview = {0};
+    jirmoans_text text;
+    bool holds = is(jirmoans_open(&preview, set, "", 0), JIRMOANS_OK, 0);
+    holds = holds && is(jirmoans_html(&preview, "~~~ x y\na\n", 10, &text), JIRMOANS_OK, 0) && reads(text, code);
+    holds = holds && is(jirmoans_html(&preview, "|a\n|:-:\n", 8, &text), JIRMOANS_OK, 0) && reads(text, cell);
+    holds = holds && is(jirmoans_html(&preview, "~a~", 3, &text), JIRMOANS_OK, 0) && reads(text, tilde);
+    jirmoans_close(&preview);
+    return holds;
+}
+
+/* Each of the last four fields alone does what it is for, and nothing else. */
+static void settings_alone(void) {
+    const jirmoans_settings usual = {false, JIRMOANS_BREAKS_SOFT, 64, 64, false, false, false, false};
+    const char *code = "<pre><code class=\"language-x\">a\n</code></pre>\n";
+    const char *cell = "<table>\n<thead>\n<tr>\n<th align=\"center\">a</th>\n</tr>\n</thead>\n</table>\n";
+    const char *tilde = "<p><del>a</del></p>\n";
+    jirmoans_settings set = usual;
+    EXPECT(shows(&set, code, cell, tilde));
+    set.pre_lang = true;
+    EXPECT(shows(&set, "<pre lang=\"x\"><code>a\n</code></pre>\n", cell, tilde));
+    set = usual;
+    set.align_style = true;
+    EXPECT(shows(&set, code, "<table>\n<thead>\n<tr>\n<th style=\"text-align: center\">a</th>\n</tr>\n</thead>\n</table>\n", tilde));
+    set = usual;
+    set.full_info_string = true;
+    EXPECT(shows(&set, "<pre><code class=\"language-x\" data-meta=\"y\">a\n</code></pre>\n", cell, tilde));
+    set = usual;
+    set.double_tilde = true;
+    EXPECT(shows(&set, code, cell, "<p>~a~</p>\n"));
 }
 
 /* A text of one byte, so many times. */
@@ -173,6 +207,7 @@ int main(void) {
     not_open();
     edits();
     settings();
+    settings_alone();
     limits();
     names();
     printf("%d passed, %d failed\n", passed, failed);

@@ -248,12 +248,15 @@ def ends_with_a_line(address, name):
 
 
 def hands_on(browser, name):
-    """The program's options are handed on: all names of HTML are known."""
-    save(name, "a &rarr; b\n")
-    server, address = started(name, "--html-entities")
+    """The program's options are handed on."""
+    words = ["--html-entities", "--strikethrough-double-tilde", "--hardbreaks", "--unsafe", "--github-pre-lang", "--full-info-string",
+             "--table-prefer-style-attributes"]
+    save(name, "a &rarr; ~b~\n<i>c</i>\n\n``` x y\n```\n\n| a |\n|:-:|\n")
+    wanted = subprocess.run([os.path.join(BIN, "mdrender"), *words, name], stdout=subprocess.PIPE, check=True).stdout.decode()
+    server, address = started(name, *words)
     try:
         browser.call("Page.navigate", url=address)
-        return wait(lambda: shown(browser, "<p>a → b</p>\n"))
+        return wait(lambda: shown(browser, wanted))
     finally:
         server.terminate()
         server.wait()

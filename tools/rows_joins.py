@@ -6,8 +6,7 @@ import sys
 import rows_common as common
 from rows_edits import call_term, is_plain, source_term
 
-CRATES = ['mdtext', 'mdscan', 'mdpair', 'mdleaf', 'blockspec', 'block_rows', 'inlinespec', 'inlinelaws', 'inline_rows', 'mdinline', 'blocklaws', 'mdblock', 'mdhtml',
-          'viewspec', 'edit_rows']
+CRATES = ['mdtext', 'mdscan', 'mdpair', 'mdleaf', 'blockspec', 'block_rows', 'inlinespec', 'inline_rows', 'mdinline', 'mdblock', 'mdhtml', 'viewspec', 'edit_rows']
 IN_A_FILE = 25
 ROWS = 300
 

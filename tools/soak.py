@@ -19,7 +19,7 @@ ROOT = os.path.abspath(os.path.join(os.path.dirname(__file__), ".."))
 EDITS, MOST_LINES = 400, 3000
 MARKS = "*_~[]()!<>&\\`-+#|:=\"'. \t0123"
 WORDS = [
-    [], [], ["--unsafe"], ["--hardbreaks"], ["--nobreaks", "--unsafe", "--github-pre-lang", "--full-info-string", "--table-prefer-style-attributes"],
+    [], [], ["--unsafe"], ["--hardbreaks"], ["--nobreaks", "--unsafe", "--github-pre-lang", "--full-info-string", "--table-prefer-style-attributes", "--strikethrough-double-tilde"],
     ["--max-containers", "2", "--max-spans", "1"], ["--max-containers", "256", "--max-spans", "256"],
 ]
 OTHERS = [b"a\rb", b"\xff\xfe\x80", b"a\x00b", b"\xe2\x82", b"> " * 65 + b"a", b"- " * 70 + b"a", b"*a " * 70 + b"b" + b" a*" * 70]

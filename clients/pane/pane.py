@@ -1,7 +1,7 @@
 #!/usr/bin/env python3
 """A preview of a Markdown file in the browser, kept up to date as the file changes.
 
-usage: pane.py [--port N] [--write] [--program PATH] [--unsafe] [--hardbreaks | --nobreaks] [--github-pre-lang] [--full-info-string] [--table-prefer-style-attributes] [--entities FILE | --html-entities] [--prelude FILE] FILE
+usage: pane.py [--port N] [--write] [--program PATH] [--unsafe] [--hardbreaks | --nobreaks] [--github-pre-lang] [--full-info-string] [--table-prefer-style-attributes] [--entities FILE | --html-entities] [--strikethrough-double-tilde] [--prelude FILE] FILE
 
 The words behind --program are mdpreview's. One mdpreview holds the text. When FILE changes, the lines that changed are sent to it as one edit, and the page puts in only the pieces that the reply names.
 With --write the page has a text area beside the preview, for trying, and scrolls with its cursor; FILE is then its first text and is never written.
@@ -331,10 +331,11 @@ def main():
     names = parser.add_mutually_exclusive_group()
     names.add_argument("--entities", metavar="FILE", help="the entity names of a JSON file")
     names.add_argument("--html-entities", action="store_true", help="all entity names of HTML")
+    parser.add_argument("--strikethrough-double-tilde", action="store_true", help="one tilde is text, and two strike through")
     parser.add_argument("--prelude", metavar="FILE", help="link reference definitions of a file, which stand below the text's own")
     parser.add_argument("file", metavar="FILE")
     options = parser.parse_args()
-    flags = ("unsafe", "hardbreaks", "nobreaks", "github-pre-lang", "full-info-string", "table-prefer-style-attributes", "html-entities")
+    flags = ("unsafe", "hardbreaks", "nobreaks", "github-pre-lang", "full-info-string", "table-prefer-style-attributes", "html-entities", "strikethrough-double-tilde")
     words = ["--" + name for name in flags if getattr(options, name.replace("-", "_"))]
     words += [word for name in ("entities", "prelude") if getattr(options, name) for word in ("--" + name, getattr(options, name))]
     preview = None

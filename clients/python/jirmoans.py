@@ -14,7 +14,7 @@ class Fault(Structure):
 
 
 class Settings(Structure):
-    _fields_ = [('unsafe_html', c_bool), ('breaks', c_uint32), ('max_containers', c_size_t), ('max_spans', c_size_t), ('pre_lang', c_bool), ('align_style', c_bool), ('full_info_string', c_bool)]
+    _fields_ = [('unsafe_html', c_bool), ('breaks', c_uint32), ('max_containers', c_size_t), ('max_spans', c_size_t), ('pre_lang', c_bool), ('align_style', c_bool), ('full_info_string', c_bool), ('double_tilde', c_bool)]
 
 
 class Handle(Structure):

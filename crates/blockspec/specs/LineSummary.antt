@@ -77,7 +77,8 @@ summary_gap last blank = blank && not (is_verbatim (last_tip last))
 unfoldable pub begin_after : EntityTable → (more : Summary → BlockLine → Summary) → (blank_line : Bool) → Summary → BlockLine → Summary
 begin_after entities more true (summary before last blank lines) l = summary before (ended_last entities last) true (suc lines)
 begin_after entities more false (summary before last blank lines) l =
-    summary (merged before (last_groups entities last)) (new_last entities more (is_single (begun l) l) (begun l) (first_of lines (summary_gap last blank) l)) false (suc lines)
+    summary (merged before (last_groups entities last))
+    (new_last entities more (is_single (begun l) l) (begun l) (first_of lines (summary_gap last blank) l)) false (suc lines)
 
 -- a line of the last block, which it makes this
 unfoldable pub last_grown : Summary → Last → BlockLine → Summary
@@ -88,7 +89,8 @@ leaf_after entities more begin gap (ContinuesAs next) s l = last_grown s (open_l
 leaf_after entities more begin gap (EndsAs next) s l = last_grown s (ended_block (leaf_group entities begin gap next)) l
 leaf_after entities more begin gap EndedBefore s l = begin_after entities more (is_blank_line l) s l
 
-unfoldable pub container_after : EntityTable → (more : Summary → BlockLine → Summary) → (takes : Bool) → (begin : ℕ) → (gap : Bool) → Container → (inner s : Summary) → BlockLine → Summary
+unfoldable pub container_after : EntityTable → (more : Summary → BlockLine → Summary) → (takes : Bool) → (begin : ℕ) → (gap : Bool) → Container
+    → (inner s : Summary) → BlockLine → Summary
 container_after entities more true begin gap container inner s l = last_grown s (open_container begin gap false container (more inner (inside container l))) l
 container_after entities more false begin gap container inner s l = begin_after entities more (is_blank_line l) s l
 

@@ -114,7 +114,8 @@ level_under text l = if not (is_definitions_alone (without_end_blanks text)) the
 -- A line behind a paragraph with an indentation of at most three columns, by the first start that fits: an underline makes a
 -- heading of it (CommonMark 4.3), a delimiter row a table of its last line (GFM Tables (extension)), any other ends it, and with none it
 -- goes on (CommonMark 4.8).
-abbrev pub next_near : (text last above : List ℕ) → (before : Option Kind) → (level : Option ℕ) → (after : Option Kind) → (delimits : Bool) → BlockLine → NextLeaf
+abbrev pub next_near : (text last above : List ℕ) → (before : Option Kind) → (level : Option ℕ) → (after : Option Kind) → (delimits : Bool) → BlockLine
+    → NextLeaf
 next_near text last above (Some kind) level after delimits l = EndedBefore
 next_near text last above None (Some level) after delimits l = EndsAs (done_heading level text)
 next_near text last above None None (Some kind) delimits l = EndedBefore

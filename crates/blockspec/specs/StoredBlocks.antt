@@ -130,10 +130,16 @@ first_row (row ∷ rows) = row
 
 abbrev made : ℕ → List ℕ → List ℕ → List (List ℕ) → List Part → List Part
 made tag xs ys rows ps =
-    cond (tag == 0) (blocks_part no_blocks ∷ ps) (cond (tag == 1) (before (paragraph (head_of xs) (task_from (head_of ys))) ps)
-    (cond (tag == 2) (before (heading (head_of xs) (head_of ys)) ps) (cond (tag == 3) (before thematic_break ps) (cond (tag == 4) (before (code_block xs ys (first_row rows)) ps)
-    (cond (tag == 5) (before (html_block xs) ps) (cond (tag == 6) (in_quote ps) (cond (tag == 7) (in_list (kind_from xs) (head_of ys == 1) ps)
-    (cond (tag == 8) (before (table (aligns_from xs) ys rows) ps) (cond (tag == 9) (items_part no_items ∷ ps) (in_item ps))))))))))
+    cond (tag == 0) (blocks_part no_blocks ∷ ps)
+    (cond (tag == 1) (before (paragraph (head_of xs) (task_from (head_of ys))) ps)
+    (cond (tag == 2) (before (heading (head_of xs) (head_of ys)) ps)
+    (cond (tag == 3) (before thematic_break ps)
+    (cond (tag == 4) (before (code_block xs ys (first_row rows)) ps)
+    (cond (tag == 5) (before (html_block xs) ps)
+    (cond (tag == 6) (in_quote ps)
+    (cond (tag == 7) (in_list (kind_from xs) (head_of ys == 1) ps)
+    (cond (tag == 8) (before (table (aligns_from xs) ys rows) ps)
+    (cond (tag == 9) (items_part no_items ∷ ps) (in_item ps))))))))))
 
 abbrev restored : List Mark → List Part
 restored [] = []
@@ -148,7 +154,8 @@ mutual
   pub restored_stored : (bs : Blocks) (ms : List Mark) → restored (stored bs ms) ≡ blocks_part bs ∷ restored ms
   restored_stored no_blocks ms = refl
   restored_stored (block (paragraph at task) bs) ms =
-      ap (before (paragraph at (task_from (task_number task)))) (restored_stored bs ms) ∙ ap (λ t. blocks_part (block (paragraph at t) bs) ∷ restored ms) (task_from_number task)
+      ap (before (paragraph at (task_from (task_number task)))) (restored_stored bs ms)
+      ∙ ap (λ t. blocks_part (block (paragraph at t) bs) ∷ restored ms) (task_from_number task)
   restored_stored (block (heading level at) bs) ms = ap (before (heading level at)) (restored_stored bs ms)
   restored_stored (block thematic_break bs) ms = ap (before thematic_break) (restored_stored bs ms)
   restored_stored (block (code_block lang meta body) bs) ms = ap (before (code_block lang meta body)) (restored_stored bs ms)
@@ -161,7 +168,8 @@ mutual
       ∙ ap (λ k. blocks_part (block (list k (bit tight == 1) is) bs) ∷ restored ms) (kind_from_numbers kind)
       ∙ ap (λ t. blocks_part (block (list kind t is) bs) ∷ restored ms) (bit_number tight)
   restored_stored (block (table aligns head rows) bs) ms =
-      ap (before (table (aligns_from (numbers aligns)) head rows)) (restored_stored bs ms) ∙ ap (λ a. blocks_part (block (table a head rows) bs) ∷ restored ms) (aligns_numbers aligns)
+      ap (before (table (aligns_from (numbers aligns)) head rows)) (restored_stored bs ms)
+      ∙ ap (λ a. blocks_part (block (table a head rows) bs) ∷ restored ms) (aligns_numbers aligns)
 
   pub items_stored : (is : Items) (ms : List Mark) → restored (stored_items is ms) ≡ items_part is ∷ restored ms
   items_stored no_items ms = refl

@@ -72,7 +72,8 @@ is_code l = is_blank_line l || nat_le 4 (indentation l)
 
 -- What the next line does to the block of these lines, where `tip` tells what is open at the end of a container's lines.
 unfoldable pub step : (tip : List BlockLine → Tip) → Kind → (first : BlockLine) → (later : List BlockLine) → BlockLine → Step
-step tip (Holds container) first later l = continues_if (goes_on container (is_bare container first later) (tip (inner container first later)) l) (Holds container)
+step tip (Holds container) first later l =
+    continues_if (goes_on container (is_bare container first later) (tip (inner container first later)) l) (Holds container)
 step tip (FencedCode indentation mark length info closed) first later l = fence_step (closes mark length l) (FencedCode indentation mark length info)
 step tip (HtmlBlock kind) first later l = html_step (is_blank_line l) (ends_html kind l) kind
 step tip Paragraph first later l = paragraph_step l.lazy (is_blank_line l) (start Inside (first ∷ later) l)

@@ -34,7 +34,7 @@ fn anew(alloc: Global, blocks: &[Block], texts: &[Parsed]) -> Result<Written, Fa
     Ok(Written { html, ends })
 }
 
-/// The same blocks, made from others, where so many of their texts at the front and at the end read the same.
+/// Blocks that are made from others, where so many of their texts at the front and at the end read the same.
 fn made_like(
     alloc: Global,
     blocks: &[Block],

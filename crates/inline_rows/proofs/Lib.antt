@@ -6,3 +6,4 @@ pub mod DeepRows
 pub mod EmphasisRows
 pub mod EscapeRows
 pub mod LinkRows
+pub mod TildeRows

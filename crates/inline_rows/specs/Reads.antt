@@ -1,5 +1,5 @@
 -- What a row says: the tree of a text, the labels asked for, how deep it is nested.
-use Rattle.std.specs.Prelude.{ℕ, List, []}
+use Rattle.std.specs.Prelude.{ℕ, true, List, []}
 use Rattle.mdtext.specs.EntityTable.{builtin_table}
 use Rattle.inlinespec.specs.InlineTree.{Inlines}
 use Rattle.inlinespec.specs.LabelMap.{LabelMap, target_in}
@@ -11,6 +11,10 @@ reads_under labels text = inl builtin_table (target_in labels) text
 
 abbrev pub reads : List ℕ → Inlines
 reads text = reads_under [] text
+
+-- the same where one tilde alone is text
+abbrev pub reads_double_tilde : List ℕ → Inlines
+reads_double_tilde text = inl (record builtin_table { double_tilde = true }) (target_in []) text
 
 abbrev pub asks_under : LabelMap → List ℕ → List (List ℕ)
 asks_under labels text = asked builtin_table (target_in labels) text

@@ -5,3 +5,16 @@ pub mod EndlessHtml
 pub mod EscapesBreaks
 pub mod FirstTargets
 pub mod ReplacedReferences
+pub mod AskedLabels
+pub mod BalancedEvents
+pub mod DeepestSpans
+pub mod FrontEnds
+pub mod ItemEnds
+pub mod JoinedTrees
+pub mod NestedParts
+pub mod OneReading
+pub mod OpenSpans
+pub mod PairedSpans
+pub mod ReadingBalanced
+pub mod TailEnds
+pub mod TreeEvents

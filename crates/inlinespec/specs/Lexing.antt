@@ -1,6 +1,6 @@
 -- What begins at a place of a text, whatever labels are defined (CommonMark 2.4, 2.5, 6; GFM Strikethrough (extension)). The text is read from the left;
 -- what none of the rules takes is text, byte by byte.
-use Rattle.std.specs.Prelude.{ℕ, ◌+◌, ◌-◌, Bool, true, false, ◌||◌, ◌==◌, List, [], ◌∷◌, length, take, drop, slice_index, Option, Some, None, if◌then◌else◌}
+use Rattle.std.specs.Prelude.{ℕ, ◌+◌, ◌-◌, Bool, true, false, ◌||◌, ◌&&◌, ◌==◌, List, [], ◌∷◌, length, take, drop, slice_index, Option, Some, None, if◌then◌else◌}
 use Rattle.mdtext.specs.EntityTable.{EntityTable}
 use Rattle.mdtext.specs.References.{Meaning, reference}
 use Rattle.mdscan.specs.declared.autolinks.Auto.{Auto}
@@ -8,6 +8,8 @@ use Rattle.mdscan.specs.AutoLink.{autolink_at}
 use Rattle.mdscan.specs.Blanks.{begins_with}
 use Rattle.mdscan.specs.Escapes.{begins_escape}
 use Rattle.mdscan.specs.RawHtml.{raw_html}
+use Rattle.mdpair.specs.declared.runs.DelimiterChar.{DelimiterChar}
+use Rattle.mdpair.specs.declared.runs.DelimiterChar.TheVariants.{Asterisk, Underscore, Tilde}
 use Rattle.mdpair.specs.declared.runs.DelimiterRun.{DelimiterRun}
 use Rattle.mdpair.specs.Neighbours.{run_at}
 use Rattle.inlinespec.specs.AutolinkText.{autolink_text, autolink_target}
@@ -89,7 +91,22 @@ angle_lexeme entities text at (Some auto) tag = autolink_lexeme entities text at
 angle_lexeme entities text at None (Some size) = leaf size (RawHtml (take size (drop at text)) ∷ [])
 angle_lexeme entities text at None None = as_written 1 (drop at text)
 
--- a run of delimiters with what it can do (CommonMark 6.2)
+-- so many of these characters are one tilde
+abbrev pub is_lone_tilde : DelimiterChar → ℕ → Bool
+is_lone_tilde Asterisk n = false
+is_lone_tilde Underscore n = false
+is_lone_tilde Tilde n = n == 1
+
+-- a run, unless it is one tilde and one alone is text
+abbrev pub kept_run : EntityTable → Option DelimiterRun → Option DelimiterRun
+kept_run entities None = None
+kept_run entities (Some run) = if is_lone_tilde run.delimiter run.length && entities.double_tilde then None else Some run
+
+-- the run of delimiters that begins at a place (CommonMark 6.2, GFM Strikethrough (extension))
+abbrev pub delimiters_at : EntityTable → List ℕ → ℕ → Option DelimiterRun
+delimiters_at entities text at = kept_run entities (run_at text at)
+
+-- a run of delimiters with what it can do
 abbrev pub run_lexeme : List ℕ → Option DelimiterRun → Lexeme
 run_lexeme text None = as_written 1 text
 run_lexeme text (Some run) = record { size = run.length; kind = Delimiters run }
@@ -104,7 +121,7 @@ lexeme_by entities text at rest Ampersand = reference_lexeme rest (reference ent
 lexeme_by entities text at rest Backtick = code_lexeme rest (code_inside rest)
 lexeme_by entities text at rest LessThan = angle_lexeme entities text at (autolink_at text at) (raw_html rest)
 lexeme_by entities text at rest Blank = break_or_written rest (spaced_break rest)
-lexeme_by entities text at rest DelimiterMark = run_lexeme rest (run_at text at)
+lexeme_by entities text at rest DelimiterMark = run_lexeme rest (delimiters_at entities text at)
 lexeme_by entities text at rest Bracket = bracket_lexeme 1 false
 lexeme_by entities text at rest Exclamation = if begins_with 91 (drop 1 rest) then bracket_lexeme 2 true else as_written 1 rest
 lexeme_by entities text at rest ClosingBracket = record { size = 1; kind = CloseBracket }

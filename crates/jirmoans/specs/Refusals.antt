@@ -4,10 +4,10 @@ use Rattle.std.specs.Str.{IsUtf8}
 use Rattle.std.specs.Str.Lossy.{utf8_valid_len}
 use Rattle.mdtext.specs.declared.entity_file.TableFault.TheVariants.{NotJson, BadEntry}
 use Rattle.mdtext.specs.declared.entity_file.TableFault.TheVariants.{NoMemory as TableNoMemory}
-use Rattle.mdview.specs.declared.fault.EditFault.{EditFault}
-use Rattle.mdview.specs.declared.fault.EditFault.TheVariants.{OutOfRange, BreakInLine, TooManyLines, TooLarge, NestedTooDeep, InlineTooDeep, NoMemory, NotDefinitions}
-use Rattle.mdview.specs.FaultNames.{number_of as edit_number}
-use Rattle.mdview.specs.FaultReasons.{reason_of}
+use Rattle.mdsource.specs.declared.fault.EditFault.{EditFault}
+use Rattle.mdsource.specs.declared.fault.EditFault.TheVariants.{OutOfRange, BreakInLine, TooManyLines, TooLarge, NestedTooDeep, InlineTooDeep, NoMemory, NotDefinitions}
+use Rattle.mdsource.specs.FaultNames.{number_of as edit_number}
+use Rattle.mdsource.specs.FaultReasons.{reason_of}
 use Rattle.jirmoans.specs.declared.faults.Fault.{Fault}
 use Rattle.jirmoans.specs.declared.faults.Refusal.{Refusal}
 use Rattle.jirmoans.specs.declared.faults.Refusal.TheVariants.{Edit, Table, NotUtf8, NoSuchUnit, NotOpen, AlreadyOpen, UnknownBreaks, LimitTooLarge}

@@ -5,18 +5,18 @@ use Rattle.std.specs.Str.{IsUtf8}
 use Rattle.std.specs.Vec.{vec_ptr}
 use Rattle.std.specs.declared.vec.Vec.{Vec}
 use Rattle.mdtext.specs.EntityFile.{file_table}
-use Rattle.mdtext.specs.EntityTable.{builtin_table}
+use Rattle.mdtext.specs.EntityTable.{EntityTable, builtin_table}
 use Rattle.mdtext.specs.Lines.{split_lines, text_lines}
 use Rattle.mdtext.specs.declared.entity_file.TableFault.{TableFault}
 use Rattle.mdtext.specs.declared.entity_file.TableFault.TheVariants.{NoMemory as TableNoMemory}
 use Rattle.mdhtml.specs.declared.options.Options.{Options}
-use Rattle.mdview.specs.declared.fault.EditFault.{EditFault}
-use Rattle.mdview.specs.declared.fault.EditFault.TheVariants.{NoMemory}
+use Rattle.mdsource.specs.declared.fault.EditFault.{EditFault}
+use Rattle.mdsource.specs.declared.fault.EditFault.TheVariants.{NoMemory}
 use Rattle.blockspec.specs.BlockUnits.{begins}
 use Rattle.mdview.specs.Document.{empty, pieces_of, readings_of}
 use Rattle.mdview.specs.Edit.{call_of}
 use Rattle.mdview.specs.Outcome.{answer_of, is_starved, outcome_of}
-use Rattle.mdview.specs.Preludes.{HeldPrelude}
+use Rattle.mdsource.specs.Preludes.{HeldPrelude}
 use Rattle.viewspec.specs.Outcome.{accepted}
 use Rattle.viewspec.specs.Calls.{Call, set_prelude}
 use Rattle.viewspec.specs.ChangedPieces.{ChangedPieces}
@@ -32,17 +32,17 @@ use Rattle.jirmoans.specs.Refusals.{IsCutAt}
 use Rattle.jirmoans.specs.Settings.{options_of}
 
 -- the entities of a file, or the usual ones where there are no bytes
-abbrev pub table_of : List ℕ → Result (List (List ℕ × List ℕ)) TableFault
+abbrev pub table_of : List ℕ → Result EntityTable TableFault
 table_of [] = Ok builtin_table
 table_of (byte ∷ bytes) = file_table (byte ∷ bytes)
 
 -- a session begins with the empty text
 pub record Begins (session : Session) (settings : Settings) (entities : List ℕ) : Type 0 where
   pub options : Options
-  pub table : List (List ℕ × List ℕ)
+  pub table : EntityTable
   pub read : options_of settings ≡ Ok options
   pub known : table_of entities ≡ Ok table
-  pub preview : session.preview ≡ empty table options
+  pub preview : session.preview ≡ empty (record table { double_tilde = settings.double_tilde }) options
 
 -- how a session is opened; there is no other end
 abbrev pub Opens : Result Session Refusal → Settings → List ℕ → Type 0

@@ -34,7 +34,11 @@ impl Session {
         };
         Ok(Session {
             alloc,
-            preview: Preview::new(alloc, entities, options),
+            preview: Preview::new(
+                alloc,
+                entities.with_double_tilde(settings.double_tilde),
+                options,
+            ),
             again: Vec::new(alloc),
             text: Vec::new(alloc),
         })

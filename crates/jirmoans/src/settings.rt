@@ -24,6 +24,8 @@ pub struct Settings {
     pub align_style: bool,
     /// Whether what stands behind the language in a code block's info string is written behind it, as `data-meta="y z"`.
     pub full_info_string: bool,
+    /// Whether one tilde alone is text, and two strike through.
+    pub double_tilde: bool,
 }
 
 const USUAL_LIMIT: usize = 64;

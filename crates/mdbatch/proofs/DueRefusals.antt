@@ -1,11 +1,10 @@
 -- When a text has too many lines or bytes.
 use Rattle.std.proofs.Common.{◌≡◌, ℕ, ◌+◌, ◌-◌, ◌^◌, ◌≤◌, ◌<◌, Bool, true, false, List, [], length, map, min, refl, sym, ap, ◌∙◌, subst, arith, Some, None, cond, nat_lt}
 use Rattle.std.proofs.lemmas.Bool.Decides.{nat_tests}
-use Rattle.mdview.specs.declared.fault.EditFault.TheVariants.{TooManyLines, TooLarge}
+use Rattle.mdsource.specs.declared.fault.EditFault.TheVariants.{TooManyLines, TooLarge}
 use Rattle.mdtext.specs.Lines.{split_lines, without_nul}
 use Rattle.mdbatch.proofs.SplitText.{lines_of_clean}
-use Rattle.mdview.specs.Document.{size_of}
-use Rattle.mdview.specs.Edit.{refusal}
+use Rattle.mdsource.specs.SourceLimits.{refusal, size_of}
 
 pub none_due : (lines : List (List ℕ)) → length lines ≤ 1000000 → size_of lines ≤ 16777216 → refusal lines ≡ None
 none_due lines few small =

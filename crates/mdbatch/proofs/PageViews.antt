@@ -8,21 +8,21 @@ use Rattle.mdleaf.specs.LinkDefinition.{LinkDefinition}
 use Rattle.blockspec.specs.BlockUnits.{definitions_of, units}
 use Rattle.blockspec.specs.FirstDefinitions.{first_definition}
 use Rattle.blockspec.specs.Nesting.{first_too_deep}
-use Rattle.blocklaws.proofs.DocumentLaws.{first_of_both}
+use Rattle.blockspec.proofs.DocumentLaws.{first_of_both}
 use Rattle.inlinespec.specs.LabelMap.{target_in}
 use Rattle.viewspec.specs.LabelTable.{table, table_of, target_defined}
 use Rattle.viewspec.specs.Refusals.{Refusal, nested_too_deep, inline_too_deep, inline_refusal, is_too_deep, nesting_refusal}
 use Rattle.viewspec.specs.Refusals.{refusal as due_refusal}
 use Rattle.viewspec.specs.Setting.{Setting}
 use Rattle.viewspec.specs.View.{ViewedUnit, view, viewed}
-use Rattle.viewlaws.proofs.Cuts.{no_units}
-use Rattle.viewlaws.proofs.LabelsLead.{units_lead}
-use Rattle.mdview.specs.declared.fault.EditFault.{EditFault}
-use Rattle.mdview.specs.declared.fault.EditFault.TheVariants.{OutOfRange, BreakInLine, TooManyLines, TooLarge, NestedTooDeep, InlineTooDeep, NoMemory, NotDefinitions}
-use Rattle.mdview.specs.Edit.{refusal}
-use Rattle.mdview.specs.FaultReasons.{reason_of}
-use Rattle.mdview.specs.Preludes.{HeldPrelude, IsDefinedBy}
-use Rattle.mdview.proofs.DueReasons.{size_reason}
+use Rattle.viewspec.proofs.Cuts.{no_units}
+use Rattle.viewspec.proofs.LabelsLead.{units_lead}
+use Rattle.mdsource.specs.declared.fault.EditFault.{EditFault}
+use Rattle.mdsource.specs.declared.fault.EditFault.TheVariants.{OutOfRange, BreakInLine, TooManyLines, TooLarge, NestedTooDeep, InlineTooDeep, NoMemory, NotDefinitions}
+use Rattle.mdsource.specs.SourceLimits.{refusal}
+use Rattle.mdsource.specs.FaultReasons.{reason_of}
+use Rattle.mdsource.specs.Preludes.{HeldPrelude, IsDefinedBy}
+use Rattle.mdsource.proofs.DueReasons.{size_reason}
 use Rattle.mdbatch.specs.BatchHtml.{TextHtml, begin_in, deep_on_page, piece_in}
 use Rattle.mdbatch.specs.TextLabels.{page_table}
 use Rattle.mdbatch.specs.ViewHtml.{ViewHtml}

@@ -2,7 +2,7 @@
 use Rattle.std.proofs.Common.{◌≡◌, ℕ, List, [], ◌∷◌, ◌++◌, Some, None, length, refl, ap, sym, ◌∙◌, append_assoc, append-nil}
 use Rattle.mdtext.specs.Lines.{split_lines}
 use Rattle.blockspec.specs.Nesting.{first_too_deep}
-use Rattle.blocklaws.proofs.NestingLaws.{too_deep_stays}
+use Rattle.blockspec.proofs.NestingLaws.{too_deep_stays}
 use Rattle.mdblock.specs.declared.faults.BlockFault.{BlockFault}
 use Rattle.mdblock.specs.declared.faults.BlockFault.TheVariants as block
 use Rattle.mdbatch.specs.BatchHtml.{IsReadFault, fault_of}

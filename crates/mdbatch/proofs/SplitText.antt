@@ -2,7 +2,7 @@
 use Rattle.std.proofs.Common.{eqb-true, ◌≡◌, ℕ, ◌+◌, ◌*◌, ◌≤◌, Bool, true, false, List, [], ◌∷◌, ◌++◌, length, map, refl, ap, sym, ◌∙◌, arith, cond, ◌&&◌, ◌||◌, eqb, length-append}
 use Rattle.std.proofs.lemmas.List.Sums.{sum_by-cons}
 use Rattle.mdtext.specs.Lines.{clean_byte, without_nul, begins_with_lf, at_front, split_lines}
-use Rattle.mdview.specs.Document.{size_of}
+use Rattle.mdsource.specs.SourceLimits.{size_of}
 
 pub size_next : (line : List ℕ) (lines : List (List ℕ)) → size_of (line ∷ lines) ≡ length line + 1 + size_of lines
 size_next line lines = sum_by-cons (λ (line : List ℕ). length line + 1) line lines

@@ -10,7 +10,7 @@ use Rattle.inlinespec.specs.LabelMap.{LabelMap, target_in}
 use Rattle.inlinespec.specs.LinkTails.{Table}
 use Rattle.viewspec.specs.LabelTable.{table_of}
 use Rattle.viewspec.specs.Setting.{Setting}
-use Rattle.mdview.specs.Preludes.{HeldPrelude, target_beside}
+use Rattle.mdsource.specs.Preludes.{HeldPrelude, target_beside}
 use Rattle.mdbatch.specs.BatchHtml.{WritesUnits}
 use Rattle.mdbatch.specs.TextLabels.{page_table, target_by}
 use Rattle.mdbatch.specs.UnitsAtOnce.{AddsUnits}

@@ -12,14 +12,14 @@ use Rattle.mdinline.specs.declared.faults.InlineFault.TheVariants as inline
 use Rattle.viewspec.specs.LabelTable.{with_units}
 use Rattle.viewspec.specs.Setting.{Setting}
 use Rattle.mdblock.specs.FoundLists.{found_unit}
-use Rattle.mdview.specs.declared.fault.EditFault.{EditFault}
-use Rattle.mdview.specs.declared.fault.EditFault.TheVariants.{OutOfRange, BreakInLine, TooManyLines, TooLarge, NestedTooDeep, InlineTooDeep, NoMemory, NotDefinitions}
+use Rattle.mdsource.specs.declared.fault.EditFault.{EditFault}
+use Rattle.mdsource.specs.declared.fault.EditFault.TheVariants.{OutOfRange, BreakInLine, TooManyLines, TooLarge, NestedTooDeep, InlineTooDeep, NoMemory, NotDefinitions}
 use Rattle.mdbatch.specs.declared.gathered.Gathered.{Gathered}
 use Rattle.mdbatch.specs.declared.gathered.Waiting.{Waiting}
-use Rattle.mdview.specs.Preludes.{HeldPrelude}
+use Rattle.mdsource.specs.Preludes.{HeldPrelude}
 use Rattle.mdbatch.specs.TextLabels.{page_table, target_by}
 use Rattle.mdbatch.specs.BatchHtml.{WritesUnits, deep_line}
-use Rattle.mdview.specs.HeldTexts.{IsTextFault, text_fault_in}
+use Rattle.mdsource.specs.TextFaults.{IsTextFault, text_fault_in}
 use Rattle.mdbatch.specs.GatheredUnits.{Gathers, IsCut, IsWoven, IsWrittenTo, closes_bracket}
 use Rattle.mdbatch.proofs.PageTargets.{leads_on_page}
 use Rattle.mdbatch.proofs.UnitsWritten.{deep_behind, deep_in_front, deep_under, moved_behind, none_written, one_deep, written_behind, written_under}

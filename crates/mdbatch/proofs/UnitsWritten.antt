@@ -14,8 +14,8 @@ use Rattle.mdhtml.specs.WrittenUnits.{is_deep_text, is_deep_unit, read_html, wri
 use Rattle.viewspec.specs.Refusals.{is_deep, is_too_deep}
 use Rattle.viewspec.specs.Setting.{Setting}
 use Rattle.viewspec.specs.View.{ViewedUnit, reading_of, viewed, viewed_with}
-use Rattle.viewlaws.proofs.ReadingsUnder.{all_under}
-use Rattle.viewlaws.proofs.UnaskedTexts.{asks_none, reads_alike}
+use Rattle.viewspec.proofs.ReadingsUnder.{all_under}
+use Rattle.viewspec.proofs.UnaskedTexts.{asks_none, reads_alike}
 use Rattle.mdbatch.specs.GatheredUnits.{closes_bracket}
 use Rattle.mdbatch.specs.BatchHtml.{WritesUnits, begin_in, deep_line, piece_in, pieces_of}
 

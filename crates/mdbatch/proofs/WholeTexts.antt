@@ -4,12 +4,12 @@ use Rattle.std.specs.Global.{Global}
 use Rattle.std.specs.Prelude.{IfErr, IfOk, OnOk, string_bytes}
 use Rattle.blockspec.specs.Nesting.{first_too_deep}
 use Rattle.viewspec.specs.Setting.{Setting}
-use Rattle.mdview.specs.declared.fault.EditFault.{EditFault}
-use Rattle.mdview.specs.declared.fault.EditFault.TheVariants.{OutOfRange, BreakInLine, TooManyLines, TooLarge, NestedTooDeep, InlineTooDeep, NoMemory, NotDefinitions}
-use Rattle.mdview.specs.Edit.{refusal}
-use Rattle.mdview.specs.Preludes.{HeldPrelude}
+use Rattle.mdsource.specs.declared.fault.EditFault.{EditFault}
+use Rattle.mdsource.specs.declared.fault.EditFault.TheVariants.{OutOfRange, BreakInLine, TooManyLines, TooLarge, NestedTooDeep, InlineTooDeep, NoMemory, NotDefinitions}
+use Rattle.mdsource.specs.SourceLimits.{refusal}
+use Rattle.mdsource.specs.Preludes.{HeldPrelude}
 use Rattle.mdbatch.specs.BatchHtml.{IsFaultOf, IsReadFault, TextHtml, WritesPage, deep_on_page}
-use Rattle.mdview.specs.HeldTexts.{IsTextFault}
+use Rattle.mdsource.specs.TextFaults.{IsTextFault}
 
 -- where no refusal of lines or bytes is due, what the reading of the lines gives is the answer
 pub text_html : (result : Result (String Global) EditFault) (setting : Setting) (prelude : HeldPrelude) (lines : List (List ℕ)) → refusal lines ≡ None

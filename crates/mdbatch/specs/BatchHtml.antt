@@ -11,10 +11,10 @@ use Rattle.blockspec.specs.UnitTree.{FoundUnit}
 use Rattle.viewspec.specs.Refusals.{is_too_deep}
 use Rattle.viewspec.specs.Setting.{Setting}
 use Rattle.viewspec.specs.View.{ViewedUnit, viewed}
-use Rattle.mdview.specs.declared.fault.EditFault.{EditFault}
-use Rattle.mdview.specs.declared.fault.EditFault.TheVariants.{OutOfRange, BreakInLine, TooManyLines, TooLarge, NestedTooDeep, InlineTooDeep, NoMemory, NotDefinitions}
-use Rattle.mdview.specs.Edit.{refusal}
-use Rattle.mdview.specs.Preludes.{HeldPrelude}
+use Rattle.mdsource.specs.declared.fault.EditFault.{EditFault}
+use Rattle.mdsource.specs.declared.fault.EditFault.TheVariants.{OutOfRange, BreakInLine, TooManyLines, TooLarge, NestedTooDeep, InlineTooDeep, NoMemory, NotDefinitions}
+use Rattle.mdsource.specs.SourceLimits.{refusal}
+use Rattle.mdsource.specs.Preludes.{HeldPrelude}
 use Rattle.mdbatch.specs.TextLabels.{page_table}
 
 abbrev pub piece_in : ViewedUnit → List ℕ

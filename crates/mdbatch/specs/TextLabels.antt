@@ -6,7 +6,7 @@ use Rattle.blockspec.specs.UnitTree.{FoundUnit}
 use Rattle.inlinespec.specs.LabelMap.{LabelMap, LinkTarget, target_in}
 use Rattle.inlinespec.specs.LinkTails.{Table}
 use Rattle.viewspec.specs.LabelTable.{table_of}
-use Rattle.mdview.specs.Preludes.{HeldPrelude, target_beside}
+use Rattle.mdsource.specs.Preludes.{HeldPrelude, target_beside}
 use Rattle.mdbatch.specs.declared.page_labels.PageLabels.{PageLabels}
 
 -- the target of a label: where the text defines it, what the text says, and else what the prelude says

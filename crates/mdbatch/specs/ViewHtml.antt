@@ -5,8 +5,8 @@ use Rattle.std.specs.List.{concat}
 use Rattle.viewspec.specs.Refusals.{out_of_range, break_in_line, too_many_lines, too_large, nested_too_deep, inline_too_deep, not_definitions, refusal, size_refusal}
 use Rattle.viewspec.specs.Setting.{Setting, Source}
 use Rattle.viewspec.specs.View.{view}
-use Rattle.mdview.specs.declared.fault.EditFault.{EditFault}
-use Rattle.mdview.specs.declared.fault.EditFault.TheVariants.{OutOfRange, BreakInLine, TooManyLines, TooLarge, NestedTooDeep, InlineTooDeep, NoMemory, NotDefinitions}
+use Rattle.mdsource.specs.declared.fault.EditFault.{EditFault}
+use Rattle.mdsource.specs.declared.fault.EditFault.TheVariants.{OutOfRange, BreakInLine, TooManyLines, TooLarge, NestedTooDeep, InlineTooDeep, NoMemory, NotDefinitions}
 use Rattle.mdbatch.specs.BatchHtml.{piece_in}
 
 -- the HTML of a text with its prelude: the pieces of its view, one after the other

@@ -7,7 +7,7 @@ ghost use Rattle.blockspec.specs.Nesting.{first_too_deep};
 ghost use Rattle.mdblock.specs.FoundLists.{found_unit};
 ghost use Rattle.mdhtml.specs.BlockHtml.{ends_line};
 ghost use Rattle.mdhtml.specs.Limits.{HasLimits};
-ghost use Rattle.mdview.specs.Document.{size_of};
+ghost use Rattle.mdsource.specs.SourceLimits.{size_of};
 ghost use Rattle.mdbatch.specs.BatchHtml.{IsReadFault, WritesPage};
 ghost use Rattle.mdbatch.specs.GatheredUnits.{setting_of};
 ghost use Rattle.mdbatch.specs.TextLabels.{target_on_page};
@@ -18,8 +18,8 @@ use crate::units::{fault_in_line, next_line};
 use mdblock::{Found, Reader};
 use mdhtml::{Options, UnitWriter};
 use mdinline::{InlineFault, LabelTable};
+use mdsource::{EditFault, Prelude};
 use mdtext::{Entities, NoMemory, Tally};
-use mdview::{EditFault, Prelude};
 use std::alloc::{AllocError, Global};
 
 /// The HTML of a text in which no U+0000 stands and which defines no label: so where labels lead is known before its first line. Nothing where a unit
@@ -93,6 +93,7 @@ fn written_units<'a>(
 }
 
 /// Writes the next unit, if there is one. The answer is false where it defines a label or spans lie too deep in it.
+/// It is inlined, since it is called behind each line, and most lines end no unit.
 #[inline(always)]
 fn write_found<'a>(
     found: Option<Found>,

@@ -6,10 +6,10 @@ ghost use Rattle.mdtext.specs.Lines.{split_lines, text_lines};
 ghost use Rattle.blockspec.specs.Nesting.{first_too_deep};
 ghost use Rattle.mdhtml.specs.Limits.{HasLimits};
 ghost use Rattle.mdhtml.specs.BlockHtml.{ends_line};
-ghost use Rattle.mdview.specs.Document.{size_of};
-ghost use Rattle.mdview.specs.Preludes.{IsDefinedBy};
+ghost use Rattle.mdsource.specs.SourceLimits.{size_of};
+ghost use Rattle.mdsource.specs.Preludes.{IsDefinedBy};
 ghost use Rattle.mdbatch.specs.BatchHtml.{IsFaultOf, TextHtml, WritesPage, WritesUnits, deep_line, deep_on_page};
-ghost use Rattle.mdview.specs.HeldTexts.{IsTextFault, text_fault_in};
+ghost use Rattle.mdsource.specs.TextFaults.{IsTextFault, text_fault_in};
 ghost use Rattle.mdbatch.specs.GatheredUnits.{EndsLine, Gathers, HasGathered, IsWoven, IsWrittenTo, setting_of};
 ghost use Rattle.mdbatch.specs.TextLabels.{page_table, target_on_page};
 ghost use Rattle.mdbatch.specs.ViewHtml.{ViewHtml};
@@ -22,8 +22,8 @@ use crate::page_labels::PageLabels;
 use crate::units::gathered_units;
 use mdhtml::{Options, UnitWriter};
 use mdinline::InlineFault;
+use mdsource::{EditFault, Prelude};
 use mdtext::{Entities, NoMemory, after_mark, clean_line, is_clean};
-use mdview::{EditFault, Prelude};
 use std::alloc::Global;
 
 /// The HTML of a whole text: its lines end as CommonMark 2.1 says, a leading U+FEFF is dropped, and U+FFFD stands for each U+0000 (CommonMark 2.3). A label

@@ -5,7 +5,7 @@ ghost use Rattle.std.specs.Option.{option_map, option_to_list};
 ghost use Rattle.blockspec.specs.UnitTree.{FoundUnit};
 ghost use Rattle.mdblock.specs.FoundLists.{found_unit};
 ghost use Rattle.viewspec.specs.Setting.{Setting};
-ghost use Rattle.mdview.specs.declared.fault.EditFault.TheVariants.{NoMemory};
+ghost use Rattle.mdsource.specs.declared.fault.EditFault.TheVariants.{NoMemory};
 ghost use Rattle.mdbatch.specs.GatheredUnits.{Gathers, HasGathered, closes_bracket, setting_of};
 ghost use Rattle.mdbatch.specs.declared.gathered.Waiting.{Waiting};
 
@@ -13,8 +13,8 @@ use crate::labels::add_definitions;
 use mdblock::{Found, Unit};
 use mdhtml::UnitWriter;
 use mdinline::{InlineFault, LabelTable};
+use mdsource::EditFault;
 use mdtext::NoMemory;
-use mdview::EditFault;
 use memchr::memchr;
 use std::alloc::Global;
 use std::mem::replace;
@@ -54,7 +54,7 @@ impl Gathered {
         })
     }
 
-    /// Takes the next unit, if there is one.
+    /// Takes the next unit, if there is one. It is inlined, since it is called behind each line, and most lines end no unit.
     #[inline(always)]
     pub(crate) fn take<'a>(
         &mut self,

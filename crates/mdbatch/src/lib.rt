@@ -12,5 +12,5 @@ mod units;
 
 pub use batch::to_html;
 pub use mdhtml::{Breaks, Options};
+pub use mdsource::{EditFault, Prelude};
 pub use mdtext::{Entities, TableFault};
-pub use mdview::{EditFault, Prelude};

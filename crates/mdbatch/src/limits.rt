@@ -1,10 +1,10 @@
 //! The limits on the lines and bytes of a whole text.
 ghost use Rattle.std.specs.Prelude.{◌≡◌, ◌+◌, ◌*◌, ◌≤◌, IfErr, IsTrue, OnOk, Some, None, map};
 ghost use Rattle.mdtext.specs.Lines.{split_lines, without_nul};
-ghost use Rattle.mdview.specs.Edit.{refusal};
+ghost use Rattle.mdsource.specs.SourceLimits.{refusal};
 
+use mdsource::EditFault;
 use mdtext::{clean_len, split_line};
-use mdview::EditFault;
 
 const MAX_LINES: usize = 1_000_000;
 

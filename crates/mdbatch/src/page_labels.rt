@@ -2,8 +2,8 @@
 ghost use Rattle.mdbatch.specs.TextLabels.{target_on_page};
 
 use mdinline::{LabelTable, Labels};
+use mdsource::Prelude;
 use mdtext::{Label, Target};
-use mdview::Prelude;
 
 /// The labels that a text defines, and below them those of its prelude (CommonMark 4.7).
 #[derive(Clone, Copy)]

@@ -5,7 +5,7 @@ ghost use Rattle.mdtext.specs.Lines.{split_lines};
 ghost use Rattle.blockspec.specs.BlockUnits.{units};
 ghost use Rattle.blockspec.specs.Nesting.{first_too_deep};
 ghost use Rattle.mdhtml.specs.Limits.{HasLimits};
-ghost use Rattle.mdview.specs.Document.{size_of};
+ghost use Rattle.mdsource.specs.SourceLimits.{size_of};
 ghost use Rattle.mdbatch.specs.BatchHtml.{IsReadFault, fault_of};
 ghost use Rattle.mdbatch.specs.GatheredUnits.{Gathers};
 
@@ -13,8 +13,8 @@ use crate::gathered::Gathered;
 use mdblock::{BlockFault, Reader};
 use mdhtml::{Options, UnitWriter};
 use mdinline::LabelTable;
+use mdsource::EditFault;
 use mdtext::{Entities, Tally, split_line};
-use mdview::EditFault;
 use std::alloc::Global;
 
 /// Reads the lines of a text in which no U+0000 stands, each where it lies in the text.
@@ -53,7 +53,7 @@ pub(crate) fn gathered_units(
     Ok(gathered)
 }
 
-/// The first line of a text that is not empty, and the text after its ending: an empty line at once.
+/// The first line of a text that is not empty, and the text after its ending: an empty line at once. It is inlined, so that an empty line takes no call.
 #[inline(always)]
 pub(crate) fn next_line(text: &str) -> (&str, &str)
     requires { 0 < length text.now }

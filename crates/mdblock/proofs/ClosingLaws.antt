@@ -14,7 +14,7 @@ use Rattle.blockspec.specs.OpenLeaf.{OpenLeaf, open_text, open_table, open_fence
 use Rattle.blockspec.specs.TaskItem.{with_task}
 use Rattle.mdblock.specs.held.TreesBehind.{nodes_before, blocks_before, placed_before}
 use Rattle.mdblock.proofs.HeldNodesLaws.{list_nodes, merged_list, merged_leaves, merged_quote}
-use Rattle.blocklaws.proofs.ItemLaws.{merged_nil}
+use Rattle.blockspec.proofs.ItemLaws.{merged_nil}
 use Rattle.mdblock.proofs.PlacedNodes.{texts_before, earlier_definitions, earlier_placed, item_texts_before, item_definitions_before, placed_items_before, leaves_append, leaves_behind, nodes_assoc}
 
 -- ---- what lines give

@@ -14,9 +14,9 @@ use Rattle.blockspec.specs.NodeTree.{ItemNodes}
 use Rattle.blockspec.specs.OpenLeaf.{OpenLeaf, open_text, open_table, open_fence, open_code, open_html, done_heading, done_leaf, open_tip, leaf_from, next_text, next_leaf, is_parted}
 use Rattle.blockspec.specs.Stretches.{step}
 use Rattle.blockspec.specs.UnitBegin.{is_stop, list_mark, same_mark}
-use Rattle.blocklaws.proofs.ItemLaws.{same_list}
-use Rattle.blocklaws.proofs.LeafSteps.{IsLeaf, IsMade}
-use Rattle.blocklaws.proofs.OpenLeafLaws.{leaf_next, next_parts}
+use Rattle.blockspec.proofs.ItemLaws.{same_list}
+use Rattle.blockspec.proofs.LeafSteps.{IsLeaf, IsMade}
+use Rattle.blockspec.proofs.OpenLeafLaws.{leaf_next, next_parts}
 use Rattle.mdblock.specs.BlockView.{kind_view}
 use Rattle.mdblock.specs.held.ContainerContinuations.{ContinuesInQuote, ContinuesInItem, ContinuesBetween, IsOneList, IsOutsideItem}
 use Rattle.mdblock.specs.held.Continuations.{goes_on, IsOfLeaf}

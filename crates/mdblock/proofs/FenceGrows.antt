@@ -43,14 +43,14 @@ bl_fence_reads level before l f more is stays grows =
 
 -- the closing fence
 pub fence_closes : (level new : Level) (before : Gathering) (l : BlockLine) (f : Fence) (b : Block) → level.last ≡ open_block.Leaf (leaf.Fence f) → closes f.mark f.length l ≡ true →
-    block_view b ≡ code_block (string_bytes f.lang) (string_bytes f.meta) (string_bytes f.body) →
+    block_view b ≡ code_block (string_bytes f.info.value.lang) (string_bytes f.info.value.meta) (string_bytes f.body) →
     blocks_view new.over.items ≡ blocks_before (blocks_view level.over.items) (found_view (Some b)) → new.last ≡ open_block.Shut → HasRestOf level new → GrowsLeaf level before l new before
 fence_closes level new before l f b is ends block over last marks =
     let step : LeafAfter = record { over = Some b; going = None } in
     fence_steps level new before l f step is
     (λ e info later own. subst (λ t. IsFenceStep t e f.indent f.mark f.length info later l step) (sym ends)
     (record {
-      over = block ∙ ap (λ t. code_block t (string_bytes f.meta) (string_bytes f.body)) own.language ∙ ap (λ t. code_block (code_language e info) t (string_bytes f.body)) own.meta
+      over = block ∙ ap (λ t. code_block t (string_bytes f.info.value.meta) (string_bytes f.body)) own.language ∙ ap (λ t. code_block (code_language e info) t (string_bytes f.body)) own.meta
           ∙ ap (code_block (code_language e info) (code_meta e info)) own.body;
       nothing_going = refl;
     }))

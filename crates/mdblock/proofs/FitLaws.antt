@@ -14,10 +14,10 @@ use Rattle.blockspec.specs.Stretches.{goes_on, is_single}
 use Rattle.blockspec.specs.SummaryDepth.{sinks_first, sinks_later, sinks_at, sinks_by, sinks}
 use Rattle.blockspec.specs.UnitBegin.{list_mark, same_mark}
 use Rattle.blockspec.specs.UnitReader.{read_behind, unit_fault, summary_held, lines_held}
-use Rattle.blocklaws.proofs.LeafSteps.{Sort, is_container, is_leaf, sort_of}
-use Rattle.blocklaws.proofs.SummaryLaws.{leaf_begun, new_leaf}
-use Rattle.blocklaws.proofs.UnitLaws.{three_facts}
-use Rattle.blocklaws.proofs.UnitReaderLaws.{fault_first, holds_summary}
+use Rattle.blockspec.proofs.LeafSteps.{Sort, is_container, is_leaf, sort_of}
+use Rattle.blockspec.proofs.SummaryLaws.{leaf_begun, new_leaf}
+use Rattle.blockspec.proofs.UnitLaws.{three_facts}
+use Rattle.blockspec.proofs.UnitReaderLaws.{fault_first, holds_summary}
 use Rattle.blockspec.specs.LineSummary.{summary_of}
 use Rattle.mdblock.specs.held.HeldLevel.{Fits, FitsLast}
 use Rattle.mdblock.proofs.CloseLaws.{not_both}

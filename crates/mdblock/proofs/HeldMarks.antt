@@ -15,20 +15,20 @@ use Rattle.blockspec.specs.NodeTree.{texts_in, definitions_in}
 use Rattle.blockspec.specs.UnitBegin.{begins_unit, units_of, shift_found}
 use Rattle.blockspec.specs.UnitReader.{lines_held}
 use Rattle.blockspec.specs.UnitTree.{FoundUnit}
-use Rattle.blocklaws.proofs.BeginLaws.{begins_in}
-use Rattle.blocklaws.proofs.DocumentLaws.{document_units}
-use Rattle.blocklaws.proofs.HandedLaws.{IsBehind, front_units, front_lines, front_and_held, lines_before_held, held_behind, held_one}
-use Rattle.blocklaws.proofs.LimitLaws.{for_next_line}
-use Rattle.blocklaws.proofs.ReaderLaws.{summary_closed, summary_begins}
-use Rattle.blocklaws.proofs.UnitReaderLaws.{IsOne}
+use Rattle.blockspec.proofs.BeginLaws.{begins_in}
+use Rattle.blockspec.proofs.DocumentLaws.{document_units}
+use Rattle.blockspec.proofs.HandedLaws.{IsBehind, front_units, front_lines, front_and_held, lines_before_held, held_behind, held_one}
+use Rattle.blockspec.proofs.LimitLaws.{for_next_line}
+use Rattle.blockspec.proofs.ReaderLaws.{summary_closed, summary_begins}
+use Rattle.blockspec.proofs.UnitReaderLaws.{IsOne}
 use Rattle.blockspec.specs.ItemMarks.{ItemMark, is_parted, list_marks, mark_behind, marks_next, join_of}
 use Rattle.blockspec.specs.Joins.{block_joins}
 use Rattle.blockspec.specs.ListItems.{top_blocks}
 use Rattle.blockspec.specs.SummaryJoins.{joins_after, is_parted_after, gap_in}
-use Rattle.blocklaws.proofs.LastJoins.{summary_joins}
-use Rattle.blocklaws.proofs.LastParted.{summary_parted, summary_gapped}
-use Rattle.blocklaws.proofs.MarkLines.{held_marks, marks_join}
-use Rattle.blocklaws.proofs.UnitsMeet.{units_meet_inside}
+use Rattle.blockspec.proofs.LastJoins.{summary_joins}
+use Rattle.blockspec.proofs.LastParted.{summary_parted, summary_gapped}
+use Rattle.blockspec.proofs.MarkLines.{held_marks, marks_join}
+use Rattle.blockspec.proofs.UnitsMeet.{units_meet_inside}
 use Rattle.mdblock.specs.FoundLists.{AreJoinsOf}
 use Rattle.mdblock.specs.held.HeldLevel.{list_between}
 use Rattle.mdblock.specs.held.Reads.{mark_after, open_begin, last_of}

@@ -42,10 +42,10 @@ alone : {A : Type 0} (old : List A) → old ≡ old ++ []
 alone old = sym (append-nil old)
 
 pub fence_ended : (entities : EntityTable) (at_front : Bool) (f : Fence) (kind : Kind) (first : BlockLine) (later : List BlockLine) (old : List (List ℕ)) (b : Block)
-    → block_view b ≡ code_block (string_bytes f.lang) (string_bytes f.meta) (string_bytes f.body)
+    → block_view b ≡ code_block (string_bytes f.info.value.lang) (string_bytes f.info.value.meta) (string_bytes f.body)
     → IsLeafOf entities (leaf.Fence f) kind first later → IsEndOf entities at_front kind first later old old (Some b)
 fence_ended entities at_front f (FencedCode indentation mark length info closed) first later old b e h = (
-  ap (λ x. block x no_blocks) (e ∙ ap (λ t. code_block t (string_bytes f.meta) (string_bytes f.body)) h.language ∙ ap (λ t. code_block (code_language entities info) t (string_bytes f.body)) h.meta
+  ap (λ x. block x no_blocks) (e ∙ ap (λ t. code_block t (string_bytes f.info.value.meta) (string_bytes f.body)) h.language ∙ ap (λ t. code_block (code_language entities info) t (string_bytes f.body)) h.meta
       ∙ ap (code_block (code_language entities info) (code_meta entities info)) h.body),
   alone old,
 )

@@ -12,7 +12,7 @@ use Rattle.mdtext.specs.EntityTable.{EntityTable}
 use Rattle.mdtext.specs.References.{unescaped}
 use Rattle.mdleaf.specs.CodeLanguage.{behind_word, code_language, code_meta, ends_language}
 use Rattle.mdleaf.specs.ParagraphText.{joined_lines}
-use Rattle.blocklaws.proofs.OpenLeafLaws.{joined_next}
+use Rattle.blockspec.proofs.OpenLeafLaws.{joined_next}
 use Rattle.blockspec.specs.BlockLine.{BlockLine, is_blank_line, without_columns}
 use Rattle.blockspec.specs.LeafContents.{code_text, without_end_blank_lines}
 use Rattle.blockspec.specs.OpenLeaf.{end_blank_lines}

@@ -9,8 +9,8 @@ use Rattle.mdleaf.specs.CodeLanguage.{code_language, code_meta}
 use Rattle.mdleaf.specs.ParagraphText.{joined_lines}
 use Rattle.mdleaf.specs.TableRows.{row_aligns, row_texts}
 use Rattle.mdleaf.proofs.CellTexts.{length_filled}
-use Rattle.blocklaws.proofs.OpenLeafLaws.{table_push, pushed_rows}
-use Rattle.blocklaws.proofs.StartKinds.{Kinds, IfBegun, start_kinds}
+use Rattle.blockspec.proofs.OpenLeafLaws.{table_push, pushed_rows}
+use Rattle.blockspec.proofs.StartKinds.{Kinds, IfBegun, start_kinds}
 use Rattle.blockspec.specs.BlockLine.{BlockLine, is_blank_line, rest}
 use Rattle.blockspec.specs.OpenLeaf.{leaf_from, row_of, table_from}
 use Rattle.mdblock.specs.held.HeldTables.{IsTableOf, IsHeaderLeaf, IsRowMore, IsTableBehind, first_rows, held_rows}

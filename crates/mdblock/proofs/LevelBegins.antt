@@ -20,7 +20,7 @@ use Rattle.mdblock.specs.declared.open_blocks.Level.{Level}
 use Rattle.mdblock.specs.declared.open_blocks.OpenBlock.{OpenBlock}
 use Rattle.mdblock.specs.declared.open_blocks.OpenBlock as open_block
 use Rattle.mdblock.proofs.HeldNodesLaws.{none_over, none_spaced, over_ended}
-use Rattle.blocklaws.proofs.ItemLaws.{merged_nil}
+use Rattle.blockspec.proofs.ItemLaws.{merged_nil}
 use Rattle.mdblock.proofs.LevelGroups.{IsAny, any_merged, mark_merged}
 
 -- ---- all blocks end

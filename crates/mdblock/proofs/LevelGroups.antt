@@ -6,7 +6,7 @@ use Rattle.blockspec.specs.LineSummary.{part_mark}
 use Rattle.blockspec.specs.ListGroups.{Part, Leaves, Quoted, Listed, Group, is_same_list, items_before, joined_where, joined, merged, is_tight_inside}
 use Rattle.blockspec.specs.NodeTree.{ItemNodes}
 use Rattle.blockspec.specs.UnitBegin.{same_mark}
-use Rattle.blocklaws.proofs.ItemLaws.{same_list}
+use Rattle.blockspec.proofs.ItemLaws.{same_list}
 use Rattle.mdblock.specs.held.LevelSteps.{last_mark, tight_with}
 use Rattle.mdblock.specs.held.HeldNodes.{ListSoFar, list_behind, list_where, list_at, behind_group, list_of}
 

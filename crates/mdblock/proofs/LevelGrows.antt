@@ -25,7 +25,7 @@ use Rattle.blockspec.specs.OpenLeaf.{OpenLeaf, open_table, leaf_from, open_leave
 use Rattle.blockspec.specs.Stretches.{Step, Continues, IsLastLine, IsOverBefore, continues_if, closes, ends_html, fence_step, html_step, paragraph_step, is_row, is_code, step}
 use Rattle.blockspec.specs.Stretches.{step as line_step}
 use Rattle.blockspec.specs.TaskItem.{with_task}
-use Rattle.blocklaws.proofs.OpenLeafLaws.{next_by, leaf_next, drops_last, joined_next, table_push}
+use Rattle.blockspec.proofs.OpenLeafLaws.{next_by, leaf_next, drops_last, joined_next, table_push}
 use Rattle.mdblock.specs.BlockView.{block_view, blocks_view}
 use Rattle.mdblock.specs.held.ClosedViews.{found_view}
 use Rattle.mdblock.specs.held.HandedIn.{left_behind, gathered_texts, gathered_definitions}

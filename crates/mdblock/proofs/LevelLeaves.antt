@@ -14,6 +14,7 @@ use Rattle.blockspec.specs.BlockTree.{ListKind, Blocks, no_blocks, block}
 use Rattle.blockspec.specs.BlockTree as tree
 use Rattle.blockspec.specs.LineSummary.{Summary, no_summary, summary, ended_block, open_leaf, closed, last_groups, leaf_group, new_last, summary_gap, line_added}
 use Rattle.blockspec.specs.SummaryDepth.{sinks}
+use Rattle.mdscan.specs.declared.atx_headings.AtxLine.{AtxLine}
 use Rattle.mdscan.specs.declared.list_markers.Marker.{Marker}
 use Rattle.blockspec.specs.ListGroups.{Leaves, Group, is_tight_inside, leaves_before, merged, nodes_of}
 use Rattle.blockspec.specs.NodeTree.{Leaf, heading_leaf, break_leaf, html_leaf, Nodes, no_nodes, leaf_node, texts_in, definitions_in, leaf_texts, leaf_definitions, leaf_block, placed}
@@ -21,14 +22,14 @@ use Rattle.blockspec.specs.OpenLeaf.{OpenLeaf, leaf_from, open_leaves}
 use Rattle.blockspec.specs.Stretches.{ends_html, is_single, first_of}
 use Rattle.blockspec.specs.TaskItem.{with_task}
 use Rattle.blockspec.specs.UnitBegin.{same_mark}
-use Rattle.blocklaws.proofs.LeafSteps.{IsLeaf}
-use Rattle.blocklaws.proofs.SummaryLaws.{leaf_begun, new_leaf}
+use Rattle.blockspec.proofs.LeafSteps.{IsLeaf}
+use Rattle.blockspec.proofs.SummaryLaws.{leaf_begun, new_leaf}
 use Rattle.mdblock.specs.BlockView.{block_view, blocks_view}
 use Rattle.mdblock.specs.held.ClosedViews.{found_view}
 use Rattle.mdblock.specs.held.HandedIn.{gathered_texts, gathered_definitions}
 use Rattle.mdblock.specs.held.HeldLevel.{is_front, is_begun, IsShut, behind_over, StandsForLeaf, StandsForLast, StandsFor, HasGathered}
 use Rattle.mdblock.specs.held.HeldNodes.{over_leaves, handed_leaves, handed_groups, handed_last, handed_nodes, tasked}
-use Rattle.mdblock.specs.held.LevelSteps.{IsLeafStart, open_leaf_of, last_mark, tight_with, begun_behind, BeginsBlock, HasMarksOf}
+use Rattle.mdblock.specs.held.LevelSteps.{IsLeafStart, OpensLeaf, open_leaf_of, last_mark, tight_with, begun_behind, BeginsBlock, HasMarksOf}
 use Rattle.mdblock.specs.held.OpenLeaves.{IsBegun, begun_texts, IsOver, IsParagraphLeaf, IsFenceLeaf, IsCodeLeaf, IsHtmlLeaf, IsHtmlStep}
 use Rattle.mdblock.specs.held.StartKind.{kind_of_start, opened_kind}
 use Rattle.mdblock.specs.held.TreesBehind.{nodes_before, blocks_before}
@@ -329,14 +330,23 @@ leaf_kind l (Some (o.Item marker)) w = absurd w
 pub leaf_fits : (room : ℕ) (l : BlockLine) (opening : Option BlockStart) → option_map (kind_of_start l) opening ≡ start Free [] l → IsLeafStart opening → sinks room no_summary l ≡ false
 leaf_fits room l opening e w = leaf_sinks room l (subst HoldsNone (sym (begun_is l opening e)) (leaf_kind l opening w))
 
-pub leaf_start : (start : BlockStart) → (start ≡ o.Quote → ⊥) → ((marker : Marker) → start ≡ o.Item marker → ⊥) → IsLeafStart (Some start)
-leaf_start o.Quote q i = q refl
-leaf_start (o.Item marker) q i = i marker refl
-leaf_start (o.Heading heading) q i = tt
-leaf_start (o.Fence fence) q i = tt
-leaf_start (o.Html kind) q i = tt
-leaf_start o.Break q i = tt
-leaf_start o.Code q i = tt
+pub leaf_start : (start : BlockStart) → (start ≡ o.Quote → ⊥) → ((marker : Marker) → start ≡ o.Item marker → ⊥) → ((heading : AtxLine) → start ≡ o.Heading heading → ⊥) → OpensLeaf start
+leaf_start o.Quote q i h = q refl
+leaf_start (o.Item marker) q i h = i marker refl
+leaf_start (o.Heading heading) q i h = h heading refl
+leaf_start (o.Fence fence) q i h = tt
+leaf_start (o.Html kind) q i h = tt
+leaf_start o.Break q i h = tt
+leaf_start o.Code q i h = tt
+
+pub leaf_opens : (start : BlockStart) → OpensLeaf start → IsLeafStart (Some start)
+leaf_opens o.Quote w = w
+leaf_opens (o.Item marker) w = w
+leaf_opens (o.Heading heading) w = tt
+leaf_opens (o.Fence fence) w = tt
+leaf_opens (o.Html kind) w = tt
+leaf_opens o.Break w = tt
+leaf_opens o.Code w = tt
 
 pub shut_last : (x : OpenBlock) → IsShut x → x ≡ open_block.Shut
 shut_last open_block.Shut w = refl

@@ -10,8 +10,8 @@ use Rattle.blockspec.specs.OpenLeaf.{OpenLeaf, NextLeaf, ContinuesAs, EndsAs, En
 use Rattle.blockspec.specs.ListGroups.{Group}
 use Rattle.blockspec.specs.Stretches.{Stretch, goes_on, is_single, first_of}
 use Rattle.blockspec.specs.SummaryDepth.{sinks, sinks_by, sinks_at, sinks_first, sinks_later}
-use Rattle.blocklaws.proofs.LeafSteps.{Sort, is_container, is_leaf, sort_of}
-use Rattle.blocklaws.proofs.SummaryLaws.{leaf_begun, new_leaf}
+use Rattle.blockspec.proofs.LeafSteps.{Sort, is_container, is_leaf, sort_of}
+use Rattle.blockspec.proofs.SummaryLaws.{leaf_begun, new_leaf}
 
 -- ---- a line that goes on with no block
 

@@ -44,6 +44,7 @@ pub mod TableLaws
 pub mod TakenBlocks
 pub mod TextOrder
 pub mod TipLaws
+pub mod Turns
 pub mod Views
 pub mod Unfollowed
 pub mod Within

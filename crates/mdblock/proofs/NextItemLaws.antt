@@ -10,7 +10,7 @@ use Rattle.blockspec.specs.LineSummary.{Summary, last_in, is_apart_after, mark_o
 use Rattle.blockspec.specs.NodeTree.{texts_in, definitions_in}
 use Rattle.blockspec.specs.SummaryDepth.{sinks}
 use Rattle.blockspec.specs.UnitBegin.{list_mark, same_mark}
-use Rattle.blocklaws.proofs.DocumentLaws.{map_length}
+use Rattle.blockspec.proofs.DocumentLaws.{map_length}
 use Rattle.blockspec.specs.ItemMarks.{marks_next}
 use Rattle.mdblock.specs.FoundLists.{join_mark}
 use Rattle.mdblock.specs.held.Continuations.{begins_item}

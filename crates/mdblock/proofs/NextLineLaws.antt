@@ -16,17 +16,17 @@ use Rattle.blockspec.specs.SummaryDepth.{sinks_first, sinks_at, sinks}
 use Rattle.blockspec.specs.UnitBegin.{list_mark, same_mark, begins_unit, units_of, shift_found}
 use Rattle.blockspec.specs.UnitReader.{read_behind, lines_held}
 use Rattle.blockspec.specs.UnitTree.{FoundUnit}
-use Rattle.blocklaws.proofs.BeginLaws.{begins_in, begins_next}
-use Rattle.blocklaws.proofs.DocumentLaws.{document_units}
-use Rattle.blocklaws.proofs.HandedLaws.{IsFirst, IsBehind, begun_first, front_units, front_lines, front_and_held, lines_before_held, held_next, lines_next, front_next, held_behind, held_one, front_is, deep_behind_held, held_summary_next}
-use Rattle.blocklaws.proofs.OpenLeafLaws.{drops_last}
-use Rattle.blocklaws.proofs.ReaderLaws.{summary_closed, summary_begins}
-use Rattle.blocklaws.proofs.UnitReaderLaws.{IsOne}
+use Rattle.blockspec.proofs.BeginLaws.{begins_in, begins_next}
+use Rattle.blockspec.proofs.DocumentLaws.{document_units}
+use Rattle.blockspec.proofs.HandedLaws.{IsFirst, IsBehind, begun_first, front_units, front_lines, front_and_held, lines_before_held, held_next, lines_next, front_next, held_behind, held_one, front_is, deep_behind_held, held_summary_next}
+use Rattle.blockspec.proofs.OpenLeafLaws.{drops_last}
+use Rattle.blockspec.proofs.ReaderLaws.{summary_closed, summary_begins}
+use Rattle.blockspec.proofs.UnitReaderLaws.{IsOne}
 use Rattle.blockspec.specs.ItemMarks.{ItemMark, is_parted, list_marks, marks_next}
 use Rattle.blockspec.specs.ListItems.{top_blocks}
 use Rattle.blockspec.specs.SummaryJoins.{joins_after}
-use Rattle.blocklaws.proofs.LastJoins.{joined_behind_held}
-use Rattle.blocklaws.proofs.LastParted.{summary_parted}
+use Rattle.blockspec.proofs.LastJoins.{joined_behind_held}
+use Rattle.blockspec.proofs.LastParted.{summary_parted}
 use Rattle.mdblock.specs.FoundLists.{FoundList, AreJoinsOf, StandsForUnit, found_unit, join_mark}
 use Rattle.mdblock.specs.held.Continuations.{begins_block, begins_item}
 use Rattle.mdblock.specs.held.LevelSteps.{BeginsBehind}

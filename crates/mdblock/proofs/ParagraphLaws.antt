@@ -21,7 +21,7 @@ use Rattle.mdblock.specs.declared.open_blocks.Continuation.TheVariants as contin
 use Rattle.blockspec.specs.UnitBegin.{is_stop}
 use Rattle.mdblock.specs.declared.block_starts.BlockStart.{BlockStart}
 use Rattle.mdblock.specs.declared.block_starts.BlockStart.TheVariants as o
-use Rattle.blocklaws.proofs.OpenLeafLaws.{joined_next, last_next}
+use Rattle.blockspec.proofs.OpenLeafLaws.{joined_next, last_next}
 use Rattle.mdblock.proofs.LeafTexts.{joined_more, joined_one}
 use Rattle.mdblock.proofs.StartLaws.{near_in_parts}
 
@@ -176,26 +176,6 @@ pub behind_all : {A : Type 0} (f : A → Kind) (o p : Option A) (lines : List Bl
     → interrupted (start_near Inside lines l) ≡ interrupted (cond t (Some (Table (length lines))) None)
 behind_all f o p lines l t e h u d g r =
     ap interrupted (parts_are lines l None None None (cond t (Some (Table (length lines))) None) (none_by f o _ e h) u (none_by f p _ d g) (ap (λ t. cond t (Some (Table (length lines))) None) (sym r)))
-
--- what makes a heading of it is an underline
-pub underlines_is : (lines : ℕ) (c : Continuation) (level : ℕ) → step_view lines c ≡ IsLastLine (SetextHeading level) → c ≡ continuation.Underlines level
-underlines_is lines continuation.Matched level h = cc
-underlines_is lines (continuation.Underlines n) level h = let same : n ≡ level = cc in ap (λ k. continuation.Underlines k) same
-underlines_is lines continuation.Delimits level h = cc
-underlines_is lines continuation.Lazy level h = cc
-underlines_is lines continuation.Between level h = cc
-underlines_is lines (continuation.Next marker) level h = cc
-underlines_is lines (continuation.Outside opening) level h = cc
-
--- what makes a table of it is a delimiter row
-pub delimits_is : (lines : ℕ) (c : Continuation) (above : ℕ) → step_view lines c ≡ Continues (Table above) → c ≡ continuation.Delimits
-delimits_is lines continuation.Matched above h = cc
-delimits_is lines (continuation.Underlines n) above h = cc
-delimits_is lines continuation.Delimits above h = refl
-delimits_is lines continuation.Lazy above h = cc
-delimits_is lines continuation.Between above h = cc
-delimits_is lines (continuation.Next marker) above h = cc
-delimits_is lines (continuation.Outside opening) above h = cc
 
 -- whether it goes on, by its step
 pub goes_by_step : (lines : ℕ) (c : Continuation) → goes_on c ≡ not (is_stop (step_view lines c))

@@ -11,8 +11,8 @@ use Rattle.blockspec.specs.Joins.{is_joined}
 use Rattle.blockspec.specs.ListItems.{tops_of}
 use Rattle.mdblock.specs.held.ReaderState.{UnitSoFar, ReaderState, held_begin, held_joined}
 use Rattle.mdblock.specs.held.Reads.{Reads, HoldsUnit, StandsForHeld, open_begin}
-use Rattle.blocklaws.proofs.ReaderLaws.{summary_none}
-use Rattle.blocklaws.proofs.LimitLaws.{none_deep}
+use Rattle.blockspec.proofs.ReaderLaws.{summary_none}
+use Rattle.blockspec.proofs.LimitLaws.{none_deep}
 
 begin_none : (e : EntityTable) → None ≡ open_begin e []
 unfolding groups_within found_units cut_from all_of grouped

@@ -14,12 +14,12 @@ use Rattle.blockspec.specs.NodeTree.{ItemNodes}
 use Rattle.blockspec.specs.Nesting.{deep_within, first_too_deep}
 use Rattle.blockspec.specs.SummaryDepth.{sinks}
 use Rattle.blockspec.specs.UnitBegin.{list_mark, same_mark}
-use Rattle.blocklaws.proofs.LimitLaws.{front_none, if_none, or_second}
-use Rattle.blocklaws.proofs.ReaderLaws.{summary_closed, summary_sinks}
+use Rattle.blockspec.proofs.LimitLaws.{front_none, if_none, or_second}
+use Rattle.blockspec.proofs.ReaderLaws.{summary_closed, summary_sinks}
 use Rattle.blockspec.specs.ListItems.{is_tight_list, nodes_of_items, top_group}
 use Rattle.blockspec.specs.SummaryJoins.{joins_after}
-use Rattle.blocklaws.proofs.ItemsMeet.{blocks_are}
-use Rattle.blocklaws.proofs.LastJoins.{summary_joins}
+use Rattle.blockspec.proofs.ItemsMeet.{blocks_are}
+use Rattle.blockspec.proofs.LastJoins.{summary_joins}
 use Rattle.mdblock.specs.FoundLists.{FoundList}
 use Rattle.mdblock.specs.Spliced.{first_kind, mark_at}
 use Rattle.mdblock.specs.held.LevelSteps.{last_mark}

@@ -12,14 +12,14 @@ use Rattle.blockspec.specs.Meetings.{joins_list, gap_after}
 use Rattle.blockspec.specs.NodeTree.{ItemNodes, texts_in_items, definitions_in_items, placed, placed_items}
 use Rattle.blockspec.specs.UnitBegin.{units_of}
 use Rattle.blockspec.specs.UnitTree.{UnitTree}
-use Rattle.blocklaws.proofs.BeginLaws.{begins_in}
-use Rattle.blocklaws.proofs.UnitReaderLaws.{IsOne}
+use Rattle.blockspec.proofs.BeginLaws.{begins_in}
+use Rattle.blockspec.proofs.UnitReaderLaws.{IsOne}
 use Rattle.blockspec.specs.ItemMarks.{ItemMark, list_marks, mark_behind, item_marks}
 use Rattle.blockspec.specs.ListItems.{ListItem, ItemList, is_tight_list, nodes_of_items, top_group, top_blocks, moved_item, item_behind, items_behind, moved_top}
-use Rattle.blocklaws.proofs.ItemsMeet.{blocks_are, items_meet_at}
-use Rattle.blocklaws.proofs.ListsSpliced.{all_in, marks_parted, unit_of_list}
-use Rattle.blocklaws.proofs.MarkedLines.{marked_at}
-use Rattle.blocklaws.proofs.UnitsMeet.{list_definitions, list_texts}
+use Rattle.blockspec.proofs.ItemsMeet.{blocks_are, items_meet_at}
+use Rattle.blockspec.proofs.ListsSpliced.{all_in, marks_parted, unit_of_list}
+use Rattle.blockspec.proofs.MarkedLines.{marked_at}
+use Rattle.blockspec.proofs.UnitsMeet.{list_definitions, list_texts}
 use Rattle.mdblock.specs.Copies.{items_positions, texts_at}
 use Rattle.mdblock.specs.FoundLists.{FoundList}
 use Rattle.mdblock.specs.Spliced.{first_items, first_kind, mark_at, take_items}

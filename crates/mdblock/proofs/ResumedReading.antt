@@ -17,18 +17,18 @@ use Rattle.blockspec.specs.SummaryDepth.{sinks}
 use Rattle.blockspec.specs.UnitBegin.{begins_unit, list_mark, same_mark, units_of}
 use Rattle.blockspec.specs.UnitReader.{lines_held}
 use Rattle.blockspec.specs.UnitTree.{FoundUnit}
-use Rattle.blocklaws.proofs.BeginLaws.{begins_in}
-use Rattle.blocklaws.proofs.HandedLaws.{front_lines, held_next, lines_before_held}
-use Rattle.blocklaws.proofs.LimitLaws.{front_none, summary_limited}
-use Rattle.blocklaws.proofs.ReaderLaws.{summary_closed}
+use Rattle.blockspec.proofs.BeginLaws.{begins_in}
+use Rattle.blockspec.proofs.HandedLaws.{front_lines, held_next, lines_before_held}
+use Rattle.blockspec.proofs.LimitLaws.{front_none, summary_limited}
+use Rattle.blockspec.proofs.ReaderLaws.{summary_closed}
 use Rattle.blockspec.specs.ItemMarks.{ItemMark, is_parted, list_marks, mark_behind}
 use Rattle.blockspec.specs.ListItems.{is_tight_list, nodes_of_items, top_blocks, top_group}
 use Rattle.blockspec.specs.SummaryJoins.{gap_in}
-use Rattle.blocklaws.proofs.ItemsMeet.{blocks_are}
-use Rattle.blocklaws.proofs.LastJoins.{joined_next, summary_joins}
-use Rattle.blocklaws.proofs.LastParted.{summary_gapped}
-use Rattle.blocklaws.proofs.ListsSpliced.{unit_of_list}
-use Rattle.blocklaws.proofs.MarkLines.{marks_more}
+use Rattle.blockspec.proofs.ItemsMeet.{blocks_are}
+use Rattle.blockspec.proofs.LastJoins.{joined_next, summary_joins}
+use Rattle.blockspec.proofs.LastParted.{summary_gapped}
+use Rattle.blockspec.proofs.ListsSpliced.{unit_of_list}
+use Rattle.blockspec.proofs.MarkLines.{marks_more}
 use Rattle.mdblock.specs.BlockView.{items_view, kind_view}
 use Rattle.mdblock.specs.Copies.{copied_items, items_positions, texts_at}
 use Rattle.mdblock.specs.FoundLists.{FoundList, StandsForUnit, join_mark}

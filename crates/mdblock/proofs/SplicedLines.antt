@@ -11,18 +11,18 @@ use Rattle.blockspec.specs.Meetings.{joins_list}
 use Rattle.blockspec.specs.UnitBegin.{begins_unit, units_of, shift_found}
 use Rattle.blockspec.specs.UnitReader.{lines_held}
 use Rattle.blockspec.specs.UnitTree.{FoundUnit}
-use Rattle.blocklaws.proofs.BeginLaws.{begins_in}
-use Rattle.blocklaws.proofs.DocumentLaws.{document_units, units_meet}
-use Rattle.blocklaws.proofs.HandedLaws.{front_units, front_lines, front_is, held_next, held_one, lines_before_held}
-use Rattle.blocklaws.proofs.LimitLaws.{for_next_line}
-use Rattle.blocklaws.proofs.UnitReaderLaws.{shift_none, shift_twice}
+use Rattle.blockspec.proofs.BeginLaws.{begins_in}
+use Rattle.blockspec.proofs.DocumentLaws.{document_units, units_meet}
+use Rattle.blockspec.proofs.HandedLaws.{front_units, front_lines, front_is, held_next, held_one, lines_before_held}
+use Rattle.blockspec.proofs.LimitLaws.{for_next_line}
+use Rattle.blockspec.proofs.UnitReaderLaws.{shift_none, shift_twice}
 use Rattle.blockspec.specs.ItemMarks.{ItemMark, join_of}
 use Rattle.blockspec.specs.Joins.{block_joins, is_joined}
 use Rattle.blockspec.specs.ListItems.{top_blocks}
-use Rattle.blocklaws.proofs.JoinCuts.{no_join}
-use Rattle.blocklaws.proofs.LastJoins.{held_joins, joined_next}
-use Rattle.blocklaws.proofs.MarkLines.{marks_join}
-use Rattle.blocklaws.proofs.UnitsMeet.{units_meet_inside}
+use Rattle.blockspec.proofs.JoinCuts.{no_join}
+use Rattle.blockspec.proofs.LastJoins.{held_joins, joined_next}
+use Rattle.blockspec.proofs.MarkLines.{marks_join}
+use Rattle.blockspec.proofs.UnitsMeet.{units_meet_inside}
 use Rattle.mdblock.specs.FoundLists.{AreJoinsOf, FoundList, StandsForUnit, found_unit}
 use Rattle.mdblock.specs.Spliced.{MeetsAt, mark_at, spliced_list}
 use Rattle.mdblock.specs.held.ReaderState.{ReaderState, UnitSoFar, held_joined}

@@ -10,14 +10,14 @@ use Rattle.blockspec.specs.Meetings.{joins_list, gap_after}
 use Rattle.blockspec.specs.NodeTree.{ItemNodes, no_item_nodes, texts_in_items}
 use Rattle.blockspec.specs.UnitBegin.{units_of}
 use Rattle.blockspec.specs.UnitTree.{UnitTree, FoundUnit}
-use Rattle.blocklaws.proofs.BeginLaws.{begins_in}
-use Rattle.blocklaws.proofs.UnitReaderLaws.{IsOne}
+use Rattle.blockspec.proofs.BeginLaws.{begins_in}
+use Rattle.blockspec.proofs.UnitReaderLaws.{IsOne}
 use Rattle.blockspec.specs.ItemMarks.{ItemMark, is_parted, list_marks, mark_behind}
 use Rattle.blockspec.specs.ListItems.{ListItem, ItemList, is_tight_list, nodes_of_items, top_blocks, items_behind}
-use Rattle.blocklaws.proofs.ListsSpliced.{ListsSpliced, lists_spliced, moved_mark, marks_spliced, parted_alike, unit_of_list, unit_spliced, unit_before}
-use Rattle.blocklaws.proofs.MarkLines.{behind_is, marks_more}
-use Rattle.blocklaws.proofs.MarkedLines.{MarkedAt, marked_at}
-use Rattle.blocklaws.proofs.UnitsMeet.{list_definitions, list_texts, list_together}
+use Rattle.blockspec.proofs.ListsSpliced.{ListsSpliced, lists_spliced, moved_mark, marks_spliced, parted_alike, unit_of_list, unit_spliced, unit_before}
+use Rattle.blockspec.proofs.MarkLines.{behind_is, marks_more}
+use Rattle.blockspec.proofs.MarkedLines.{MarkedAt, marked_at}
+use Rattle.blockspec.proofs.UnitsMeet.{list_definitions, list_texts, list_together}
 use Rattle.mdblock.specs.FoundLists.{FoundList}
 use Rattle.mdblock.specs.Spliced.{mark_at, mark_further, spliced_unit, spliced_marks, tight_list, spliced_list}
 use Rattle.mdblock.proofs.ItemParts.{last_mark}

@@ -12,9 +12,9 @@ use Rattle.blockspec.specs.NodeTree.{texts_in_items, definitions_in_items}
 use Rattle.blockspec.specs.ItemMarks.{ItemMark, last_item, is_parted, item_marks, block_marks, list_marks}
 use Rattle.blockspec.specs.Joins.{later_lines}
 use Rattle.blockspec.specs.ListItems.{ListItem, ItemList, is_tight_list, nodes_of_items, top_blocks}
-use Rattle.blocklaws.proofs.JoinLines.{AreBelow, joins_in, joins_below}
-use Rattle.blocklaws.proofs.ListsSpliced.{moved_mark, tight_by_marks}
-use Rattle.blocklaws.proofs.UnitsMeet.{texts_together, definitions_together}
+use Rattle.blockspec.proofs.JoinLines.{AreBelow, joins_in, joins_below}
+use Rattle.blockspec.proofs.ListsSpliced.{moved_mark, tight_by_marks}
+use Rattle.blockspec.proofs.UnitsMeet.{texts_together, definitions_together}
 use Rattle.mdblock.specs.Spliced.{further_on, mark_further, tight_list}
 use Rattle.mdblock.proofs.SplicedUnits.{texts_of, definitions_of}
 

@@ -10,7 +10,7 @@ use Rattle.blockspec.specs.ListGroups.{items_before}
 use Rattle.blockspec.specs.NodeTree.{ItemNodes, no_nodes, list_node, texts_in, texts_in_items, definitions_in, definitions_in_items, placed, placed_items, unit_of}
 use Rattle.blockspec.specs.UnitTree.{UnitTree}
 use Rattle.blockspec.specs.ListItems.{ListItem, nodes_of_items}
-use Rattle.blocklaws.proofs.UnitsMeet.{texts_together, definitions_together, list_texts}
+use Rattle.blockspec.proofs.UnitsMeet.{texts_together, definitions_together, list_texts}
 use Rattle.mdblock.specs.Copies.{copied_items, items_positions, texts_at}
 use Rattle.mdblock.specs.Spliced.{drop_items, spliced_unit}
 use Rattle.mdblock.specs.held.TreesBehind.{placed_before}

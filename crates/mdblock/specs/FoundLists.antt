@@ -33,7 +33,8 @@ AreJoinsOf entities lines f = map join_of f.marks ≡ flat_map block_joins (top_
 unfoldable pub StandsForUnit : EntityTable → FoundList → (lines : List (List ℕ)) → Type 0
 StandsForUnit entities f lines =
     let ls = map document_line lines in
-    (units entities lines ≡ record { begin = 0; lines = f.lines; unit = f.unit } ∷ []) × (f.marks ≡ list_marks entities ls) × (f.parted ≡ is_parted (top_blocks entities ls))
+    (units entities lines ≡ record { begin = 0; lines = f.lines; unit = f.unit } ∷ []) × (f.marks ≡ list_marks entities ls)
+    × (f.parted ≡ is_parted (top_blocks entities ls))
 
 abbrev pub mark_code : Coded ItemMark
 mark_code =

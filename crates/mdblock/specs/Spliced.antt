@@ -119,6 +119,7 @@ spliced_list front old k =
     }
 
 -- A reader has read some lines and one more, and in that one the later item k of an old list begins, which stands for its lines.
-abbrev pub MeetsAt : (limit : ℕ) → EntityTable → (front : ReaderState) → (old : FoundList) → (k : ℕ) → (xs : List (List ℕ)) → (l : List ℕ) → (zs ys : List (List ℕ)) → Type 0
+abbrev pub MeetsAt : (limit : ℕ) → EntityTable → (front : ReaderState) → (old : FoundList) → (k : ℕ) → (xs : List (List ℕ)) → (l : List ℕ)
+    → (zs ys : List (List ℕ)) → Type 0
 MeetsAt limit entities front old k xs l zs ys =
     Reads limit entities front (xs ++ l ∷ []) × StandsForUnit entities old (zs ++ l ∷ ys) × ((mark_at old.marks k).line ≡ length zs)

@@ -32,7 +32,7 @@ fn make_room(over: &mut Vec<Block>) -> Result<(), AllocError>
     Ok(())
 }
 
-/// The same of a block, where there is one.
+/// Puts a block, where there is one, behind those that are over.
 pub(crate) fn push_found(over: &mut Vec<Block>, found: Option<Block>) -> Result<(), AllocError>
     ensures pushed { OnOk result (blocks_view over.new.items ≡ blocks_before (blocks_view over.old.items) (found_view found)) }
     ensures within { OnOk result ((n : ℕ) → BlocksIn n (blocks_view over.old.items) → IfSome found (λ block. BlockIn n (block_view block))
@@ -44,7 +44,8 @@ pub(crate) fn push_found(over: &mut Vec<Block>, found: Option<Block>) -> Result<
     }
 }
 
-/// The same. `more`: whether another block comes right behind it; then room for that one is taken at once, as much as a push behind one block would take.
+/// Puts a block, where there is one, behind those that are over. `more`: whether another block comes right behind it; then room for that one is taken at
+/// once, as much as a push behind one block would take.
 pub(crate) fn push_found_inside(
     over: &mut Vec<Block>,
     found: Option<Block>,

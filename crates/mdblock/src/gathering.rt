@@ -1,14 +1,12 @@
 //! What the leaves of a unit hand in as they close.
 
-ghost use Rattle.std.specs.Prelude.{◌≡◌, ◌-◌, ◌<◌, ◌≤◌, [], ◌∷◌, ◌++◌, IfOk, OnOk, length, string_bytes};
+ghost use Rattle.std.specs.Prelude.{◌≡◌, ◌-◌, ◌<◌, ◌≤◌, [], ◌∷◌, ◌++◌, IfOk, OnOk, length, map};
 ghost use Rattle.std.specs.List.{range_with_len};
-ghost use Rattle.mdscan.specs.Blanks.{begins_with};
-ghost use Rattle.mdleaf.specs.LeadingDefinitions.{leading_of};
-ghost use Rattle.mdleaf.specs.ParagraphText.{behind_definitions};
+ghost use Rattle.mdleaf.specs.LinkDefinition.{definition_of};
 ghost use Rattle.mdblock.specs.held.HandedIn.{gathered_definitions};
 ghost use Rattle.mdblock.specs.Positions.{CellsIn};
 
-use mdleaf::{Definition, leading_definitions};
+use mdleaf::Definition;
 use mdtext::Entities;
 use std::alloc::{AllocError, Global};
 use std::mem;
@@ -93,20 +91,13 @@ impl<'e> Gathering<'e> {
         positions(self.alloc, start, self.texts.len())
     }
 
-    /// Takes the definitions at the front of a paragraph's text in, and leaves the text behind them.
-    pub(crate) fn definitions(&mut self, text: &mut String) -> Result<(), AllocError>
+    /// Takes definitions in, and leaves none of them.
+    pub(crate) fn define(&mut self, definitions: &mut Vec<Definition>) -> Result<(), AllocError>
         ensures texts { self.new.texts ≡ self.old.texts }
         ensures entities { self.new.entities.now ≡ self.old.entities.now }
-        ensures left { OnOk result (string_bytes text.new ≡ behind_definitions (string_bytes text.old)) }
-        ensures found { OnOk result (gathered_definitions self.new
-            ≡ gathered_definitions self.old ++ leading_of self.old.entities.now (string_bytes text.old)) }
+        ensures found { OnOk result (gathered_definitions self.new ≡ gathered_definitions self.old ++ map definition_of definitions.old.items) }
     {
-        if !may_define(text.as_str()) {
-            return Ok(());
-        }
-        let mut leading = leading_definitions(self.alloc, text.as_str(), self.entities)?;
-        self.definitions.append(&mut leading.definitions)?;
-        text.replace_range(..leading.rest, "")
+        self.definitions.append(definitions)
     }
 
     /// How many texts were taken in. Takes no memory.
@@ -136,13 +127,6 @@ impl<'e> Gathering<'e> {
             mem::replace(&mut self.texts, Vec::new(self.alloc)),
         )
     }
-}
-
-/// Whether a text begins as a link reference definition does: most paragraphs need no closer look.
-fn may_define(text: &str) -> bool
-    ensures { result ≡ begins_with 91 text.now }
-{
-    matches!(text.as_bytes(), [b'[', ..])
 }
 
 /// The positions from one on and before another.

@@ -1,16 +1,16 @@
 //! Blocks that hold no other blocks: what begins each, which lines it takes, what it keeps, and what it is at its end.
 
-ghost use Rattle.std.specs.Prelude.{◌≡◌, ◌≤◌, ℕ, List, [], ◌∷◌, ◌++◌, IfOk, IfSome, OnOk, None, Some, length, map, not, string_bytes};
+ghost use Rattle.std.specs.Prelude.{◌≡◌, ◌≤◌, ℕ, List, [], ◌++◌, IfOk, IfSome, OnOk, None, Some, length, not};
 ghost use Rattle.mdtext.specs.EntityTable.{EntityTable};
 ghost use Rattle.blockspec.specs.BlockLine.{BlockLine, rest};
 ghost use Rattle.blockspec.specs.BlockStart.{Kind};
 ghost use Rattle.mdblock.specs.BlockView.{block_view};
-ghost use Rattle.mdblock.specs.held.Continuations.{IsContinuationOf, ContinuesLeaf, IsOfLeaf, goes_on};
+ghost use Rattle.mdblock.specs.held.Continuations.{IsContinuationOf, ContinuesLeaf, IsOfLeaf, IsPlain, goes_on};
 ghost use Rattle.mdblock.specs.held.HandedIn.{gathered_texts, gathered_definitions};
 ghost use Rattle.blockspec.specs.Laziness.{Tip};
 ghost use Rattle.mdblock.specs.held.LeafEnds.{IsEndOf, IsTableEnd, is_paragraph, end_definitions};
-ghost use Rattle.mdblock.specs.held.LevelSteps.{HandsIn, is_content};
-ghost use Rattle.mdblock.specs.held.OpenLeaves.{IsBegun, begun_texts, IsLeafOf, IsLeft, IsOver, IsRowIn};
+ghost use Rattle.mdblock.specs.held.LevelSteps.{OpensLeaf, is_content};
+ghost use Rattle.mdblock.specs.held.OpenLeaves.{IsBegun, begun_texts, IsLeafOf};
 ghost use Rattle.mdblock.specs.held.StartKind.{opened_kind};
 ghost use Rattle.mdblock.specs.Positions.{BlockIn};
 ghost use Rattle.blockspec.specs.Stretches.{step};
@@ -18,12 +18,15 @@ ghost use Rattle.blockspec.specs.UnitBegin.{is_stop};
 ghost use Rattle.mdblock.specs.held.OpenPositions.{LeafIn, LeafAfterIn};
 ghost use Rattle.mdblock.specs.held.StartSpans.{IsStartOf};
 
+pub(crate) mod atx_headings;
 pub(crate) mod fenced_code;
-pub(crate) mod headings;
 pub(crate) mod html_blocks;
 pub(crate) mod indented_code;
+pub(crate) mod link_definitions;
 pub(crate) mod paragraphs;
+pub(crate) mod setext_headings;
 pub(crate) mod tables;
+pub(crate) mod task_list_items;
 pub(crate) mod thematic_breaks;
 
 use crate::block_starts::{BlockStart, beginning};
@@ -56,31 +59,24 @@ pub(crate) struct LeafAfter {
 }
 
 impl Leaf {
-    /// The leaf that a line begins.
+    /// The leaf that a line begins, where that is neither a paragraph nor a heading.
     pub(crate) fn begin(
-        opening: Option<BlockStart>,
+        start: BlockStart,
         line: &mut Line,
-        gathering: &mut Gathering,
+        gathering: &Gathering,
     ) -> Result<LeafAfter, AllocError>
-        requires { IfSome opening (λ o. IsStartOf (rest line.old) o) }
-        ensures within { IfOk result (λ step. LeafAfterIn (length gathering.new.texts.items) step) }
-        ensures grows { length gathering.old.texts.items ≤ length gathering.new.texts.items }
-        ensures entities { gathering.new.entities.now ≡ gathering.old.entities.now }
-        ensures step { IfOk result (λ step. IsBegun gathering.old.entities.now (length gathering.old.texts.items)
-            (opened_kind line.old opening) line.old step) }
-        ensures texts { OnOk result (map string_bytes gathering.new.texts.items
-            ≡ map string_bytes gathering.old.texts.items ++ begun_texts (opened_kind line.old opening)) }
-        ensures definitions { gathering.new.definitions ≡ gathering.old.definitions }
+        requires leaf { OpensLeaf start }
+        requires start { IsStartOf (rest line.old) start }
+        ensures within { (n : ℕ) → IfOk result (λ step. LeafAfterIn n step) }
+        ensures step { (texts : ℕ) → IfOk result (λ step. IsBegun gathering.now.entities.now texts (opened_kind line.old (Some start)) line.old step) }
+        ensures no_texts { begun_texts (opened_kind line.old (Some start)) ≡ [] }
     {
-        match opening {
-            Some(BlockStart::Heading(heading)) => headings::begin(heading, line, gathering),
-            Some(BlockStart::Fence(fence)) => fenced_code::begin(fence, line, gathering),
-            Some(BlockStart::Html(kind)) => html_blocks::begin(kind, line, gathering),
-            Some(BlockStart::Break) => Ok(thematic_breaks::begin()),
-            Some(BlockStart::Code) => indented_code::begin(line, gathering),
-            Some(BlockStart::Quote) | Some(BlockStart::Item(_)) | None => {
-                paragraphs::begin(line, gathering)
-            }
+        match start {
+            BlockStart::Fence(fence) => fenced_code::begin(fence, line, gathering),
+            BlockStart::Html(kind) => html_blocks::begin(kind, line, gathering),
+            BlockStart::Break => Ok(thematic_breaks::begin()),
+            BlockStart::Code => indented_code::begin(line, gathering),
+            BlockStart::Quote | BlockStart::Item(_) | BlockStart::Heading(_) => unreachable!(),
         }
     }
 
@@ -121,34 +117,8 @@ impl Leaf {
         }
     }
 
-    /// Reads a line that the leaf takes. `first`: whether it may be the first block of a list item.
-    pub(crate) fn add(
-        self,
-        continuation: Continuation,
-        line: &mut Line,
-        first: bool,
-        gathering: &mut Gathering,
-    ) -> Result<LeafAfter, AllocError>
-        requires within { LeafIn (length gathering.old.texts.items) self }
-        requires step { ContinuesLeaf self line.old continuation }
-        ensures within { IfOk result (λ step. LeafAfterIn (length gathering.new.texts.items) step) }
-        ensures grows { length gathering.old.texts.items ≤ length gathering.new.texts.items }
-        ensures entities { gathering.new.entities.now ≡ gathering.old.entities.now }
-        ensures step { (entities : EntityTable) (kind : Kind) (begin : BlockLine) (later : List BlockLine) → IsLeafOf entities self kind begin later
-            → (tip : List BlockLine → Tip) → IfOk result (IsLeft entities (step tip kind begin later line.old) begin (later ++ line.old ∷ [])) }
-        ensures row { IfOk result (IsRowIn self (rest line.old) (gathered_texts gathering.old) (gathered_texts gathering.new)) }
-        ensures hands { HandsIn self first line.old gathering.old gathering.new result }
-    {
-        match self {
-            Leaf::Paragraph(paragraph) => paragraph.add(continuation, line, first, gathering),
-            Leaf::Fence(fence) => fence.add(line),
-            Leaf::Html(html) => html.add(line),
-            Leaf::Code(code) => code.add(line),
-            Leaf::Table(table) => table.add(line, gathering),
-        }
-    }
-
-    /// What the leaf is at its end. `first`: whether it may be the first block of a list item.
+    /// What the leaf is at its end. `first`: whether it may be the first block of a list item. It is inlined, since a level that closes takes less of the stack
+    /// so.
     #[inline(always)]
     pub(crate) fn end(
         self,
@@ -180,6 +150,7 @@ impl Leaf {
 /// How a line continues a leaf that takes it or does not.
 fn matched_if(takes: bool, line: &Line) -> Continuation
     ensures continuation { IsContinuationOf line.now result }
+    ensures plain { IsPlain result }
     ensures takes { goes_on result ≡ takes }
     ensures leaf { IsOfLeaf result }
 {

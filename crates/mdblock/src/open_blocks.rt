@@ -1,14 +1,15 @@
 //! The open blocks: each level holds the blocks that are over in it, and the one that is still open.
 
-ghost use Rattle.std.specs.Prelude.{◌≡◌, ◌+◌, ◌||◌, ℕ, IfErr, IfOk, OnErr, true};
+ghost use Rattle.std.specs.Prelude.{◌≡◌, ◌+◌, ℕ, IfErr, IfOk, OnErr};
 ghost use Rattle.blockspec.specs.LineSummary.{no_summary};
 ghost use Rattle.mdblock.specs.declared.faults.BlockFault.TheVariants.{NestedTooDeep};
-ghost use Rattle.mdblock.specs.held.HeldLevel.{StandsFor, EndsIn, is_front, is_parted_last, is_shut};
+ghost use Rattle.mdblock.specs.held.HeldLevel.{StandsFor, EndsIn, is_front, is_shut};
 ghost use Rattle.mdblock.specs.held.LevelSteps.{IsAllOver, IsEmpty};
 ghost use Rattle.mdblock.specs.held.OpenPositions.{LevelIn};
 ghost use Rattle.mdtext.specs.EntityTable.{EntityTable};
 
 pub(crate) mod beginnings;
+mod blank_lines;
 mod continuations;
 mod ends;
 mod leaf_lines;
@@ -92,13 +93,6 @@ impl Level {
         matches!(self.last, OpenBlock::Shut)
     }
 
-    /// Reads a blank line where no block is open.
-    pub(crate) fn pass_blank(&mut self)
-        ensures { self.new ≡ record self.old { blank = true } }
-    {
-        self.blank = true;
-    }
-
     /// Whether the last block is an open paragraph, or holds one at its end.
     fn ends_in_text(&self) -> bool
         ensures { EndsIn self.now result }
@@ -109,25 +103,6 @@ impl Level {
             OpenBlock::Quote(inner) => inner.ends_in_text(),
             OpenBlock::List(inner, list) => list.is_open() && inner.ends_in_text(),
         }
-    }
-
-    /// Whether a gap parts two blocks of the last item of the list that stands last.
-    pub(crate) fn is_parted(&self) -> bool
-        ensures { result ≡ is_parted_last self.now.last }
-    {
-        match &self.last {
-            OpenBlock::Shut => false,
-            OpenBlock::Leaf(_) => false,
-            OpenBlock::Quote(_) => false,
-            OpenBlock::List(inner, list) => list.parts(inner.spaced),
-        }
-    }
-
-    /// Whether the list that stands last is loose by a gap inside its last item, or by one behind that.
-    pub(crate) fn is_loose_behind(&self) -> bool
-        ensures { result ≡ (is_parted_last self.now.last || self.now.blank) }
-    {
-        self.is_parted() || self.blank
     }
 
     /// Whether the next block is the first one of a list item.

@@ -144,7 +144,7 @@ impl<'e> Reader<'e> {
 
     /// Counts the next line, which has no line ending, and reads it. Answers the unit before the one that the line begins.
     ///
-    /// A fault stays: from then on the answer is `Failed`, and nothing is handed out.
+    /// A fault stays: from then on the answer is `Failed`, and nothing is handed out. It is inlined: most lines end no unit, and a unit is a large answer.
     #[inline(always)]
     pub fn line<C: Count>(&mut self, text: &str, count: &mut C) -> Result<Option<Found>, BlockFault>
         requires short { 4 * length text.now < 2 ^ 64 }
@@ -276,7 +276,7 @@ impl<'e> OpenUnit<'e> {
         }
     }
 
-    /// Reads a line before which `fed` lines were read, where so many containers may be open inside one another.
+    /// Reads a line before which `fed` lines were read, where so many containers may be open inside one another. It is inlined, as `Reader::line` is.
     #[inline(always)]
     fn read(&mut self, text: &str, fed: usize, limit: usize) -> Result<Option<Found>, BlockFault>
         requires short { 4 * length text.now < 2 ^ 64 }
@@ -383,7 +383,7 @@ impl<'e> OpenUnit<'e> {
         Ok(found)
     }
 
-    /// Takes the unit that is held; the next one begins after `fed` lines.
+    /// Takes the unit that is held; the next one begins after `fed` lines. It is inlined, as all that hands a unit on, so that the unit is not copied.
     #[inline(always)]
     fn take_unit(&mut self, fed: usize) -> Result<Option<Found>, AllocError>
         requires { AreKept self.old }
@@ -403,7 +403,7 @@ impl<'e> OpenUnit<'e> {
         }
     }
 
-    /// Takes all that is held as a unit with its first line there, which ends after `fed` lines, and leaves nothing.
+    /// Takes all that is held as a unit with its first line there, which ends after `fed` lines, and leaves nothing. Inlined, as `take_unit`.
     #[inline(always)]
     fn take_found(&mut self, begin: usize, fed: usize) -> Result<Found, AllocError>
         requires { AreKept self.old }
@@ -433,7 +433,7 @@ impl<'e> OpenUnit<'e> {
         ))
     }
 
-    /// The unit that is held, which ends after `fed` lines.
+    /// The unit that is held, which ends after `fed` lines. Inlined, as `take_unit`.
     #[inline(always)]
     fn into_unit(mut self, fed: usize) -> Result<Option<Found>, AllocError>
         requires { AreKept self }
@@ -442,7 +442,7 @@ impl<'e> OpenUnit<'e> {
         self.take_unit(fed)
     }
 
-    /// All that is held as a unit with its first line there, which ends after `fed` lines.
+    /// All that is held as a unit with its first line there, which ends after `fed` lines. Inlined, as `take_unit`.
     #[inline(always)]
     fn into_found(mut self, begin: usize, fed: usize) -> Result<Found, AllocError>
         requires { AreKept self }

@@ -43,7 +43,7 @@ fn cut_front<T: Drop>(items: &mut Vec<T>, n: usize)
     items.drain(..n);
 }
 
-/// The same, by moving all that stands behind the place.
+/// Replaces `del` members at a place by others, and moves all that stands behind it.
 fn splice_rest<T: Drop>(items: &mut Vec<T>, at: usize, del: usize, add: &mut Vec<T>)
     requires within { at + del ≤ vec_len items.old }
     requires room { vec_len items.old + vec_len add.old ≤ vec_capacity items.old + del }

@@ -251,7 +251,7 @@ pub(crate) fn find<T: Weighed + Drop>(blocks: &[Block<T>], weight: usize) -> Opt
     None
 }
 
-/// The same in one chunk. The weight in front of it is added.
+/// The last member of one chunk that begins at or below a weight, with the weight in front of the chunk added.
 fn find_inside<T: Weighed>(items: &[T], front: usize, weight: usize) -> WeightPlace
     requires some { 0 < length items.now }
     requires below { front ≤ weight }

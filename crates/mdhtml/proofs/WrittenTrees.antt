@@ -11,8 +11,8 @@ use Rattle.inlinespec.specs.LinkTails.{Table}
 use Rattle.inlinespec.specs.SpanEnds.{EndSpans}
 use Rattle.inlinespec.specs.TextReading.{reading}
 use Rattle.inlinespec.specs.TextTree.{events_of, inl}
-use Rattle.inlinelaws.proofs.PairedSpans.{rows_by}
-use Rattle.inlinelaws.proofs.ReadingBalanced.{reading_paired}
+use Rattle.inlinespec.proofs.PairedSpans.{rows_by}
+use Rattle.inlinespec.proofs.ReadingBalanced.{reading_paired}
 use Rattle.mdhtml.specs.declared.options.Options.{Options}
 use Rattle.mdhtml.specs.InlineHtml.{link_open, image_begins, image_ends, alt, alts, inline_html, inlines_html}
 use Rattle.mdhtml.specs.InlineWriting.{SpanEnd, EndTag, EndImage, NoTag, Writing, writing, shows, shown_in, span_begins, span_ends, ends_by, after_events}

@@ -5,7 +5,7 @@ use Rattle.std.proofs.lemmas.List.Elements.{All-nil, All-push, All-pop}
 use Rattle.inlinespec.specs.InlineEvents.{InlineSpan, Emphasis, StrongEmphasis, Strikethrough, LinkTo, ImageOf, Event, span_tree, tree_of, written}
 use Rattle.inlinespec.specs.InlineTree.{Inline, Inlines, inline, inlines_of, text, code, raw, soft, hard, emph, strong, strike, link, image}
 use Rattle.inlinespec.specs.JoinedTexts.{AreJoined, IsApart, begins_with_text}
-use Rattle.inlinelaws.proofs.TreeEvents.{tree_is}
+use Rattle.inlinespec.proofs.TreeEvents.{tree_is}
 use Rattle.mdinline.specs.TreeView.{inline_step, inline_view, inlines_view}
 use Rattle.mdinline.specs.declared.inlines.Inline as c
 use Rattle.mdinline.specs.declared.inlines.Inline.TheOpen.{Inline-F}

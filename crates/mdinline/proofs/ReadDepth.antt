@@ -7,8 +7,8 @@ use Rattle.inlinespec.specs.Nesting.{nest}
 use Rattle.inlinespec.specs.SpanEnds.{most_open}
 use Rattle.inlinespec.specs.TextReading.{reading}
 use Rattle.inlinespec.specs.TextTree.{events_of, inl}
-use Rattle.inlinelaws.proofs.DeepestSpans.{as_deep}
-use Rattle.inlinelaws.proofs.ReadingBalanced.{reading_paired}
+use Rattle.inlinespec.proofs.DeepestSpans.{as_deep}
+use Rattle.inlinespec.proofs.ReadingBalanced.{reading_paired}
 use Rattle.mdinline.specs.declared.limits.LimitedSink.{LimitedSink}
 use Rattle.mdinline.specs.held.LimitedSinks.{TakesWithin}
 

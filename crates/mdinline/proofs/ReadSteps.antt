@@ -1,5 +1,5 @@
 -- One part of a text after the other, as the definition reads it.
-use Rattle.std.proofs.Common.{◌≡◌, ℕ, zero, suc, ◌+◌, ◌-◌, ◌<◌, ◌≤◌, Bool, true, false, eqb, List, [], ◌∷◌, ◌++◌, length, length-drop, take, drop, drop-cons, get_or, replicate, Option, Some, None, add-one, refl, ap, sym, ◌∙◌, subst, arith, append_assoc, append-nil}
+use Rattle.std.proofs.Common.{◌≡◌, ℕ, zero, suc, ◌+◌, ◌-◌, ◌<◌, ◌≤◌, Bool, true, false, ◌&&◌, if◌then◌else◌, eqb, List, [], ◌∷◌, ◌++◌, length, length-drop, take, drop, drop-cons, get_or, replicate, Option, Some, None, add-one, refl, ap, sym, ◌∙◌, subst, arith, append_assoc, append-nil}
 use Rattle.std.specs.Option.{option_and_then}
 use Rattle.std.specs.Prelude.{slice_get, slice_index}
 use Rattle.std.proofs.lemmas.List.Sums.{prefix_len_passes}
@@ -9,7 +9,7 @@ use Rattle.mdpair.specs.declared.runs.DelimiterChar.{DelimiterChar}
 use Rattle.mdpair.specs.declared.runs.DelimiterRun.{DelimiterRun}
 use Rattle.mdpair.specs.Neighbours.{byte_of, char_after, char_before, delimiter_of, run_at, run_between, run_length, run_of}
 use Rattle.inlinespec.specs.InlineEvents.{Event, Byte, written}
-use Rattle.inlinespec.specs.Lexing.{Lexeme, Delimiters, DelimiterMark, as_written, leaf, lex, lexeme_by, run_lexeme, sign_of}
+use Rattle.inlinespec.specs.Lexing.{Lexeme, Delimiters, DelimiterMark, as_written, leaf, lex, lexeme_by, delimiters_at, is_lone_tilde, kept_run, run_lexeme, sign_of}
 use Rattle.inlinespec.specs.LinkTails.{Table}
 use Rattle.inlinespec.specs.Settled.{Piece, Made, Run, Opening}
 use Rattle.inlinespec.specs.TextReading.{Item, after_deed, asks_of, item_at, item_by, items_from, pieces_after, reading}
@@ -151,9 +151,20 @@ run_sign text at r h = of_some (option_and_then delimiter_of (slice_get text at)
     of_some None e f = cc
     of_some (Some d) e f = by_mark (slice_index text at) d (byte_there text at d e)
 
-pub at_run : (entities : EntityTable) (text : List ℕ) (at : ℕ) (r : DelimiterRun) → run_at text at ≡ Some r → lex entities text at ≡ record { size = r.length; kind = Delimiters r }
+pub run_kept : (entities : EntityTable) (text : List ℕ) (at : ℕ) (r : DelimiterRun) → delimiters_at entities text at ≡ Some r → run_at text at ≡ Some r
+run_kept entities text at r h = by (run_at text at) h
+  where
+    whole : (run : DelimiterRun) (t : Bool) → (if t then None else Some run) ≡ Some r → Some run ≡ Some r
+    whole run true h = cc
+    whole run false h = h
+
+    by : (o : Option DelimiterRun) → kept_run entities o ≡ Some r → o ≡ Some r
+    by None h = h
+    by (Some run) h = whole run (is_lone_tilde run.delimiter run.length && entities.double_tilde) h
+
+pub at_run : (entities : EntityTable) (text : List ℕ) (at : ℕ) (r : DelimiterRun) → delimiters_at entities text at ≡ Some r → lex entities text at ≡ record { size = r.length; kind = Delimiters r }
 unfolding lex
-at_run entities text at r h = ap (lexeme_by entities text at (drop at text)) (run_sign text at r h) ∙ ap (run_lexeme (drop at text)) h
+at_run entities text at r h = ap (lexeme_by entities text at (drop at text)) (run_sign text at r (run_kept entities text at r h)) ∙ ap (run_lexeme (drop at text)) h
 
 -- its characters
 of_mark : (text : List ℕ) (at : ℕ) (o : Option DelimiterChar) (r : DelimiterRun) → Some r ≡ run_of text at o → r.length ≡ run_length r.delimiter (drop at text)

@@ -6,7 +6,7 @@ use Rattle.inlinespec.specs.LinkTails.{Table}
 use Rattle.inlinespec.specs.SpanEnds.{EndSpans, open_after}
 use Rattle.inlinespec.specs.TextReading.{reading}
 use Rattle.inlinespec.specs.TextTree.{events_of, inl}
-use Rattle.inlinelaws.proofs.ReadingBalanced.{reading_paired}
+use Rattle.inlinespec.proofs.ReadingBalanced.{reading_paired}
 use Rattle.mdinline.specs.declared.trees.Frame.{Frame}
 use Rattle.mdinline.specs.declared.trees.TreeBuilder.{TreeBuilder}
 use Rattle.mdinline.specs.held.TreeBuilding.{IsJoined, IsOpenFor, TreeTakes, built}

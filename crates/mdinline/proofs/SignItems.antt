@@ -10,10 +10,9 @@ use Rattle.mdscan.specs.Blanks.{begins_with}
 use Rattle.mdscan.specs.Escapes.{begins_escape}
 use Rattle.mdscan.specs.RawHtml.{raw_html}
 use Rattle.mdpair.specs.declared.runs.DelimiterRun.{DelimiterRun}
-use Rattle.mdpair.specs.Neighbours.{run_at}
 use Rattle.inlinespec.specs.CodeSpans.{code_inside}
 use Rattle.inlinespec.specs.InlineEvents.{written}
-use Rattle.inlinespec.specs.Lexing.{CloseBracket, Sign, Backslash, Ampersand, Backtick, LessThan, Blank, DelimiterMark, Bracket, Exclamation, ClosingBracket, Other, sign_of, lex, lexeme_by, leaf, as_written, bracket_lexeme, escape_lexeme, reference_lexeme, code_lexeme, angle_lexeme, run_lexeme, break_or_written}
+use Rattle.inlinespec.specs.Lexing.{CloseBracket, Sign, Backslash, Ampersand, Backtick, LessThan, Blank, DelimiterMark, Bracket, Exclamation, ClosingBracket, Other, sign_of, lex, lexeme_by, leaf, as_written, bracket_lexeme, escape_lexeme, reference_lexeme, code_lexeme, angle_lexeme, delimiters_at, run_lexeme, break_or_written}
 use Rattle.inlinespec.specs.LineBreaks.{LineBreak, spaced_break, backslash_break}
 use Rattle.mdinline.specs.held.PlainText.{is_bracket}
 
@@ -136,7 +135,7 @@ sign_not entities text at Ampersand h = reference_not (drop at text) (reference 
 sign_not entities text at Backtick h = code_not (drop at text) (code_inside (drop at text))
 sign_not entities text at LessThan h = angle_not entities text at (autolink_at text at) (raw_html (drop at text))
 sign_not entities text at Blank h = break_not (drop at text) (spaced_break (drop at text))
-sign_not entities text at DelimiterMark h = run_not (drop at text) (run_at text at)
+sign_not entities text at DelimiterMark h = run_not (drop at text) (delimiters_at entities text at)
 sign_not entities text at Bracket h = cc
 sign_not entities text at Exclamation h = cc
 sign_not entities text at ClosingBracket h = cc
@@ -169,7 +168,7 @@ leads DelimiterMark = false
 leads Other = false
 leads s = not (brackets s)
 
-quiet : (entities : EntityTable) (text : List ℕ) (at : ℕ) (s : Sign) → leads s ≡ false → run_at text at ≡ None → is_bracket (lexeme_by entities text at (drop at text) s).kind ≡ false →
+quiet : (entities : EntityTable) (text : List ℕ) (at : ℕ) (s : Sign) → leads s ≡ false → delimiters_at entities text at ≡ None → is_bracket (lexeme_by entities text at (drop at text) s).kind ≡ false →
     lexeme_by entities text at (drop at text) s ≡ as_written 1 (drop at text)
 quiet entities text at Backslash h none k = cc
 quiet entities text at Ampersand h none k = cc
@@ -204,6 +203,6 @@ later_tests b slash amp tick less space feed =
     by false false false false = refl
 
 pub at_quiet : (entities : EntityTable) (text : List ℕ) (at : ℕ) → (get_or text at 0 ≡ 92 → ⊥) → (get_or text at 0 ≡ 38 → ⊥) → (get_or text at 0 ≡ 96 → ⊥) → (get_or text at 0 ≡ 60 → ⊥) → (get_or text at 0 ≡ 32 → ⊥) → (get_or text at 0 ≡ 10 → ⊥) →
-    run_at text at ≡ None → is_bracket (lex entities text at).kind ≡ false → lex entities text at ≡ as_written 1 (drop at text)
+    delimiters_at entities text at ≡ None → is_bracket (lex entities text at).kind ≡ false → lex entities text at ≡ as_written 1 (drop at text)
 unfolding lex
 at_quiet entities text at slash amp tick less space feed none k = quiet entities text at (sign_of (get_or text at 0)) (later_tests (get_or text at 0) slash amp tick less space feed) none k

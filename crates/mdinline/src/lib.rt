@@ -6,6 +6,7 @@ mod autolinks;
 mod bracket_stack;
 mod character_references;
 mod code_spans;
+mod delimiters;
 mod emphasis;
 mod escapes;
 mod faults;

@@ -119,7 +119,7 @@ impl<'a> Pending<'a> {
         Ok(())
     }
 
-    /// Keeps a run.
+    /// Keeps a run. It is inlined, so that the run is put among the tokens from where it was found, and is not handed over in memory.
     #[inline(always)]
     pub(crate) fn run(&mut self, run: DelimiterRun) -> Result<(), AllocError>
         ensures tokens { OnOk result (self.new.tokens.items ≡ self.old.tokens.items ++ kept.Run run ∷ []) }

@@ -20,6 +20,7 @@ mod handed_tokens;
 
 use crate::asked::AsksLabels;
 use crate::bracket_stack::bracket_at;
+use crate::delimiters::delimiters_at;
 use crate::faults::InlineFault;
 use crate::handing::Scratch;
 use crate::labels::Labels;
@@ -30,7 +31,6 @@ use crate::scanner::Scanner;
 use crate::sinks::InlineSink;
 use crate::texts::{begins_mark, begins_text, plain_end};
 use crate::trees::TreeRoom;
-use mdpair::delimiter_run;
 use mdscan::Span;
 use mdtext::{Entities, Label};
 use std::alloc::{AllocError, Global};
@@ -174,7 +174,7 @@ impl<'a> TextReader<'a> {
             self.put_break(sink)?;
             return Ok(end);
         }
-        if let Some(run) = delimiter_run(text, at) {
+        if let Some(run) = delimiters_at(text, at, self.entities) {
             self.run(text, at, run, sink)?;
             return Ok(at + run.length);
         }

@@ -3,9 +3,8 @@
 ghost use Rattle.std.specs.Prelude.{◌≡◌, ◌<◌, false, None, IfOk, IfSome, List, length, ℕ, true};
 ghost use Rattle.std.specs.Str.{IsCharBoundary};
 ghost use Rattle.mdscan.specs.Spans.{IsEndAfter};
-ghost use Rattle.mdpair.specs.Neighbours.{run_at};
 ghost use Rattle.mdinline.specs.held.KnownText.{KnowsText, IsLeafAt};
-ghost use Rattle.inlinespec.specs.Lexing.{lex};
+ghost use Rattle.inlinespec.specs.Lexing.{delimiters_at, lex};
 ghost use Rattle.mdinline.specs.held.LeafEvents.{IsTokenOf};
 ghost use Rattle.mdinline.specs.held.ReadPending.{is_leaf};
 ghost use Rattle.mdinline.specs.held.PlainText.{is_bracket};
@@ -65,7 +64,7 @@ impl Scanner {
         ensures end { IfOk result (λ found. IsEndAfter text.now at found.end) }
         ensures token { IfOk result (λ found. IsTokenOf text.now found.token) }
         ensures leaf { IfOk result (λ found. is_leaf found.token ≡ true) }
-        ensures value { run_at text.now at ≡ None → is_bracket (lex entities.now text.now at).kind ≡ false → KnowsText text.now at self.old
+        ensures value { delimiters_at entities.now text.now at ≡ None → is_bracket (lex entities.now text.now at).kind ≡ false → KnowsText text.now at self.old
             → IfOk result (λ found. IsLeafAt entities.now text.now at found) }
         ensures knows { KnowsText text.now at self.old → KnowsText text.now at self.new }
     {
@@ -88,7 +87,7 @@ impl Scanner {
         ensures end { IfOk result (λ found. IfSome found (λ found. IsEndAfter text.now at found.end)) }
         ensures token { IfOk result (λ found. IfSome found (λ found. IsTokenOf text.now found.token)) }
         ensures leaf { IfOk result (λ found. IfSome found (λ found. is_leaf found.token ≡ true)) }
-        ensures value { run_at text.now at ≡ None → is_bracket (lex entities.now text.now at).kind ≡ false → KnowsText text.now at self.old
+        ensures value { delimiters_at entities.now text.now at ≡ None → is_bracket (lex entities.now text.now at).kind ≡ false → KnowsText text.now at self.old
             → IfOk result (λ found. IsFound entities.now text.now at (lex entities.now text.now at) found) }
         ensures knows { KnowsText text.now at self.old → KnowsText text.now at self.new }
     {

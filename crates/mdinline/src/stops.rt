@@ -33,6 +33,7 @@ pub(crate) fn first_stop(text: &[u8]) -> usize
     at + stop_by_bytes(&text[at..])
 }
 
+/// The first stop among the 16 bytes from a place on, or 16. It is inlined, as all that it calls, so that the 16 bytes stay in a register.
 #[inline(always)]
 fn first_in_block(text: &[u8], at: usize) -> usize
     requires { at + 16 ≤ length text.now }
@@ -46,7 +47,7 @@ fn first_in_block(text: &[u8], at: usize) -> usize
     }
 }
 
-/// Bit k is set where byte k is a stop: where its row is among those in which its lower bits make a stop.
+/// Bit k is set where byte k is a stop: where its row is among those in which its lower bits make a stop. Inlined, as `first_in_block`.
 #[inline(always)]
 fn stops_in(block: u8x16) -> u64
     ensures { result ≡ mask_l (map is_stop block) }
@@ -55,6 +56,7 @@ fn stops_in(block: u8x16) -> u64
     found.simd_ne(u8x16::splat(0)).to_bitmask()
 }
 
+/// The rows in which each byte is a stop by its lower four bits. Inlined, as `first_in_block`.
 #[inline(always)]
 fn by_low(block: u8x16) -> u8x16
     ensures { result ≡ map low_of block }
@@ -62,6 +64,7 @@ fn by_low(block: u8x16) -> u8x16
     u8x16::from_array(STOPS).swizzle_dyn_within::<16>(block & u8x16::splat(15))
 }
 
+/// The row of each byte, by its upper four bits. Inlined, as `first_in_block`.
 #[inline(always)]
 fn by_high(block: u8x16) -> u8x16
     ensures { result ≡ map high_of block }

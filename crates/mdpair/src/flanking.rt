@@ -12,7 +12,7 @@ use mdtext::{is_punct, is_white};
 /// The delimiter run that begins at the byte `at` of an inline text, or none where no delimiter character stands there.
 ///
 /// Its neighbours are the characters as they are written, before escapes and references; the beginning and the end of the text count as
-/// whitespace. Three or more tildes can neither open nor close. Takes no memory.
+/// whitespace. Three or more tildes can neither open nor close. Takes no memory. It is inlined, so that the run is not handed back in memory.
 #[inline(always)]
 #[tactic(auto, unfolding(crate::specs::Neighbours::run_at))]
 pub fn delimiter_run(text: &str, at: usize) -> Option<DelimiterRun>

@@ -13,7 +13,7 @@ use Rattle.std.specs.Prelude.{⊤}
 use Rattle.std.specs.Ordering.{nat_cmp, match_ordering, ordering_reverse}
 use Rattle.serde_json.specs.Data.{Data, Members, no_members, member, put}
 use Rattle.mdtext.specs.EntityFile.{counts, is_name, name_of, characters_of, with_members}
-use Rattle.mdtext.specs.EntityTable.{EntityTable}
+use Rattle.mdtext.specs.EntityTable.{EntityNames}
 use Rattle.mdtext.specs.MemberTexts.{Given, Gathered, given_more, put_each, all_given, given_table}
 use Rattle.mdtext.proofs.Tables.{inserted}
 
@@ -85,13 +85,13 @@ module _ {V : Type 0} where
 -- ---- texts, and names without one
 
 -- texts that are all given
-abbrev pub texted : EntityTable → List Given
+abbrev pub texted : EntityNames → List Given
 texted table = map (λ e. (e.0, Some e.1)) table
 
-pub texted_put : (table : EntityTable) (n t : List ℕ) → put_in (texted table) n (Some t) ≡ texted (put_in table n t)
+pub texted_put : (table : EntityNames) (n t : List ℕ) → put_in (texted table) n (Some t) ≡ texted (put_in table n t)
 texted_put table n t = sym (inserted (λ k. k) Some table n t)
 
-pub all_texted : (table : EntityTable) → all_given (texted table) ≡ Some table
+pub all_texted : (table : EntityNames) → all_given (texted table) ≡ Some table
 all_texted [] = refl
 all_texted (e ∷ es) = ap (option_map (λ table. e ∷ table)) (all_texted es)
 
@@ -292,15 +292,15 @@ gathers_more k d found g h = (in_order_put k d found h.0, gathers k (characters_
 
 -- ---- the table of the members
 
-abbrev verdict : Gathered → Option EntityTable
+abbrev verdict : Gathered → Option EntityNames
 verdict g = if g.0 then None else all_given g.1
 
 no_text_in : (b : Bool) (table : List Given) (n : List ℕ) → verdict (b, put_in table n None) ≡ None
 no_text_in true table n = refl
 no_text_in false table n = no_text table n
 
-told_by : (counted : Bool) (found : Option (List ℕ)) (k : List ℕ) (d : Data) (ms : Members) (table : EntityTable) → counts k ≡ counted → name_of k ≡ found → IsBelow k ms
-    → ((t : EntityTable) → with_members ms t ≡ verdict (with_each ms (false, texted t))) → (text : Option (List ℕ)) → characters_of d ≡ text
+told_by : (counted : Bool) (found : Option (List ℕ)) (k : List ℕ) (d : Data) (ms : Members) (table : EntityNames) → counts k ≡ counted → name_of k ≡ found → IsBelow k ms
+    → ((t : EntityNames) → with_members ms t ≡ verdict (with_each ms (false, texted t))) → (text : Option (List ℕ)) → characters_of d ≡ text
     → with_members (member k d ms) table ≡ verdict (with_each (member k d ms) (false, texted table))
 told_by false found k d ms table c f b later text e =
     let left : with_members (member k d ms) table ≡ with_members ms table = rw c refl in
@@ -320,7 +320,7 @@ told_by true (Some n) k d ms table c f b later (Some t) e =
     let does : effect k (characters_of d) ≡ puts n (Some t) = ap₂ (λ x o. effect_by x o (characters_of d)) c f ∙ ap (puts n) e in
     left ∙ later (put_in table n t) ∙ ap (λ x. verdict (with_each ms (false, x))) (sym (texted_put table n t)) ∙ ap (λ x. verdict (with_each ms (apply x (false, texted table)))) (sym does)
 
-told : (found : Members) (table : EntityTable) → AreInOrder found → with_members found table ≡ verdict (with_each found (false, texted table))
+told : (found : Members) (table : EntityNames) → AreInOrder found → with_members found table ≡ verdict (with_each found (false, texted table))
 told no_members table o = sym (all_texted table)
 told (member k d ms) table o = told_by (counts k) (name_of k) k d ms table refl refl o.0 (λ t. told ms t o.1) (characters_of d) refl
 

@@ -16,20 +16,20 @@ use Rattle.std.specs.List.Sorted.{IsStrictlySortedBy}
 use Rattle.std.specs.Map.{keys_of, lookup, values_of}
 use Rattle.std.specs.Ordering.{is_eq, nat_cmp, match_ordering, ordering_reverse}
 use Rattle.std.specs.Str.{IsUtf8, bytes_eq}
-use Rattle.mdtext.specs.EntityTable.{EntityTable}
+use Rattle.mdtext.specs.EntityTable.{EntityNames}
 use Rattle.mdtext.specs.NamedTexts.{named_text, named_texts, LiesWithin, AreNamedTexts, name_at, IsPlaceOf, StandsBehind, StandsBefore}
 use Rattle.mdtext.specs.declared.named_texts.Span.{Span}
 
 abbrev Entry : Type 0
 Entry = List ℕ × List ℕ
 
-abbrev Sorted : EntityTable → Type 0
+abbrev Sorted : EntityNames → Type 0
 Sorted table = IsStrictlySortedBy (slice_cmp nat_cmp) (keys_of table)
 
 -- ---- a text that is put in
 
 -- a name that is not there goes to where it would stand
-pub put_in : (table : EntityTable) (name text : List ℕ) (i : ℕ) → i ≤ length table → StandsBehind table name i → StandsBefore table name i
+pub put_in : (table : EntityNames) (name text : List ℕ) (i : ℕ) → i ≤ length table → StandsBehind table name i → StandsBefore table name i
     → insert_entry (slice_cmp nat_cmp) table name text ≡ insert table i (name, text)
 put_in [] name text zero h b a = refl
 put_in [] name text (suc i) h b a = absurd (omega (arith, h))
@@ -41,7 +41,7 @@ put_in (e ∷ es) name text (suc i) h b a =
     rw here (ap (λ t. e ∷ t) (put_in es name text i (omega (arith, h)) (λ j lt. b (suc j) (omega (arith, lt))) (λ j le lt. a (suc j) (omega (arith, le)) (omega (arith, lt)))))
 
 -- a text takes the place of the one at its name
-pub put_over : (table : EntityTable) (name text : List ℕ) (i : ℕ) → i < length table → StandsBehind table name i → slice_cmp nat_cmp name (name_at table i) ≡ Equal
+pub put_over : (table : EntityNames) (name text : List ℕ) (i : ℕ) → i < length table → StandsBehind table name i → slice_cmp nat_cmp name (name_at table i) ≡ Equal
     → insert_entry (slice_cmp nat_cmp) table name text ≡ set table i (name, text)
 put_over [] name text i h b at = absurd (omega (arith, h))
 put_over (e ∷ es) name text zero h b at =
@@ -54,13 +54,13 @@ put_over (e ∷ es) name text (suc i) h b at =
 -- ---- the names stay in order
 
 module _ (P : List ℕ → Type 0) (name text : List ℕ) where
-  one_put : (e : Entry) (es more : EntityTable) (o : Ordering) → P name → AllByRecursion P (keys_of (e ∷ es)) → AllByRecursion P (keys_of more)
+  one_put : (e : Entry) (es more : EntityNames) (o : Ordering) → P name → AllByRecursion P (keys_of (e ∷ es)) → AllByRecursion P (keys_of more)
       → AllByRecursion P (keys_of (match_ordering o ((name, text) ∷ e ∷ es) ((e.0, text) ∷ es) (e ∷ more)))
   one_put e es more Less p a r = (p, a)
   one_put e es more Equal p a r = a
   one_put e es more Greater p a r = (a.0, r)
 
-  all_put : (table : EntityTable) → P name → AllByRecursion P (keys_of table) → AllByRecursion P (keys_of (insert_entry (slice_cmp nat_cmp) table name text))
+  all_put : (table : EntityNames) → P name → AllByRecursion P (keys_of table) → AllByRecursion P (keys_of (insert_entry (slice_cmp nat_cmp) table name text))
   all_put [] p a = (p, tt)
   all_put (e ∷ es) p a = one_put e es (insert_entry (slice_cmp nat_cmp) es name text) (slice_cmp nat_cmp name e.0) p a (all_put es p a.1)
 
@@ -74,7 +74,7 @@ turned a b h = nat_list_cmp_total.antisymm b a ∙ ap ordering_reverse h
 turned_back : (a b : List ℕ) → slice_cmp nat_cmp a b ≡ Less → slice_cmp nat_cmp b a ≡ Greater
 turned_back a b h = nat_list_cmp_total.antisymm b a ∙ ap ordering_reverse h
 
-sorted_by : (name text : List ℕ) (e : Entry) (es more : EntityTable) (o : Ordering) → slice_cmp nat_cmp name e.0 ≡ o → Sorted (e ∷ es) → more ≡ insert_entry (slice_cmp nat_cmp) es name text → Sorted more
+sorted_by : (name text : List ℕ) (e : Entry) (es more : EntityNames) (o : Ordering) → slice_cmp nat_cmp name e.0 ≡ o → Sorted (e ∷ es) → more ≡ insert_entry (slice_cmp nat_cmp) es name text → Sorted more
     → Sorted (match_ordering o ((name, text) ∷ e ∷ es) ((e.0, text) ∷ es) (e ∷ more))
 unfolding IsStrictlySortedBy
 sorted_by name text e es more Less h s is r = ((h, all_above name e.0 (keys_of es) h s.0), s)
@@ -82,26 +82,26 @@ sorted_by name text e es more Equal h s is r = s
 sorted_by name text e es more Greater h s is r =
     (subst (λ m. AllByRecursion (λ k. slice_cmp nat_cmp e.0 k ≡ Less) (keys_of m)) (sym is) (all_put (λ k. slice_cmp nat_cmp e.0 k ≡ Less) name text es (turned name e.0 h) s.0), r)
 
-pub sorted_put : (table : EntityTable) (name text : List ℕ) → Sorted table → Sorted (insert_entry (slice_cmp nat_cmp) table name text)
+pub sorted_put : (table : EntityNames) (name text : List ℕ) → Sorted table → Sorted (insert_entry (slice_cmp nat_cmp) table name text)
 unfolding IsStrictlySortedBy
 sorted_put [] name text s = (tt, tt)
 sorted_put (e ∷ es) name text s = sorted_by name text e es (insert_entry (slice_cmp nat_cmp) es name text) (slice_cmp nat_cmp name e.0) refl s refl (sorted_put es name text s.1)
 
 -- ---- what a look at one name tells
 
-at_key : (P : List ℕ → Type 0) (table : EntityTable) (i : ℕ) → i < length table → AllByRecursion P (keys_of table) → P (name_at table i)
+at_key : (P : List ℕ → Type 0) (table : EntityNames) (i : ℕ) → i < length table → AllByRecursion P (keys_of table) → P (name_at table i)
 at_key P [] i h a = absurd (omega (arith, h))
 at_key P (e ∷ es) zero h a = a.0
 at_key P (e ∷ es) (suc i) h a = at_key P es i (omega (arith, h)) a.1
 
-in_order : (table : EntityTable) (i j : ℕ) → Sorted table → i < j → j < length table → slice_cmp nat_cmp (name_at table i) (name_at table j) ≡ Less
+in_order : (table : EntityNames) (i j : ℕ) → Sorted table → i < j → j < length table → slice_cmp nat_cmp (name_at table i) (name_at table j) ≡ Less
 unfolding IsStrictlySortedBy
 in_order [] i j s lt h = absurd (omega (arith, h))
 in_order (e ∷ es) i zero s lt h = absurd (omega (arith, lt))
 in_order (e ∷ es) zero (suc j) s lt h = at_key (λ k. slice_cmp nat_cmp e.0 k ≡ Less) es j (omega (arith, h)) s.0
 in_order (e ∷ es) (suc i) (suc j) s lt h = in_order es i j s.1 (omega (arith, lt)) (omega (arith, h))
 
-pub behind_more : (table : EntityTable) (name : List ℕ) (i : ℕ) → Sorted table → i < length table → slice_cmp nat_cmp name (name_at table i) ≡ Greater → StandsBehind table name (i + 1)
+pub behind_more : (table : EntityNames) (name : List ℕ) (i : ℕ) → Sorted table → i < length table → slice_cmp nat_cmp name (name_at table i) ≡ Greater → StandsBehind table name (i + 1)
 behind_more table name i s h g = λ j lt.
     ⊎_elim
     (λ same. subst (λ k. slice_cmp nat_cmp name (name_at table k) ≡ Greater) (sym same) g)
@@ -110,7 +110,7 @@ behind_more table name i s h g = λ j lt.
     (λ more. absurd (omega (arith, lt, more))) other)
     (cases_order j i)
 
-pub before_more : (table : EntityTable) (name : List ℕ) (i : ℕ) → Sorted table → slice_cmp nat_cmp name (name_at table i) ≡ Less → StandsBefore table name i
+pub before_more : (table : EntityNames) (name : List ℕ) (i : ℕ) → Sorted table → slice_cmp nat_cmp name (name_at table i) ≡ Less → StandsBefore table name i
 before_more table name i s l = λ j le lt.
     ⊎_elim
     (λ same. subst (λ k. slice_cmp nat_cmp name (name_at table k) ≡ Less) (sym same) l)
@@ -119,7 +119,7 @@ before_more table name i s l = λ j le lt.
     (λ more. nat_list_cmp_total.trans name (name_at table i) (name_at table j) l (in_order table i j s more lt)) other)
     (cases_order j i)
 
-behind_equal : (table : EntityTable) (name : List ℕ) (i : ℕ) → Sorted table → i < length table → slice_cmp nat_cmp name (name_at table i) ≡ Equal → StandsBehind table name i
+behind_equal : (table : EntityNames) (name : List ℕ) (i : ℕ) → Sorted table → i < length table → slice_cmp nat_cmp name (name_at table i) ≡ Equal → StandsBehind table name i
 behind_equal table name i s h e =
     λ j lt. nat_list_cmp_total.congr name (name_at table i) (name_at table j) e ∙ turned_back (name_at table j) (name_at table i) (in_order table j i s lt h)
 
@@ -150,14 +150,14 @@ text_there bytes name text s a b c =
 
 -- ---- what is found
 
-pub looked_up_there : (table : EntityTable) (name : List ℕ) (i : ℕ) → i < length table → StandsBehind table name i → slice_cmp nat_cmp name (name_at table i) ≡ Equal → lookup (bytes_eq name) table ≡ Some (get_or table i ([], [])).1
+pub looked_up_there : (table : EntityNames) (name : List ℕ) (i : ℕ) → i < length table → StandsBehind table name i → slice_cmp nat_cmp name (name_at table i) ≡ Equal → lookup (bytes_eq name) table ≡ Some (get_or table i ([], [])).1
 looked_up_there [] name i h b e = absurd (omega (arith, h))
 looked_up_there (x ∷ xs) name zero h b e = lookup_head (bytes_eq name) x xs (sym (is_eq-slice_cmp name x.0) ∙ ap is_eq e)
 looked_up_there (x ∷ xs) name (suc i) h b e =
     lookup_tail (bytes_eq name) x xs (sym (is_eq-slice_cmp name x.0) ∙ ap is_eq (b 0 (omega arith)))
     ∙ looked_up_there xs name i (omega (arith, h)) (λ j lt. b (suc j) (omega (arith, lt))) e
 
-pub looked_up_nowhere : (table : EntityTable) (name : List ℕ) (i : ℕ) → StandsBehind table name i → StandsBefore table name i → lookup (bytes_eq name) table ≡ None
+pub looked_up_nowhere : (table : EntityNames) (name : List ℕ) (i : ℕ) → StandsBehind table name i → StandsBefore table name i → lookup (bytes_eq name) table ≡ None
 looked_up_nowhere [] name i b a = refl
 looked_up_nowhere (x ∷ xs) name zero b a =
     lookup_tail (bytes_eq name) x xs (sym (is_eq-slice_cmp name x.0) ∙ ap is_eq (a 0 (omega arith) (omega arith)))

@@ -12,7 +12,7 @@ use Rattle.std.specs.Cmp.Lexicographic.{slice_cmp}
 use Rattle.std.specs.List.{filter}
 use Rattle.std.specs.List.Sorted.{IsStableBy}
 use Rattle.std.specs.Ordering.{nat_cmp, is_lt, ordering_reverse}
-use Rattle.mdtext.specs.EntityTable.{EntityTable}
+use Rattle.mdtext.specs.EntityTable.{EntityNames}
 use Rattle.mdtext.specs.MemberTexts.{Given, StandInOrder, all_given, given, name_in, put_each}
 use Rattle.mdtext.specs.declared.named_texts.Span.{Span}
 use Rattle.mdtext.proofs.MemberOrder.{absorbed, all_texted, no_text, put_in, same, swapped, texted, texted_put}
@@ -131,10 +131,10 @@ module _ (bytes : List ℕ) where
   -- ---- texts in order, put in one by one
 
   -- with what is left put into the table so far, all are told
-  abbrev pub TableGoesOn : List Span → ℕ → EntityTable → Type 0
+  abbrev pub TableGoesOn : List Span → ℕ → EntityNames → Type 0
   TableGoesOn ms i table = all_given (put_each (map told (drop i ms)) (texted table)) ≡ all_given (put_each (map told ms) [])
 
-  module _ (ms : List Span) (i : ℕ) (table : EntityTable) (d : Span) (within : i < length ms) where
+  module _ (ms : List Span) (i : ℕ) (table : EntityNames) (d : Span) (within : i < length ms) where
     opened : put_each (map told (drop i ms)) (texted table) ≡ put_each (map told (drop (i + 1) ms)) (put (texted table) (get_or ms i d))
     opened = ap (λ l. put_each (map told l) (texted table)) (drop_more ms i d within)
 
@@ -151,14 +151,14 @@ module _ (bytes : List ℕ) where
         ∙ ap (λ l. all_given (put_each (map told l) (put (texted table) one))) (sym next)
         ∙ ap all_given (sym opened) ∙ go
 
-    pub text_put : (text : List ℕ) (next : EntityTable) → TableGoesOn ms i table → (told (get_or ms i d)).1 ≡ Some text → next ≡ insert_entry (slice_cmp nat_cmp) table (key (get_or ms i d)) text → TableGoesOn ms (i + 1) next
+    pub text_put : (text : List ℕ) (next : EntityNames) → TableGoesOn ms i table → (told (get_or ms i d)).1 ≡ Some text → next ≡ insert_entry (slice_cmp nat_cmp) table (key (get_or ms i d)) text → TableGoesOn ms (i + 1) next
     text_put text next go e n =
         let one = get_or ms i d in
         ap (λ t. all_given (put_each (map told (drop (i + 1) ms)) t))
         (ap texted n ∙ sym (texted_put table (key one) text) ∙ ap (put_in (texted table) (key one)) (sym e))
         ∙ ap all_given (sym opened) ∙ go
 
-  pub table_ends : (ms : List Span) (i : ℕ) (table : EntityTable) → TableGoesOn ms i table → length ms ≤ i → all_given (put_each (map told ms) []) ≡ Some table
+  pub table_ends : (ms : List Span) (i : ℕ) (table : EntityNames) → TableGoesOn ms i table → length ms ≤ i → all_given (put_each (map told ms) []) ≡ Some table
   table_ends ms i table go h = sym go ∙ ap (λ l. all_given (put_each (map told l) (texted table))) (drop_all i ms h) ∙ all_texted table
 
   -- ---- a name that is given no text, and not again
@@ -199,7 +199,7 @@ module _ (bytes : List ℕ) where
         let again : one ≡ key (get_or ms (i + 1 + j) d) = exact_bytes one (key (get_or (drop (i + 1) ms) j e)) is ∙ ap key there in
         less_not one two (ap (λ k. is_lt (slice_cmp nat_cmp k two)) again ∙ far) up
 
-    pub text_missing : (table : EntityTable) → TableGoesOn ms i table → (i + 1 < length ms → key (get_or ms i d) ≡ key (get_or ms (i + 1) d) → ⊥) → (told (get_or ms i d)).1 ≡ None → all_given (put_each (map told ms) []) ≡ None
+    pub text_missing : (table : EntityNames) → TableGoesOn ms i table → (i + 1 < length ms → key (get_or ms i d) ≡ key (get_or ms (i + 1) d) → ⊥) → (told (get_or ms i d)).1 ≡ None → all_given (put_each (map told ms) []) ≡ None
     text_missing table go last e =
         let one = get_or ms i d in
         let left = drop (i + 1) ms in

@@ -4,7 +4,7 @@ use Rattle.std.proofs.lemmas.List.{drop_more}
 use Rattle.std.specs.BTreeMap.{insert_entry}
 use Rattle.std.specs.Cmp.Lexicographic.{slice_cmp}
 use Rattle.std.specs.Ordering.{nat_cmp, match_ordering}
-use Rattle.mdtext.specs.EntityTable.{EntityTable, put_all}
+use Rattle.mdtext.specs.EntityTable.{EntityNames, put_all}
 
 -- ---- entries of any kind, seen as pairs of bytes and values
 
@@ -27,6 +27,6 @@ abbrev pub told : List (Bor (List ℕ) × Bor (List ℕ)) → List (List ℕ × 
 told pairs = map (λ p. (p.0.now, p.1.now)) pairs
 
 -- one more of the pairs
-pub one_put : (pairs : List (Bor (List ℕ) × Bor (List ℕ))) (i : ℕ) (d : Bor (List ℕ) × Bor (List ℕ)) (old new all : EntityTable) → i < length pairs
+pub one_put : (pairs : List (Bor (List ℕ) × Bor (List ℕ))) (i : ℕ) (d : Bor (List ℕ) × Bor (List ℕ)) (old new all : EntityNames) → i < length pairs
     → new ≡ insert_entry (slice_cmp nat_cmp) old (get_or pairs i d).0.now (get_or pairs i d).1.now → put_all (told (drop i pairs)) old ≡ all → put_all (told (drop (i + 1) pairs)) new ≡ all
 one_put pairs i d old new all h e w = ap (put_all (told (drop (i + 1) pairs))) e ∙ ap (λ ps. put_all (told ps) old) (sym (drop_more pairs i d h)) ∙ w

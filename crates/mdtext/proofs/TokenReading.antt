@@ -16,7 +16,7 @@ use Rattle.serde_json.specs.Data.{Num, Data, null, boolean, number, string, arra
 use Rattle.serde_json.specs.Find.{as_object, as_str, get_member}
 use Rattle.serde_json.specs.Read.{number_of, of_json, of_items, of_members, converted, read}
 use Rattle.serde_json.proofs.Views.{get_member-put, get_member-put_other}
-use Rattle.mdtext.specs.EntityFile.{file_table, of_object}
+use Rattle.mdtext.specs.EntityFile.{file_names, of_object}
 use Rattle.mdtext.specs.EntityReading.{characters_among, items_at, members_at, value_at, whole_at}
 
 -- ---- the grammar's turns, under the conversion to data
@@ -283,5 +283,5 @@ opens_object (Bool b) rest inner e = absurd (cc)
 opens_object Null rest inner e = absurd (cc)
 opens_object Bad rest inner e = absurd (cc)
 
-pub file_is : (text : List ℕ) (ts : List Token) → is_utf8 text ≡ true → ts ≡ tokens text → file_table text ≡ of_object (object_at ts)
+pub file_is : (text : List ℕ) (ts : List Token) → is_utf8 text ≡ true → ts ≡ tokens text → file_names text ≡ of_object (object_at ts)
 file_is text ts utf8 is = ap (λ b. of_object (if b then option_and_then as_object (read text) else None)) utf8 ∙ ap (λ t. of_object (object_at t)) (sym is)

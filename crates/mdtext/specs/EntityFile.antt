@@ -9,7 +9,7 @@ use Rattle.std.specs.Str.{is_utf8}
 use Rattle.serde_json.specs.Data.{Data, Members, no_members, member}
 use Rattle.serde_json.specs.Find.{get, as_str, as_object}
 use Rattle.serde_json.specs.Read.{read}
-use Rattle.mdtext.specs.EntityTable.{EntityTable}
+use Rattle.mdtext.specs.EntityTable.{EntityNames, EntityTable, usual_table}
 use Rattle.mdtext.specs.declared.entity_file.TableFault.{TableFault}
 use Rattle.mdtext.specs.declared.entity_file.TableFault.TheVariants.{NotJson, BadEntry}
 
@@ -31,24 +31,33 @@ name_of key =
 abbrev pub characters_of : Data → Option (List ℕ)
 characters_of value = option_and_then as_str (get (codes "characters") value)
 
--- the table with one member more, where it is no bad entry
-abbrev pub with_member : List ℕ → Data → EntityTable → Option EntityTable
+-- the names with one member more, where it is no bad entry
+abbrev pub with_member : List ℕ → Data → EntityNames → Option EntityNames
 with_member key value table =
     if counts key then option_and_then (λ name. option_map (insert_entry (slice_cmp nat_cmp) table name) (characters_of value)) (name_of key) else Some table
 
--- the table with more members, where none is a bad entry
-abbrev pub with_members : Members → EntityTable → Option EntityTable
+-- the names with more members, where none is a bad entry
+abbrev pub with_members : Members → EntityNames → Option EntityNames
 with_members no_members table = Some table
 with_members (member key value ms) table = option_and_then (with_members ms) (with_member key value table)
 
-abbrev pub or_fault : TableFault → Option EntityTable → Result EntityTable TableFault
+abbrev pub or_fault : TableFault → Option EntityNames → Result EntityNames TableFault
 or_fault fault None = Err fault
 or_fault fault (Some table) = Ok table
 
-abbrev pub of_object : Option Members → Result EntityTable TableFault
+abbrev pub of_object : Option Members → Result EntityNames TableFault
 of_object None = Err NotJson
 of_object (Some ms) = or_fault BadEntry (with_members ms [])
 
+-- the names of a file, or its fault
+abbrev pub file_names : List ℕ → Result EntityNames TableFault
+file_names bytes = of_object (if is_utf8 bytes then option_and_then as_object (read bytes) else None)
+
+-- the table of what a file gives
+abbrev pub table_of : Result EntityNames TableFault → Result EntityTable TableFault
+table_of (Ok names) = Ok (usual_table names)
+table_of (Err fault) = Err fault
+
 -- the table of a file, or its fault
 abbrev pub file_table : List ℕ → Result EntityTable TableFault
-file_table bytes = of_object (if is_utf8 bytes then option_and_then as_object (read bytes) else None)
+file_table bytes = table_of (file_names bytes)

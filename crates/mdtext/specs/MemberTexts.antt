@@ -7,7 +7,7 @@ use Rattle.std.specs.List.Sorted.{IsSortedBy}
 use Rattle.std.specs.Ordering.{is_lt, nat_cmp}
 use Rattle.std.specs.Str.{IsUtf8}
 use Rattle.mdtext.specs.EntityFile.{counts, name_of}
-use Rattle.mdtext.specs.EntityTable.{EntityTable}
+use Rattle.mdtext.specs.EntityTable.{EntityNames}
 use Rattle.mdtext.specs.declared.member_texts.MemberTexts.{MemberTexts}
 use Rattle.mdtext.specs.declared.named_texts.Span.{Span}
 
@@ -59,11 +59,11 @@ put_each [] table = table
 put_each (e ∷ es) table = put_each es (insert_entry (slice_cmp nat_cmp) table e.0 e.1)
 
 -- the table, where each name is given a text
-abbrev pub all_given : List Given → Option EntityTable
+abbrev pub all_given : List Given → Option EntityNames
 all_given [] = Some []
 all_given (e ∷ es) = option_and_then (λ text. option_map (λ table. (e.0, text) ∷ table) (all_given es)) e.1
 
-abbrev pub given_table : Gathered → Option EntityTable
+abbrev pub given_table : Gathered → Option EntityNames
 given_table g = if g.0 then None else all_given (put_each g.1 [])
 
 -- the names do not fall

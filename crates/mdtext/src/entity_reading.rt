@@ -5,7 +5,7 @@ ghost use Rattle.std.specs.Prelude.{◌≡◌, ◌≢◌, ◌<◌, [], IfErr, If
 ghost use Rattle.serde_json.specs.Data.{Data, Items, Members};
 ghost use Rattle.serde_json.specs.Find.{as_object, as_str};
 ghost use Rattle.serde_json.specs.Read.{number_from, number_of};
-ghost use Rattle.mdtext.specs.EntityFile.{characters_of, file_table, with_members};
+ghost use Rattle.mdtext.specs.EntityFile.{characters_of, file_names, with_members};
 ghost use Rattle.mdtext.specs.EntityReading.{characters_among, items_at, members_at, value_at, whole_at};
 ghost use Rattle.mdtext.specs.MemberTexts.{AreHeld, gathered, given_table};
 
@@ -36,8 +36,8 @@ const PLAIN: Passed<'static> = Passed {
 
 /// The table of a file.
 pub fn read_table(alloc: Global, text: &str) -> Result<NamedTexts, TableFault>
-    ensures ok { IfOk result (λ texts. file_table text.now ≡ Ok texts) }
-    ensures err { IfErr result (λ fault. fault ≢ TableFault.NoMemory → file_table text.now ≡ Err fault) }
+    ensures ok { IfOk result (λ texts. file_names text.now ≡ Ok texts) }
+    ensures err { IfErr result (λ fault. fault ≢ TableFault.NoMemory → file_names text.now ≡ Err fault) }
 {
     let mut scratch = Scratch::new(alloc);
     let mut reader = Reader::new(text, &mut scratch)?;

@@ -1,7 +1,7 @@
-//! The names of entity references, and the texts that they stand for.
+//! The names of entity references, and the texts that they stand for; beside them, how tildes are read.
 ghost use Rattle.std.specs.Prelude.{◌≡◌, ◌≢◌, [], Ok, Err, IfErr, IfOk, map, option_map};
 ghost use Rattle.mdtext.specs.EntityFile.{file_table};
-ghost use Rattle.mdtext.specs.EntityTable.{entity_text, put_all, builtin_table};
+ghost use Rattle.mdtext.specs.EntityTable.{entity_text, put_all, builtin_table, usual_table};
 
 use crate::NoMemory;
 use crate::entity_file::TableFault;
@@ -38,18 +38,20 @@ const BUILTIN: [(&str, &str); 23] = [
     ("times", "\u{D7}"),
 ];
 
-/// A table of entity references (CommonMark 2.5): each name once, without `&` and `;`, with its text.
+/// A table of entity references (CommonMark 2.5): each name once, without `&` and `;`, with its text. Beside it stands whether
+/// one tilde alone is text (see `with_double_tilde`).
 #[derive(Debug, Drop)]
 pub struct Entities {
     texts: NamedTexts,
+    double_tilde: bool,
 }
 
 impl Model for Entities {
-    ghost use Rattle.std.specs.Prelude.{List, ℕ};
+    ghost use Rattle.mdtext.specs.EntityTable.{EntityTable};
 
-    ghost Value = { List (List ℕ × List ℕ) };
+    ghost Value = { EntityTable };
 
-    ghost view = { λ entities. entities.texts };
+    ghost view = { λ entities. record { names = entities.texts; double_tilde = entities.double_tilde } };
 }
 
 impl Entities {
@@ -70,9 +72,7 @@ impl Entities {
         ensures err { IfErr result (λ fault. fault ≢ TableFault.NoMemory → file_table bytes.now ≡ Err fault) }
     {
         match simdutf8::compat::from_utf8(bytes) {
-            Ok(text) => Ok(Entities {
-                texts: read_table(alloc, text)?,
-            }),
+            Ok(text) => Ok(usual(read_table(alloc, text)?)),
             Err(_) => Err(TableFault::NotJson),
         }
     }
@@ -83,20 +83,36 @@ impl Entities {
         ensures ok { IfOk result (λ entities. file_table HTML_NAMES.now ≡ Ok entities) }
         ensures err { IfErr result (λ fault. fault ≢ TableFault.NoMemory → file_table HTML_NAMES.now ≡ Err fault) }
     {
-        Ok(Entities {
-            texts: read_table(alloc, HTML_NAMES)?,
-        })
+        Ok(usual(read_table(alloc, HTML_NAMES)?))
     }
 
     fn of(alloc: Global, pairs: &[(&str, &str)]) -> Result<Entities, NoMemory>
-        ensures { IfOk result (λ entities. entities ≡ put_all (map (λ p. (p.0.now, p.1.now)) pairs.now) []) }
+        ensures { IfOk result (λ entities. entities ≡ usual_table (put_all (map (λ p. (p.0.now, p.1.now)) pairs.now) [])) }
     {
         let mut texts = NamedTexts::with_room(alloc, pairs.len())?;
         for (name, text) in pairs {
             texts.put(name, text)?;
         }
         texts.fit();
-        Ok(Entities { texts })
+        Ok(usual(texts))
+    }
+
+    /// The same names. With `double_tilde` one tilde alone is text, and two strike through, as with `--strikethrough-double-tilde`
+    /// of `cmark-gfm`; without it one strikes through too, which is the usual way (GFM Strikethrough (extension)).
+    pub fn with_double_tilde(self, double_tilde: bool) -> Entities
+        ensures { result ≡ record self { double_tilde = double_tilde } }
+    {
+        Entities {
+            texts: self.texts,
+            double_tilde,
+        }
+    }
+
+    /// Whether one tilde alone is text.
+    pub fn double_tilde(&self) -> bool
+        ensures { result ≡ self.now.double_tilde }
+    {
+        self.double_tilde
     }
 
     /// The text that a name, without `&` and `;`, stands for. It takes no memory.
@@ -104,5 +120,15 @@ impl Entities {
         ensures { option_map (λ text. text.now) result ≡ entity_text self.now name.now }
     {
         self.texts.get(name)
+    }
+}
+
+/// The names with these texts, with tildes as they are usually read.
+fn usual(texts: NamedTexts) -> Entities
+    ensures { result ≡ usual_table texts }
+{
+    Entities {
+        texts,
+        double_tilde: false,
     }
 }

@@ -1,5 +1,5 @@
 -- A command that was read, or where the script stops before one.
-use Rattle.std.proofs.Common.{◌≡◌, ℕ, ◌+◌, Bool, true, false, leb, List, [], ◌∷◌, ◌++◌, take, length, Option, Some, None, Err, refl, ap, sym, ◌∙◌, subst, append-nil, length-append, arith, Vec, String, Global, map, string_bytes}
+use Rattle.std.proofs.Common.{◌≡◌, ℕ, ◌+◌, Bool, true, false, leb, List, [], ◌∷◌, ◌++◌, take, length, Option, Some, None, Err, refl, ap, sym, ◌∙◌, subst, append-nil, length-append, arith}
 use Rattle.std.proofs.Math.Seq.{take-append_seam}
 use Rattle.std.proofs.lemmas.Bool.Decides.{nat_tests}
 use Rattle.mdtool.specs.declared.fault.ToolFault.{ToolFault}
@@ -80,9 +80,9 @@ pub html_read : (a c : Option (List ℕ)) (o n : Pending) (line : List ℕ) → 
 html_read a c o n line read head = record { lines = line ∷ []; reads = read; first = λ rest. rw head refl }
 
 -- the lines stand below it
-pub texts_read : (a b c : Option (List ℕ)) (o p n : Pending) (line : List ℕ) (head : Head) (call : List (List ℕ) → Call) (add : ℕ) (texts : Vec (String Global) Global) → Reads a o (line ∷ []) b p
+pub texts_read : (a b c : Option (List ℕ)) (o p n : Pending) (line : List ℕ) (head : Head) (call : List (List ℕ) → Call) (add : ℕ) (texts : List (List ℕ)) → Reads a o (line ∷ []) b p
     → head_of line ≡ Some head → ((lines : List (List ℕ)) → command_of (Some head) lines ≡ with_texts add call lines) → ReadsTexts b p c n add texts
-    → ReadsCommand a o c n (Change (call (map string_bytes texts.items)))
+    → ReadsCommand a o c n (Change (call texts))
 texts_read a b c o p n line head call add texts read is asks more = record {
   lines = line ∷ more.lines;
   reads = reads_on a b c o p n (line ∷ []) more.lines read more.reads;
@@ -91,8 +91,8 @@ texts_read a b c o p n line head call add texts read is asks more = record {
       let front : take add (more.lines ++ rest) ≡ more.lines = ap (λ k. take k (more.lines ++ rest)) (sym more.all) ∙ take-append_seam more.lines rest in
       let size : add + 1 ≡ length (line ∷ more.lines) = omega (arith, more.all) in
       let F : List (List ℕ) → ℕ → Option (Command × ℕ) = λ ls k. Some (Change (call ls), k) in
-      let all : with_texts add call (more.lines ++ rest) ≡ F (map string_bytes texts.items) (length (line ∷ more.lines)) =
-      rw (enough, front) (ap (λ ls. F ls (add + 1)) (sym more.texts_are) ∙ ap (F (map string_bytes texts.items)) size) in
+      let all : with_texts add call (more.lines ++ rest) ≡ F texts (length (line ∷ more.lines)) =
+      rw (enough, front) (ap (λ ls. F ls (add + 1)) (sym more.texts_are) ∙ ap (F texts) size) in
       ap (λ h. command_of h (more.lines ++ rest)) is ∙ asks (more.lines ++ rest) ∙ all;
 }
 

@@ -8,7 +8,7 @@ use Rattle.viewspec.specs.Stops.{lines_soon}
 use Rattle.viewspec.specs.Calls.{Call}
 use Rattle.viewspec.specs.ChangedPieces.{ChangedPieces}
 use Rattle.viewspec.specs.Outcome.{Answer}
-use Rattle.mdview.specs.declared.fault.EditFault.{EditFault}
+use Rattle.mdsource.specs.declared.fault.EditFault.{EditFault}
 use Rattle.mdview.specs.Document.{Document, setting_of, source_of}
 use Rattle.mdview.specs.Outcome.{answer_of, is_starved, outcome_of}
 use Rattle.mdtool.specs.Bytes.{Gains, GainsFront}

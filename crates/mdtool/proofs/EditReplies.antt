@@ -4,7 +4,7 @@ use Rattle.std.specs.declared.alloc.AllocError.{AllocError}
 use Rattle.viewspec.specs.Calls.{Call}
 use Rattle.viewspec.specs.ChangedPieces.{ChangedPieces}
 use Rattle.viewspec.specs.Outcome.{Answer}
-use Rattle.mdview.specs.declared.fault.EditFault.{EditFault}
+use Rattle.mdsource.specs.declared.fault.EditFault.{EditFault}
 use Rattle.mdview.specs.Document.{Document}
 use Rattle.mdview.specs.Outcome.{answer_of, is_starved, outcome_of}
 use Rattle.mdtool.specs.Commands.{Change}

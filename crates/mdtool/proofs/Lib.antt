@@ -6,6 +6,7 @@ pub mod Readings
 pub mod Searches
 pub mod StepEnds
 pub mod Texts
+pub mod LineLengths
 pub mod CommandReading
 pub mod PatchLine
 pub mod ServeRuns

@@ -5,14 +5,14 @@ use Rattle.mdtext.specs.Lines.{without_nul}
 use Rattle.viewspec.specs.Calls.{set_prelude, due_by_reading}
 use Rattle.viewspec.specs.Refusals.{Refusal, not_definitions, undefining_line}
 use Rattle.viewspec.specs.Setting.{Setting}
-use Rattle.mdview.specs.declared.fault.EditFault.{EditFault}
-use Rattle.mdview.specs.declared.fault.EditFault.TheVariants.{OutOfRange, BreakInLine, TooManyLines, TooLarge, NestedTooDeep, InlineTooDeep, NotDefinitions}
-use Rattle.mdview.specs.declared.fault.EditFault.TheVariants.{NoMemory as EditNoMemory}
+use Rattle.mdsource.specs.declared.fault.EditFault.{EditFault}
+use Rattle.mdsource.specs.declared.fault.EditFault.TheVariants.{OutOfRange, BreakInLine, TooManyLines, TooLarge, NestedTooDeep, InlineTooDeep, NotDefinitions}
+use Rattle.mdsource.specs.declared.fault.EditFault.TheVariants.{NoMemory as EditNoMemory}
 use Rattle.mdview.specs.Document.{nothing}
-use Rattle.mdview.specs.Edit.{due_of_prelude}
-use Rattle.mdview.specs.FaultReasons.{reason_of}
-use Rattle.mdview.specs.Preludes.{HeldPrelude, IsDefinedBy, IsUndefiningAt, RefusesPrelude}
-use Rattle.mdview.proofs.DueReasons.{prelude_reason}
+use Rattle.mdsource.specs.SourceLimits.{due_of_prelude}
+use Rattle.mdsource.specs.FaultReasons.{reason_of}
+use Rattle.mdsource.specs.Preludes.{HeldPrelude, IsDefinedBy, IsUndefiningAt, RefusesPrelude}
+use Rattle.mdsource.proofs.DueReasons.{prelude_reason}
 use Rattle.mdbatch.proofs.PageViews.{page_no_text}
 use Rattle.mdtool.specs.Convert.{IsPreludeOf, PreludeRead, prelude_due}
 use Rattle.mdtool.specs.ToolRefusals.{refusal_of}

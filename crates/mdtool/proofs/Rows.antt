@@ -1,6 +1,7 @@
 -- The definitions at worked texts, by computation.
 use Rattle.std.proofs.Common.{◌≡◌, ℕ, List, [], ◌∷◌, Some, None, true, false, refl, codes}
 use Rattle.std.specs.Fmt.{digits}
+use Rattle.mdtext.specs.EntityTable.{usual_table}
 use Rattle.mdhtml.specs.Limits.{plain}
 use Rattle.viewspec.specs.Calls.{edit}
 use Rattle.viewspec.specs.Outcome.{accepted, refused}
@@ -96,6 +97,6 @@ all_pieces = refl
 refusals : List ScriptTurn
 refusals = record { command = Change (edit 9 0 []); starved = false } ∷ record { command = Change (edit 0 0 (codes "a" ∷ [])); starved = true } ∷ []
 
-refused_replies : replies Plain (empty [] plain) refusals ≡ codes "refused OutOfRange 0\nrefused NoMemory 0\n"
+refused_replies : replies Plain (empty (usual_table []) plain) refusals ≡ codes "refused OutOfRange 0\nrefused NoMemory 0\n"
 unfolding refusals replies digits
 refused_replies = refl

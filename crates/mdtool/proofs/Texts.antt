@@ -1,5 +1,5 @@
 -- The texts of an edit, read line by line.
-use Rattle.std.proofs.Common.{◌≡◌, ℕ, ◌+◌, ◌<◌, Bool, List, [], ◌∷◌, ◌++◌, take, Option, refl, ap, sym, ◌∙◌, subst, append-nil, length-append, arith, Vec, String, Global, map, string_bytes}
+use Rattle.std.proofs.Common.{◌≡◌, ℕ, ◌+◌, ◌<◌, Bool, List, [], ◌∷◌, ◌++◌, take, Option, refl, ap, sym, ◌∙◌, subst, append-nil, length-append, arith}
 use Rattle.std.proofs.lemmas.List.{map-append}
 use Rattle.std.specs.Str.Lossy.{utf8_lossy}
 use Rattle.mdtool.specs.Pending.{Pending, Reads, Draws, HasLine, IsOver, used}
@@ -16,25 +16,23 @@ pub reads_used : (a b c : Option (List ℕ)) (o p n : Pending) (x : List (List �
 reads_used a b c o p n x len first second has =
     reads_on a c c o n (used len n) x (take len n.bytes ∷ []) (reads_also a b c o p n x first second) (reads_line c n (used len n) len has refl refl (omega arith))
 
-pub texts_none : (left : Option (List ℕ)) (p : Pending) (n : ℕ) (texts : Vec (String Global) Global) → texts.items ≡ [] → n ≡ 0 → ReadsTexts left p left p n texts
-texts_none left p n texts e z = record { lines = []; reads = reads_nothing left p; all = sym z; texts_are = ap (map string_bytes) e }
+pub texts_none : (left : Option (List ℕ)) (p : Pending) (n : ℕ) (texts : List (List ℕ)) → texts ≡ [] → n ≡ 0 → ReadsTexts left p left p n texts
+texts_none left p n texts e z = record { lines = []; reads = reads_nothing left p; all = sym z; texts_are = e }
 
-pub texts_more : (a b c : Option (List ℕ)) (o p m n : Pending) (count count' : ℕ) (texts texts' : Vec (String Global) Global) (text : String Global) (len : ℕ)
-    → ReadsTexts a o b p count texts → Reads b p [] c m → HasLine len m → n ≡ used len m → string_bytes text ≡ utf8_lossy (take len m.bytes)
-    → texts'.items ≡ texts.items ++ text ∷ [] → count' ≡ count + 1 → ReadsTexts a o c n count' texts'
-texts_more a b c o p m n count count' texts texts' text len read found has n_is text_is items more = record {
+pub texts_more : (a b c : Option (List ℕ)) (o p m n : Pending) (count count' : ℕ) (texts texts' : List (List ℕ)) (len : ℕ)
+    → ReadsTexts a o b p count texts → Reads b p [] c m → HasLine len m → n ≡ used len m → texts' ≡ texts ++ utf8_lossy (take len m.bytes) ∷ []
+    → count' ≡ count + 1 → ReadsTexts a o c n count' texts'
+texts_more a b c o p m n count count' texts texts' len read found has n_is texts_is more = record {
   lines = read.lines ++ take len m.bytes ∷ [];
   reads = let P : Pending → Type 0 = λ q. Reads a o (read.lines ++ take len m.bytes ∷ []) c q in subst P (sym n_is) (reads_used a b c o p m read.lines len read.reads found has);
   all = omega (arith, read.all, length-append read.lines (take len m.bytes ∷ []));
   texts_are =
-      ap (map string_bytes) items
-      ∙ map-append string_bytes texts.items (text ∷ [])
-      ∙ ap (λ ts. ts ++ string_bytes text ∷ []) read.texts_are
-      ∙ ap (λ t. map utf8_lossy read.lines ++ t ∷ []) text_is
+      texts_is
+      ∙ ap (λ ts. ts ++ utf8_lossy (take len m.bytes) ∷ []) read.texts_are
       ∙ sym (map-append utf8_lossy read.lines (take len m.bytes ∷ []));
 }
 
-pub few_lines : (a b c : Option (List ℕ)) (o p n : Pending) (ended : Bool) (count wanted : ℕ) (texts : Vec (String Global) Global)
+pub few_lines : (a b c : Option (List ℕ)) (o p n : Pending) (ended : Bool) (count wanted : ℕ) (texts : List (List ℕ))
     → ReadsTexts a o b p count texts → Reads b p [] c n → IsOver ended n → count < wanted → FewLines a o c n ended wanted
 few_lines a b c o p n ended count wanted texts read found over few = record {
   lines = read.lines;
@@ -43,5 +41,5 @@ few_lines a b c o p n ended count wanted texts read found over few = record {
   over = over;
 }
 
-pub texts_draw : (a b c : Option (List ℕ)) (o p n : Pending) (count : ℕ) (texts : Vec (String Global) Global) → ReadsTexts a o b p count texts → Reads b p [] c n → Draws a o.is_ended c
+pub texts_draw : (a b c : Option (List ℕ)) (o p n : Pending) (count : ℕ) (texts : List (List ℕ)) → ReadsTexts a o b p count texts → Reads b p [] c n → Draws a o.is_ended c
 texts_draw a b c o p n count texts read found = draws_of a c o n read.lines (reads_also a b c o p n read.lines read.reads found)

@@ -6,12 +6,12 @@ use Rattle.mdtext.specs.EntityTable.{EntityTable}
 use Rattle.blockspec.specs.BlockUnits.{begins, units}
 use Rattle.blockspec.specs.UnitBegin.{shift_found}
 use Rattle.blockspec.specs.UnitTree.{FoundUnit}
-use Rattle.blocklaws.proofs.DocumentLaws.{map_length}
+use Rattle.blockspec.proofs.DocumentLaws.{map_length}
 use Rattle.viewspec.specs.Spliced.{IsSpliced, in_parts}
 use Rattle.viewspec.specs.Stretch.{Places, from_line, meeting_line, old_line, units_added, units_before, units_removed}
-use Rattle.viewlaws.proofs.Counts.{spliced}
-use Rattle.viewlaws.proofs.Cuts.{begins_in}
-use Rattle.viewlaws.proofs.Splices.{IsEdit, Meets, meets}
+use Rattle.viewspec.proofs.Counts.{spliced}
+use Rattle.viewspec.proofs.Cuts.{begins_in}
+use Rattle.viewspec.proofs.Splices.{IsEdit, Meets, meets}
 
 -- units that stand so many lines further on, in two texts of so many lines
 shifted_alike : (us : List FoundUnit) (a b c d : ℕ) → a + c ≡ b + d

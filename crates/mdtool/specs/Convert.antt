@@ -6,10 +6,10 @@ use Rattle.mdtext.specs.Lines.{text_lines, without_nul}
 use Rattle.viewspec.specs.Calls.{set_prelude, due}
 use Rattle.viewspec.specs.Refusals.{Refusal, refusal}
 use Rattle.viewspec.specs.Setting.{Setting, Source}
-use Rattle.mdview.specs.declared.fault.EditFault.{EditFault}
+use Rattle.mdsource.specs.declared.fault.EditFault.{EditFault}
 use Rattle.mdview.specs.Document.{nothing}
-use Rattle.mdview.specs.FaultReasons.{reason_of}
-use Rattle.mdview.specs.Preludes.{HeldPrelude, IsDefinedBy}
+use Rattle.mdsource.specs.FaultReasons.{reason_of}
+use Rattle.mdsource.specs.Preludes.{HeldPrelude, IsDefinedBy}
 use Rattle.mdbatch.specs.ViewHtml.{view_html}
 use Rattle.mdtool.specs.declared.fault.ToolFault.{ToolFault}
 use Rattle.mdtool.specs.declared.fault.ToolFault.TheVariants.{Read, Write, Refused, BadCommand, Truncated, Table, NoMemory}

@@ -5,9 +5,9 @@ use Rattle.mdhtml.specs.declared.options.Options.{Options}
 use Rattle.mdtext.specs.declared.entity_file.TableFault.{TableFault}
 use Rattle.mdtext.specs.declared.entity_file.TableFault.TheVariants.{NotJson, BadEntry}
 use Rattle.mdtext.specs.declared.entity_file.TableFault.TheVariants.{NoMemory as TableNoMemory}
-use Rattle.mdview.specs.declared.fault.EditFault.{EditFault}
-use Rattle.mdview.specs.declared.fault.EditFault.TheVariants.{OutOfRange, BreakInLine, TooManyLines, TooLarge, NestedTooDeep, InlineTooDeep, NotDefinitions}
-use Rattle.mdview.specs.declared.fault.EditFault.TheVariants.{NoMemory as EditNoMemory}
+use Rattle.mdsource.specs.declared.fault.EditFault.{EditFault}
+use Rattle.mdsource.specs.declared.fault.EditFault.TheVariants.{OutOfRange, BreakInLine, TooManyLines, TooLarge, NestedTooDeep, InlineTooDeep, NotDefinitions}
+use Rattle.mdsource.specs.declared.fault.EditFault.TheVariants.{NoMemory as EditNoMemory}
 use Rattle.mdtool.specs.declared.fault.Stop.{Stop}
 use Rattle.mdtool.specs.declared.fault.Stop.TheVariants.{Words as ByWords, NotOpened, Tool}
 use Rattle.mdtool.specs.declared.fault.ToolFault.{ToolFault}

@@ -8,6 +8,7 @@ pub mod Replies
 pub mod Endings
 pub mod Explanations
 pub mod Views
+pub mod LineLengths
 pub mod Pending
 pub mod Steps
 pub mod Serve

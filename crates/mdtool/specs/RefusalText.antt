@@ -1,9 +1,9 @@
 -- A refusal as replies and error lines have it.
 use Rattle.std.specs.Prelude.{ℕ, List, ◌∷◌, ◌++◌, codes, decimal}
 use Rattle.viewspec.specs.Refusals.{Refusal}
-use Rattle.mdview.specs.declared.fault.EditFault.{EditFault}
-use Rattle.mdview.specs.FaultNames.{name_of, number_of}
-use Rattle.mdview.specs.FaultReasons.{reason_of}
+use Rattle.mdsource.specs.declared.fault.EditFault.{EditFault}
+use Rattle.mdsource.specs.FaultNames.{name_of, number_of}
+use Rattle.mdsource.specs.FaultReasons.{reason_of}
 
 abbrev pub refused_text : Refusal → List ℕ
 refused_text reason = codes "refused " ++ name_of reason ++ 32 ∷ decimal (number_of reason)

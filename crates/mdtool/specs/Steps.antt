@@ -1,6 +1,5 @@
 -- What each end of a step says that reads a script.
-use Rattle.std.specs.Prelude.{◌≡◌, ℕ, ◌+◌, ◌<◌, Bool, true, List, [], ◌++◌, Option, Some, None, Result, Ok, Err, length, map, string_bytes, Vec, String}
-use Rattle.std.specs.Global.{Global}
+use Rattle.std.specs.Prelude.{◌≡◌, ℕ, ◌+◌, ◌<◌, Bool, true, List, [], ◌++◌, Option, Some, None, Result, Ok, Err, length, map}
 use Rattle.std.specs.Str.Lossy.{utf8_lossy}
 use Rattle.mdtool.specs.declared.fault.ToolFault.{ToolFault}
 use Rattle.mdtool.specs.declared.fault.ToolFault.TheVariants.{Read, Write, Refused, BadCommand, Truncated, Table, NoMemory}
@@ -56,11 +55,11 @@ pub record FewLines (left : Option (List ℕ)) (old : Pending) (left' : Option (
   pub over : IsOver ended new
 
 -- so many lines were read, and these are their texts
-pub record ReadsTexts (left : Option (List ℕ)) (old : Pending) (left' : Option (List ℕ)) (new : Pending) (count : ℕ) (texts : Vec (String Global) Global) : Type 0 where
+pub record ReadsTexts (left : Option (List ℕ)) (old : Pending) (left' : Option (List ℕ)) (new : Pending) (count : ℕ) (texts : List (List ℕ)) : Type 0 where
   pub lines : List (List ℕ)
   pub reads : Reads left old lines left' new
   pub all : length lines ≡ count
-  pub texts_are : map string_bytes texts.items ≡ map utf8_lossy lines
+  pub texts_are : texts ≡ map utf8_lossy lines
 
 -- what each end of a reading of one command says
 abbrev pub NextCommand : Result (Option TheCommand) ToolFault → Option (List ℕ) → Pending → Option (List ℕ) → Pending → Type 0

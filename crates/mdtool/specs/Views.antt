@@ -1,5 +1,4 @@
 -- The commands of the code, as the definitions see them.
-use Rattle.std.specs.Prelude.{map, string_bytes}
 use Rattle.mdtool.specs.declared.command.Header.{Header}
 use Rattle.mdtool.specs.declared.command.Header.TheVariants.{Html as HtmlHeader, Prelude as PreludeHeader, Edit as EditHeader}
 use Rattle.mdtool.specs.declared.command.Command.{Command as TheCommand}
@@ -14,5 +13,5 @@ head_view (EditHeader at del add) = EditHead at del add
 
 abbrev pub command_view : TheCommand → Command
 command_view TheHtml = Html
-command_view (ThePrelude lines) = Change (set_prelude (map string_bytes lines.items))
-command_view (TheEdit at del add) = Change (edit at del (map string_bytes add.items))
+command_view (ThePrelude lines) = Change (set_prelude lines)
+command_view (TheEdit at del add) = Change (edit at del add)

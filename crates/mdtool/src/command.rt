@@ -1,5 +1,7 @@
 //! A command of the script.
 
+use crate::joined_lines::JoinedLines;
+
 /// What a command's first line says. Numbers are in lines, counted from 0.
 #[derive(Clone, Copy, Debug, PartialEq, Eq)]
 pub enum Header {
@@ -13,11 +15,11 @@ pub enum Header {
 pub enum Command {
     Html,
     Prelude {
-        lines: Vec<String>,
+        lines: JoinedLines,
     },
     Edit {
         at: usize,
         del: usize,
-        add: Vec<String>,
+        add: JoinedLines,
     },
 }

@@ -11,7 +11,7 @@ use crate::command::Command;
 use crate::device::{Feed, Out};
 use crate::fault::ToolFault;
 use crate::script::Script;
-use crate::serving::{lent, preview_with, send};
+use crate::serving::{preview_with, send};
 use mdhtml::Options;
 use mdtext::{Count, Entities, Tally};
 use mdview::Preview;
@@ -71,12 +71,12 @@ fn counted(alloc: Global, preview: &mut Preview, command: &Command) -> Result<Ta
     match command {
         Command::Html => Ok(count),
         Command::Prelude { lines } => {
-            let lines = lent(alloc, lines)?;
+            let lines = lines.lent(alloc)?;
             let _answer = preview.set_prelude(&lines, &mut count);
             Ok(count)
         }
         Command::Edit { at, del, add } => {
-            let lines = lent(alloc, add)?;
+            let lines = add.lent(alloc)?;
             let _answer = preview.edit(*at, *del, &lines, &mut count);
             Ok(count)
         }

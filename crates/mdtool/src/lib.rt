@@ -15,6 +15,7 @@ mod fault;
 mod halt;
 mod header;
 mod io_devices;
+mod joined_lines;
 mod laws;
 mod memory_devices;
 mod preludes;

@@ -3,7 +3,7 @@ ghost use Rattle.std.specs.Prelude.{◌≡◌, ◌-◌, ◌^◌, ◌==◌, IfErr
 ghost use Rattle.std.specs.Process.{exit_status};
 ghost use Rattle.mdhtml.specs.Limits.{HasLimits};
 ghost use Rattle.mdtool.specs.Endings.{EndsBy, IsNotOpened, end_status, status_of};
-ghost use Rattle.mdtool.specs.NamedFiles.{EntitiesOf, PreludeOf};
+ghost use Rattle.mdtool.specs.NamedFiles.{EntitiesOf, NamesOf, PreludeOf};
 
 use crate::built_in_entities::built_in_entities;
 use crate::device::Feed;
@@ -69,9 +69,19 @@ fn renamed<'a>(
     Ok(words)
 }
 
-/// The entities of the file that the words name, or those that are built in.
+/// The entities of the file that the words name, or those that are built in, with tildes read as the words say.
 pub fn entities_of(rt: &HostRuntime, words: &Words) -> Result<Entities, Halt>
-    ensures read { EntitiesOf words.now.html_entities words.now.entities result }
+    ensures read { EntitiesOf words.now result }
+    ensures source { IfErr result (λ halt. halt.source ≡ Source.Entities) }
+{
+    match names_of(rt, words) {
+        Ok(entities) => Ok(entities.with_double_tilde(words.double_tilde)),
+        Err(halt) => Err(halt),
+    }
+}
+
+fn names_of(rt: &HostRuntime, words: &Words) -> Result<Entities, Halt>
+    ensures read { NamesOf words.now.html_entities words.now.entities result }
     ensures source { IfErr result (λ halt. halt.source ≡ Source.Entities) }
 {
     let source = Source::Entities;

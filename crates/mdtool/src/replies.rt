@@ -4,7 +4,7 @@ ghost use Rattle.std.specs.List.{concat};
 ghost use Rattle.blockspec.specs.BlockUnits.{begins};
 ghost use Rattle.viewspec.specs.Patch.{brought};
 ghost use Rattle.mdview.specs.Document.{pieces_of};
-ghost use Rattle.mdview.specs.FaultReasons.{reason_of};
+ghost use Rattle.mdsource.specs.FaultReasons.{reason_of};
 ghost use Rattle.mdview.specs.Outcome.{answer_of};
 ghost use Rattle.mdtool.specs.Replies.{html_reply, edit_reply, line_part, moved_by, moved_line, refused_reply, piece_reply, pieces_reply, patch_line, told_line, told_of};
 

@@ -2,8 +2,7 @@
 //!
 //! Bytes are taken in chunks, and each is searched once for the end of its line.
 ghost use Rattle.std.specs.Prelude.{◌≡◌, ◌+◌, ◌*◌, ◌-◌, ◌^◌, ◌<◌, ◌≤◌, true, false, [], MatchOption};
-ghost use Rattle.std.specs.Prelude.{length, take, drop, get_or, OnOk, IfOk, IfSome, IfNone, OnSome, if◌then◌else◌, string_bytes};
-ghost use Rattle.std.specs.Str.Lossy.{utf8_lossy};
+ghost use Rattle.std.specs.Prelude.{length, take, drop, get_or, OnOk, IfOk, IfSome, IfNone, OnSome, if◌then◌else◌};
 ghost use Rattle.mdtool.specs.Commands.{has_break};
 ghost use Rattle.mdtool.specs.Pending.{Reads, Draws, HasLine, IsOver, used, fresh};
 ghost use Rattle.mdtool.specs.Steps.{Steps, failures_after, FewLines, ReadsTexts, NextCommand};
@@ -12,8 +11,9 @@ use crate::command::{Command, Header};
 use crate::device::Feed;
 use crate::fault::ToolFault;
 use crate::header::header;
+use crate::joined_lines::JoinedLines;
 use memchr::memchr;
-use std::alloc::{AllocError, Global};
+use std::alloc::Global;
 use std::marker::Model;
 
 const CHUNK: usize = 16384;
@@ -106,7 +106,7 @@ impl Script {
         alloc: Global,
         feed: &mut R,
         count: usize,
-    ) -> Result<Option<Vec<String>>, ToolFault>
+    ) -> Result<Option<JoinedLines>, ToolFault>
         requires { R.failures feed.old < 2 ^ 64 - 1 }
         ensures steps { Steps result
             (λ found. MatchOption found
@@ -117,18 +117,19 @@ impl Script {
         ensures failures { R.failures feed.new ≡ failures_after result (R.failures feed.old) }
         ensures weight { OnOk result (R.calls_left feed.new * 16384 + length self.new.bytes ≤ R.calls_left feed.old * 16384 + length self.old.bytes) }
     {
-        let mut texts = Vec::new(alloc);
+        let mut texts = JoinedLines::new(alloc);
         while texts.len() < count {
             let Some(len) = self.find_line(feed)? else {
                 return Ok(None);
             };
-            texts.push(line_text(alloc, self.front(len))?)?;
+            texts.push_lossy(alloc, self.front(len))?;
             self.use_line(len);
         }
         Ok(Some(texts))
     }
 
     /// How long the next line is, without its LF, or nothing at the end.
+    #[inline(always)]
     fn find_line<R: Feed>(&mut self, feed: &mut R) -> Result<Option<usize>, ToolFault>
         requires { R.failures feed.old < 2 ^ 64 - 1 }
         ensures steps { Steps result
@@ -158,6 +159,7 @@ impl Script {
     }
 
     /// Takes a chunk from the feed, or finds that it has ended.
+    #[inline(never)]
     fn take_more<R: Feed>(&mut self, feed: &mut R) -> Result<(), ToolFault>
         requires feed { R.failures feed.old < 2 ^ 64 - 1 }
         requires open { self.old.is_ended ≡ false }
@@ -214,16 +216,6 @@ impl Script {
         self.searched = self.start;
         self.lines = self.lines.saturating_add(1);
     }
-}
-
-/// The text of a line. Many lines are empty: in these nothing is searched or copied.
-fn line_text(alloc: Global, line: &[u8]) -> Result<String, AllocError>
-    ensures { IfOk result (λ text. string_bytes text ≡ utf8_lossy line.now) }
-{
-    if line.is_empty() {
-        return Ok(String::new(alloc));
-    }
-    String::from_utf8_lossy(alloc, line)
 }
 
 /// Where the first LF stands.

@@ -65,12 +65,12 @@ fn reply_to(
     match command {
         Command::Html => html_reply(alloc, preview),
         Command::Prelude { lines } => {
-            let lines = lent(alloc, lines)?;
+            let lines = lines.lent(alloc)?;
             let answer = preview.set_prelude(&lines, &mut Tally::new());
             edit_reply(alloc, form, preview, before, &answer)
         }
         Command::Edit { at, del, add } => {
-            let lines = lent(alloc, add)?;
+            let lines = add.lent(alloc)?;
             let answer = preview.edit(*at, *del, &lines, &mut Tally::new());
             edit_reply(alloc, form, preview, before, &answer)
         }

@@ -6,8 +6,8 @@ use Rattle.mdtext.specs.EntityTable.{EntityTable}
 use Rattle.mdinline.specs.ParsedText.{ParsedText}
 use Rattle.blockspec.specs.UnitTree.{UnitTree}
 use Rattle.viewspec.specs.View.{reading_of}
-use Rattle.viewlaws.specs.UnitTexts.{readings_under}
-use Rattle.viewlaws.proofs.ReadingsUnder.{unasked_stays}
+use Rattle.viewspec.specs.UnitTexts.{readings_under}
+use Rattle.viewspec.proofs.ReadingsUnder.{unasked_stays}
 use Rattle.mdview.specs.AlikeUnits.{AreAlike}
 use Rattle.mdview.specs.HeldTexts.{labels_before, labels_behind}
 use Rattle.mdview.specs.HeldUnit.{HeldUnit}

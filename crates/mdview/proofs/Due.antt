@@ -3,10 +3,10 @@ use Rattle.std.proofs.Common.{◌≡◌, ℕ, ◌+◌, ◌-◌, ◌≤◌, false
 use Rattle.std.specs.Prelude.{if◌then◌else◌, ◌||◌}
 use Rattle.std.proofs.lemmas.List.{length-map}
 use Rattle.std.proofs.lemmas.Bool.Decides.{nat_tests}
-use Rattle.mdview.specs.declared.fault.EditFault.TheVariants.{TooLarge}
+use Rattle.mdsource.specs.declared.fault.EditFault.TheVariants.{TooLarge}
 use Rattle.mdtext.specs.Lines.{without_nul}
-use Rattle.mdview.specs.Document.{size_of}
-use Rattle.mdview.specs.Edit.{call_of, put, due, first_with_ending}
+use Rattle.mdsource.specs.SourceLimits.{first_with_ending, size_of}
+use Rattle.mdview.specs.Edit.{call_of, put, due}
 use Rattle.mdview.proofs.Sizes.{size_part, size_replaced, length_replaced}
 
 pub due_of_parts : (ls : List (List ℕ)) (at del : ℕ) (add : List (List ℕ)) (gone : ℕ) → at + del ≤ length ls → first_with_ending 0 add ≡ None

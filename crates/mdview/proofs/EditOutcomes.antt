@@ -24,9 +24,9 @@ use Rattle.viewspec.specs.View.{view}
 use Rattle.blockspec.specs.Joins.{joins}
 use Rattle.viewspec.specs.SoonTexts.{texts_of_read, texts_soon, units_read}
 use Rattle.viewspec.specs.Stops.{lines_soon, lines_to_stop}
-use Rattle.viewlaws.specs.UnitTexts.{asking_units, trees_in}
-use Rattle.viewlaws.proofs.AskingUnits.{asking_renumbered, asking_spliced}
-use Rattle.viewlaws.proofs.Counts.{spliced}
+use Rattle.viewspec.specs.UnitTexts.{asking_units, trees_in}
+use Rattle.viewspec.proofs.AskingUnits.{asking_renumbered, asking_spliced}
+use Rattle.viewspec.proofs.Counts.{spliced}
 use Rattle.mdview.specs.declared.held.labels.HeldLabels.{HeldLabels}
 use Rattle.mdview.specs.declared.source.new_text.NewText.{NewText}
 use Rattle.mdview.specs.declared.inlines.concerned_texts.Again.{Again}
@@ -38,7 +38,7 @@ use Rattle.mdview.specs.HeldUnit.{HeldUnit, IsRendered, piece_of, read_of, shown
 use Rattle.mdview.specs.LabelTargets.{led_after, target_held}
 use Rattle.mdview.specs.Lists.{replaced}
 use Rattle.mdview.specs.NewText.{lines_of}
-use Rattle.mdview.specs.Preludes.{HeldPrelude}
+use Rattle.mdsource.specs.Preludes.{HeldPrelude}
 use Rattle.mdview.specs.StopLines.{stops_of}
 use Rattle.mdview.specs.Update.{IsFitFor, IsPatchOf, all_renewed, number_after}
 use Rattle.mdview.proofs.Committed.{committed_brings, committed_rendered}

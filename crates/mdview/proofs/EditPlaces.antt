@@ -19,10 +19,10 @@ use Rattle.mdhtml.specs.declared.options.Options.{Options}
 use Rattle.viewspec.specs.ChangedPieces.{ChangedPieces}
 use Rattle.viewspec.specs.Setting.{Setting, Source}
 use Rattle.viewspec.specs.Stretch.{Places, units_added, units_before, units_removed, from_line, meeting_line}
-use Rattle.viewlaws.specs.UnitTiles.{begins_from, lines_of, tile_of}
-use Rattle.viewlaws.proofs.Counts.{spliced}
-use Rattle.viewlaws.proofs.UnitTiles.{units_tile}
-use Rattle.viewlaws.proofs.UnitPlaces.{small_begins}
+use Rattle.viewspec.specs.UnitTiles.{begins_from, lines_of, tile_of}
+use Rattle.viewspec.proofs.Counts.{spliced}
+use Rattle.viewspec.proofs.UnitTiles.{units_tile}
+use Rattle.viewspec.proofs.UnitPlaces.{small_begins}
 use Rattle.mdview.specs.HeldBlocks.{HoldsUnits, IsReplacing, lines_in, old_lines, places_of, tile_in}
 use Rattle.mdview.specs.HeldUnit.{HeldUnit, ReadUnit, first_line, read_of}
 use Rattle.mdview.specs.NewText.{lines_of as new_lines}

@@ -13,7 +13,7 @@ use Rattle.mdleaf.specs.LinkDefinition.{LinkDefinition}
 use Rattle.blockspec.specs.BlockUnits.{definitions_of, units}
 use Rattle.blockspec.specs.FirstDefinitions.{first_definition}
 use Rattle.blockspec.specs.UnitTree.{FoundUnit, UnitTree}
-use Rattle.blocklaws.proofs.DocumentLaws.{first_of_both}
+use Rattle.blockspec.proofs.DocumentLaws.{first_of_both}
 use Rattle.inlinespec.specs.LabelMap.{target_in}
 use Rattle.inlinespec.specs.LinkTails.{Table}
 use Rattle.viewspec.specs.Changes.{texts_due}
@@ -24,31 +24,32 @@ use Rattle.viewspec.specs.Spliced.{IsSpliced}
 use Rattle.viewspec.specs.Stretch.{Places, from_line, meeting_line, units_added, units_before, units_removed}
 use Rattle.viewspec.specs.View.{viewed}
 use Rattle.blockspec.specs.Nesting.{first_too_deep}
-use Rattle.viewlaws.specs.UnitTexts.{asking_texts, asking_units, deep_found, deep_from, is_deep_under, readings_under, trees_in}
-use Rattle.viewlaws.specs.UnitTiles.{front_of, lines_of, tile_of}
-use Rattle.viewlaws.proofs.AskingUnits.{texts_spliced, trees_of_tiles, trees_spliced}
-use Rattle.viewlaws.proofs.Counts.{spliced}
-use Rattle.viewlaws.proofs.Cuts.{begins_before_end, begins_in, begins_within, no_units}
-use Rattle.viewlaws.proofs.DeepUnits.{deep_spliced, refused_for_spans}
-use Rattle.viewlaws.proofs.LabelsLead.{units_lead}
-use Rattle.viewlaws.proofs.ReadingsUnder.{all_under, asking_texts_under, asking_units_under, deep_found_under, deep_from_under}
-use Rattle.viewlaws.proofs.Splices.{MeetsBehind, from_above, meets_behind}
-use Rattle.viewlaws.proofs.UnitTiles.{units_end}
-use Rattle.viewlaws.specs.LaterTexts.{asking_of}
-use Rattle.viewlaws.proofs.StopTexts.{asking_few}
+use Rattle.viewspec.specs.UnitTexts.{asking_texts, asking_units, deep_found, deep_from, is_deep_under, readings_under, trees_in}
+use Rattle.viewspec.specs.UnitTiles.{front_of, lines_of, tile_of}
+use Rattle.viewspec.proofs.AskingUnits.{texts_spliced, trees_of_tiles, trees_spliced}
+use Rattle.viewspec.proofs.Counts.{spliced}
+use Rattle.viewspec.proofs.Cuts.{begins_before_end, begins_in, begins_within, no_units}
+use Rattle.viewspec.proofs.DeepUnits.{deep_spliced, refused_for_spans}
+use Rattle.viewspec.proofs.LabelsLead.{units_lead}
+use Rattle.viewspec.proofs.ReadingsUnder.{all_under, asking_texts_under, asking_units_under, deep_found_under, deep_from_under}
+use Rattle.viewspec.proofs.Splices.{MeetsBehind, from_above, meets_behind}
+use Rattle.viewspec.proofs.UnitTiles.{units_end}
+use Rattle.viewspec.specs.LaterTexts.{asking_of}
+use Rattle.viewspec.proofs.StopTexts.{asking_few}
 use Rattle.mdblock.specs.FoundLists.{found_unit}
-use Rattle.mdview.specs.declared.fault.EditFault.{EditFault}
-use Rattle.mdview.specs.declared.fault.EditFault.TheVariants.{OutOfRange, BreakInLine, TooManyLines, TooLarge, NestedTooDeep, InlineTooDeep, NoMemory, NotDefinitions}
+use Rattle.mdsource.specs.declared.fault.EditFault.{EditFault}
+use Rattle.mdsource.specs.declared.fault.EditFault.TheVariants.{OutOfRange, BreakInLine, TooManyLines, TooLarge, NestedTooDeep, InlineTooDeep, NoMemory, NotDefinitions}
 use Rattle.mdview.specs.declared.source.new_text.NewText.{NewText}
 use Rattle.mdview.specs.declared.inlines.concerned_texts.Again.{Again}
 use Rattle.mdview.specs.declared.blocks.reparse.Reparsed.{Reparsed}
 use Rattle.mdview.specs.HeldBlocks.{HoldsUnits, IsDeepAt, IsReread as IsReadStretch, held_tile, lines_in, old_lines, places_of, tile_in}
-use Rattle.mdview.specs.HeldTexts.{IsReadUnder, IsRefusedBy, IsReread, IsShallow, IsTextFault, asking_in_parts, between, deep_in_parts, head_read, line_on, texts_in_parts}
+use Rattle.mdview.specs.HeldTexts.{IsReadUnder, IsRefusedBy, IsReread, IsShallow, asking_in_parts, between, deep_in_parts, head_read, line_on, texts_in_parts}
+use Rattle.mdsource.specs.TextFaults.{IsTextFault}
 use Rattle.mdview.specs.HeldUnit.{HeldUnit, read_of, texts_in, unit_in}
 use Rattle.mdview.specs.KeptTexts.{kept_texts, number_kept, texts_with_kept}
 use Rattle.mdview.specs.LabelTargets.{led_by}
 use Rattle.mdview.specs.NewText.{lines_of as new_lines}
-use Rattle.mdview.specs.Preludes.{HeldPrelude, IsDefinedBy, target_beside}
+use Rattle.mdsource.specs.Preludes.{HeldPrelude, IsDefinedBy, target_beside}
 use Rattle.mdview.specs.ReadingFaults.{OfBlocks}
 use Rattle.mdview.proofs.KeptTexts.{kept_within, none_read}
 use Rattle.mdview.proofs.ReadStretches.{is_edit}

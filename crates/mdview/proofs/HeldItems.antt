@@ -20,14 +20,14 @@ use Rattle.blockspec.specs.Joins.{joins}
 use Rattle.mdblock.specs.FoundLists.{FoundList, StandsForUnit}
 use Rattle.viewspec.specs.StoppedInside.{HoldsLine}
 use Rattle.viewspec.specs.UnitItems.{own_joins, own_lines}
-use Rattle.viewlaws.proofs.NearStretch.{never_both}
-use Rattle.viewlaws.proofs.PartedLists.{joins_ascend, joins_within}
+use Rattle.viewspec.proofs.NearStretch.{never_both}
+use Rattle.viewspec.proofs.PartedLists.{joins_ascend, joins_within}
 use Rattle.viewspec.specs.MetInside.{first_line}
-use Rattle.viewlaws.proofs.UnitCuts.{split_behind, unit_ends}
-use Rattle.viewlaws.proofs.UnitJoins.{front_tells, unit_marks, unit_tells}
-use Rattle.viewlaws.proofs.Cuts.{begins_in}
-use Rattle.viewlaws.proofs.StretchReadings.{Ascends}
-use Rattle.viewlaws.specs.UnitTiles.{tile_of}
+use Rattle.viewspec.proofs.UnitCuts.{split_behind, unit_ends}
+use Rattle.viewspec.proofs.UnitJoins.{front_tells, unit_marks, unit_tells}
+use Rattle.viewspec.proofs.Cuts.{begins_in}
+use Rattle.viewspec.proofs.StretchReadings.{Ascends}
+use Rattle.viewspec.specs.UnitTiles.{tile_of}
 use Rattle.mdview.specs.HeldBlocks.{HoldsUnits, lines_in, tile_in}
 use Rattle.mdview.specs.HeldLists.{item_line, list_in}
 use Rattle.mdview.specs.HeldUnit.{HeldUnit, read_of}

@@ -9,14 +9,14 @@ use Rattle.inlinespec.specs.LinkTails.{Table}
 use Rattle.viewspec.specs.LabelTable.{table, with_units}
 use Rattle.viewspec.specs.Refusals.{inline_refusal, inline_too_deep, nesting_refusal}
 use Rattle.viewspec.specs.Setting.{Setting, Source}
-use Rattle.viewlaws.specs.UnitTexts.{asking_in, asking_texts, asking_units, deep_found, deep_from, readings_under}
+use Rattle.viewspec.specs.UnitTexts.{asking_in, asking_texts, asking_units, deep_found, deep_from, readings_under}
 use Rattle.viewspec.specs.Changes.{asks_changed}
 use Rattle.viewspec.specs.View.{reading_of}
 use Rattle.std.proofs.lemmas.List.Sums.{sum_by-cons}
-use Rattle.viewlaws.specs.UnitTiles.{tile_of}
-use Rattle.viewlaws.proofs.Cuts.{no_units}
-use Rattle.viewlaws.proofs.DeepUnits.{deep_of_text, refused_for_spans}
-use Rattle.viewlaws.proofs.ReadingsUnder.{deep_found_under}
+use Rattle.viewspec.specs.UnitTiles.{tile_of}
+use Rattle.viewspec.proofs.Cuts.{no_units}
+use Rattle.viewspec.proofs.DeepUnits.{deep_of_text, refused_for_spans}
+use Rattle.viewspec.proofs.ReadingsUnder.{deep_found_under}
 use Rattle.std.proofs.lemmas.List.{length-map, take_all}
 use Rattle.mdview.specs.declared.held.labels.HeldLabels.{HeldLabels}
 use Rattle.mdview.specs.declared.labels.changes.LabelChanges.{LabelChanges}
@@ -26,7 +26,7 @@ use Rattle.mdview.specs.HeldTexts.{HoldsTexts, IsReadUnder, IsReread, IsShallow,
 use Rattle.mdview.specs.HeldUnit.{HeldUnit, ReadUnit, read_of, texts_in, texts_of, unit_in}
 use Rattle.mdview.specs.LabelTargets.{at, changed, led_after, led_by, target_held}
 use Rattle.mdview.specs.Lists.{replaced}
-use Rattle.mdview.specs.Preludes.{HeldPrelude, IsDefinedBy}
+use Rattle.mdsource.specs.Preludes.{HeldPrelude, IsDefinedBy}
 use Rattle.mdview.specs.Update.{all_renewed}
 use Rattle.mdview.proofs.CommittedTexts.{committed_read}
 use Rattle.mdview.proofs.EditTexts.{all_read_under, all_shallow, led_by_text, lines_are, nested_in_none, none_deep_before, tiles_are, trees_are}

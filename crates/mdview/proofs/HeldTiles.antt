@@ -8,11 +8,11 @@ use Rattle.blockspec.specs.UnitTree.{UnitTree}
 use Rattle.mdblock.specs.FoundLists.{FoundList, found_unit}
 use Rattle.viewspec.specs.Spliced.{IsSpliced}
 use Rattle.viewspec.specs.Stretch.{Places, from_line, meeting_line, units_before, units_removed}
-use Rattle.viewlaws.specs.UnitTiles.{front_of, tile_of}
-use Rattle.viewlaws.proofs.Counts.{spliced}
-use Rattle.viewlaws.proofs.Cuts.{no_units}
-use Rattle.viewlaws.proofs.Splices.{IsEdit}
-use Rattle.viewlaws.proofs.TileSplices.{tiles_spliced}
+use Rattle.viewspec.specs.UnitTiles.{front_of, tile_of}
+use Rattle.viewspec.proofs.Counts.{spliced}
+use Rattle.viewspec.proofs.Cuts.{no_units}
+use Rattle.viewspec.proofs.Splices.{IsEdit}
+use Rattle.viewspec.proofs.TileSplices.{tiles_spliced}
 use Rattle.mdview.specs.HeldBlocks.{HoldsUnits, held_tile, tile_in, unit_lines}
 use Rattle.mdview.specs.HeldLists.{StandForUnits, list_in, list_read, unplaced}
 use Rattle.mdview.specs.HeldUnit.{HeldUnit, read_of}

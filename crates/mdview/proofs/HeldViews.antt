@@ -8,14 +8,14 @@ use Rattle.mdinline.specs.ParsedText.{ParsedText}
 use Rattle.viewspec.specs.LabelTable.{table}
 use Rattle.viewspec.specs.Setting.{Setting}
 use Rattle.viewspec.specs.View.{ViewedUnit, view, viewed}
-use Rattle.viewlaws.specs.UnitTexts.{readings_under, trees_in}
+use Rattle.viewspec.specs.UnitTexts.{readings_under, trees_in}
 use Rattle.mdview.specs.declared.held.labels.HeldLabels.{HeldLabels}
 use Rattle.mdview.specs.HeldBlocks.{HoldsUnits}
 use Rattle.mdview.specs.HeldTexts.{HoldsTexts, IsReadUnder}
 use Rattle.mdview.specs.HeldUnit.{HeldUnit, IsRendered, html_of, piece_of, read_of, shown_in, unit_in}
 use Rattle.mdview.specs.Document.{shown_of}
 use Rattle.mdview.specs.LabelTargets.{target_held}
-use Rattle.mdview.specs.Preludes.{HeldPrelude}
+use Rattle.mdsource.specs.Preludes.{HeldPrelude}
 use Rattle.mdview.proofs.EditTexts.{all_read_under, trees_are}
 use Rattle.mdview.proofs.HeldReadings.{led_by_held}
 use Rattle.mdview.proofs.MemberChanges.{all_first, all_rest}

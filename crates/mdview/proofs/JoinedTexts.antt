@@ -13,12 +13,12 @@ use Rattle.blockspec.specs.Meetings.{joins_list}
 use Rattle.blockspec.specs.NodeTree.{texts_in}
 use Rattle.blockspec.specs.UnitBegin.{shift_found, units_of}
 use Rattle.blockspec.specs.UnitTree.{FoundUnit}
-use Rattle.blocklaws.proofs.BeginLaws.{begins_in}
-use Rattle.blocklaws.proofs.DocumentLaws.{document_units, map_length}
-use Rattle.blocklaws.proofs.UnitReaderLaws.{IsOne}
+use Rattle.blockspec.proofs.BeginLaws.{begins_in}
+use Rattle.blockspec.proofs.DocumentLaws.{document_units, map_length}
+use Rattle.blockspec.proofs.UnitReaderLaws.{IsOne}
 use Rattle.blockspec.specs.ItemMarks.{ItemMark, list_marks}
-use Rattle.blocklaws.proofs.MarkedLines.{MarkedAt, marked_at}
-use Rattle.blocklaws.proofs.UnitsMeet.{DocumentMeets, document_meets_inside}
+use Rattle.blockspec.proofs.MarkedLines.{MarkedAt, marked_at}
+use Rattle.blockspec.proofs.UnitsMeet.{DocumentMeets, document_meets_inside}
 use Rattle.mdblock.specs.FoundLists.{FoundList, StandsForUnit, found_unit}
 use Rattle.mdblock.specs.Spliced.{mark_at, no_mark}
 

@@ -16,13 +16,14 @@ use Rattle.mdinline.specs.declared.faults.InlineFault.{InlineFault}
 use Rattle.mdinline.specs.declared.faults.InlineFault.TheVariants.{TooDeep, NoMemory}
 use Rattle.viewspec.specs.Refusals.{is_deep}
 use Rattle.viewspec.specs.View.{reading_of}
-use Rattle.viewlaws.specs.UnitTexts.{deep_found, is_deep_under}
-use Rattle.viewlaws.proofs.DeepUnits.{found_append}
-use Rattle.viewlaws.specs.LaterTexts.{asking_of}
-use Rattle.mdview.specs.declared.fault.EditFault.{EditFault}
+use Rattle.viewspec.specs.UnitTexts.{deep_found, is_deep_under}
+use Rattle.viewspec.proofs.DeepUnits.{found_append}
+use Rattle.viewspec.specs.LaterTexts.{asking_of}
+use Rattle.mdsource.specs.declared.fault.EditFault.{EditFault}
 use Rattle.mdview.specs.declared.inlines.kept_texts.KeptReadings.{KeptReadings}
 use Rattle.mdview.specs.declared.blocks.reparse.KeptTexts.{KeptTexts}
-use Rattle.mdview.specs.HeldTexts.{IsReadUnder, IsShallow, IsTextFault, line_on, text_fault_in}
+use Rattle.mdview.specs.HeldTexts.{IsReadUnder, IsShallow, line_on}
+use Rattle.mdsource.specs.TextFaults.{IsTextFault, text_fault_in}
 use Rattle.mdview.specs.HeldUnit.{HeldUnit, texts_in}
 use Rattle.mdview.specs.KeptTexts.{AreReadingsOf, IsKept, kept_texts, last_texts, number_kept, number_read, texts_with_kept}
 use Rattle.mdview.proofs.CommittedTexts.{read_member}

@@ -8,7 +8,7 @@ use Rattle.std.proofs.lemmas.List.{drop-drop, map-append, take-append-drop}
 use Rattle.std.proofs.lemmas.Slice.Eq.{bytes_eq-Decides}
 use Rattle.blockspec.specs.FirstDefinitions.{first_definition}
 use Rattle.blockspec.specs.UnitTree.{UnitTree}
-use Rattle.blocklaws.proofs.DocumentLaws.{first_of_both}
+use Rattle.blockspec.proofs.DocumentLaws.{first_of_both}
 use Rattle.inlinespec.specs.LabelMap.{LabelMap, LinkTarget, target_in, target_of}
 use Rattle.mdleaf.specs.LinkDefinition.{LinkDefinition}
 use Rattle.mdtext.specs.declared.labels.Target.{Target}

@@ -22,10 +22,7 @@ pub mod FoundTexts
 pub mod UnitsBetween
 pub mod Splices
 pub mod Committed
-pub mod LineEndings
-pub mod PlainLines
 pub mod BroughtLaws
-pub mod Definings
 pub mod HeldTiles
 pub mod ListsStand
 pub mod ListSplices

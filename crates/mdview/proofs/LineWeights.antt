@@ -4,7 +4,7 @@ use Rattle.std.specs.Prelude.{sum_by}
 use Rattle.std.specs.List.{drop-map, take-map}
 use Rattle.std.proofs.lemmas.List.Sums.{sum_by-cons}
 use Rattle.mdchunks.specs.Lists.{weigh}
-use Rattle.mdview.specs.Document.{size_of}
+use Rattle.mdsource.specs.SourceLimits.{size_of}
 use Rattle.mdview.proofs.Sizes.{size_part}
 
 -- what a line weighs

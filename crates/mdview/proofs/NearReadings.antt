@@ -9,7 +9,7 @@ use Rattle.blockspec.specs.BlockUnits.{units}
 use Rattle.blockspec.specs.Meetings.{joins_list}
 use Rattle.blockspec.specs.Nesting.{first_too_deep}
 use Rattle.blockspec.specs.UnitTree.{FoundUnit, UnitTree}
-use Rattle.blocklaws.proofs.NestingLaws.{moved_on}
+use Rattle.blockspec.proofs.NestingLaws.{moved_on}
 use Rattle.blockspec.specs.Joins.{joins}
 use Rattle.mdblock.specs.FoundLists.{FoundList, StandsForUnit, found_unit}
 use Rattle.mdblock.specs.held.ReaderState.{ReaderState}
@@ -17,13 +17,13 @@ use Rattle.mdblock.specs.held.Reads.{Reads, handed}
 use Rattle.viewspec.specs.StoppedInside.{HoldsLine, IsStoppedIn}
 use Rattle.viewspec.specs.Stops.{Stops, near_line}
 use Rattle.viewspec.specs.UnitItems.{own_lines}
-use Rattle.viewlaws.proofs.NearDepths.{near_deep}
-use Rattle.viewlaws.proofs.NearLines.{IsStop}
-use Rattle.viewlaws.proofs.NearStretch.{joins_told, line_more, near_above, near_there, near_within}
-use Rattle.viewlaws.proofs.StoppedLists.{stopped_in}
+use Rattle.viewspec.proofs.NearDepths.{near_deep}
+use Rattle.viewspec.proofs.NearLines.{IsStop}
+use Rattle.viewspec.proofs.NearStretch.{joins_told, line_more, near_above, near_there, near_within}
+use Rattle.viewspec.proofs.StoppedLists.{stopped_in}
 use Rattle.viewspec.specs.Stretch.{Places, from_line, meeting_line, old_line, units_before, units_removed}
-use Rattle.viewlaws.proofs.ReadLines.{none_deep}
-use Rattle.viewlaws.specs.UnitTiles.{lines_of}
+use Rattle.viewspec.proofs.ReadLines.{none_deep}
+use Rattle.viewspec.specs.UnitTiles.{lines_of}
 use Rattle.mdview.specs.HeldItems.{IsSpliced}
 use Rattle.mdview.specs.HeldLists.{StandsAt}
 use Rattle.mdview.specs.HeldUnit.{texts_in}

@@ -18,14 +18,14 @@ use Rattle.mdblock.specs.held.ReaderState.{ReaderState}
 use Rattle.viewspec.specs.StoppedInside.{HoldsLine}
 use Rattle.viewspec.specs.Stops.{Stops, is_near, lines_to_stop, near_line, stop_line}
 use Rattle.viewspec.specs.UnitItems.{own_joins, own_lines}
-use Rattle.viewlaws.proofs.NearLines.{IsStop}
-use Rattle.viewlaws.proofs.NearStretch.{near_before, near_told, stop_high}
-use Rattle.viewlaws.proofs.PartedLists.{joins_within}
-use Rattle.viewlaws.proofs.UnitJoins.{unit_marks}
+use Rattle.viewspec.proofs.NearLines.{IsStop}
+use Rattle.viewspec.proofs.NearStretch.{near_before, near_told, stop_high}
+use Rattle.viewspec.proofs.PartedLists.{joins_within}
+use Rattle.viewspec.proofs.UnitJoins.{unit_marks}
 use Rattle.viewspec.specs.Stretch.{Places, from_line, is_meeting, meeting_line, old_line}
-use Rattle.viewlaws.specs.UnitTexts.{trees_in}
-use Rattle.viewlaws.proofs.Cuts.{begins_in, begins_within}
-use Rattle.viewlaws.proofs.Splices.{IsEdit, MeetsBehind, meets_behind}
+use Rattle.viewspec.specs.UnitTexts.{trees_in}
+use Rattle.viewspec.proofs.Cuts.{begins_in, begins_within}
+use Rattle.viewspec.proofs.Splices.{IsEdit, MeetsBehind, meets_behind}
 use Rattle.mdview.specs.HeldBlocks.{HoldsUnits, line_before, old_lines, places_of}
 use Rattle.mdview.specs.HeldItems.{IsItemAt, IsItemOf, mark_in}
 use Rattle.mdview.specs.HeldLists.{item_line, list_in}

@@ -8,8 +8,8 @@ use Rattle.inlinespec.specs.LinkTails.{Table}
 use Rattle.mdinline.specs.ParsedText.{ParsedText}
 use Rattle.viewspec.specs.Changes.{asks_changed, leads_elsewhere}
 use Rattle.viewspec.specs.Refusals.{is_deep}
-use Rattle.viewlaws.specs.UnitTexts.{asking_units, asks_again, deep_from, readings_under}
-use Rattle.viewlaws.proofs.ReadingsUnder.{unasked_stays}
+use Rattle.viewspec.specs.UnitTexts.{asking_units, asks_again, deep_from, readings_under}
+use Rattle.viewspec.proofs.ReadingsUnder.{unasked_stays}
 use Rattle.mdview.specs.HeldBlocks.{held_tile}
 use Rattle.mdview.specs.HeldTexts.{IsShallow, labels_before, labels_behind}
 use Rattle.mdview.specs.HeldUnit.{HeldUnit}

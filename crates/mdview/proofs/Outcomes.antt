@@ -8,11 +8,11 @@ use Rattle.viewspec.specs.ChangedPieces.{ChangedPieces}
 use Rattle.viewspec.specs.Changes.{patch_of}
 use Rattle.viewspec.specs.Outcome.{Answer, accepted, refused, ends, goes_on}
 use Rattle.viewspec.specs.Refusals.{Refusal, no_memory}
-use Rattle.mdview.specs.declared.fault.EditFault.{EditFault}
-use Rattle.mdview.specs.declared.fault.EditFault.TheVariants.{OutOfRange, BreakInLine, TooManyLines, TooLarge, NestedTooDeep, InlineTooDeep, NoMemory, NotDefinitions}
+use Rattle.mdsource.specs.declared.fault.EditFault.{EditFault}
+use Rattle.mdsource.specs.declared.fault.EditFault.TheVariants.{OutOfRange, BreakInLine, TooManyLines, TooLarge, NestedTooDeep, InlineTooDeep, NoMemory, NotDefinitions}
 use Rattle.mdview.specs.Document.{Document, document, setting_of, source_of}
 use Rattle.mdview.specs.Edit.{due}
-use Rattle.mdview.specs.FaultReasons.{reason_of}
+use Rattle.mdsource.specs.FaultReasons.{reason_of}
 use Rattle.mdview.specs.HeldTexts.{IsRefusedBy}
 use Rattle.mdview.specs.Outcome.{answer_of, is_starved, outcome_of}
 use Rattle.mdview.proofs.DueReasons.{is_due, none_due}

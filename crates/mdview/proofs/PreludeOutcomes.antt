@@ -18,22 +18,23 @@ use Rattle.viewspec.specs.Patch.{Brings}
 use Rattle.viewspec.specs.Refusals.{inline_refusal, inline_too_deep, not_definitions, prelude_refusal, undefining_line}
 use Rattle.viewspec.specs.Setting.{Setting, Source}
 use Rattle.viewspec.specs.View.{view}
-use Rattle.viewlaws.specs.UnitTexts.{asking_texts, asking_units, deep_from}
-use Rattle.viewlaws.proofs.AskingUnits.{asking_all, asking_renumbered, texts_all}
-use Rattle.viewlaws.proofs.ReadingsUnder.{asking_texts_under, asking_units_under}
-use Rattle.mdview.specs.declared.fault.EditFault.{EditFault}
-use Rattle.mdview.specs.declared.fault.EditFault.TheVariants.{OutOfRange, BreakInLine, TooManyLines, TooLarge, NestedTooDeep, InlineTooDeep, NoMemory, NotDefinitions}
+use Rattle.viewspec.specs.UnitTexts.{asking_texts, asking_units, deep_from}
+use Rattle.viewspec.proofs.AskingUnits.{asking_all, asking_renumbered, texts_all}
+use Rattle.viewspec.proofs.ReadingsUnder.{asking_texts_under, asking_units_under}
+use Rattle.mdsource.specs.declared.fault.EditFault.{EditFault}
+use Rattle.mdsource.specs.declared.fault.EditFault.TheVariants.{OutOfRange, BreakInLine, TooManyLines, TooLarge, NestedTooDeep, InlineTooDeep, NoMemory, NotDefinitions}
 use Rattle.mdview.specs.declared.held.labels.HeldLabels.{HeldLabels}
 use Rattle.mdview.specs.declared.inlines.concerned_texts.Again.{Again}
 use Rattle.mdview.specs.declared.update.Update.{Update}
 use Rattle.mdview.specs.Document.{Document, pieces_of, readings_of, setting_of, source_of}
 use Rattle.mdview.specs.HeldBlocks.{HoldsUnits, held_tile}
-use Rattle.mdview.specs.HeldTexts.{HoldsTexts, IsRefusedBy, IsReread, IsTextFault, number_again}
+use Rattle.mdview.specs.HeldTexts.{HoldsTexts, IsRefusedBy, IsReread, number_again}
+use Rattle.mdsource.specs.TextFaults.{IsTextFault}
 use Rattle.mdview.specs.HeldUnit.{HeldUnit, IsRendered, piece_of, read_of, shown_in, unit_in}
 use Rattle.mdview.specs.LabelTargets.{led_after, led_by, target_held}
 use Rattle.mdview.specs.Lists.{replaced}
 use Rattle.mdview.specs.Outcome.{answer_of, is_starved, outcome_of}
-use Rattle.mdview.specs.Preludes.{HeldPrelude, IsDefinedBy, IsUndefiningAt, RefusesPrelude}
+use Rattle.mdsource.specs.Preludes.{HeldPrelude, IsDefinedBy, IsUndefiningAt, RefusesPrelude}
 use Rattle.mdview.specs.Update.{IsFitFor, IsPatchOf, all_renewed, number_after}
 use Rattle.mdview.proofs.Committed.{committed_brings, committed_rendered}
 use Rattle.mdview.proofs.EditTexts.{texts_refused, trees_are}

@@ -10,10 +10,10 @@ use Rattle.mdtext.specs.EntityTable.{EntityTable}
 use Rattle.blockspec.specs.BlockUnits.{begins}
 use Rattle.mdblock.specs.held.Reads.{last_of, open_begin}
 use Rattle.viewspec.specs.Stretch.{Places, from_line, is_meeting, meeting_line}
-use Rattle.viewlaws.specs.ReadStretch.{IsReadStretch}
-use Rattle.viewlaws.proofs.Cuts.{IsCut}
-use Rattle.viewlaws.proofs.Splices.{IsEdit, found_is, from_cut}
-use Rattle.viewlaws.proofs.StretchReadings.{stretch_begins}
+use Rattle.viewspec.specs.ReadStretch.{IsReadStretch}
+use Rattle.viewspec.proofs.Cuts.{IsCut}
+use Rattle.viewspec.proofs.Splices.{IsEdit, found_is, from_cut}
+use Rattle.viewspec.proofs.StretchReadings.{stretch_begins}
 use Rattle.mdview.specs.HeldBlocks.{old_lines, places_of}
 use Rattle.mdview.specs.NewText.{lines_of as new_lines}
 use Rattle.mdview.specs.declared.source.new_text.NewText.{NewText}

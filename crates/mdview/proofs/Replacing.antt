@@ -5,14 +5,14 @@ use Rattle.std.proofs.lemmas.Bool.Decides.{nat_tests}
 use Rattle.mdtext.specs.EntityTable.{EntityTable}
 use Rattle.blockspec.specs.BlockUnits.{units}
 use Rattle.viewspec.specs.Stretch.{Places, from_line, meeting_line}
-use Rattle.viewlaws.specs.UnitTiles.{front_of, tile_of}
-use Rattle.viewlaws.proofs.TileSplices.{front_kept, front_read}
+use Rattle.viewspec.specs.UnitTiles.{front_of, tile_of}
+use Rattle.viewspec.proofs.TileSplices.{front_kept, front_read}
 use Rattle.mdblock.specs.FoundLists.{found_unit}
 use Rattle.mdview.specs.HeldBlocks.{HoldsUnits, IsReplacing, IsReread, old_lines, places_of, unit_lines}
 use Rattle.mdview.specs.HeldLists.{StandForUnits, list_in, unplaced}
 use Rattle.mdview.specs.HeldUnit.{ReadUnit}
 use Rattle.mdview.specs.NewText.{lines_of}
-use Rattle.mdview.specs.declared.fault.EditFault.{EditFault}
+use Rattle.mdsource.specs.declared.fault.EditFault.{EditFault}
 use Rattle.mdview.specs.declared.source.new_text.NewText.{NewText}
 use Rattle.mdview.specs.declared.blocks.reparse.Reparsed.{Reparsed}
 use Rattle.mdview.specs.declared.update.Update.{Update}

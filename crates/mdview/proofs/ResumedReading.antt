@@ -18,15 +18,15 @@ use Rattle.mdblock.specs.held.Reads.{Reads, handed}
 use Rattle.viewspec.specs.MetInside.{first_line as first_begin}
 use Rattle.viewspec.specs.Stops.{Stops, lines_to_stop, near_line}
 use Rattle.viewspec.specs.UnitItems.{own_lines}
-use Rattle.viewlaws.proofs.NearLines.{IsStop, NearBehind, near_behind}
-use Rattle.viewlaws.proofs.NearStretch.{stop_high}
-use Rattle.viewlaws.proofs.UnitCuts.{next_cut, split_behind, unit_alone, unit_ends, units_parted}
+use Rattle.viewspec.proofs.NearLines.{IsStop, NearBehind, near_behind}
+use Rattle.viewspec.proofs.NearStretch.{stop_high}
+use Rattle.viewspec.proofs.UnitCuts.{next_cut, split_behind, unit_alone, unit_ends, units_parted}
 use Rattle.viewspec.specs.Stretch.{Places, from_line, is_meeting, meeting_line, old_line}
-use Rattle.viewlaws.proofs.Cuts.{IsCut, begins_before_end, begins_in, beginning_kept}
-use Rattle.viewlaws.proofs.Depths.{deep_cut, neither}
-use Rattle.viewlaws.proofs.ReadLines.{none_handed}
-use Rattle.viewlaws.proofs.Splices.{IsEdit, MeetsBehind, meets_behind}
-use Rattle.viewlaws.proofs.StretchReadings.{Ascends, begins_ascend}
+use Rattle.viewspec.proofs.Cuts.{IsCut, begins_before_end, begins_in, beginning_kept}
+use Rattle.viewspec.proofs.Depths.{deep_cut, neither}
+use Rattle.viewspec.proofs.ReadLines.{none_handed}
+use Rattle.viewspec.proofs.Splices.{IsEdit, MeetsBehind, meets_behind}
+use Rattle.viewspec.proofs.StretchReadings.{Ascends, begins_ascend}
 use Rattle.mdview.specs.HeldBlocks.{HoldsUnits}
 use Rattle.mdview.specs.HeldLists.{list_in, unplaced}
 use Rattle.mdview.specs.HeldUnit.{HeldUnit, first_line, read_of}

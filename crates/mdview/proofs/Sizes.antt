@@ -1,10 +1,10 @@
 -- Lengths and sizes of lines where some are replaced.
-use Rattle.std.proofs.Common.{◌≡◌, ℕ, ◌+◌, ◌*◌, ◌^◌, ◌≤◌, ◌<◌, List, ◌++◌, length, take, drop, map, get_or, refl, ap, arith, length-append, length-drop, String, Global, string_bytes}
-use Rattle.std.proofs.lemmas.List.{drop-drop, get_or-map, length-map, length-take-le, map-append}
+use Rattle.std.proofs.Common.{◌≡◌, ℕ, ◌+◌, ◌≤◌, List, ◌++◌, length, take, drop, map, refl, ap, arith, length-append, length-drop}
+use Rattle.std.proofs.lemmas.List.{drop-drop, length-take-le, map-append}
 use Rattle.std.specs.List.{take-map, drop-map}
-use Rattle.std.proofs.lemmas.List.Sums.{get_or-le-sum_by, sum_by-append, sum_by-take-drop}
+use Rattle.std.proofs.lemmas.List.Sums.{sum_by-append, sum_by-take-drop}
 use Rattle.mdview.specs.Lists.{replaced}
-use Rattle.mdview.specs.Document.{size_of}
+use Rattle.mdsource.specs.SourceLimits.{size_of}
 
 pub size_part : (ls : List (List ℕ)) (at del : ℕ) → size_of (take at ls) + size_of (take del (drop at ls)) + size_of (drop (at + del) ls) ≡ size_of ls
 size_part ls at del =
@@ -29,10 +29,3 @@ length_replaced ls add at del within =
 
 pub map_replaced : {A B : Type 0} (f : A → B) (xs add : List A) (at del : ℕ) → map f (replaced xs at del add) ≡ replaced (map f xs) at del (map f add)
 map_replaced f xs add at del = rw (map-append f (take at xs ++ add) (drop (at + del) xs), map-append f (take at xs) add, take-map f at xs, drop-map f (at + del) xs) refl
-
--- a line is no longer than the text
-pub line_fits : (lines : List (String Global)) (i : ℕ) (d : String Global) → i < length lines → size_of (map string_bytes lines) ≤ 16777216 → 4 * length (string_bytes (get_or lines i d)) < 2 ^ 64
-line_fits lines i d below small =
-    let fits = get_or-le-sum_by (λ (line : List ℕ). length line + 1) (map string_bytes lines) i (string_bytes d) (omega (arith, below, length-map lines string_bytes)) in
-    let is = ap length (get_or-map string_bytes lines i d (string_bytes d) below) in
-    omega (arith, fits, small, is)

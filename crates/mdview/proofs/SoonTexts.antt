@@ -13,14 +13,14 @@ use Rattle.inlinespec.specs.LinkTails.{Table}
 use Rattle.viewspec.specs.LabelTable.{table}
 use Rattle.viewspec.specs.Setting.{Setting, Source}
 use Rattle.viewspec.specs.Stretch.{from_line, meeting_line}
-use Rattle.viewlaws.specs.UnitTexts.{asking_in, trees_in}
-use Rattle.viewlaws.proofs.ReadingsUnder.{asking_texts_under}
+use Rattle.viewspec.specs.UnitTexts.{asking_in, trees_in}
+use Rattle.viewspec.proofs.ReadingsUnder.{asking_texts_under}
 use Rattle.viewspec.specs.SoonTexts.{texts_of_read, units_read}
 use Rattle.viewspec.specs.Stops.{Stops, stop_line}
-use Rattle.viewlaws.specs.LaterTexts.{asking_of, later_texts, texts_of, trees_to}
-use Rattle.viewlaws.proofs.NearLines.{IsStop}
-use Rattle.viewlaws.proofs.StopTexts.{soon_by_later}
-use Rattle.viewlaws.proofs.TakenTexts.{many_in_trees}
+use Rattle.viewspec.specs.LaterTexts.{asking_of, later_texts, texts_of, trees_to}
+use Rattle.viewspec.proofs.NearLines.{IsStop}
+use Rattle.viewspec.proofs.StopTexts.{soon_by_later}
+use Rattle.viewspec.proofs.TakenTexts.{many_in_trees}
 use Rattle.mdblock.specs.FoundLists.{found_unit}
 use Rattle.mdview.specs.declared.source.new_text.NewText.{NewText}
 use Rattle.mdview.specs.declared.blocks.reparse.Reparsed.{Reparsed}
@@ -29,7 +29,7 @@ use Rattle.mdview.specs.HeldTexts.{texts_in_parts}
 use Rattle.mdview.specs.HeldUnit.{HeldUnit, read_of, texts_in}
 use Rattle.mdview.specs.KeptTexts.{kept_texts, last_texts, number_kept}
 use Rattle.mdview.specs.NewText.{lines_of as new_lines}
-use Rattle.mdview.specs.Preludes.{HeldPrelude}
+use Rattle.mdsource.specs.Preludes.{HeldPrelude}
 use Rattle.mdview.specs.StopLines.{IsReadToStop, stops_of}
 use Rattle.mdview.proofs.EditTexts.{found_is, texts_by_kept}
 use Rattle.mdview.proofs.ReadStretches.{is_edit}

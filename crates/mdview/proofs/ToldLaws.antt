@@ -132,8 +132,3 @@ module _ {A : Type 0} (unit_of : A → UnitTree) (items : List A) (i : ℕ) (ite
   told_more old new all now before =
       let later = map unit_of (drop (i + 1) items) in
       ap (told_by (definitions_by later) q) now ∙ sym (told_unit (unit_of item) later q old) ∙ sym (ap (λ us. told_by (definitions_by us) q old) rest_is) ∙ before
-
--- the labels of a map of targets
-pub keys_shown : (entries : List (List ℕ × Target)) → map (λ (e : List ℕ × LinkTarget). e.0) (map (λ (e : List ℕ × Target). (e.0, target_of e.1)) entries) ≡ map (λ (e : List ℕ × Target). e.0) entries
-keys_shown [] = refl
-keys_shown (e ∷ entries) = ap (λ ls. e.0 ∷ ls) (keys_shown entries)

@@ -11,11 +11,12 @@ use Rattle.blockspec.specs.UnitTree.{UnitTree}
 use Rattle.inlinespec.specs.LinkTails.{Table}
 use Rattle.mdinline.specs.declared.faults.InlineFault.{InlineFault}
 use Rattle.mdinline.specs.declared.faults.InlineFault.TheVariants as inline
-use Rattle.viewlaws.specs.UnitTexts.{asking_in, asking_texts, asking_units, deep_from, is_deep_under}
-use Rattle.viewlaws.proofs.AskingUnits.{asking_append}
-use Rattle.viewlaws.proofs.DeepUnits.{deep_append}
+use Rattle.viewspec.specs.UnitTexts.{asking_in, asking_texts, asking_units, deep_from, is_deep_under}
+use Rattle.viewspec.proofs.AskingUnits.{asking_append}
+use Rattle.viewspec.proofs.DeepUnits.{deep_append}
 use Rattle.mdview.specs.HeldBlocks.{held_tile, lines_in}
-use Rattle.mdview.specs.HeldTexts.{IsShallow, IsTextFault, between, text_fault_in}
+use Rattle.mdview.specs.HeldTexts.{IsShallow, between}
+use Rattle.mdsource.specs.TextFaults.{IsTextFault, text_fault_in}
 use Rattle.mdview.specs.HeldUnit.{HeldUnit, unit_in}
 
 -- a fault of the texts of a unit, where spans lie too deep in it if that is the fault

@@ -10,8 +10,8 @@ use Rattle.mdchunks.specs.Sequences.{IsLastAt}
 use Rattle.mdtext.specs.EntityTable.{EntityTable}
 use Rattle.blockspec.specs.BlockUnits.{begins}
 use Rattle.viewspec.specs.Stretch.{count_between}
-use Rattle.viewlaws.specs.UnitTiles.{IsAhead, begins_from}
-use Rattle.viewlaws.proofs.UnitPlaces.{resumed_here, resuming_begins, resuming_next, seen_next}
+use Rattle.viewspec.specs.UnitTiles.{IsAhead, begins_from}
+use Rattle.viewspec.proofs.UnitPlaces.{resumed_here, resuming_begins, resuming_next, seen_next}
 use Rattle.mdview.specs.HeldBlocks.{lines_in}
 use Rattle.mdview.specs.HeldUnit.{HeldUnit}
 use Rattle.mdview.proofs.UnitSizes.{begins_at, sizes_here}

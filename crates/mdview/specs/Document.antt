@@ -1,5 +1,6 @@
 -- What a preview is: a text and a prelude, and what they are read with. All else that it shows is their view.
-use Rattle.std.specs.Prelude.{ℕ, List, [], ◌+◌, length, map, sum_by}
+use Rattle.std.specs.Prelude.{ℕ, List, [], map}
+use Rattle.mdtext.specs.EntityTable.{EntityTable}
 use Rattle.mdinline.specs.ParsedText.{ParsedText}
 use Rattle.blockspec.specs.UnitTree.{UnitTree}
 use Rattle.mdhtml.specs.declared.options.Options.{Options}
@@ -8,7 +9,7 @@ use Rattle.viewspec.specs.View.{ViewedUnit, view}
 
 -- the entities and options that it was made with, its lines, and those of its prelude
 pub record Document : Type 0 where
-  pub entities : List (List ℕ × List ℕ)
+  pub entities : EntityTable
   pub options : Options
   pub lines : List (List ℕ)
   pub prelude : List (List ℕ)
@@ -34,7 +35,7 @@ abbrev pub setting_of : Document → Setting
 setting_of held = record { entities = held.entities; options = held.options }
 
 -- a preview that was just made
-abbrev pub empty : List (List ℕ × List ℕ) → Options → Document
+abbrev pub empty : EntityTable → Options → Document
 empty entities options = document (record { entities = entities; options = options }) nothing
 
 -- its units, read from nothing
@@ -51,7 +52,3 @@ shown_of v = (v.unit, v.readings)
 -- the blocks of each, and what its texts read as
 abbrev pub readings_of : Document → List (UnitTree × List ParsedText)
 readings_of held = map shown_of (view_of held)
-
--- the bytes of a text, with one for each line
-abbrev pub size_of : List (List ℕ) → ℕ
-size_of lines = sum_by (λ line. length line + 1) lines

@@ -8,12 +8,12 @@ use Rattle.mdblock.specs.FoundLists.{found_unit}
 use Rattle.mdblock.specs.declared.faults.BlockFault.{BlockFault}
 use Rattle.mdblock.specs.declared.faults.BlockFault.TheVariants as block
 use Rattle.viewspec.specs.Stretch.{Places, from_line, meeting_line, units_before, units_removed}
-use Rattle.viewlaws.specs.UnitTiles.{front_of, tile_of}
+use Rattle.viewspec.specs.UnitTiles.{front_of, tile_of}
 use Rattle.mdview.specs.NewText.{lines_of as new_lines}
 use Rattle.mdview.specs.declared.source.new_text.NewText.{NewText}
 use Rattle.mdview.specs.declared.blocks.reparse.Reparsed.{Reparsed}
-use Rattle.mdview.specs.declared.fault.EditFault.{EditFault}
-use Rattle.mdview.specs.declared.fault.EditFault.TheVariants.{OutOfRange, BreakInLine, TooManyLines, TooLarge, NestedTooDeep, InlineTooDeep, NoMemory, NotDefinitions}
+use Rattle.mdsource.specs.declared.fault.EditFault.{EditFault}
+use Rattle.mdsource.specs.declared.fault.EditFault.TheVariants.{OutOfRange, BreakInLine, TooManyLines, TooLarge, NestedTooDeep, InlineTooDeep, NoMemory, NotDefinitions}
 use Rattle.mdview.specs.declared.update.Update.{Update}
 use Rattle.mdview.specs.HeldLists.{StandForUnits, StandsAt, list_in, list_read}
 use Rattle.mdview.specs.HeldUnit.{HeldUnit, ReadUnit, read_of}

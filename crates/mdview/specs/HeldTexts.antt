@@ -1,13 +1,11 @@
--- What the inline texts of held units read as, which units are read again, and how the reading of texts ends.
+-- What the inline texts of held units read as, which units are read again, and what an edit is refused for then.
 use Rattle.std.specs.Prelude.{◌≡◌, ℕ, ◌+◌, ◌-◌, ◌^◌, false, if◌then◌else◌, nat_eq, min, List, ◌++◌, Option, Some, None, IfSome, drop, length, map, option_map, slice_get, take}
 use Rattle.std.specs.Option.{option_or}
 use Rattle.mdtext.specs.EntityTable.{EntityTable}
 use Rattle.blockspec.specs.UnitTree.{UnitTree}
 use Rattle.inlinespec.specs.LinkTails.{Table}
-use Rattle.mdinline.specs.declared.faults.InlineFault.{InlineFault}
-use Rattle.mdinline.specs.declared.faults.InlineFault.TheVariants as inline
-use Rattle.viewlaws.specs.UnitTexts.{asking_texts, asking_units, deep_found, deep_from, is_deep_under, readings_under, trees_in}
-use Rattle.viewlaws.specs.UnitTiles.{front_of}
+use Rattle.viewspec.specs.UnitTexts.{asking_texts, asking_units, deep_found, deep_from, is_deep_under, readings_under, trees_in}
+use Rattle.viewspec.specs.UnitTiles.{front_of}
 use Rattle.viewspec.specs.Refusals.{Refusal, break_in_line, inline_refusal, inline_too_deep, nested_too_deep, not_definitions, out_of_range, too_large, too_many_lines}
 use Rattle.viewspec.specs.Setting.{Setting, Source}
 use Rattle.mdblock.specs.FoundLists.{found_unit}
@@ -16,8 +14,8 @@ use Rattle.mdview.specs.declared.held.HeldText.{HeldText}
 use Rattle.mdview.specs.NewText.{lines_of as new_lines}
 use Rattle.mdview.specs.HeldBlocks.{held_tile, old_lines}
 use Rattle.mdview.specs.declared.blocks.reparse.Reparsed.{Reparsed}
-use Rattle.mdview.specs.declared.fault.EditFault.{EditFault}
-use Rattle.mdview.specs.declared.fault.EditFault.TheVariants.{OutOfRange, BreakInLine, TooManyLines, TooLarge, NestedTooDeep, InlineTooDeep, NoMemory, NotDefinitions}
+use Rattle.mdsource.specs.declared.fault.EditFault.{EditFault}
+use Rattle.mdsource.specs.declared.fault.EditFault.TheVariants.{OutOfRange, BreakInLine, TooManyLines, TooLarge, NestedTooDeep, InlineTooDeep, NoMemory, NotDefinitions}
 use Rattle.mdview.specs.declared.inlines.concerned_texts.Again.{Again}
 use Rattle.mdview.specs.declared.inlines.UnitTextReader.{UnitTextReader}
 use Rattle.mdview.specs.declared.pieces.text_room.TextRoom.{TextRoom}
@@ -25,7 +23,7 @@ use Rattle.mdview.specs.HeldUnit.{HeldUnit, unit_in}
 use Rattle.mdview.specs.KeptTexts.{number_kept, texts_with_kept}
 use Rattle.mdview.specs.LabelTargets.{Leads, target_after, target_held}
 use Rattle.std.specs.List.{All}
-use Rattle.mdview.specs.Preludes.{HeldPrelude, IsDefinedBy}
+use Rattle.mdsource.specs.Preludes.{HeldPrelude, IsDefinedBy}
 use Rattle.mdview.specs.declared.held.labels.HeldLabels.{HeldLabels}
 
 -- the texts of the unit were read under these labels
@@ -42,22 +40,6 @@ IsReread e labels units again = IfSome (slice_get units again.unit) (λ u. again
 
 abbrev pub number_again : Again → ℕ
 number_again again = again.unit
-
--- a fault of the reading of inline texts, where at this line, if any, the first unit begins in which spans lie too deep
-abbrev pub IsTextFault : (deep : Option ℕ) → EditFault → Type 0
-IsTextFault deep (InlineTooDeep line) = deep ≡ Some line
-IsTextFault deep NoMemory = Unit {0}
-IsTextFault deep (NestedTooDeep line) = ⊥
-IsTextFault deep TooManyLines = ⊥
-IsTextFault deep TooLarge = ⊥
-IsTextFault deep (OutOfRange lines) = ⊥
-IsTextFault deep (BreakInLine index) = ⊥
-IsTextFault deep (NotDefinitions line) = ⊥
-
--- the fault of an edit for a fault of the reading of the texts of a unit which begins at a line
-abbrev pub text_fault_in : InlineFault → ℕ → EditFault
-text_fault_in inline.TooDeep line = InlineTooDeep line
-text_fault_in inline.NoMemory line = NoMemory
 
 -- the entities that texts are read with
 abbrev pub entities_in : TextRoom → EntityTable

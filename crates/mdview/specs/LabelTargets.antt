@@ -11,7 +11,7 @@ use Rattle.mdleaf.specs.LinkDefinition.{LinkDefinition}
 use Rattle.mdtext.specs.declared.labels.Target.{Target}
 use Rattle.viewspec.specs.Changes.{leads_elsewhere}
 use Rattle.viewspec.specs.LabelTable.{table_of}
-use Rattle.mdview.specs.Preludes.{HeldPrelude, target_beside}
+use Rattle.mdsource.specs.Preludes.{HeldPrelude, target_beside}
 use Rattle.mdview.specs.declared.held.labels.HeldLabels.{HeldLabels}
 use Rattle.mdview.specs.declared.labels.changes.LabelsAfter.{LabelsAfter}
 use Rattle.mdview.specs.declared.labels.changes.LabelChanges.{LabelChanges}

@@ -9,13 +9,9 @@ pub mod Lists
 pub mod Document
 pub mod Edit
 pub mod Outcome
-pub mod Preludes
-pub mod Defining
 pub mod HeldBlocks
 pub mod HeldItems
 pub mod Run
-pub mod FaultNames
-pub mod FaultReasons
 pub mod NewText
 pub mod LabelTargets
 pub mod ToldLabels

@@ -3,10 +3,10 @@ use Rattle.std.specs.Prelude.{Bool, true, false, Result, Ok, Err}
 use Rattle.viewspec.specs.Calls.{Call}
 use Rattle.viewspec.specs.ChangedPieces.{ChangedPieces}
 use Rattle.viewspec.specs.Outcome.{Answer, accepted, refused, outcome}
-use Rattle.mdview.specs.declared.fault.EditFault.{EditFault}
-use Rattle.mdview.specs.declared.fault.EditFault.TheVariants.{OutOfRange, BreakInLine, TooManyLines, TooLarge, NestedTooDeep, InlineTooDeep, NoMemory, NotDefinitions}
+use Rattle.mdsource.specs.declared.fault.EditFault.{EditFault}
+use Rattle.mdsource.specs.declared.fault.EditFault.TheVariants.{OutOfRange, BreakInLine, TooManyLines, TooLarge, NestedTooDeep, InlineTooDeep, NoMemory, NotDefinitions}
 use Rattle.mdview.specs.Document.{Document, document, setting_of, source_of}
-use Rattle.mdview.specs.FaultReasons.{reason_of}
+use Rattle.mdsource.specs.FaultReasons.{reason_of}
 
 -- memory was refused
 abbrev pub is_starved : {T : Type 0} → Result T EditFault → Bool

@@ -9,7 +9,7 @@ use Rattle.mdtext.specs.declared.labels.Target.{Target}
 use Rattle.viewspec.specs.Changes.{is_same_target}
 use Rattle.viewspec.specs.LabelTable.{target_defined}
 use Rattle.mdview.specs.LabelTargets.{at, definitions_by, target_held}
-use Rattle.mdview.specs.Preludes.{HeldPrelude, target_beside}
+use Rattle.mdsource.specs.Preludes.{HeldPrelude, target_beside}
 use Rattle.mdview.specs.declared.held.labels.HeldLabels.{HeldLabels}
 use Rattle.mdview.specs.declared.labels.touched.TouchedLabels.{TouchedLabels}
 

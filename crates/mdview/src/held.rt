@@ -8,11 +8,15 @@ pub(crate) mod units;
 
 use crate::held::labels::HeldLabels;
 use crate::held::units::HeldUnit;
-use crate::source::preludes::Prelude;
 use mdchunks::Chunks;
 use mdhtml::Options;
+use mdsource::Prelude;
 use mdtext::Entities;
 use std::alloc::Global;
+
+/// Members that are put among others are asked to have room for 64 more (`Chunks::reserve_splice`), and one may be added before: a list that has this much
+/// room from the beginning need not grow.
+pub(crate) const SPLICE_ROOM: usize = 65;
 
 /// What an edit finds held.
 #[derive(Clone, Copy)]

@@ -6,18 +6,19 @@ ghost use Rattle.mdinline.specs.declared.faults.InlineFault.TheVariants.{TooDeep
 ghost use Rattle.mdtext.specs.Counted.{counted};
 ghost use Rattle.viewspec.specs.Refusals.{is_deep};
 ghost use Rattle.viewspec.specs.View.{reading_of};
-ghost use Rattle.mdview.specs.HeldTexts.{entities_in, labels_behind, text_fault_in};
+ghost use Rattle.mdview.specs.HeldTexts.{entities_in, labels_behind};
+ghost use Rattle.mdsource.specs.TextFaults.{text_fault_in};
 
 mod alike_texts;
 pub(crate) mod concerned_texts;
 mod found_texts;
 pub(crate) mod kept_texts;
 
-use crate::fault::EditFault;
 use crate::labels::changes::LabelsAfter;
 use crate::pieces::text_room::TextRoom;
 use mdhtml::Options;
 use mdinline::{InlineFault, Parsed};
+use mdsource::EditFault;
 use mdtext::Count;
 use std::alloc::Global;
 

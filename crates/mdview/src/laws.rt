@@ -1,9 +1,10 @@
 //! What holds of any list of edits and new preludes.
 ghost use Rattle.std.specs.Prelude.{◌≡◌, ℕ, Bool, Err, List};
+ghost use Rattle.mdtext.specs.EntityTable.{EntityTable};
 ghost use Rattle.mdhtml.specs.declared.options.Options.{Options};
 ghost use Rattle.viewspec.specs.Setting.{Setting};
 ghost use Rattle.viewspec.specs.Calls.{Call};
-ghost use Rattle.mdview.specs.declared.fault.EditFault.{EditFault};
+ghost use Rattle.mdsource.specs.declared.fault.EditFault.{EditFault};
 ghost use Rattle.mdview.specs.Document.{Document, document, empty, nothing};
 ghost use Rattle.mdview.specs.Outcome.{answer_of, outcome_of};
 ghost use Rattle.mdview.specs.Run.{Turn, after, held_after};
@@ -12,7 +13,7 @@ ghost use Rattle.mdview.specs.Run.{Turn, after, held_after};
 /// that of the lines and the prelude which the accepted calls have put, whichever calls were refused and whyever. What it shows
 /// is the view of these: each of its answers is that of `view_of`.
 pub fn edits_leave_the_present_text()
-    ensures { (entities : List (List ℕ × List ℕ)) (options : Options) (turns : List Turn)
+    ensures { (entities : EntityTable) (options : Options) (turns : List Turn)
         → let setting : Setting = record { entities = entities; options = options } in
         held_after (empty entities options) turns ≡ document setting (after setting nothing turns) }
 {}

@@ -11,32 +11,30 @@ ghost use Rattle.viewspec.specs.Calls.{due_at_once, put, set_prelude};
 ghost use Rattle.viewspec.specs.SoonTexts.{texts_soon};
 ghost use Rattle.viewspec.specs.Stops.{lines_soon};
 ghost use Rattle.viewspec.specs.Patch.{Brings};
-ghost use Rattle.mdview.specs.Document.{empty, pieces_of, readings_of, setting_of, size_of, source_of};
-ghost use Rattle.mdview.specs.Edit.{call_of, due, has_special};
+ghost use Rattle.mdview.specs.Document.{empty, pieces_of, readings_of, setting_of, source_of};
+ghost use Rattle.mdsource.specs.SourceLimits.{has_special, size_of};
+ghost use Rattle.mdview.specs.Edit.{call_of, due};
 ghost use Rattle.mdview.specs.HeldUnit.{HeldUnit, piece_of, shown_in, unit_edges};
 ghost use Rattle.mdview.specs.Outcome.{answer_of, is_starved, outcome_of};
-ghost use Rattle.mdview.specs.Preludes.{IsUndefining};
+ghost use Rattle.mdsource.specs.Preludes.{IsUndefining};
 
 use crate::blocks::held_places::begin_of;
 use crate::commit::{commit, commit_readings};
-use crate::fault::EditFault;
-use crate::held::HeldText;
 use crate::held::labels::HeldLabels;
 use crate::held::units::HeldUnit;
+use crate::held::{HeldText, SPLICE_ROOM};
 use crate::patch::Patch;
 use crate::pieces::Pieces;
-use crate::source::clean::clean_lines;
-use crate::source::limits::{
-    MAX_LINES, MAX_SIZE, SPLICE_ROOM, are_plain, clean_size, first_line_break,
-};
-use crate::source::lines::Lines;
 use crate::source::new_text::NewText;
-use crate::source::preludes::Prelude;
 use crate::update::Update;
 use mdblock::Unit;
 use mdchunks::Chunks;
 use mdhtml::Options;
 use mdinline::Parsed;
+use mdsource::{
+    EditFault, Lines, MAX_LINES, MAX_SIZE, Prelude, are_plain, clean_lines, clean_size,
+    first_line_break,
+};
 use mdtext::{Count, Entities};
 use mdwalk::Walk;
 use std::alloc::{AllocError, Global};
@@ -62,7 +60,8 @@ impl Model for Preview {
     ghost use Rattle.std.specs.List.{All};
     ghost use Rattle.blockspec.specs.Nesting.{first_too_deep};
     ghost use Rattle.mdhtml.specs.Limits.{HasLimits};
-    ghost use Rattle.mdview.specs.Document.{Document, size_of};
+    ghost use Rattle.mdview.specs.Document.{Document};
+    ghost use Rattle.mdsource.specs.SourceLimits.{size_of};
     ghost use Rattle.mdview.specs.HeldBlocks.{HoldsUnits};
     ghost use Rattle.mdview.specs.HeldTexts.{HoldsTexts};
     ghost use Rattle.mdview.specs.HeldUnit.{IsRendered, read_of};

@@ -1,9 +1,4 @@
-//! What is handed in: the lines of a text, and a prelude.
+//! The lines that an edit would leave.
 
-pub(crate) mod clean;
-mod defining;
-pub(crate) mod limits;
-pub(crate) mod lines;
 mod lines_ahead;
 pub(crate) mod new_text;
-pub(crate) mod preludes;

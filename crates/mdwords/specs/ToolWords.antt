@@ -51,8 +51,8 @@ with_names app = with_rule (with_rule app (valued_rule (codes "entities"))) (fla
 -- the options of how a text is read, and what a stop says
 abbrev pub with_reading : App → App
 with_reading app =
-    with_rule (with_rule (with_rule (with_rule app
-    (valued_rule (codes "prelude"))) (valued_rule (codes "max-containers"))) (valued_rule (codes "max-spans"))) (flag_rule (codes "explain"))
+    with_rule (with_rule (with_rule (with_rule (with_rule app
+    (flag_rule (codes "strikethrough-double-tilde"))) (valued_rule (codes "prelude"))) (valued_rule (codes "max-containers"))) (valued_rule (codes "max-spans"))) (flag_rule (codes "explain"))
 
 -- the option of what replies tell, which `mdpreview` has
 abbrev pub has_lines : Text → Bool
@@ -138,6 +138,7 @@ pub record WordsRead (words : List Text) (read : Words) : Type 0 where
   pub options : OptionsRead matches read.options
   pub entities : option_map string_bytes read.entities ≡ first_value (found_of matches) (codes "entities")
   pub html_entities : IsHtml (first_value (found_of matches) (codes "entities")) (is_on matches (codes "html-entities")) read.html_entities
+  pub double_tilde : read.double_tilde ≡ is_on matches (codes "strikethrough-double-tilde")
   pub prelude : option_map string_bytes read.prelude ≡ first_value (found_of matches) (codes "prelude")
   pub file : option_map string_bytes read.file ≡ first_value (found_of matches) (codes "file")
   pub explains : read.explains ≡ is_on matches (codes "explain")

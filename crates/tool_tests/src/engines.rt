@@ -3,6 +3,7 @@
 mod kept_units;
 mod limits;
 mod preludes;
+mod tildes;
 mod tools;
 mod worked_texts;
 

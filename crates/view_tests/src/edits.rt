@@ -55,7 +55,7 @@ const BULLETS: [&str; 16] = [
     "- x [k]",
 ];
 
-/// The same of one ordered list.
+/// Lines of one ordered list, in whose items stand other blocks, definitions and labels.
 const NUMBERS: [&str; 16] = [
     "1. x [k]",
     "7. > q [m]",

@@ -32,12 +32,12 @@ pub(crate) enum Step {
         add: &'static [&'static str],
         fault: Option<EditFault>,
     },
-    /// The same with so many lines of nothing in front.
+    /// Adds so many lines of nothing in front, and is refused for this, if for anything. What is read is counted on.
     TryBlanks {
         len: usize,
         fault: Option<EditFault>,
     },
-    /// The same with a new line of so many letters.
+    /// Adds a line of so many letters at line `at`, and is refused for this, if for anything. What is read is counted on.
     TryLetters {
         at: usize,
         len: usize,
@@ -48,7 +48,7 @@ pub(crate) enum Step {
         lines: &'static [&'static str],
         fault: Option<EditFault>,
     },
-    /// The same with so many lines of nothing.
+    /// Sets a prelude of so many lines of nothing, and is refused for this, if for anything. What is read is counted on.
     TryBlankPrelude {
         len: usize,
         fault: Option<EditFault>,

@@ -14,3 +14,7 @@ pub mod SoonTexts
 pub mod MetInside
 pub mod UnitItems
 pub mod StoppedInside
+pub mod ReadStretch
+pub mod UnitTiles
+pub mod UnitTexts
+pub mod LaterTexts

@@ -41,15 +41,35 @@ goes_on continuation.Between = false
 goes_on (continuation.Next marker) = false
 goes_on (continuation.Outside opening) = false
 
--- no line of a list
+-- no line of a list, and no lazy one
 abbrev pub IsOfLeaf : Continuation → Type 0
 IsOfLeaf continuation.Matched = Unit {0}
 IsOfLeaf (continuation.Underlines level) = Unit {0}
 IsOfLeaf continuation.Delimits = Unit {0}
-IsOfLeaf continuation.Lazy = Unit {0}
+IsOfLeaf continuation.Lazy = ⊥
 IsOfLeaf continuation.Between = ⊥
 IsOfLeaf (continuation.Next marker) = ⊥
 IsOfLeaf (continuation.Outside opening) = Unit {0}
+
+-- and none that makes another block of a paragraph
+abbrev pub IsPlain : Continuation → Type 0
+IsPlain continuation.Matched = Unit {0}
+IsPlain (continuation.Underlines level) = ⊥
+IsPlain continuation.Delimits = ⊥
+IsPlain continuation.Lazy = ⊥
+IsPlain continuation.Between = ⊥
+IsPlain (continuation.Next marker) = ⊥
+IsPlain (continuation.Outside opening) = Unit {0}
+
+-- what makes another block of a paragraph
+abbrev pub IsTurn : Continuation → Type 0
+IsTurn continuation.Matched = ⊥
+IsTurn (continuation.Underlines level) = Unit {0}
+IsTurn continuation.Delimits = Unit {0}
+IsTurn continuation.Lazy = ⊥
+IsTurn continuation.Between = ⊥
+IsTurn (continuation.Next marker) = ⊥
+IsTurn (continuation.Outside opening) = ⊥
 
 -- what that does to a paragraph of so many lines
 abbrev pub step_view : (lines : ℕ) → Continuation → Step
@@ -61,15 +81,16 @@ step_view lines continuation.Between = IsOverBefore
 step_view lines (continuation.Next marker) = IsOverBefore
 step_view lines (continuation.Outside opening) = IsOverBefore
 
--- of an open paragraph it is what the definition says, and a delimiter row fits what is held of the last line
+-- Of an open paragraph it is what the definition says, and a delimiter row fits what is held of the last line. No line turns another leaf.
 abbrev pub ContinuesLeaf : Leaf → BlockLine → Continuation → Type 0
 ContinuesLeaf (leaf.Paragraph p) l c =
     ((lines : List BlockLine) → HoldsLines lines p → step_view (length lines) c ≡ paragraph_step l.lazy (is_blank_line l) (start Inside lines l))
     × (c ≡ continuation.Delimits → begins_table (drop p.last p.text) (rest l) ≡ true)
-ContinuesLeaf (leaf.Fence f) l c = Unit {0}
-ContinuesLeaf (leaf.Html h) l c = Unit {0}
-ContinuesLeaf (leaf.Code k) l c = Unit {0}
-ContinuesLeaf (leaf.Table t) l c = Unit {0}
+    × IsOfLeaf c
+ContinuesLeaf (leaf.Fence f) l c = IsPlain c
+ContinuesLeaf (leaf.Html h) l c = IsPlain c
+ContinuesLeaf (leaf.Code k) l c = IsPlain c
+ContinuesLeaf (leaf.Table t) l c = IsPlain c
 
 -- An item goes on with a lazy line, or with a blank one, where a line has not its columns.
 abbrev pub ContinuesList : BlockLine → Continuation → Type 0

@@ -28,7 +28,8 @@ left_behind first (b ∷ text) = taken first (b ∷ text) ∷ []
 
 -- a leaf as the block that is found, and its texts behind those that were handed in
 abbrev pub IsLeafIn : Leaf → (old new : List (List ℕ)) → Option Block → Type 0
-IsLeafIn leaf old new found = MatchOption found ⊥ (λ b. block (block_view b) no_blocks ≡ leaf_block (length old) leaf no_blocks) × (new ≡ old ++ leaf_texts leaf)
+IsLeafIn leaf old new found =
+    MatchOption found ⊥ (λ b. block (block_view b) no_blocks ≡ leaf_block (length old) leaf no_blocks) × (new ≡ old ++ leaf_texts leaf)
 
 -- of no leaf or one; more are not handed in at once
 abbrev pub IsHandedIn : List Leaf → (old new : List (List ℕ)) → Option Block → Type 0

@@ -123,12 +123,14 @@ abbrev pub StandsForLast : EntityTable → (at : ℕ) → OpenBlock → (before 
 StandsForLast entities at open_block.Shut before nothing_yet = before ≡ []
 StandsForLast entities at open_block.Shut before (ended_block g) = is_list g.part ≡ false
 StandsForLast entities at (open_block.Leaf held) before (open_leaf begin gap kept) = StandsForLeaf entities at held kept
-StandsForLast entities at (open_block.Quote' p over last in_item begun blank spaced) before (open_container begin gap bare Quote (summary inner kept blank_last lines)) =
+StandsForLast entities at (open_block.Quote' p over last in_item begun blank spaced) before
+    (open_container begin gap bare Quote (summary inner kept blank_last lines)) =
     StandsForOver entities at false over.items in_item begun blank spaced (summary inner kept blank_last lines)
     × StandsForLast entities (behind_over entities at false inner kept) last inner kept
 StandsForLast entities at (open_block.List' p over last in_item begun blank spaced list) before (ended_block g) =
     StandsForList (at) list before g.gap g.part × IsFresh over.items last in_item begun blank spaced
-StandsForLast entities at (open_block.List' p over last in_item begun blank spaced list) before (open_container begin gap bare (Item marker needed) (summary inner kept blank_last lines)) =
+StandsForLast entities at (open_block.List' p over last in_item begun blank spaced list) before
+    (open_container begin gap bare (Item marker needed) (summary inner kept blank_last lines)) =
     let items = list_of before (kind_of marker) gap in
     let from = at + length (texts_in_items items.items) in
     (list.item_open ≡ true) × (list.needed ≡ needed) × (bare ≡ not begun) × StandsForItems at list items
@@ -196,7 +198,8 @@ found_between entities s fed begin = record { begin = begin; lines = fed - begin
 
 -- the same with its later items
 abbrev pub list_between : EntityTable → Summary → List ItemMark → (fed begin : ℕ) → FoundList
-list_between entities s marks fed begin = record { begin = begin; lines = fed - begin; unit = unit_of (closed_nodes entities false s); marks = marks; parted = is_parted_after entities s }
+list_between entities s marks fed begin =
+    record { begin = begin; lines = fed - begin; unit = unit_of (closed_nodes entities false s); marks = marks; parted = is_parted_after entities s }
 
 -- What a reader holds gives the unit of its lines, if one has begun.
 abbrev pub GivesUnit : OpenUnit → (fed : ℕ) → Option FoundList → Type 0
@@ -205,4 +208,5 @@ GivesUnit held fed found =
 
 -- whether a paragraph is open at the end
 abbrev pub EndsIn : Level → Bool → Type 0
-EndsIn level result = (entities : EntityTable) (at : ℕ) (in_item : Bool) (s : Summary) → StandsFor entities at in_item level s → result ≡ is_text (summary_tip s)
+EndsIn level result =
+    (entities : EntityTable) (at : ℕ) (in_item : Bool) (s : Summary) → StandsFor entities at in_item level s → result ≡ is_text (summary_tip s)

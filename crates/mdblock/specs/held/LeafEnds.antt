@@ -20,10 +20,14 @@ use Rattle.mdblock.specs.declared.leaf.Leaf.TheVariants as leaf
 
 -- Its block and its texts. Those of a table have been handed in; where its cells stand `IsTableEnd` says.
 abbrev pub IsEndOf : EntityTable → (at_front : Bool) → Kind → (first : BlockLine) → (later : List BlockLine) → (old new : List (List ℕ)) → Option Block → Type 0
-IsEndOf entities at_front Paragraph first later old new found = IsHandedIn (left_behind at_front (behind_definitions (paragraph_text (map rest (first ∷ later))))) old new found
-IsEndOf entities at_front (FencedCode indentation mark length info closed) first later old new found = IsLeafIn (code_leaf (code_language entities info) (code_meta entities info) (code_text indentation later)) old new found
-IsEndOf entities at_front IndentedCode first later old new found = IsLeafIn (code_leaf [] [] (code_text 4 (without_end_blank_lines (first ∷ later)))) old new found
-IsEndOf entities at_front (HtmlBlock kind) first later old new found = IsLeafIn (html_leaf (joined_lines (map (λ l. l.line.text) (first ∷ later)))) old new found
+IsEndOf entities at_front Paragraph first later old new found =
+    IsHandedIn (left_behind at_front (behind_definitions (paragraph_text (map rest (first ∷ later))))) old new found
+IsEndOf entities at_front (FencedCode indentation mark length info closed) first later old new found =
+    IsLeafIn (code_leaf (code_language entities info) (code_meta entities info) (code_text indentation later)) old new found
+IsEndOf entities at_front IndentedCode first later old new found =
+    IsLeafIn (code_leaf [] [] (code_text 4 (without_end_blank_lines (first ∷ later)))) old new found
+IsEndOf entities at_front (HtmlBlock kind) first later old new found =
+    IsLeafIn (html_leaf (joined_lines (map (λ l. l.line.text) (first ∷ later)))) old new found
 IsEndOf entities at_front (Table above) first later old new found = IsBlockOf (leaf_from (Table above) first later) (found_view found) × (new ≡ old)
 IsEndOf entities at_front kind first later old new found = Unit {0}
 

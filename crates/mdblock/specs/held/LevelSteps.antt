@@ -118,6 +118,16 @@ IsLeafStart (Some (o.Html kind)) = Unit {0}
 IsLeafStart (Some o.Break) = Unit {0}
 IsLeafStart (Some o.Code) = Unit {0}
 
+-- neither a container nor a heading, which is over with its line
+abbrev pub OpensLeaf : BlockStart → Type 0
+OpensLeaf o.Quote = ⊥
+OpensLeaf (o.Item marker) = ⊥
+OpensLeaf (o.Heading heading) = ⊥
+OpensLeaf (o.Fence fence) = Unit {0}
+OpensLeaf (o.Html kind) = Unit {0}
+OpensLeaf o.Break = Unit {0}
+OpensLeaf o.Code = Unit {0}
+
 -- the list of the last group, if it is one
 abbrev pub last_mark : List Group → Option ListKind
 last_mark [] = None
@@ -175,7 +185,9 @@ WasBlank (open_container begin gap bare (Item marker needed) (summary before las
 
 -- whether a blank line that was read last is content of fenced code or an HTML block
 abbrev pub IsVerbatim : OpenBlock → Bool → Type 0
-IsVerbatim held result = (entities : EntityTable) (at : ℕ) (before : List Group) (last : Last) → StandsForLast entities at held before last → WasBlank last → result ≡ is_verbatim (last_tip last)
+IsVerbatim held result =
+    (entities : EntityTable) (at : ℕ) (before : List Group) (last : Last) → StandsForLast entities at held before last → WasBlank last
+    → result ≡ is_verbatim (last_tip last)
 
 -- ---- the items of a list
 
@@ -204,14 +216,16 @@ EndsOpenItem inner list before new new_list after =
 abbrev pub EndsItem : Level → OpenList → (before : Gathering) → Level → OpenList → (after : Gathering) → Type 0
 EndsItem inner list before new new_list after =
     (list.item_open ≡ true → EndsOpenItem inner list before new new_list after)
-    × (list.item_open ≡ false → (new ≡ inner) × (new_list ≡ list) × (gathered_texts after ≡ gathered_texts before) × (gathered_definitions after ≡ gathered_definitions before))
+    × (list.item_open ≡ false → (new ≡ inner) × (new_list ≡ list)
+    × (gathered_texts after ≡ gathered_texts before) × (gathered_definitions after ≡ gathered_definitions before))
 
 -- the list that goes on with an item more
 abbrev pub goes_on_with : OpenList → (needed : ℕ) → (gap : Bool) → OpenList
 goes_on_with list needed gap = record list { item_open = true; needed = needed; loose = list.loose || gap }
 
 -- The next item begins behind the one that ended.
-pub record BeginsItem (marker : Marker) (inner : Level) (list : OpenList) (gap : Bool) (before : Gathering) (l : BlockLine) (new : Level) (new_list : OpenList) (after : Gathering) (il : BlockLine) : Type 0 where
+pub record BeginsItem (marker : Marker) (inner : Level) (list : OpenList) (gap : Bool) (before : Gathering) (l : BlockLine) (new : Level)
+    (new_list : OpenList) (after : Gathering) (il : BlockLine) : Type 0 where
   pub ended : OpenList
   pub needed : ℕ
   pub ends : EndsItem inner list before new ended after
@@ -223,13 +237,19 @@ abbrev pub IsKept : Level → OpenList → (before : Gathering) → Level → Op
 IsKept inner list before new new_list after = (new ≡ inner) × (new_list ≡ list) × (after ≡ before)
 
 -- what a line of an open list does, by how it continues the list
-abbrev pub EntersItem : Continuation → Level → OpenList → (gap : Bool) → (before : Gathering) → BlockLine → (new : Level) → OpenList → (after : Gathering) → BlockLine → Entry → Type 0
-EntersItem continuation.Matched inner list gap before l new new_list after il made = IsKept inner list before new new_list after × (made ≡ entry.Goes) × (il ≡ without_columns l list.needed)
-EntersItem (continuation.Underlines level) inner list gap before l new new_list after il made = IsKept inner list before new new_list after × (made ≡ entry.Goes) × (il ≡ without_columns l list.needed)
-EntersItem continuation.Delimits inner list gap before l new new_list after il made = IsKept inner list before new new_list after × (made ≡ entry.Goes) × (il ≡ without_columns l list.needed)
-EntersItem continuation.Lazy inner list gap before l new new_list after il made = IsKept inner list before new new_list after × (made ≡ entry.Goes) × (il ≡ as_lazy l)
+abbrev pub EntersItem : Continuation → Level → OpenList → (gap : Bool) → (before : Gathering) → BlockLine → (new : Level) → OpenList → (after : Gathering)
+    → BlockLine → Entry → Type 0
+EntersItem continuation.Matched inner list gap before l new new_list after il made =
+    IsKept inner list before new new_list after × (made ≡ entry.Goes) × (il ≡ without_columns l list.needed)
+EntersItem (continuation.Underlines level) inner list gap before l new new_list after il made =
+    IsKept inner list before new new_list after × (made ≡ entry.Goes) × (il ≡ without_columns l list.needed)
+EntersItem continuation.Delimits inner list gap before l new new_list after il made =
+    IsKept inner list before new new_list after × (made ≡ entry.Goes) × (il ≡ without_columns l list.needed)
+EntersItem continuation.Lazy inner list gap before l new new_list after il made =
+    IsKept inner list before new new_list after × (made ≡ entry.Goes) × (il ≡ as_lazy l)
 EntersItem continuation.Between inner list gap before l new new_list after il made = EndsItem inner list before new new_list after × (made ≡ entry.Stays)
-EntersItem (continuation.Next marker) inner list gap before l new new_list after il made = BeginsItem marker inner list gap before l new new_list after il × (made ≡ entry.Begins)
+EntersItem (continuation.Next marker) inner list gap before l new new_list after il made =
+    BeginsItem marker inner list gap before l new new_list after il × (made ≡ entry.Begins)
 EntersItem (continuation.Outside opening) inner list gap before l new new_list after il made = Unit {0}
 
 -- whether the line is one of the last block, or of its list
@@ -276,10 +296,13 @@ HandsInNothing old new = (gathered_texts new ≡ gathered_texts old) × (gathere
 -- what a leaf hands in with a line that it takes, and what is over then
 abbrev pub HandsIn : {E : Type 0} → Leaf → (first : Bool) → BlockLine → (old new : Gathering) → Result LeafAfter E → Type 0
 HandsIn (leaf.Paragraph p) first l old new result =
-    ((lines : List BlockLine) → HoldsLines lines p → paragraph_step l.lazy (is_blank_line l) (start Inside lines l) ≡ Continues Paragraph → OnOk result (HandsInNothing old new))
-    × ((lines : List BlockLine) (level : ℕ) → HoldsLines lines p → paragraph_step l.lazy (is_blank_line l) (start Inside lines l) ≡ IsLastLine (SetextHeading level)
+    ((lines : List BlockLine) → HoldsLines lines p → paragraph_step l.lazy (is_blank_line l) (start Inside lines l) ≡ Continues Paragraph
+    → OnOk result (HandsInNothing old new))
+    × ((lines : List BlockLine) (level : ℕ) → HoldsLines lines p
+    → paragraph_step l.lazy (is_blank_line l) (start Inside lines l) ≡ IsLastLine (SetextHeading level)
     → IfOk result (λ step. IsOver (heading_block level (length old.texts.items)) step))
-    × ((lines : List BlockLine) (level : ℕ) → HoldsLines lines p → paragraph_step l.lazy (is_blank_line l) (start Inside lines l) ≡ IsLastLine (SetextHeading level)
+    × ((lines : List BlockLine) (level : ℕ) → HoldsLines lines p
+    → paragraph_step l.lazy (is_blank_line l) (start Inside lines l) ≡ IsLastLine (SetextHeading level)
     → OnOk result ((gathered_texts new ≡ gathered_texts old ++ behind_definitions (without_end_blanks p.text) ∷ [])
     × (gathered_definitions new ≡ gathered_definitions old ++ leading_of old.entities.now (without_end_blanks p.text))))
     × ((lines : List BlockLine) (above : ℕ) → HoldsLines lines p → paragraph_step l.lazy (is_blank_line l) (start Inside lines l) ≡ Continues (Table above)
@@ -302,4 +325,5 @@ GrowsLeaf level before l new after =
 -- The level says whether the line that was read last was blank, and no content of fenced code or an HTML block.
 abbrev pub MarksBlank : Level → (blank : Bool) → Level → Type 0
 MarksBlank old blank new =
-    (blank ≡ true → (verbatim : Bool) × IsVerbatim old.last verbatim × (new ≡ record old { blank = not verbatim })) × (blank ≡ false → new ≡ record old { blank = false })
+    (blank ≡ true → (verbatim : Bool) × IsVerbatim old.last verbatim × (new ≡ record old { blank = not verbatim }))
+    × (blank ≡ false → new ≡ record old { blank = false })

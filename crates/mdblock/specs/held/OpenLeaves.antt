@@ -24,8 +24,8 @@ pub record IsFenceOf (entities : EntityTable) (indentation mark length : ℕ) (i
   pub mark_is : f.mark ≡ mark
   pub length_is : f.length ≡ length
   pub indentation_is : f.indent ≡ indentation
-  pub language : string_bytes f.lang ≡ code_language entities info
-  pub meta : string_bytes f.meta ≡ code_meta entities info
+  pub language : string_bytes f.info.value.lang ≡ code_language entities info
+  pub meta : string_bytes f.info.value.meta ≡ code_meta entities info
   pub body : string_bytes f.body ≡ code_text indentation later
 
 pub record IsHtmlOf (kind : ℕ) (lines : List BlockLine) (h : html.HtmlBlock) : Type 0 where
@@ -75,8 +75,10 @@ abbrev pub IsFenceLeaf : EntityTable → (indentation mark length : ℕ) → (in
 IsFenceLeaf entities indentation mark length info later (leaf.Fence f) = IsFenceOf entities indentation mark length info later f
 IsFenceLeaf entities indentation mark length info later leaf = ⊥
 
-abbrev pub IsFenceStep : (closed : Bool) → EntityTable → (indentation mark length : ℕ) → (info : List ℕ) → (later : List BlockLine) → BlockLine → LeafAfter → Type 0
-IsFenceStep true entities indentation mark length info later l s = IsOver (code_block (code_language entities info) (code_meta entities info) (code_text indentation later)) s
+abbrev pub IsFenceStep : (closed : Bool) → EntityTable → (indentation mark length : ℕ) → (info : List ℕ) → (later : List BlockLine) → BlockLine → LeafAfter
+    → Type 0
+IsFenceStep true entities indentation mark length info later l s =
+    IsOver (code_block (code_language entities info) (code_meta entities info) (code_text indentation later)) s
 IsFenceStep false entities indentation mark length info later l s = IsGoing (IsFenceLeaf entities indentation mark length info (later ++ l ∷ [])) s
 
 abbrev pub IsParagraphLeaf : (lines : List BlockLine) → Leaf → Type 0
@@ -109,7 +111,8 @@ IsGrown entities (Table above) first later s = MatchOption s.going ⊥ (IsTableI
 IsGrown entities kind first later s = Unit {0}
 
 abbrev pub IsEnded : EntityTable → Kind → (first : BlockLine) → (later : List BlockLine) → LeafAfter → Type 0
-IsEnded entities (FencedCode indentation mark length info closed) first later s = IsOver (code_block (code_language entities info) (code_meta entities info) (code_text indentation (without_last later))) s
+IsEnded entities (FencedCode indentation mark length info closed) first later s =
+    IsOver (code_block (code_language entities info) (code_meta entities info) (code_text indentation (without_last later))) s
 IsEnded entities (HtmlBlock kind) first later s = IsOver (html_block (joined_lines (map (λ l. l.line.text) (first ∷ later)))) s
 IsEnded entities kind first later s = Unit {0}
 

@@ -28,7 +28,8 @@ abbrev pub OpenBlockIn : ℕ → OpenBlock → Type 0
 OpenBlockIn n open_block.Shut = Unit {0}
 OpenBlockIn n (open_block.Leaf leaf) = LeafIn n leaf
 OpenBlockIn n (open_block.Quote' p over last in_item begun blank spaced) = BlocksIn n (blocks_view over.items) × OpenBlockIn n last
-OpenBlockIn n (open_block.List' p over last in_item begun blank spaced list) = (BlocksIn n (blocks_view over.items) × OpenBlockIn n last) × ItemsIn n (items_view list.items.items)
+OpenBlockIn n (open_block.List' p over last in_item begun blank spaced list) =
+    (BlocksIn n (blocks_view over.items) × OpenBlockIn n last) × ItemsIn n (items_view list.items.items)
 
 abbrev pub LevelIn : ℕ → Level → Type 0
 LevelIn n level = BlocksIn n (blocks_view level.over.items) × OpenBlockIn n level.last

@@ -15,7 +15,8 @@ IsResumedAt limit entities old k text item =
     (zs ys : List (List ℕ)) → StandsForUnit entities old (zs ++ text ∷ ys) → (mark_at old.marks k).line ≡ length zs →
     (let xs = map document_line zs in
     let l = document_line text in
-    (map join_mark item.joins.items ≡ list_marks entities (xs ++ l ∷ [])) × IsAdded entities limit false (summary_of entities xs) [] [] l item.level item.gathering)
+    (map join_mark item.joins.items ≡ list_marks entities (xs ++ l ∷ []))
+    × IsAdded entities limit false (summary_of entities xs) [] [] l item.level item.gathering)
 
 -- Its later item k begins in this line, behind the lines zs and before the lines ys.
 abbrev pub BeginsAt : EntityTable → (old : FoundList) → (k : ℕ) → (text : List ℕ) → (zs ys : List (List ℕ)) → Type 0

@@ -9,14 +9,14 @@ ghost use Rattle.mdscan.specs.Spans.{IsSpanOf};
 ghost use Rattle.blockspec.specs.BlockLine.{BlockLine, rest, indentation};
 ghost use Rattle.blockspec.specs.BlockTree.{code_block};
 ghost use Rattle.mdblock.specs.BlockView.{block_view};
-ghost use Rattle.mdblock.specs.held.OpenLeaves.{IsFenceOf, IsFenceLeaf, IsFenceStep, IsGoing};
+ghost use Rattle.mdblock.specs.held.OpenLeaves.{IsFenceOf, IsFenceLeaf, IsGoing};
 ghost use Rattle.mdblock.specs.held.OpenPositions.{LeafAfterIn};
 ghost use Rattle.mdblock.specs.Positions.{BlockIn};
 ghost use Rattle.blockspec.specs.Stretches.{closes};
 
 use crate::blocks::Block;
 use crate::gathering::Gathering;
-use crate::leaf::{Leaf, LeafAfter, going, over};
+use crate::leaf::{Leaf, LeafAfter, going};
 use crate::lines::{Line, make_room};
 use mdscan::{FenceLine, fence_end};
 use mdtext::unescape;
@@ -28,8 +28,8 @@ pub(crate) struct Fence {
     mark: u8,
     length: usize,
     indent: usize,
-    lang: String,
-    meta: String,
+    /// Apart, since each open level has room for a leaf.
+    info: Box<Info>,
     body: String,
 }
 
@@ -57,8 +57,7 @@ pub(crate) fn begin(
         mark: fence.mark,
         length: fence.length,
         indent: line.indent(),
-        lang: info.lang,
-        meta: info.meta,
+        info: Box::new(gathering.alloc(), info)?,
         body: String::new(gathering.alloc()),
     })))
 }
@@ -78,23 +77,7 @@ impl Fence {
         line.is_near_margin() && fence_end(line.text(), self.mark, self.length)
     }
 
-    /// Reads a line: what closes the code, or a line of it.
-    #[inline(always)]
-    pub(crate) fn add(mut self, line: &mut Line) -> Result<LeafAfter, AllocError>
-        ensures within { (n : ℕ) → IfOk result (λ step. LeafAfterIn n step) }
-        ensures step { (entities : EntityTable) (info : List ℕ) (later : List BlockLine)
-            → IsFenceOf entities self.indent self.mark self.length info later self
-            → IfOk result (λ step. IsFenceStep (closes self.mark self.length line.old) entities
-            self.indent self.mark self.length info later line.old step) }
-    {
-        if self.closes(line) {
-            return Ok(over(self.end()));
-        }
-        self.push_line(line)?;
-        Ok(going(Leaf::Fence(self)))
-    }
-
-    /// Appends a line of the code.
+    /// Appends a line of the code. It is inlined, since each line goes this way.
     #[inline(always)]
     pub(crate) fn push_line(&mut self, line: &mut Line) -> Result<(), AllocError>
         ensures step { OnOk result ((entities : EntityTable) (info : List ℕ) (later : List BlockLine)
@@ -110,11 +93,12 @@ impl Fence {
     /// What the code is at its end.
     pub(crate) fn end(self) -> Block
         ensures within { (n : ℕ) → BlockIn n (block_view result) }
-        ensures value { block_view result ≡ code_block (string_bytes self.lang) (string_bytes self.meta) (string_bytes self.body) }
+        ensures value { block_view result ≡ code_block (string_bytes self.info.value.lang) (string_bytes self.info.value.meta) (string_bytes self.body) }
     {
+        let info = Box::into_inner(self.info);
         Block::Code {
-            lang: self.lang,
-            meta: self.meta,
+            lang: info.lang,
+            meta: info.meta,
             body: self.body,
         }
     }

@@ -41,17 +41,7 @@ impl HtmlBlock {
         self.kind < 6 || !line.is_blank()
     }
 
-    /// Reads a line of the block.
-    pub(crate) fn add(mut self, line: &Line) -> Result<LeafAfter, AllocError>
-        ensures within { (n : ℕ) → IfOk result (λ step. LeafAfterIn n step) }
-        ensures step { (first : BlockLine) (later : List BlockLine) → IsHtmlOf self.kind (first ∷ later) self
-            → IfOk result (λ step. IsHtmlStep (ends_html self.kind line.now) self.kind (first ∷ later ++ line.now ∷ []) step) }
-    {
-        self.push_line(line)?;
-        Ok(self.after(line))
-    }
-
-    /// Reads the line that ends the block.
+    /// Reads the line that ends the block. It is inlined, so that what it leaves is not copied.
     #[inline(always)]
     pub(crate) fn add_last(mut self, line: &Line) -> Result<LeafAfter, AllocError>
         requires { ends_html self.kind line.now ≡ true }

@@ -27,11 +27,12 @@ pub(crate) fn begin(line: &mut Line, gathering: &Gathering) -> Result<LeafAfter,
     ensures within { (n : ℕ) → IfOk result (λ step. LeafAfterIn n step) }
     ensures step { IfOk result (λ step. IsGoing (IsCodeLeaf (line.old ∷ [])) step) }
 {
-    let code = IndentedCode {
+    let mut code = IndentedCode {
         body: String::new(gathering.alloc()),
         blanks: String::new(gathering.alloc()),
     };
-    code.add(line)
+    code.push_line(line)?;
+    Ok(going(Leaf::Code(code)))
 }
 
 impl IndentedCode {
@@ -40,15 +41,6 @@ impl IndentedCode {
         ensures { result ≡ is_code line.now }
     {
         line.is_blank() || line.indent() >= 4
-    }
-
-    /// Reads a line of the code.
-    pub(crate) fn add(mut self, line: &mut Line) -> Result<LeafAfter, AllocError>
-        ensures within { (n : ℕ) → IfOk result (λ step. LeafAfterIn n step) }
-        ensures step { (lines : List BlockLine) → IsCodeOf lines self → IfOk result (λ step. IsGoing (IsCodeLeaf (lines ++ line.old ∷ [])) step) }
-    {
-        self.push_line(line)?;
-        Ok(going(Leaf::Code(self)))
     }
 
     /// Appends a line of the code.

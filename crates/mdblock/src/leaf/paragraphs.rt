@@ -7,29 +7,30 @@ ghost use Rattle.mdleaf.specs.ParagraphText.{is_definitions_alone, behind_defini
 ghost use Rattle.mdleaf.specs.LeadingDefinitions.{leading_of};
 ghost use Rattle.mdleaf.specs.TableRows.{begins_table};
 ghost use Rattle.blockspec.specs.BlockLine.{BlockLine, rest, indentation, is_blank_line};
-ghost use Rattle.blockspec.specs.BlockStart.{Paragraph as ParagraphKind, Table as TableKind, Inside, SetextHeading};
+ghost use Rattle.blockspec.specs.BlockStart.{Table as TableKind, Inside, SetextHeading};
 ghost use Rattle.blockspec.specs.BlockStart.{begins_underline, last_text, start, start_near};
 ghost use Rattle.blockspec.specs.BlockTree.{heading as heading_block};
 ghost use Rattle.mdblock.specs.BlockView.{block_view};
-ghost use Rattle.mdblock.specs.held.HandedIn.{gathered_definitions, gathered_texts, taken, left_behind, IsHandedIn};
-ghost use Rattle.blockspec.specs.NodeTree.{paragraph_leaf};
+ghost use Rattle.mdblock.specs.held.HandedIn.{gathered_definitions, gathered_texts, left_behind, IsHandedIn};
 ghost use Rattle.mdblock.specs.Positions.{BlockIn};
 ghost use Rattle.mdblock.specs.held.HeldTables.{IsTableBehind, first_rows};
-ghost use Rattle.mdblock.specs.held.OpenLeaves.{IsGoing, IsOver, IsParagraphLeaf};
+ghost use Rattle.mdblock.specs.held.OpenLeaves.{IsOver};
 ghost use Rattle.mdblock.specs.held.OpenPositions.{LeafAfterIn};
-ghost use Rattle.mdblock.specs.held.Continuations.{IsContinuationOf, IsOfLeaf, step_view};
+ghost use Rattle.mdblock.specs.held.Continuations.{IsContinuationOf, IsOfLeaf, IsTurn, step_view};
 ghost use Rattle.mdblock.specs.held.ParagraphLines.{HoldsLines, begins_row};
 ghost use Rattle.blockspec.specs.Stretches.{Continues, IsLastLine, paragraph_step, interrupted};
 
 use crate::block_starts::{Mode, after_underline, before_underline};
 use crate::blocks::Block;
 use crate::gathering::Gathering;
-use crate::leaf::headings::setext_heading;
+use crate::leaf::LeafAfter;
+use crate::leaf::link_definitions::content;
+use crate::leaf::setext_headings::setext_heading;
 use crate::leaf::tables::Table;
-use crate::leaf::{Leaf, LeafAfter, going};
+use crate::leaf::task_list_items::take_task;
 use crate::lines::{Line, make_room, trimmed_length};
 use crate::open_blocks::Continuation;
-use mdleaf::{begins_table, is_only_definitions, table_header, task_mark};
+use mdleaf::{begins_table, is_only_definitions, table_header};
 use mdscan::setext;
 use std::alloc::AllocError;
 use std::marker::Model;
@@ -51,14 +52,6 @@ impl Model for Paragraph {
     ghost view = { λ p. record { text = string_bytes p.text; last = p.last } };
 
     ghost invariant = { λ p. IsCharBoundary (string_bytes p.text) p.last × (0 < p.last → slice_index (string_bytes p.text) (p.last - 1) ≡ 10) };
-}
-
-/// The paragraph that a line begins.
-pub(crate) fn begin(line: &Line, gathering: &Gathering) -> Result<LeafAfter, AllocError>
-    ensures within { (n : ℕ) → IfOk result (λ step. LeafAfterIn n step) }
-    ensures step { IfOk result (λ step. IsGoing (IsParagraphLeaf (line.now ∷ [])) step) }
-{
-    Ok(going(Leaf::Paragraph(Paragraph::new(line, gathering)?)))
 }
 
 impl Paragraph {
@@ -171,27 +164,21 @@ impl Paragraph {
         setext_heading(level, text, gathering)
     }
 
-    /// Reads a line that the paragraph takes.
-    pub(crate) fn add(
+    /// The heading or the table that an underline or a delimiter row makes of the paragraph.
+    pub(crate) fn turn(
         self,
         continuation: Continuation,
         line: &Line,
         first: bool,
         gathering: &mut Gathering,
     ) -> Result<LeafAfter, AllocError>
+        requires turn { IsTurn continuation }
         requires step { (lines : List BlockLine) → HoldsLines lines self
             → step_view (length lines) continuation ≡ paragraph_step line.now.lazy (is_blank_line line.now) (start Inside lines line.now) }
         requires row { continuation ≡ Continuation.Delimits → begins_table (drop self.last self.text) (rest line.now) ≡ true }
         ensures within { IfOk result (λ step. LeafAfterIn (length gathering.new.texts.items) step) }
         ensures grows { length gathering.old.texts.items ≤ length gathering.new.texts.items }
         ensures entities { gathering.new.entities.now ≡ gathering.old.entities.now }
-        ensures goes { (begin : BlockLine) (later : List BlockLine) → HoldsLines (begin ∷ later) self
-            → paragraph_step line.now.lazy (is_blank_line line.now) (start Inside (begin ∷ later) line.now) ≡ Continues ParagraphKind
-            → IfOk result (λ step. IsGoing (IsParagraphLeaf (begin ∷ later ++ line.now ∷ [])) step) }
-        ensures goes_texts { (lines : List BlockLine) → HoldsLines lines self
-            → paragraph_step line.now.lazy (is_blank_line line.now) (start Inside lines line.now) ≡ Continues ParagraphKind
-            → OnOk result ((gathered_texts gathering.new ≡ gathered_texts gathering.old)
-            × (gathered_definitions gathering.new ≡ gathered_definitions gathering.old)) }
         ensures underlined { (lines : List BlockLine) (level : ℕ) → HoldsLines lines self
             → paragraph_step line.now.lazy (is_blank_line line.now) (start Inside lines line.now) ≡ IsLastLine (SetextHeading level)
             → IfOk result (λ step. IsOver (heading_block level (length gathering.old.texts.items)) step) }
@@ -212,17 +199,8 @@ impl Paragraph {
         match continuation {
             Continuation::Underlines(level) => self.turn_into_heading(level, gathering),
             Continuation::Delimits => self.turn_into_table(line.text(), first, gathering),
-            _ => Ok(going(Leaf::Paragraph(self.with_line(line)?))),
+            _ => unreachable!(),
         }
-    }
-
-    /// The paragraph with one line more.
-    fn with_line(self, line: &Line) -> Result<Paragraph, AllocError>
-        ensures { IfOk result (λ held. (held.text ≡ self.text ++ 10 ∷ rest line.now) × (held.last ≡ length self.text + 1)) }
-    {
-        let mut paragraph = self;
-        paragraph.push_line(line)?;
-        Ok(paragraph)
     }
 
     /// Appends one line more.
@@ -243,18 +221,17 @@ impl Paragraph {
         first: bool,
         gathering: &mut Gathering,
     ) -> Result<LeafAfter, AllocError>
+        requires { begins_table (drop self.last self.text) delimiters.now ≡ true }
         ensures within { IfOk result (λ step. LeafAfterIn (length gathering.new.texts.items) step) }
         ensures grows { length gathering.old.texts.items ≤ length gathering.new.texts.items }
         ensures entities { gathering.new.entities.now ≡ gathering.old.entities.now }
-        ensures table { begins_table (drop self.last self.text) delimiters.now ≡ true
-            → IfOk result (IsTableBehind first (take (self.last - 1) self.text) (first_rows (drop self.last self.text) delimiters.now)
+        ensures table { IfOk result (IsTableBehind first (take (self.last - 1) self.text) (first_rows (drop self.last self.text) delimiters.now)
             (gathered_texts gathering.old) (gathered_texts gathering.new)) }
-        ensures found { begins_table (drop self.last self.text) delimiters.now ≡ true
-            → OnOk result (gathered_definitions gathering.new ≡ gathered_definitions gathering.old
+        ensures found { OnOk result (gathered_definitions gathering.new ≡ gathered_definitions gathering.old
             ++ leading_of gathering.old.entities.now (without_end_blanks (take (self.last - 1) self.text))) }
     {
         let Some(header) = table_header(gathering.alloc(), self.last_line(), delimiters)? else {
-            return Ok(going(Leaf::Paragraph(self)));
+            unreachable!()
         };
         let over = self.without_last().end(first, gathering)?;
         let table = Table::new(header, gathering)?;
@@ -299,34 +276,4 @@ fn may_delimit(text: &str) -> bool
     ensures { result ≡ begins_row text.now }
 {
     matches!(text.as_bytes(), [b'|' | b'-' | b':', ..])
-}
-
-/// What is left of a paragraph's text after its definitions (CommonMark 4.7), without spaces and tabs at its end.
-fn content(mut text: String, gathering: &mut Gathering) -> Result<String, AllocError>
-    ensures texts { gathering.new.texts ≡ gathering.old.texts }
-    ensures entities { gathering.new.entities.now ≡ gathering.old.entities.now }
-    ensures left { IfOk result (λ rest. string_bytes rest ≡ behind_definitions (without_end_blanks (string_bytes text))) }
-    ensures found { OnOk result (gathered_definitions gathering.new
-        ≡ gathered_definitions gathering.old ++ leading_of gathering.old.entities.now (without_end_blanks (string_bytes text))) }
-{
-    let length = trimmed_length(text.as_str());
-    text.truncate(length);
-    gathering.definitions(&mut text)?;
-    Ok(text)
-}
-
-/// Takes a task marker off the first text of an item, and says whether it is ticked (GFM Task list items (extension)).
-fn take_task(text: &mut String, first: bool) -> Result<Option<bool>, AllocError>
-    ensures { IfOk result (λ task. paragraph_leaf task (string_bytes text.new) ≡ taken first (string_bytes text.old)) }
-{
-    if !first {
-        return Ok(None);
-    }
-    match task_mark(text.as_str()) {
-        Some(mark) => {
-            text.replace_range(..mark.after, "")?;
-            Ok(Some(mark.ticked))
-        }
-        None => Ok(None),
-    }
 }

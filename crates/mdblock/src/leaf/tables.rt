@@ -8,7 +8,6 @@ ghost use Rattle.mdleaf.specs.TableRows.{header_of};
 ghost use Rattle.mdblock.specs.BlockView.{block_view};
 ghost use Rattle.mdblock.specs.held.HandedIn.{gathered_texts};
 ghost use Rattle.mdblock.specs.held.HeldTables.{IsHeaderRow, IsRowMore, held_rows};
-ghost use Rattle.mdblock.specs.held.OpenLeaves.{IsGoing};
 ghost use Rattle.mdblock.specs.held.OpenPositions.{LeafAfterIn, TableIn};
 ghost use Rattle.mdblock.specs.Positions.{BlockIn, CellsIn};
 ghost use Rattle.blockspec.specs.Stretches.{is_row};
@@ -16,7 +15,7 @@ ghost use Rattle.blockspec.specs.Stretches.{is_row};
 use crate::block_starts::{Mode, start};
 use crate::blocks::Block;
 use crate::gathering::Gathering;
-use crate::leaf::{Leaf, LeafAfter, going};
+use crate::leaf::{Leaf, LeafAfter};
 use crate::lines::Line;
 use mdleaf::{Header, data_row};
 use mdscan::Align;
@@ -53,25 +52,6 @@ impl Table {
             head: gathering.row(header.cells)?,
             rows: Vec::new(gathering.alloc()),
         })
-    }
-
-    /// Reads a data row.
-    pub(crate) fn add(
-        mut self,
-        line: &Line,
-        gathering: &mut Gathering,
-    ) -> Result<LeafAfter, AllocError>
-        requires { TableIn (length gathering.old.texts.items) self }
-        ensures within { IfOk result (λ step. LeafAfterIn (length gathering.new.texts.items) step) }
-        ensures grows { length gathering.old.texts.items ≤ length gathering.new.texts.items }
-        ensures entities { gathering.new.entities.now ≡ gathering.old.entities.now }
-        ensures row { IfOk result (λ step. IsGoing (IsRowMore (length gathering.old.texts.items) self) step) }
-        ensures texts { OnOk result (gathered_texts gathering.new
-            ≡ gathered_texts gathering.old ++ row_of self.aligns.items (rest line.now)) }
-        ensures definitions { gathering.new.definitions ≡ gathering.old.definitions }
-    {
-        self.push_row(line, gathering)?;
-        Ok(going(Leaf::Table(self)))
     }
 
     /// Appends a data row.

@@ -9,7 +9,7 @@ ghost use Rattle.mdblock.specs.Positions.{BlocksIn, ItemsIn};
 ghost use Rattle.mdblock.specs.declared.faults.BlockFault.TheVariants.{Failed, NestedTooDeep};
 ghost use Rattle.mdblock.specs.held.ClosedViews.{found_view};
 ghost use Rattle.mdblock.specs.held.Continuations.{IsBeginningOf};
-ghost use Rattle.mdblock.specs.held.LevelSteps.{IsLeafStart, BeginsBehind, BeginsBlock, HasMarksOf, IsListOf, IsQuoteOf, open_leaf_of};
+ghost use Rattle.mdblock.specs.held.LevelSteps.{BeginsBehind, BeginsBlock, HasMarksOf, IsListOf, IsQuoteOf, OpensLeaf, open_leaf_of};
 ghost use Rattle.mdblock.specs.held.OpenPositions.{LeafAfterIn, LevelIn};
 ghost use Rattle.mdblock.specs.held.TreesBehind.{blocks_before};
 
@@ -20,7 +20,7 @@ use crate::container::lists::{self, OpenList};
 use crate::faults::BlockFault;
 use crate::gathering::Gathering;
 use crate::leaf::paragraphs::Paragraph;
-use crate::leaf::{Leaf, LeafAfter, headings};
+use crate::leaf::{Leaf, LeafAfter, atx_headings};
 use crate::lines::Line;
 use crate::open_blocks::{Level, OpenBlock, deeper};
 use mdscan::AtxLine;
@@ -149,29 +149,25 @@ impl Level {
         ensures entities { gathering.new.entities.now ≡ gathering.old.entities.now }
         ensures begins { OnOk result ((room : ℕ) → BeginsBlock room self.old gathering.old line.now self.new gathering.new) }
     {
-        let block = headings::atx_heading(heading, line, gathering)?;
+        let block = atx_headings::atx_heading(heading, line, gathering)?;
         push_block(&mut self.over, block)?;
         Ok(())
     }
 
     /// Reads the first line of another leaf.
-    #[tactic(auto, using(crate::proofs::Within::growing))]
     fn begin_leaf(
         &mut self,
         start: BlockStart,
         line: &mut Line,
-        gathering: &mut Gathering,
+        gathering: &Gathering,
     ) -> Result<(), AllocError>
-        requires level { LevelIn (length gathering.old.texts.items) self.old }
         requires opening { IsBeginningOf line.old (Some start) }
-        requires leaf { IsLeafStart (Some start) }
+        requires leaf { OpensLeaf start }
         requires full { is_blank_line line.old ≡ false }
-        ensures within { OnOk result (LevelIn (length gathering.new.texts.items) self.new) }
-        ensures grows { length gathering.old.texts.items ≤ length gathering.new.texts.items }
-        ensures entities { gathering.new.entities.now ≡ gathering.old.entities.now }
-        ensures begins { OnOk result ((room : ℕ) → BeginsBlock room self.old gathering.old line.old self.new gathering.new) }
+        ensures within { OnOk result ((n : ℕ) → LevelIn n self.old → LevelIn n self.new) }
+        ensures begins { OnOk result ((room : ℕ) → BeginsBlock room self.old gathering.now line.old self.new gathering.now) }
     {
-        let step = Leaf::begin(Some(start), line, gathering)?;
+        let step = Leaf::begin(start, line, gathering)?;
         self.put(step)?;
         Ok(())
     }

@@ -1,6 +1,6 @@
 //! How a line continues what is open: it is one of its lines, or it ends it (CommonMark 4, 5.1, 5.2; GFM Tables (extension)).
 
-ghost use Rattle.std.specs.Prelude.{◌≡◌, true};
+ghost use Rattle.std.specs.Prelude.{◌≡◌, false, true};
 ghost use Rattle.mdblock.specs.held.Continuations.{IsContinuationOf, ContinuesList, ContinuesOpen, begins_block, begins_item, opening_of};
 ghost use Rattle.mdblock.specs.held.ContainerContinuations.{ContinuesBetween, ContinuesInItem, ContinuesInQuote, ContinuesShut};
 ghost use Rattle.mdblock.specs.held.EndedItems.{IsNextIn, IsNextOf};
@@ -14,7 +14,8 @@ use crate::open_blocks::{Continuation, Level, OpenBlock};
 impl Continuation {
     /// Whether it is a line of the leaf, or a blank line of the open item.
     pub(crate) fn is_matched(self) -> bool
-        ensures { result ≡ true → self ≡ Continuation.Matched }
+        ensures yes { result ≡ true → self ≡ Continuation.Matched }
+        ensures no { result ≡ false → self ≡ Continuation.Matched → ⊥ }
     {
         match self {
             Continuation::Matched => true,

@@ -17,8 +17,8 @@ use std::alloc::{AllocError, Global};
 use std::mem;
 
 impl Level {
-    #[tactic(auto, using(crate::proofs::Within::growing))]
     /// The blocks, the open one included.
+    #[tactic(auto, using(crate::proofs::Within::growing))]
     pub(crate) fn close(self, gathering: &mut Gathering) -> Result<Vec<Block>, AllocError>
         requires { LevelIn (length gathering.old.texts.items) self }
         ensures within { IfOk result (λ blocks. BlocksIn (length gathering.new.texts.items) (blocks_view blocks.items)) }
@@ -79,8 +79,8 @@ impl Level {
         matches!(self.last, OpenBlock::Leaf(_))
     }
 
+    /// Puts the open leaf among the blocks that are over. `more`: whether there is to be room for another block behind it.
     #[tactic(auto, using(crate::proofs::Within::growing))]
-    /// The same of a leaf, where it stands. `more`: whether there is to be room for another block behind it.
     fn shut_leaf(&mut self, more: bool, gathering: &mut Gathering) -> Result<(), AllocError>
         requires level { LevelIn (length gathering.old.texts.items) self.old }
         requires leaf { IsOpenLeaf self.old.last }
@@ -104,9 +104,9 @@ impl Level {
         }
     }
 
-    #[tactic(auto, using(crate::proofs::Within::growing))]
-    /// The same of any block. It stands by itself so that what a line goes down through takes less of the stack.
+    /// Puts the open block, whatever it is, among those that are over. It stands by itself so that what a line goes down through takes less of the stack.
     #[inline(never)]
+    #[tactic(auto, using(crate::proofs::Within::growing))]
     fn shut_container(&mut self, gathering: &mut Gathering) -> Result<(), AllocError>
         requires { LevelIn (length gathering.old.texts.items) self.old }
         ensures within { OnOk result (LevelIn (length gathering.new.texts.items) self.new) }
@@ -129,8 +129,8 @@ impl Level {
         Ok(())
     }
 
-    #[tactic(auto, using(crate::proofs::Within::growing))]
     /// Takes all the blocks out, the open one included, and leaves none, of a list item or not.
+    #[tactic(auto, using(crate::proofs::Within::growing))]
     pub(crate) fn take_blocks(
         &mut self,
         in_item: bool,
@@ -153,7 +153,7 @@ impl Level {
         mem::replace(self, Level::new(gathering.alloc(), in_item)).close(gathering)
     }
 
-    /// The same where no block is open.
+    /// Takes all the blocks out where none is open, and leaves none, of a list item or not.
     fn take_over(&mut self, in_item: bool, alloc: Global) -> Vec<Block>
         requires { is_shut self.old.last ≡ true }
         ensures over { result ≡ self.old.over }
@@ -166,8 +166,8 @@ impl Level {
         mem::replace(&mut self.over, Vec::new(alloc))
     }
 
-    #[tactic(auto, using(crate::proofs::Within::growing))]
     /// Ends the item that is open in a list which stands last.
+    #[tactic(auto, using(crate::proofs::Within::growing))]
     pub(crate) fn end_item(&mut self, gathering: &mut Gathering) -> Result<(), AllocError>
         requires { LevelIn (length gathering.old.texts.items) self.old }
         ensures within { OnOk result (LevelIn (length gathering.new.texts.items) self.new) }

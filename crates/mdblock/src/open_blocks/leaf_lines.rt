@@ -1,8 +1,8 @@
-//! A line that the open leaf takes: the leaf goes on with it, ends with it, or turns into another block.
+//! A line that the open leaf takes: the leaf goes on with it, ends with it, or, where it is a paragraph, turns into another block.
 
 ghost use Rattle.std.specs.Prelude.{◌≡◌, ◌≤◌, ℕ, OnOk, false, length, true};
 ghost use Rattle.mdblock.specs.held.Continuations.{ContinuesOpen};
-ghost use Rattle.mdblock.specs.held.LevelSteps.{EndsLeaf, GrowsLeaf, IsOpenLeaf, KeepsLeaf};
+ghost use Rattle.mdblock.specs.held.LevelSteps.{EndsLeaf, GrowsLeaf, IsInside, IsOpenLeaf, KeepsLeaf};
 ghost use Rattle.mdblock.specs.held.OpenPositions.{LevelIn};
 
 use crate::gathering::Gathering;
@@ -13,9 +13,9 @@ use std::alloc::AllocError;
 use std::mem;
 
 impl Level {
-    #[tactic(auto, using(crate::proofs::Within::growing))]
     /// Reads a line that the open leaf takes. It stands by itself so that what a line goes down through takes less of the stack.
     #[inline(never)]
+    #[tactic(auto, using(crate::proofs::Within::growing))]
     pub(super) fn add_to_leaf(
         &mut self,
         line: &mut Line,
@@ -25,13 +25,14 @@ impl Level {
         requires level { LevelIn (length gathering.old.texts.items) self.old }
         requires step { ContinuesOpen self.old.last line.old continuation }
         requires leaf { IsOpenLeaf self.old.last }
+        requires inside { IsInside continuation }
         ensures within { OnOk result (LevelIn (length gathering.new.texts.items) self.new) }
         ensures grows { length gathering.old.texts.items ≤ length gathering.new.texts.items }
         ensures entities { gathering.new.entities.now ≡ gathering.old.entities.now }
         ensures adds { OnOk result (GrowsLeaf self.old gathering.old line.old self.new gathering.new) }
     {
         if !continuation.is_matched() {
-            return self.add_and_put(line, continuation, gathering);
+            return self.turn(line, continuation, gathering);
         }
         if self.ends_with(line) {
             return self.add_last_line(line);
@@ -57,37 +58,36 @@ impl Level {
                 code.push_line(line)?;
                 Ok(())
             }
-            _ => self.add_and_put(line, continuation, gathering),
+            _ => unreachable!(),
         }
     }
 
+    /// Takes the open paragraph out, and puts in place what an underline or a delimiter row makes of it.
     #[tactic(auto, using(crate::proofs::Within::growing))]
-    /// Takes the open leaf out to read a line, and puts what the line leaves of it in place.
-    fn add_and_put(
+    fn turn(
         &mut self,
-        line: &mut Line,
+        line: &Line,
         continuation: Continuation,
         gathering: &mut Gathering,
     ) -> Result<(), AllocError>
         requires level { LevelIn (length gathering.old.texts.items) self.old }
-        requires step { ContinuesOpen self.old.last line.old continuation }
+        requires step { ContinuesOpen self.old.last line.now continuation }
         requires leaf { IsOpenLeaf self.old.last }
+        requires inside { IsInside continuation }
+        requires turns { continuation ≡ Continuation.Matched → ⊥ }
         ensures within { OnOk result (LevelIn (length gathering.new.texts.items) self.new) }
         ensures grows { length gathering.old.texts.items ≤ length gathering.new.texts.items }
         ensures entities { gathering.new.entities.now ≡ gathering.old.entities.now }
-        ensures adds { OnOk result (GrowsLeaf self.old gathering.old line.old self.new gathering.new) }
+        ensures adds { OnOk result (GrowsLeaf self.old gathering.old line.now self.new gathering.new) }
     {
         let first = self.is_at_front();
         match mem::replace(&mut self.last, OpenBlock::Shut) {
-            OpenBlock::Leaf(leaf) => {
-                let step = leaf.add(continuation, line, first, gathering)?;
+            OpenBlock::Leaf(Leaf::Paragraph(paragraph)) => {
+                let step = paragraph.turn(continuation, line, first, gathering)?;
                 self.put(step)?;
                 Ok(())
             }
-            last => {
-                self.last = last;
-                Ok(())
-            }
+            _ => unreachable!(),
         }
     }
 
@@ -103,8 +103,8 @@ impl Level {
         }
     }
 
-    #[tactic(auto, using(crate::proofs::Within::growing))]
     /// Reads the last line of the open leaf, which is not looked at again, and puts the block in place.
+    #[tactic(auto, using(crate::proofs::Within::growing))]
     fn add_last_line(&mut self, line: &mut Line) -> Result<(), AllocError>
         requires { EndsLeaf self.old.last line.old }
         ensures within { OnOk result ((n : ℕ) → LevelIn n self.old → LevelIn n self.new) }

@@ -3,7 +3,7 @@
 ghost use Rattle.std.specs.Prelude.{◌≡◌, ◌≤◌, IfErr, IfOk, IsErrOf, OnOk, false, length, true};
 ghost use Rattle.mdblock.specs.declared.faults.BlockFault.TheVariants.{Failed, NestedTooDeep};
 ghost use Rattle.mdblock.specs.held.Continuations.{ContinuesOpen, IsContinuationOf};
-ghost use Rattle.mdblock.specs.held.LevelSteps.{AddsButBlank, IsInside, IsVerbatim, MarksBlank};
+ghost use Rattle.mdblock.specs.held.LevelSteps.{AddsButBlank, IsInside};
 ghost use Rattle.mdblock.specs.held.LinesAdded.{AddsLine, ContinuesLevel, FollowsLine, IsUnfollowed, SinksLine};
 ghost use Rattle.mdblock.specs.held.OpenPositions.{LevelIn};
 
@@ -17,12 +17,11 @@ use crate::open_blocks::{Continuation, Level, OpenBlock, deeper};
 
 /// How the reading of a line inside a level ends.
 #[derive(Clone, Copy, Debug, PartialEq, Eq)]
-enum Reading {
+enum LineRead {
     /// It is read.
     Done,
     TooDeep,
     NoMemory,
-    Failed,
 }
 
 impl Level {
@@ -42,23 +41,21 @@ impl Level {
         ensures deep { IsErrOf result NestedTooDeep → SinksLine room self.old gathering.old line.old }
     {
         match self.read_inside(line, room, gathering) {
-            Reading::Done => Ok(()),
-            Reading::TooDeep => Err(BlockFault::NestedTooDeep),
-            Reading::NoMemory => Err(BlockFault::NoMemory),
-            Reading::Failed => Err(BlockFault::Failed),
+            LineRead::Done => Ok(()),
+            LineRead::TooDeep => Err(BlockFault::NestedTooDeep),
+            LineRead::NoMemory => Err(BlockFault::NoMemory),
         }
     }
 
-    /// The same, told by a word: it ends with the reading inside the open container, of which the compiler makes a loop.
+    /// Reads one line more, and tells by a word how that ends: it ends with the reading inside the open container, of which the compiler makes a loop.
     #[tactic(auto, using(crate::proofs::Within::growing))]
-    fn read_inside(&mut self, line: &mut Line, room: usize, gathering: &mut Gathering) -> Reading
+    fn read_inside(&mut self, line: &mut Line, room: usize, gathering: &mut Gathering) -> LineRead
         requires { LevelIn (length gathering.old.texts.items) self.old }
-        ensures within { result ≡ Reading.Done → LevelIn (length gathering.new.texts.items) self.new }
+        ensures within { result ≡ LineRead.Done → LevelIn (length gathering.new.texts.items) self.new }
         ensures grows { length gathering.old.texts.items ≤ length gathering.new.texts.items }
         ensures entities { gathering.new.entities.now ≡ gathering.old.entities.now }
-        ensures fault { result ≡ Reading.Failed → ⊥ }
-        ensures adds { result ≡ Reading.Done → AddsLine room self.old gathering.old line.old self.new gathering.new }
-        ensures deep { result ≡ Reading.TooDeep → SinksLine room self.old gathering.old line.old }
+        ensures adds { result ≡ LineRead.Done → AddsLine room self.old gathering.old line.old self.new gathering.new }
+        ensures deep { result ≡ LineRead.TooDeep → SinksLine room self.old gathering.old line.old }
     {
         match &mut self.last {
             OpenBlock::Shut => self.read_unfollowed(line, room, gathering),
@@ -68,7 +65,7 @@ impl Level {
                     return self.read_unfollowed(line, room, gathering);
                 }
                 if room < 1 {
-                    return Reading::TooDeep;
+                    return LineRead::TooDeep;
                 }
                 block_quotes::take_marker(line);
                 self.blank = false;
@@ -79,7 +76,7 @@ impl Level {
                     return self.read_unfollowed(line, room, gathering);
                 }
                 if room < 1 {
-                    return Reading::TooDeep;
+                    return LineRead::TooDeep;
                 }
                 list.enter(line);
                 self.blank = false;
@@ -88,29 +85,28 @@ impl Level {
         }
     }
 
-    /// The same of a line that has neither the marker nor the indentation of the open container.
+    /// Reads a line that has neither the marker nor the indentation of the open container. It stands by itself so that the loop takes less of the stack.
     #[inline(never)]
     fn read_unfollowed(
         &mut self,
         line: &mut Line,
         room: usize,
         gathering: &mut Gathering,
-    ) -> Reading
+    ) -> LineRead
         requires level { LevelIn (length gathering.old.texts.items) self.old }
         requires unfollowed { IsUnfollowed self.old.last line.old }
-        ensures within { result ≡ Reading.Done → LevelIn (length gathering.new.texts.items) self.new }
+        ensures within { result ≡ LineRead.Done → LevelIn (length gathering.new.texts.items) self.new }
         ensures grows { length gathering.old.texts.items ≤ length gathering.new.texts.items }
         ensures entities { gathering.new.entities.now ≡ gathering.old.entities.now }
-        ensures fault { result ≡ Reading.Failed → ⊥ }
-        ensures adds { result ≡ Reading.Done → AddsLine room self.old gathering.old line.old self.new gathering.new }
-        ensures deep { result ≡ Reading.TooDeep → SinksLine room self.old gathering.old line.old }
+        ensures adds { result ≡ LineRead.Done → AddsLine room self.old gathering.old line.old self.new gathering.new }
+        ensures deep { result ≡ LineRead.TooDeep → SinksLine room self.old gathering.old line.old }
     {
         let continuation = self.continuation(line);
         match self.add(line, continuation, room, gathering) {
-            Ok(()) => Reading::Done,
-            Err(BlockFault::NestedTooDeep) => Reading::TooDeep,
-            Err(BlockFault::NoMemory) => Reading::NoMemory,
-            Err(BlockFault::Failed) => Reading::Failed,
+            Ok(()) => LineRead::Done,
+            Err(BlockFault::NestedTooDeep) => LineRead::TooDeep,
+            Err(BlockFault::NoMemory) => LineRead::NoMemory,
+            Err(BlockFault::Failed) => unreachable!(),
         }
     }
 
@@ -185,17 +181,6 @@ impl Level {
         Ok(())
     }
 
-    /// Says whether the line that was read is blank, and no content of fenced code or an HTML block.
-    fn mark_blank(&mut self, blank: bool)
-        ensures { MarksBlank self.old blank self.new }
-    {
-        if blank {
-            self.blank = !self.is_verbatim();
-        } else {
-            self.blank = false;
-        }
-    }
-
     /// Reads a line that the open block takes. Inside it no container has the line's marker or indentation, since the line is lazy or blank there.
     #[cycle(reading)]
     #[tactic(auto, using(crate::proofs::Within::growing))]
@@ -238,18 +223,6 @@ impl Level {
                     Entry::Stays => Ok(()),
                 }
             }
-        }
-    }
-
-    /// Whether a blank line that was read last is content of fenced code or an HTML block.
-    fn is_verbatim(&self) -> bool
-        ensures { IsVerbatim self.now.last result }
-    {
-        match &self.last {
-            OpenBlock::Shut => false,
-            OpenBlock::Leaf(leaf) => leaf.is_verbatim(),
-            OpenBlock::Quote(_) => false,
-            OpenBlock::List(inner, list) => list.is_open() && !inner.blank,
         }
     }
 }

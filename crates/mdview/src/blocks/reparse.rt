@@ -2,7 +2,7 @@
 
 ghost use Rattle.std.specs.Prelude.{◌≡◌, ◌≤◌, ◌+◌, ◌<◌, ◌-◌, ◌^◌, ◌++◌, ◌&&◌, ◌∷◌, ℕ, List, None, Some, IfErr, IfOk, IfSome, OnErr, OnOk, [], drop, is_some, length, map, min, sum_by, take, true};
 ghost use Rattle.std.specs.Option.{option_to_list};
-ghost use Rattle.mdtext.specs.EntityTable.{EntityTable};
+ghost use Rattle.mdtext.specs.EntityTable.{EntityTable, usual_table};
 ghost use Rattle.blockspec.specs.BlockUnits.{begins, units};
 ghost use Rattle.blockspec.specs.Nesting.{first_too_deep};
 ghost use Rattle.blockspec.specs.Joins.{is_joined};
@@ -12,8 +12,8 @@ ghost use Rattle.mdblock.specs.held.ReaderState.{held_joined};
 ghost use Rattle.mdblock.specs.held.Reads.{Reads, handed, open_begin};
 ghost use Rattle.mdhtml.specs.Limits.{HasLimits};
 ghost use Rattle.viewspec.specs.Stretch.{is_meeting};
-ghost use Rattle.viewlaws.specs.UnitTexts.{trees_in};
-ghost use Rattle.viewlaws.specs.UnitTiles.{IsAhead};
+ghost use Rattle.viewspec.specs.UnitTexts.{trees_in};
+ghost use Rattle.viewspec.specs.UnitTiles.{IsAhead};
 ghost use Rattle.mdview.specs.HeldBlocks.{HoldsUnits, IsDeepAt, IsReread, fault_in, is_at, line_before, lines_in, old_lines, places_of};
 ghost use Rattle.mdview.specs.HeldItems.{IsCounted, IsItemAt, IsItemOf, IsSpliced, kept_of, mark_in};
 ghost use Rattle.mdview.specs.HeldLists.{list_in};
@@ -21,18 +21,18 @@ ghost use Rattle.mdview.specs.HeldUnit.{read_of};
 ghost use Rattle.mdview.specs.KeptTexts.{IsKept};
 ghost use Rattle.mdview.specs.StopLines.{IsReadToStop, stops_of};
 ghost use Rattle.mdblock.specs.CountedLines.{counted_by};
-ghost use Rattle.mdview.specs.Document.{size_of};
+ghost use Rattle.mdsource.specs.SourceLimits.{size_of};
 ghost use Rattle.mdview.specs.NewText.{lines_of};
 ghost use Rattle.mdview.specs.ReadingFaults.{OfBlocks};
-ghost use Rattle.mdview.specs.declared.fault.EditFault.TheVariants.{NoMemory};
+ghost use Rattle.mdsource.specs.declared.fault.EditFault.TheVariants.{NoMemory};
 
 use crate::blocks::held_places::{HeldItem, Resume, UnitCursor, UnitStart, resume_at};
-use crate::fault::EditFault;
 use crate::held::HeldText;
 use crate::held::units::HeldUnit;
 use crate::source::new_text::NewText;
 use mdblock::{BlockFault, Found, Reader, splice};
 use mdchunks::Chunks;
+use mdsource::EditFault;
 use mdtext::Count;
 use std::alloc::AllocError;
 
@@ -283,7 +283,7 @@ fn met_at(
     ensures met { (limit : ℕ) (e : EntityTable) (ls : List (List ℕ)) → Reads limit e reader.now ls → let p = places_of e text.entry in
         IsAhead (map lines_in cursor.old.units.now.items) p.old_begins cursor.old.next.unit cursor.old.next.line (line_before p line)
         → is_some result ≡ (is_at (line - from) (open_begin e ls) && is_meeting p line) }
-    ensures here { is_some result ≡ true → cursor.new.next.line ≡ line_before (places_of [] text.entry) line }
+    ensures here { is_some result ≡ true → cursor.new.next.line ≡ line_before (places_of (usual_table []) text.entry) line }
     ensures counted { (head : ℕ) → IsCounted head cursor.old.units.now.items cursor.old.next → IsCounted head cursor.old.units.now.items cursor.new.next }
 {
     if begins_at(reader, line - from) {
@@ -335,7 +335,7 @@ fn held_at(cursor: &mut UnitCursor<'_>, text: NewText<'_>, line: usize) -> Optio
         IsAhead (map lines_in cursor.old.units.now.items) p.old_begins cursor.old.next.unit cursor.old.next.line (line_before p line)
         → IsAhead (map lines_in cursor.old.units.now.items) p.old_begins cursor.new.next.unit cursor.new.next.line (line_before p line)
         × (is_some result ≡ is_meeting p line) }
-    ensures here { is_some result ≡ true → cursor.new.next.line ≡ line_before (places_of [] text.entry) line }
+    ensures here { is_some result ≡ true → cursor.new.next.line ≡ line_before (places_of (usual_table []) text.entry) line }
     ensures counted { (head : ℕ) → IsCounted head cursor.old.units.now.items cursor.old.next → IsCounted head cursor.old.units.now.items cursor.new.next }
 {
     cursor.unit_at(text.old_line(line)?)

@@ -8,15 +8,15 @@ ghost use Rattle.mdinline.specs.declared.faults.InlineFault.TheVariants.{TooDeep
 ghost use Rattle.viewspec.specs.Changes.{asks_changed};
 ghost use Rattle.viewspec.specs.Refusals.{is_deep};
 ghost use Rattle.viewspec.specs.View.{reading_of};
-ghost use Rattle.viewlaws.specs.UnitTexts.{asking_in, asking_texts, asking_units, deep_from, is_deep_under, readings_under};
-ghost use Rattle.viewlaws.specs.LaterTexts.{asking_of};
+ghost use Rattle.viewspec.specs.UnitTexts.{asking_in, asking_texts, asking_units, deep_from, is_deep_under, readings_under};
+ghost use Rattle.viewspec.specs.LaterTexts.{asking_of};
 ghost use Rattle.mdview.specs.HeldUnit.{AreEnds, html_of, unit_in};
 ghost use Rattle.mdview.specs.Update.{Fits, IsWritten};
 ghost use Rattle.mdview.specs.HeldBlocks.{held_tile, lines_in};
-ghost use Rattle.mdview.specs.HeldTexts.{IsReadUnder, IsReread, IsShallow, IsTextFault, between, entities_in, labels_before, labels_behind, number_again};
+ghost use Rattle.mdview.specs.HeldTexts.{IsReadUnder, IsReread, IsShallow, between, entities_in, labels_before, labels_behind, number_again};
+ghost use Rattle.mdsource.specs.TextFaults.{IsTextFault};
 ghost use Rattle.mdview.specs.LabelTargets.{IsElsewhere};
 
-use crate::fault::EditFault;
 use crate::held::marked_units::{line_from, next_marked};
 use crate::held::pieces::Piece;
 use crate::held::units::HeldUnit;
@@ -24,6 +24,7 @@ use crate::inlines::{UnitTextReader, fault_in_unit};
 use crate::pieces::text_room::TextRoom;
 use mdchunks::{Change, Chunks};
 use mdinline::{InlineFault, Parsed};
+use mdsource::EditFault;
 use mdtext::Count;
 
 /// A unit that is held, by its number, with what its texts read as after an edit, and its piece then.

@@ -5,20 +5,21 @@ ghost use Rattle.std.specs.List.{All};
 ghost use Rattle.mdblock.specs.FoundLists.{found_unit};
 ghost use Rattle.mdhtml.specs.Limits.{HasLimits};
 ghost use Rattle.mdinline.specs.declared.faults.InlineFault.TheVariants.{TooDeep};
-ghost use Rattle.viewlaws.specs.UnitTexts.{deep_found, is_deep_under, readings_under, trees_in};
+ghost use Rattle.viewspec.specs.UnitTexts.{deep_found, is_deep_under, readings_under, trees_in};
 ghost use Rattle.mdview.specs.HeldUnit.{IsRendered, texts_in};
 ghost use Rattle.mdview.specs.HeldLists.{list_in, unplaced};
-ghost use Rattle.mdview.specs.HeldTexts.{IsReadUnder, IsShallow, IsTextFault, entities_in, labels_before, labels_behind, line_on};
+ghost use Rattle.mdview.specs.HeldTexts.{IsReadUnder, IsShallow, entities_in, labels_before, labels_behind, line_on};
+ghost use Rattle.mdsource.specs.TextFaults.{IsTextFault};
 ghost use Rattle.mdview.specs.LabelTargets.{IsElsewhere};
 
-use crate::fault::EditFault;
+use crate::held::SPLICE_ROOM;
 use crate::held::units::HeldUnit;
 use crate::inlines::{UnitTextReader, fault_in_unit};
 use crate::pieces::text_room::{Alike, TextRoom};
-use crate::source::limits::SPLICE_ROOM;
 use mdblock::{Found, Unit};
 use mdchunks::{Chunks, Iter};
 use mdinline::{InlineFault, Parsed};
+use mdsource::EditFault;
 use mdtext::Count;
 
 impl<'a> UnitTextReader<'a> {

@@ -6,22 +6,23 @@ ghost use Rattle.blockspec.specs.UnitTree.{UnitTree};
 ghost use Rattle.mdblock.specs.FoundLists.{found_unit};
 ghost use Rattle.mdhtml.specs.Limits.{HasLimits};
 ghost use Rattle.mdinline.specs.declared.faults.InlineFault.TheVariants.{TooDeep};
-ghost use Rattle.viewlaws.specs.UnitTexts.{deep_found, is_deep_under, readings_under, trees_in};
-ghost use Rattle.viewlaws.specs.LaterTexts.{asking_of};
+ghost use Rattle.viewspec.specs.UnitTexts.{deep_found, is_deep_under, readings_under, trees_in};
+ghost use Rattle.viewspec.specs.LaterTexts.{asking_of};
 ghost use Rattle.mdview.specs.HeldLists.{list_in, unplaced};
 ghost use Rattle.mdview.specs.HeldUnit.{HeldUnit, IsRendered};
-ghost use Rattle.mdview.specs.HeldTexts.{IsReadUnder, IsShallow, IsTextFault, entities_in, labels_before, labels_behind, line_on};
+ghost use Rattle.mdview.specs.HeldTexts.{IsReadUnder, IsShallow, entities_in, labels_before, labels_behind, line_on};
+ghost use Rattle.mdsource.specs.TextFaults.{IsTextFault};
 ghost use Rattle.mdview.specs.KeptTexts.{AreReadingsOf, IsHeldPart, last_texts, number_kept, number_read, texts_with_kept};
 ghost use Rattle.mdview.specs.LabelTargets.{IsElsewhere};
 
 use crate::blocks::reparse::KeptTexts;
-use crate::fault::EditFault;
 use crate::held::units::HeldUnit;
 use crate::inlines::{UnitTextReader, fault_in_unit};
 use crate::pieces::text_room::{Alike, TextRoom};
 use mdblock::{Found, Unit};
 use mdchunks::Chunks;
 use mdinline::{InlineFault, Parsed};
+use mdsource::EditFault;
 use mdtext::Count;
 
 /// What the texts of a unit from number `at` on read as before the edit.

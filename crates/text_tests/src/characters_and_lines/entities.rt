@@ -146,12 +146,18 @@ fn of_a_name_twice_the_second_text_is_left(rt: HostRuntime) -> Result<(), Fail> 
 #[test]
 fn entities_are_shown_as_a_map(rt: HostRuntime) -> Result<(), Fail> {
     let file = "{\"&b;\":{\"characters\":\"\\\"\\u00a0\"},\"&a;\":{\"characters\":\"1\"}}";
-    let line = "Entities { texts: {\"a\": \"1\", \"b\": \"\\\"\\u{a0}\"} }";
+    let line = "Entities { texts: {\"a\": \"1\", \"b\": \"\\\"\\u{a0}\"}, double_tilde: false }";
     check_shown(&rt, rt.alloc(), file, false, line)?;
     let lines =
-        "Entities {\n    texts: {\n        \"a\": \"1\",\n        \"b\": \"\\\"\\u{a0}\",\n    },\n}";
+        "Entities {\n    texts: {\n        \"a\": \"1\",\n        \"b\": \"\\\"\\u{a0}\",\n    },\n    double_tilde: false,\n}";
     check_shown(&rt, rt.alloc(), file, true, lines)?;
-    check_shown(&rt, rt.alloc(), "{}", false, "Entities { texts: {} }")
+    check_shown(
+        &rt,
+        rt.alloc(),
+        "{}",
+        false,
+        "Entities { texts: {}, double_tilde: false }",
+    )
 }
 
 /// The number in the name of a file's member, by its place.

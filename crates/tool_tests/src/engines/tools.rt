@@ -5,7 +5,9 @@ ghost use Rattle.mdhtml.specs.Limits.{HasLimits};
 
 use crate::options::SOFT;
 use mdtext::Entities;
-use mdtool::{Breaks, MemoryFeed, MemoryOut, Options, convert, entities_from, read_words, serve};
+use mdtool::{
+    Breaks, MemoryFeed, MemoryOut, Options, Words, convert, entities_from, read_words, serve,
+};
 use std::alloc::{AllocError, Global};
 use std::process::Abort;
 use std::test::Fail;
@@ -328,39 +330,44 @@ fn reads_which_entity_names_are_known(rt: HostRuntime) -> Result<(), Fail> {
     Ok(())
 }
 
-/// Whether the language of a code block goes on `pre`, what stands behind it is written, and the alignment of a cell is a style, by
-/// these words.
+/// Whether the language of a code block goes on `pre`, what stands behind it is written, the alignment of a cell is a style, and one
+/// tilde alone is text, by these words.
 fn forms_asked(alloc: Global, words: &[&str]) -> Result<String, AllocError> {
     match read_words(alloc, words) {
-        Ok(read) => forms_shown(alloc, &read.options),
+        Ok(read) => forms_shown(alloc, &read),
         Err(fault) => format!(in alloc; "{fault:?}"),
     }
 }
 
-fn forms_shown(alloc: Global, options: &Options) -> Result<String, AllocError> {
+fn forms_shown(alloc: Global, words: &Words) -> Result<String, AllocError> {
     let mut shown = String::new(alloc);
     for on in [
-        options.pre_lang,
-        options.full_info_string,
-        options.align_style,
+        words.options.pre_lang,
+        words.options.full_info_string,
+        words.options.align_style,
+        words.double_tilde,
     ] {
         shown.push_str(if on { "1" } else { "0" })?;
     }
     Ok(shown)
 }
 
-static FORMS_ASKED: [([&str; 3], &str); 8] = [
-    (["mdrender", "--unsafe", "a"], "000"),
-    (["mdrender", "--github-pre-lang", "a"], "100"),
-    (["mdpreview", "--full-info-string", "a"], "010"),
-    (["mdpreview", "--table-prefer-style-attributes", "a"], "001"),
+static FORMS_ASKED: [([&str; 3], &str); 9] = [
+    (["mdrender", "--unsafe", "a"], "0000"),
+    (["mdrender", "--github-pre-lang", "a"], "1000"),
+    (["mdpreview", "--full-info-string", "a"], "0100"),
+    (
+        ["mdpreview", "--table-prefer-style-attributes", "a"],
+        "0010",
+    ),
+    (["mdrender", "--strikethrough-double-tilde", "a"], "0001"),
     (
         [
             "mdpreview",
             "--table-prefer-style-attributes",
             "--github-pre-lang",
         ],
-        "101",
+        "1010",
     ),
     (
         ["mdrender", "--github-pre-lang", "--github-pre-lang"],
@@ -371,7 +378,11 @@ static FORMS_ASKED: [([&str; 3], &str); 8] = [
         "NotUnderstood",
     ),
     (
-        ["mdrender", "--strikethrough-double-tilde", "a"],
+        [
+            "mdpreview",
+            "--strikethrough-double-tilde",
+            "--strikethrough-double-tilde",
+        ],
         "NotUnderstood",
     ),
 ];

@@ -6,14 +6,14 @@ use Rattle.blockspec.specs.BlockUnits.{units}
 use Rattle.blockspec.specs.Nesting.{first_too_deep}
 use Rattle.mdblock.specs.held.ReaderState.{ReaderState}
 use Rattle.mdblock.specs.held.Reads.{handed}
-use Rattle.mdview.specs.Document.{size_of}
+use Rattle.mdsource.specs.SourceLimits.{size_of}
 use Rattle.mdblock.specs.FoundLists.{found_unit}
 use Rattle.viewspec.specs.Setting.{Setting}
 use Rattle.mdbatch.specs.BatchHtml.{IsReadFault}
 use Rattle.mdbatch.specs.GatheredUnits.{setting_of}
 use Rattle.mdbatch.specs.TextLabels.{target_on_page}
 use Rattle.mdbatch.specs.UnitsAtOnce.{AddsUnits}
-use Rattle.viewlaws.proofs.ReadLines.{lines_fed, none_deep, none_handed}
+use Rattle.viewspec.proofs.ReadLines.{lines_fed, none_deep, none_handed}
 use Rattle.mdbatch.proofs.ReadLines.{all_fed, fault_is, next_fed}
 use Rattle.mdbatch.proofs.SplitText.{size_next}
 use Rattle.mdbatch.proofs.UnitsAtOnce.{added_behind, none_added}

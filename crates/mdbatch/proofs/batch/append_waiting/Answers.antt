@@ -7,7 +7,7 @@ use Rattle.mdhtml.specs.WrittenUnits.{is_deep_unit, written_unit}
 use Rattle.viewspec.specs.Setting.{Setting}
 use Rattle.mdblock.specs.FoundLists.{found_unit}
 use Rattle.mdbatch.specs.BatchHtml.{deep_line}
-use Rattle.mdview.specs.HeldTexts.{IsTextFault, text_fault_in}
+use Rattle.mdsource.specs.TextFaults.{IsTextFault, text_fault_in}
 use Rattle.mdbatch.specs.GatheredUnits.{EndsLine, IsWrittenTo, setting_of}
 use Rattle.mdbatch.specs.TextLabels.{target_on_page}
 use Rattle.mdbatch.proofs.UnitsGathered.{lines_joined, next_written, unit_fault}

@@ -1,6 +1,6 @@
 use Rattle.std.proofs.Common.{◌∙◌, ap, map, subst, sym}
 use Rattle.mdtext.specs.Lines.{split_lines, text_lines, without_nul}
-use Rattle.mdview.specs.Edit.{refusal}
+use Rattle.mdsource.specs.SourceLimits.{refusal}
 use Rattle.mdbatch.specs.BatchHtml.{TextHtml}
 use Rattle.mdbatch.proofs.DueRefusals.{clean_within}
 use Rattle.mdbatch.proofs.PageViews.{page_viewed}

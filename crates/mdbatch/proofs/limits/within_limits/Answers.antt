@@ -1,7 +1,7 @@
 use Rattle.std.proofs.Common.{◌∙◌, sym, arith, length, map, eqb-true}
 use Rattle.std.proofs.lemmas.List.{length-map, nil_from_length}
 use Rattle.mdtext.specs.Lines.{split_lines, without_nul}
-use Rattle.mdview.specs.Document.{size_of}
+use Rattle.mdsource.specs.SourceLimits.{size_of}
 use Rattle.mdbatch.proofs.DueRefusals.{none_due, too_large, lines_counted, bytes_counted}
 use Rattle.mdbatch.proofs.SplitText.{few_lines, small_lines}
 use Rattle.mdbatch.proofs.limits.within_limits.Goals as goal

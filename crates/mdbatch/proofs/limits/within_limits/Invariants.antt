@@ -2,7 +2,7 @@ use denote.Shadow.{shadow}
 use denote.Text.{Utf8}
 use Rattle.std.proofs.Common.{◌≡◌, ◌+◌, ◌-◌, ◌^◌, length, map, min}
 use Rattle.mdtext.specs.Lines.{without_nul, split_lines}
-use Rattle.mdview.specs.Document.{size_of}
+use Rattle.mdsource.specs.SourceLimits.{size_of}
 use Rattle.mdbatch.proofs.limits.within_limits.Given as goal
 
 -- the lines and bytes so far and those of the rest are all

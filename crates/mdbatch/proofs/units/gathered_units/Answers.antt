@@ -6,12 +6,12 @@ use Rattle.blockspec.specs.BlockUnits.{units}
 use Rattle.blockspec.specs.Nesting.{first_too_deep}
 use Rattle.mdblock.specs.held.ReaderState.{ReaderState}
 use Rattle.mdblock.specs.held.Reads.{handed}
-use Rattle.mdview.specs.Document.{size_of}
+use Rattle.mdsource.specs.SourceLimits.{size_of}
 use Rattle.mdblock.specs.FoundLists.{found_unit}
 use Rattle.mdbatch.specs.BatchHtml.{IsReadFault}
 use Rattle.viewspec.specs.Setting.{Setting}
 use Rattle.mdbatch.specs.GatheredUnits.{Gathers, setting_of}
-use Rattle.viewlaws.proofs.ReadLines.{lines_fed, none_deep, none_handed}
+use Rattle.viewspec.proofs.ReadLines.{lines_fed, none_deep, none_handed}
 use Rattle.mdbatch.proofs.ReadLines.{all_fed, fault_is, next_fed}
 use Rattle.mdbatch.proofs.SplitText.{size_next}
 use Rattle.mdbatch.proofs.units.gathered_units.Goals as goal

@@ -2,7 +2,7 @@ use denote.Shadow.{shadow}
 use denote.Text.{Utf8}
 use Rattle.std.proofs.Common.{◌≡◌, ◌+◌, ◌≤◌, ℕ, List, ◌++◌, length}
 use Rattle.mdtext.specs.Lines.{split_lines}
-use Rattle.mdview.specs.Document.{size_of}
+use Rattle.mdsource.specs.SourceLimits.{size_of}
 use Rattle.mdblock.specs.held.Reads.{Reads, handed}
 use Rattle.mdbatch.specs.GatheredUnits.{Gathers, setting_of}
 use Rattle.mdbatch.proofs.units.gathered_units.Given as goal

@@ -1,7 +1,7 @@
 use Rattle.std.proofs.Common.{◌≡◌, ◌+◌, [], ◌++◌, append-nil, length, map, string_bytes, refl, sym, ◌∙◌, ap}
 use Rattle.std.proofs.lemmas.List.{take-map}
 use Rattle.std.specs.Prelude.{take}
-use Rattle.blocklaws.proofs.DocumentLaws.{map_length}
+use Rattle.blockspec.proofs.DocumentLaws.{map_length}
 use Rattle.blockspec.specs.BlockTree.{no_items}
 use Rattle.blockspec.specs.UnitTree.{UnitTree}
 use Rattle.blockspec.specs.ItemMarks.{ItemMark}

@@ -2,7 +2,7 @@ use Rattle.std.proofs.Common.{Err, ◌+◌, ◌-◌, ◌<◌, length, map, Some,
 use Rattle.std.proofs.lemmas.List.{take-map}
 use Rattle.std.specs.List.{list_any}
 use Rattle.std.specs.Prelude.{take}
-use Rattle.blocklaws.proofs.DocumentLaws.{map_length}
+use Rattle.blockspec.proofs.DocumentLaws.{map_length}
 use Rattle.blockspec.specs.BlockLine.{BlockLine, document_line}
 use Rattle.blockspec.specs.BlockStart.{Holds, Item, begun}
 use Rattle.blockspec.specs.ContainerLines.{opened}

@@ -1,13 +1,13 @@
 use Rattle.std.proofs.Common.{◌≡◌, ◌∙◌, Err, ap, sym}
 use Rattle.std.proofs.lemmas.Result.{IfErr-weaker, IfOk-weaker}
 use Rattle.std.proofs.lemmas.Str.{is_utf8-from_IsUtf8}
-use Rattle.mdtext.specs.EntityFile.{file_table, of_object, or_fault}
+use Rattle.mdtext.specs.EntityFile.{file_names, of_object, or_fault}
 use Rattle.mdtext.specs.MemberTexts.{gathered, given_table}
 use Rattle.mdtext.specs.declared.entity_file.TableFault.TheVariants.{BadEntry}
 use Rattle.mdtext.proofs.TokenReading.{file_is}
 use Rattle.mdtext.proofs.entity_reading.read_table.Goals as goal
 
-told : (c : goal.After-drop-scratch-3) → file_table c.args.text.now ≡ or_fault BadEntry (given_table (gathered c.in_ok-members.members))
+told : (c : goal.After-drop-scratch-3) → file_names c.args.text.now ≡ or_fault BadEntry (given_table (gathered c.in_ok-members.members))
 told c =
     let found = c.in_ok-members.ensures.ok in
     file_is c.args.text.now c.in_ok-reader.reader (is_utf8-from_IsUtf8 c.args.text.now c.utf8.text) c.in_ok-reader.ensures.ok ∙ ap of_object found.1 ∙ ap (or_fault BadEntry) found.2

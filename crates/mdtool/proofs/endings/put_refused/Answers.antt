@@ -2,8 +2,8 @@ use Rattle.std.proofs.Common.{◌≡◌, ◌++◌, ◌∷◌, codes, decimal, ap
 use Rattle.std.specs.Result.{is_ok}
 use Rattle.std.proofs.lemmas.Result.{err_from_is_err_and}
 use Rattle.mdtool.proofs.Devices.{puts_then, puts_part}
-use Rattle.mdview.specs.FaultNames.{name_of, number_of}
-use Rattle.mdview.specs.FaultReasons.{reason_of}
+use Rattle.mdsource.specs.FaultNames.{name_of, number_of}
+use Rattle.mdsource.specs.FaultReasons.{reason_of}
 use Rattle.mdtool.proofs.endings.put_refused.Goals as goal
 
 pub returns-in_err-put_all : goal.returns-in_err-put_all

@@ -1,7 +1,7 @@
 use Rattle.std.proofs.Common.{Err, Ok, refl, rules, subst}
 use Rattle.mdtext.specs.Lines.{text_lines}
 use Rattle.mdbatch.specs.BatchHtml.{TextHtml}
-use Rattle.mdview.specs.declared.fault.EditFault.TheVariants.{NoMemory}
+use Rattle.mdsource.specs.declared.fault.EditFault.TheVariants.{NoMemory}
 use Rattle.jirmoans.proofs.session.Session.html.Goals as goal
 
 pub returns-in-Ok-hold_all : goal.returns-in-Ok-hold_all

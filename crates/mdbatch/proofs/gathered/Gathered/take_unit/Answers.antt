@@ -7,7 +7,7 @@ use Rattle.mdhtml.specs.WrittenUnits.{is_deep_unit, written_unit}
 use Rattle.mdblock.specs.FoundLists.{found_unit}
 use Rattle.mdbatch.specs.GatheredUnits.{EndsLine, IsWoven, closes_bracket, setting_of}
 use Rattle.viewspec.specs.LabelTable.{with_definitions}
-use Rattle.viewlaws.proofs.LabelsLead.{labels_more}
+use Rattle.viewspec.proofs.LabelsLead.{labels_more}
 use Rattle.mdbatch.proofs.UnitsGathered.{cut_more, is_none, not_both, not_none, woven_kept, woven_more}
 use Rattle.mdbatch.proofs.UnitsWritten.{deep_anyhow, one_deep, one_written, written_anyhow}
 use Rattle.mdbatch.proofs.gathered.Gathered.take_unit.Goals as goal

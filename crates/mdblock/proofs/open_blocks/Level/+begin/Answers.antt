@@ -1,11 +1,11 @@
-use Rattle.std.proofs.Common.{ap, sym, ◌∙◌, Err, Some, subst}
+use Rattle.std.proofs.Common.{ap, arith, refl, sym, ◌∙◌, Err, Some, subst}
 use Rattle.std.proofs.lemmas.Result.{on_ok_weaker}
 use Rattle.blockspec.specs.BlockStart.{Quote, Holds, Item}
 use Rattle.mdblock.specs.held.LevelSteps.{IsLeafStart, BeginsBehind}
 use Rattle.mdblock.specs.held.StartKind.{kind_of_start}
 use Rattle.mdblock.proofs.LevelBegins.{blank_begins, block_begins, err_is}
 use Rattle.mdblock.proofs.LevelContainers.{quote_begins, item_begins}
-use Rattle.mdblock.proofs.LevelLeaves.{leaf_fits, found_fits, leaf_start, start_is}
+use Rattle.mdblock.proofs.LevelLeaves.{leaf_fits, found_fits, leaf_opens, leaf_start, start_is}
 use Rattle.mdblock.proofs.LevelLines.{blank_sinks, held_fits, held_deepest}
 use Rattle.mdblock.proofs.open_blocks.Level.+begin.Goals as goal
 
@@ -117,12 +117,12 @@ pub begin_block-returns-in_ok-begin_leaf-in_default-start : goal.begin_block-ret
 begin_block-returns-in_ok-begin_leaf-in_default-start t c =
     let h = c.in_ok-begin_leaf-in_default-start.ensures in
     record {
-      within = h.within;
-      grows = h.grows;
-      entities = h.entities;
+      within = h.within _ c.requires.level;
+      grows = omega arith;
+      entities = refl;
       fault = tt;
       begins = h.begins c.args.room;
       fits = found_fits c.args.room c.args.line.now c.args.opening c.in-Some.start c.in-Some.is c.requires.opening.1
-          (leaf_start c.in-Some.start c.in_default-start.not-Quote c.in_default-start.not-Item);
+          (leaf_opens c.in-Some.start (leaf_start c.in-Some.start c.in_default-start.not-Quote c.in_default-start.not-Item c.in_default-start.not-Heading));
       sinks = λ is. absurd (let x : ⊥ = cc in x);
     }

@@ -1,7 +1,6 @@
 use Rattle.std.proofs.Common.{◌≡◌, ◌+◌, ◌-◌, ◌<◌, [], ◌∷◌, ◌++◌, false, None, get_or, slice_index, refl, sym, subst, ◌∙◌, arith}
 use Rattle.std.proofs.Math.Logic.{inl, inr}
-use Rattle.mdpair.specs.Neighbours.{run_at}
-use Rattle.inlinespec.specs.Lexing.{Lexeme, Delimiters, lex}
+use Rattle.inlinespec.specs.Lexing.{Lexeme, Delimiters, delimiters_at, lex}
 use Rattle.inlinespec.specs.Settled.{Run}
 use Rattle.inlinespec.specs.TextReading.{after_deed, item_by}
 use Rattle.mdinline.specs.declared.scanner.Found.{Found}
@@ -13,7 +12,7 @@ use Rattle.mdinline.specs.held.UnusedOpeners.{AreOpenersOf}
 use Rattle.mdinline.proofs.Marks.{behind_next, same_place}
 use Rattle.mdinline.proofs.ReadHolding.{leaves_unused}
 use Rattle.mdinline.proofs.ReadLeaf.{knows_later, leaf_leads, run_unused}
-use Rattle.mdinline.proofs.ReadSteps.{at_run, leads_lexeme}
+use Rattle.mdinline.proofs.ReadSteps.{at_run, leads_lexeme, run_kept}
 use Rattle.mdinline.proofs.SignItems.{at_feed}
 use Rattle.mdinline.proofs.readers.TextReader.step.Goals as goal
 
@@ -23,6 +22,9 @@ bracket-requires-clause-bracket g c =
 
 pub bracket-requires-clause-mark : goal.bracket-requires-clause-mark
 bracket-requires-clause-mark g c = subst (λ t. slice_index t c.args.at < 128) c.as_bytes-bytes.ensures.value c.in-Some-bracket_at.ensures.mark
+
+pub run-requires-clause-run : goal.run-requires-clause-run
+run-requires-clause-run g c = sym (run_kept c.args.self.now.entities.now c.args.text.now c.args.at c.in-Some.run' (sym c.in-Some.ensures.value))
 
 pub plain_end-end-requires-clause-first : goal.plain_end-end-requires-clause-first
 plain_end-end-requires-clause-first g c = c.begins_text.ensures.first c.if-begins_text.true
@@ -190,7 +192,7 @@ returns-clause-reads g c =
     let now = c.in_ok-put.ensures in
     let took = now.takes in
     let later = leaf.end.later in
-    let no_run : run_at text at ≡ None = sym c.in_default.ensures.value in
+    let no_run : delimiters_at entities text at ≡ None = sym c.in_default.ensures.value in
     let no_bracket : is_bracket (lex entities text at).kind ≡ false = subst (λ t. is_bracket (lex entities t at).kind ≡ false) c.as_bytes-bytes.ensures.value (c.in_default-bracket_at.ensures.value entities) in (
       took.0,
       took.1,

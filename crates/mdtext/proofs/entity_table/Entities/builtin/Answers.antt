@@ -1,4 +1,4 @@
--- The pairs of the constant, put in turn, are the table.
+-- The pairs of the constant, put in turn, are the names.
 use Rattle.std.proofs.Math.Utf8.{encode}
 use Rattle.mdtext.proofs.entity_table.Entities.builtin.Goals as goal
 

@@ -1,4 +1,4 @@
-use Rattle.std.proofs.Common.{◌≡◌, ◌+◌, length, drop, refl, ap, ◌∙◌, arith, length-drop}
+use Rattle.std.proofs.Common.{◌≡◌, ◌+◌, ◌++◌, ◌∷◌, [], length, take, drop, refl, ap, ◌∙◌, arith, length-append, length-drop}
 use Rattle.std.proofs.lemmas.Result.{err_from_is_err_and}
 use Rattle.std.specs.Str.Lossy.{utf8_lossy}
 use Rattle.mdtool.specs.Pending.{Pending}
@@ -9,8 +9,8 @@ use Rattle.mdtool.proofs.script.Script.next_texts.Goals as goal
 
 pub loop-alloc-init : goal.loop-alloc-init
 loop-alloc-init g c = record {
-  read = texts_none _ _ _ _ c.new-texts.ensures.items c.new-texts.ensures.len;
-  within = omega (arith, c.new-texts.ensures.len);
+  read = texts_none _ _ _ _ c.new-texts.ensures (ap length c.new-texts.ensures);
+  within = omega (arith, ap length c.new-texts.ensures);
   failures = refl;
   weight = omega arith;
 }
@@ -18,11 +18,13 @@ loop-alloc-init g c = record {
 pub loop-alloc-preserved : goal.loop-alloc-preserved
 loop-alloc-preserved g c =
     let found = rw c.in-Some.is at c.in_ok-len.ensures.steps in
+    let texts : c.push_lossy.new.self ≡ c.loop-alloc.texts ++ utf8_lossy (take c.in-Some.len c.find_line.new.self.bytes) ∷ [] =
+    c.in_ok-push_lossy.ensures ∙ ap (λ bytes. c.loop-alloc.texts ++ utf8_lossy bytes ∷ []) c.front.ensures in
+    let more : length c.push_lossy.new.self ≡ length c.loop-alloc.texts + 1 = ap length texts ∙ length-append c.loop-alloc.texts (utf8_lossy (take c.in-Some.len c.find_line.new.self.bytes) ∷ []) in
     let left : length c.use_line.new.self.bytes ≡ length (drop (c.in-Some.len + 1) c.find_line.new.self.bytes) = ap (λ (p : Pending). length p.bytes) c.use_line.ensures in
     record {
-      read = texts_more _ _ _ _ _ _ _ _ _ _ _ _ _ c.loop-alloc.invariant.read found.0 found.1 c.use_line.ensures
-          (c.in_ok-line_text.ensures ∙ ap utf8_lossy c.front.ensures) c.in_ok-push.ensures.items c.in_ok-push.ensures.len;
-      within = omega (arith, c.in_ok-push.ensures.len, c.len.ensures, c.loop-alloc-test.true);
+      read = texts_more _ _ _ _ _ _ _ _ _ _ _ _ c.loop-alloc.invariant.read found.0 found.1 c.use_line.ensures texts more;
+      within = omega (arith, more, c.len.ensures, c.loop-alloc-test.true);
       failures = c.in_ok-len.ensures.failures ∙ c.loop-alloc.invariant.failures;
       weight = omega (arith, c.in_ok-len.ensures.weight, c.loop-alloc.invariant.weight, length-drop (c.in-Some.len + 1) c.find_line.new.self.bytes);
     }
@@ -40,14 +42,8 @@ returns-in_default-clause-steps g c =
     let found = rw c.in_default.is at c.in_ok-len.ensures.steps in
     few_lines _ _ _ _ _ _ _ _ _ _ c.loop-alloc.invariant.read found.0 found.1 (omega (arith, c.len.ensures, c.loop-alloc-test.true))
 
-pub returns-in_err-line_text-clause-steps : goal.returns-in_err-line_text-clause-steps
-returns-in_err-line_text-clause-steps g c =
+pub returns-in_err-push_lossy-clause-steps : goal.returns-in_err-push_lossy-clause-steps
+returns-in_err-push_lossy-clause-steps g c =
     let found = rw c.in-Some.is at c.in_ok-len.ensures.steps in
-    let p = err_from_is_err_and c.from_residual-in_err-line_text.result c.from_residual-in_err-line_text.ensures.1 in
-    rw (p.1, p.2) (texts_draw _ _ _ _ _ _ _ _ c.loop-alloc.invariant.read found.0)
-
-pub returns-in_err-push-clause-steps : goal.returns-in_err-push-clause-steps
-returns-in_err-push-clause-steps g c =
-    let found = rw c.in-Some.is at c.in_ok-len.ensures.steps in
-    let p = err_from_is_err_and c.from_residual-in_err-push.result c.from_residual-in_err-push.ensures.1 in
+    let p = err_from_is_err_and c.from_residual-in_err-push_lossy.result c.from_residual-in_err-push_lossy.ensures.1 in
     rw (p.1, p.2) (texts_draw _ _ _ _ _ _ _ _ c.loop-alloc.invariant.read found.0)

@@ -2,7 +2,7 @@ use Rattle.std.proofs.Common.{◌≡◌, ◌+◌, ◌≤◌, ◌-◌, drop, map,
 use Rattle.std.specs.List.{All}
 use Rattle.mdblock.specs.FoundLists.{found_unit}
 use Rattle.viewspec.specs.Stretch.{from_line}
-use Rattle.viewlaws.specs.UnitTiles.{IsAhead}
+use Rattle.viewspec.specs.UnitTiles.{IsAhead}
 use Rattle.mdview.specs.HeldBlocks.{line_before, lines_in, places_of}
 use Rattle.viewspec.specs.Stops.{near_line}
 use Rattle.mdview.specs.HeldItems.{IsCounted}

@@ -2,8 +2,9 @@ use Rattle.std.proofs.Common.{◌≡◌, ◌++◌, ◌∷◌, ℕ, List, None, [
 use Rattle.std.proofs.lemmas.List.{map-append}
 use Rattle.blockspec.specs.UnitTree.{FoundUnit}
 use Rattle.mdblock.specs.FoundLists.{found_unit}
-use Rattle.viewlaws.specs.UnitTexts.{deep_found, is_deep_under}
-use Rattle.mdview.specs.HeldTexts.{IsTextFault, entities_in, labels_behind, line_on, text_fault_in}
+use Rattle.viewspec.specs.UnitTexts.{deep_found, is_deep_under}
+use Rattle.mdview.specs.HeldTexts.{entities_in, labels_behind, line_on}
+use Rattle.mdsource.specs.TextFaults.{IsTextFault, text_fault_in}
 use Rattle.mdview.proofs.KeptTexts.{fault_before, fault_last, none_deep}
 use Rattle.mdview.proofs.ReadParts.{returned}
 use Rattle.mdview.proofs.inlines.UnitTextReader.read_found.Goals as goal

@@ -3,7 +3,7 @@ use Rattle.std.specs.List.{list_any}
 use Rattle.std.proofs.lemmas.List.{length-map, length-take, take-map}
 use Rattle.viewspec.specs.Refusals.{is_deep}
 use Rattle.viewspec.specs.View.{reading_of}
-use Rattle.viewlaws.specs.LaterTexts.{asking_of}
+use Rattle.viewspec.specs.LaterTexts.{asking_of}
 use Rattle.mdblock.proofs.LevelBegins.{err_is}
 use Rattle.mdview.specs.HeldTexts.{entities_in, labels_before, labels_behind}
 use Rattle.mdview.proofs.AlikeUnits.{take_within}

@@ -1,7 +1,7 @@
 use Rattle.std.proofs.Common.{◌≡◌, ℕ, ◌+◌, ◌-◌, ◌≤◌, List, map, length, string_bytes, arith, sym, ◌∙◌, refl, nat_lt, true, false, None}
 use Rattle.std.proofs.lemmas.List.{length-map}
 use Rattle.std.proofs.lemmas.Bool.Decides.{nat_tests}
-use Rattle.mdview.specs.Document.{size_of}
+use Rattle.mdsource.specs.SourceLimits.{size_of}
 use Rattle.mdtext.specs.Lines.{without_nul}
 use Rattle.mdview.specs.Edit.{call_of, due, put}
 use Rattle.mdview.proofs.Due.{due_of_parts, put_of_parts}

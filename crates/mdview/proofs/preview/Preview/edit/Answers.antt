@@ -7,7 +7,8 @@ use Rattle.viewspec.specs.Outcome.{accepted}
 use Rattle.viewspec.specs.Patch.{Brings}
 use Rattle.viewspec.specs.Refusals.{nesting_refusal}
 use Rattle.viewspec.specs.Setting.{Setting}
-use Rattle.mdview.specs.Document.{Document, pieces_of, readings_of, setting_of, size_of, source_of}
+use Rattle.mdview.specs.Document.{Document, pieces_of, readings_of, setting_of, source_of}
+use Rattle.mdsource.specs.SourceLimits.{size_of}
 use Rattle.mdview.specs.Edit.{call_of, due}
 use Rattle.mdview.specs.HeldBlocks.{old_lines}
 use Rattle.mdview.specs.HeldTexts.{IsRefusedBy}

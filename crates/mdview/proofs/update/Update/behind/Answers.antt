@@ -2,10 +2,11 @@ use Rattle.std.proofs.Common.{◌≡◌, ℕ, ◌++◌, List, arith, length, map
 use Rattle.std.specs.Prelude.{IfSome}
 use Rattle.std.specs.List.{All}
 use Rattle.std.specs.Option.{option_or}
-use Rattle.viewlaws.specs.UnitTexts.{asking_texts, asking_units, deep_found, deep_from, trees_in}
+use Rattle.viewspec.specs.UnitTexts.{asking_texts, asking_units, deep_found, deep_from, trees_in}
 use Rattle.mdblock.specs.FoundLists.{found_unit}
 use Rattle.mdview.specs.HeldBlocks.{held_tile}
-use Rattle.mdview.specs.HeldTexts.{IsReadUnder, IsReread, IsShallow, IsTextFault, between, deep_in_parts, entities_in, head_read, line_on, number_again}
+use Rattle.mdview.specs.HeldTexts.{IsReadUnder, IsReread, IsShallow, between, deep_in_parts, entities_in, head_read, line_on, number_again}
+use Rattle.mdsource.specs.TextFaults.{IsTextFault}
 use Rattle.mdview.specs.HeldUnit.{HeldUnit, unit_in}
 use Rattle.mdview.specs.KeptTexts.{AreReadingsOf, last_texts, number_kept, texts_with_kept}
 use Rattle.mdview.specs.LabelTargets.{led_after, target_held}

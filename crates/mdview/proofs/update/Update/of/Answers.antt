@@ -6,10 +6,11 @@ use Rattle.blockspec.specs.BlockUnits.{units as text_units}
 use Rattle.viewspec.specs.LabelTable.{table}
 use Rattle.viewspec.specs.Refusals.{inline_too_deep, nesting_refusal}
 use Rattle.viewspec.specs.Setting.{Setting}
-use Rattle.viewlaws.proofs.DeepUnits.{refused_for_spans}
-use Rattle.viewlaws.proofs.ReadingsUnder.{deep_found_under}
+use Rattle.viewspec.proofs.DeepUnits.{refused_for_spans}
+use Rattle.viewspec.proofs.ReadingsUnder.{deep_found_under}
 use Rattle.mdview.specs.HeldBlocks.{old_lines}
-use Rattle.mdview.specs.HeldTexts.{IsReadUnder, IsRefusedBy, IsReread, IsTextFault, asking_in_parts, deep_in_parts, head_read, number_again, setting_in, source_before, source_behind}
+use Rattle.mdview.specs.HeldTexts.{IsReadUnder, IsRefusedBy, IsReread, asking_in_parts, deep_in_parts, head_read, number_again, setting_in, source_before, source_behind}
+use Rattle.mdsource.specs.TextFaults.{IsTextFault}
 use Rattle.mdview.specs.HeldUnit.{HeldUnit, read_of, unit_in}
 use Rattle.mdview.specs.LabelTargets.{led_after, led_by, target_held}
 use Rattle.mdview.specs.NewText.{lines_of}

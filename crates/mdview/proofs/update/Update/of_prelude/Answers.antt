@@ -2,10 +2,11 @@ use Rattle.std.proofs.Common.{◌≡◌, ℕ, List, None, Option, arith, map, su
 use Rattle.std.specs.Prelude.{IfErr}
 use Rattle.std.specs.List.{All}
 use Rattle.std.proofs.lemmas.Result.{IfOk-weaker, on_ok_weaker}
-use Rattle.viewlaws.specs.UnitTexts.{asking_units}
-use Rattle.viewlaws.proofs.ReadingsUnder.{asking_texts_under, asking_units_under, deep_from_under}
+use Rattle.viewspec.specs.UnitTexts.{asking_units}
+use Rattle.viewspec.proofs.ReadingsUnder.{asking_texts_under, asking_units_under, deep_from_under}
 use Rattle.mdview.specs.HeldBlocks.{held_tile}
-use Rattle.mdview.specs.HeldTexts.{IsReread, IsTextFault, asking_in_parts, head_read, number_again}
+use Rattle.mdview.specs.HeldTexts.{IsReread, asking_in_parts, head_read, number_again}
+use Rattle.mdsource.specs.TextFaults.{IsTextFault}
 use Rattle.mdview.specs.HeldUnit.{HeldUnit, unit_in}
 use Rattle.mdview.specs.LabelTargets.{led_after, led_by, target_held}
 use Rattle.mdview.specs.declared.blocks.reparse.Reparsed.{Reparsed}

@@ -11,19 +11,16 @@ use Rattle.mdblock.proofs.leaf.paragraphs.Paragraph.turn_into_table.Goals as goa
 pub returns-clause-within : goal.returns-clause-within
 returns-clause-within c = c.behind.ensures.within _ (found_grows _ _ c.in_ok-over.over c.new.ensures.grows c.in_ok-over.ensures.within) c.in_ok-table.ensures.within
 
-pub returns-in_default-clause-table : goal.returns-in_default-clause-table
-returns-in_default-clause-table c = λ b. absurd (header_there c.in_ok-header.field-0 _ _ c.args.delimiters.now c.in_default.is c.in_ok-header.ensures.header c.last_line.ensures b)
-
-pub returns-in_default-clause-found : goal.returns-in_default-clause-found
-returns-in_default-clause-found c = λ b. absurd (header_there c.in_ok-header.field-0 _ _ c.args.delimiters.now c.in_default.is c.in_ok-header.ensures.header c.last_line.ensures b)
+pub unreachable-requires : goal.unreachable-requires
+unreachable-requires c = header_there c.in_ok-header.field-0 _ _ c.args.delimiters.now c.in_default.is c.in_ok-header.ensures.header c.last_line.ensures c.requires
 
 pub returns-clause-table : goal.returns-clause-table
-returns-clause-table c = λ b.
+returns-clause-table c =
     let old = gathered_texts c.args.gathering.now in
     let between = gathered_texts c.end.new.gathering in
     let last = drop c.args.self.last c.args.self.text in
     let header : header_of c.in-Some.header ≡ first_rows last c.args.delimiters.now =
-    header_told c.in_ok-header.field-0 c.in-Some.header _ last c.args.delimiters.now c.in-Some.is c.in_ok-header.ensures.header c.last_line.ensures b in
+    header_told c.in_ok-header.field-0 c.in-Some.header _ last c.args.delimiters.now c.in-Some.is c.in_ok-header.ensures.header c.last_line.ensures c.requires in
     rw c.behind.ensures.value (record {
       between = between;
       paragraph = subst (λ t. IsHandedIn (left_behind c.args.first (behind_definitions (without_end_blanks t))) old between c.in_ok-over.over) c.without_last.ensures c.in_ok-over.ensures.left;

@@ -7,7 +7,7 @@ use Rattle.mdblock.specs.FoundLists.{found_unit}
 use Rattle.viewspec.specs.LabelTable.{table_of}
 use Rattle.mdview.specs.HeldUnit.{unit_in}
 use Rattle.mdview.specs.LabelTargets.{at, definitions_by, target_held}
-use Rattle.mdview.specs.Preludes.{target_beside}
+use Rattle.mdsource.specs.Preludes.{target_beside}
 use Rattle.mdview.specs.ToldLabels.{labels_by, told, told_by, touched_by}
 use Rattle.mdview.proofs.LedByUnits.{edit_leads, elsewhere_then, units_cut}
 use Rattle.mdview.proofs.labels.changes.LabelChanges.of.Goals as goal

@@ -2,7 +2,7 @@ use Rattle.std.proofs.Common.{◌≡◌, ◌∙◌, ◌-◌, ◌++◌, [], None,
 use Rattle.std.proofs.lemmas.List.{append-nil, take_all}
 use Rattle.mdview.specs.HeldUnit.{HeldUnit, unit_in}
 use Rattle.mdview.specs.LabelTargets.{at, definitions_by, target_held}
-use Rattle.mdview.specs.Preludes.{target_beside}
+use Rattle.mdsource.specs.Preludes.{target_beside}
 use Rattle.mdview.specs.ToldLabels.{told, told_by, touched_by}
 use Rattle.mdview.proofs.LedByUnits.{elsewhere_then, prelude_leads}
 use Rattle.mdview.proofs.labels.changes.LabelChanges.of_prelude.Goals as goal

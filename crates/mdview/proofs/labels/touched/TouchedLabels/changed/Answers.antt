@@ -6,7 +6,7 @@ use Rattle.std.specs.Option.{option_or}
 use Rattle.std.specs.Ordering.{nat_cmp}
 use Rattle.std.proofs.lemmas.Map.Keys.{sorted_tail}
 use Rattle.mdview.specs.LabelTargets.{target_held}
-use Rattle.mdview.specs.Preludes.{target_beside}
+use Rattle.mdsource.specs.Preludes.{target_beside}
 use Rattle.mdview.specs.ToldLabels.{said, said_in, told_in}
 use Rattle.mdview.proofs.Elsewhere.{said_more}
 use Rattle.mdview.proofs.labels.touched.TouchedLabels.changed.Goals as goal

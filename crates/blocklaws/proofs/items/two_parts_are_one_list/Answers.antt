@@ -1,5 +1,0 @@
-use Rattle.blocklaws.proofs.UnitsMeet.{list_together}
-use Rattle.blocklaws.proofs.items.two_parts_are_one_list.Goals as goal
-
-pub returns : goal.returns
-returns c = λ kind first later gap lines item items. list_together kind first later gap lines item items

@@ -1,5 +1,0 @@
-use Rattle.blocklaws.proofs.DocumentLaws.{tables_append}
-use Rattle.blocklaws.proofs.laws.first_units_define.Goals as goal
-
-pub returns : goal.returns
-returns c = λ one other label. tables_append one other label

@@ -1,5 +1,0 @@
-use Rattle.blocklaws.proofs.ItemLaws.{items_that_meet}
-use Rattle.blocklaws.proofs.laws.items_meet.Goals as goal
-
-pub returns : goal.returns
-returns c = λ entities front line later joins. items_that_meet entities front line later joins

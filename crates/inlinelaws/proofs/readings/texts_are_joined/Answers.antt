@@ -1,8 +1,0 @@
-use Rattle.inlinespec.specs.TextReading.{reading}
-use Rattle.inlinespec.specs.TextTree.{events_of, inl}
-use Rattle.inlinelaws.proofs.JoinedTrees.{tree_joined}
-use Rattle.inlinelaws.proofs.readings.texts_are_joined.Goals as goal
-
-pub returns : goal.returns
-unfolding inl
-returns c = λ entities table text. tree_joined (events_of (reading entities table text))

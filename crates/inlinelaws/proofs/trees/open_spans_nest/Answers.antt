@@ -1,5 +1,0 @@
-use Rattle.inlinelaws.proofs.OpenSpans.{open_nests}
-use Rattle.inlinelaws.proofs.trees.open_spans_nest.Goals as goal
-
-pub returns : goal.returns
-returns c = λ front rest one. open_nests front rest one

@@ -1,0 +1,71 @@
+use Rattle.std.proofs.Common.{◌≡◌, ◌+◌, ◌∙◌, Err, ap, arith, map, refl, string_bytes, subst, sym, take}
+use Rattle.std.proofs.lemmas.List.{length-map}
+use Rattle.mdblock.specs.held.Reads.{Reads, handed}
+use Rattle.viewspec.specs.Setting.{Setting}
+use Rattle.viewspec.proofs.ReadLines.{none_deep, none_handed}
+use Rattle.mdsource.specs.Defining.{Defines}
+use Rattle.mdsource.specs.Preludes.{IsUndefiningAt}
+use Rattle.mdsource.proofs.Definings.{all_lines, definitions_alone, undefined, undefined_at}
+use Rattle.mdsource.proofs.defining.read_definitions.Goals as goal
+
+pub loop-line-init : goal.loop-line-init
+loop-line-init g c = record {
+  fed = c.new-reader.ensures.fed;
+  lines = omega arith;
+  inlines = refl;
+  reads = c.new-reader.ensures.reads;
+  defines = subst (λ found. Defines found c.new-defined.result) (sym (none_handed c.args.entities.now)) c.new-defined.ensures;
+}
+
+pub returns-in-Err-clause-undefining : goal.returns-in-Err-clause-undefining
+returns-in-Err-clause-undefining g c =
+    let lines = map string_bytes c.args.lines.now in
+    let setting : Setting = record { entities = c.args.entities.now; options = c.args.options.now } in
+    subst (IsUndefiningAt _) (sym c.fault_in_prelude.ensures)
+    (undefined_at setting lines c.loop-line.line c.line_at.result.now c.in-Err.fault (omega (arith, c.loop-line-test.true, length-map c.args.lines.now string_bytes)) c.line_at.ensures.line
+    (λ is. c.in-Err.ensures.deep (ap Err is) c.args.options.now.max_containers c.args.entities.now (take c.loop-line.line lines) c.loop-line.invariant.reads))
+
+pub loop-line-preserved : goal.loop-line-preserved
+loop-line-preserved g c =
+    let lines = map string_bytes c.args.lines.now in
+    let limit = c.args.options.now.max_containers in
+    let e = c.args.entities.now in
+    let front = take c.loop-line.line lines in
+    let next = sym c.line_at.ensures.line in
+    let before = c.loop-line.invariant in
+    record {
+      fed = c.in-Ok.ensures.read ∙ ap (λ n. n + 1) before.fed;
+      lines = omega (arith, before.lines, c.in-Ok.ensures.lines);
+      inlines = c.in-Ok.ensures.inlines ∙ before.inlines;
+      reads = subst (Reads limit e c.line.new.self) next (c.in-Ok.ensures.reads limit e front before.reads);
+      defines = subst (λ ls. Defines (handed e ls) c.take.new.self) next
+          (subst (λ found. Defines found c.take.new.self) (sym (c.in-Ok.ensures.hands limit e front before.reads)) (c.in_ok-take-in-Ok.ensures (handed e front) before.defines));
+    }
+
+pub returns-clause-definitions : goal.returns-clause-definitions
+returns-clause-definitions g c =
+    let lines = map string_bytes c.args.lines.now in
+    let setting : Setting = record { entities = c.args.entities.now; options = c.args.options.now } in
+    let limit = c.args.options.now.max_containers in
+    let e = c.args.entities.now in
+    let front = take c.loop-line.line lines in
+    let before = c.loop-line.invariant in
+    let whole : front ≡ lines = all_lines lines c.loop-line.line (omega (arith, c.loop-line-test.false, length-map c.args.lines.now string_bytes)) in
+    let reads = subst (Reads limit e c.loop-line.reader) whole before.reads in
+    let taken = c.in_ok-take-in-Ok-finish.ensures (handed e lines) (subst (λ ls. Defines (handed e ls) c.loop-line.defined) whole before.defines) in
+    let all = subst (λ found. Defines found c.take-in-Ok-finish.new.self) (sym (c.in-Ok-finish.ensures.hands limit e lines reads)) taken in
+    definitions_alone setting lines c.take-in-Ok-finish.new.self (none_deep limit e c.loop-line.reader lines reads) all c.take-in-Ok-finish.new.self.other c.targets.result refl c.targets.ensures
+
+pub returns-clause-undefining : goal.returns-clause-undefining
+returns-clause-undefining g c =
+    let lines = map string_bytes c.args.lines.now in
+    let setting : Setting = record { entities = c.args.entities.now; options = c.args.options.now } in
+    let limit = c.args.options.now.max_containers in
+    let e = c.args.entities.now in
+    let front = take c.loop-line.line lines in
+    let before = c.loop-line.invariant in
+    let whole : front ≡ lines = all_lines lines c.loop-line.line (omega (arith, c.loop-line-test.false, length-map c.args.lines.now string_bytes)) in
+    let reads = subst (Reads limit e c.loop-line.reader) whole before.reads in
+    let taken = c.in_ok-take-in-Ok-finish.ensures (handed e lines) (subst (λ ls. Defines (handed e ls) c.loop-line.defined) whole before.defines) in
+    let all = subst (λ found. Defines found c.take-in-Ok-finish.new.self) (sym (c.in-Ok-finish.ensures.hands limit e lines reads)) taken in
+    undefined setting lines c.take-in-Ok-finish.new.self (none_deep limit e c.loop-line.reader lines reads) all c.take-in-Ok-finish.new.self.other c.targets.result refl c.targets.ensures

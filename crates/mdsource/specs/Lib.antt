@@ -1,0 +1,6 @@
+pub mod Defining
+pub mod FaultNames
+pub mod FaultReasons
+pub mod Preludes
+pub mod SourceLimits
+pub mod TextFaults

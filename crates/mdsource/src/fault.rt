@@ -1,0 +1,122 @@
+//! Why an edit or a new prelude is refused.
+
+ghost use Rattle.std.specs.Prelude.{◌≡◌};
+ghost use Rattle.mdsource.specs.declared.fault.EditFault.TheVariants.{NoMemory};
+ghost use Rattle.mdsource.specs.FaultNames.{name_of, number_of};
+ghost use Rattle.mdsource.specs.FaultReasons.{reason_of};
+
+use std::alloc::{AllocError, AllocFailed};
+use std::error::Error;
+use std::fmt;
+
+/// Why an edit or a new prelude was refused. Nothing has changed then.
+#[derive(Clone, Copy, Debug, PartialEq, Eq)]
+pub enum EditFault {
+    /// The edit reaches past the text, which has this many lines.
+    OutOfRange { lines: usize },
+    /// The added line of this index, counted from 0, holds LF or CR; it is the first such.
+    BreakInLine { index: usize },
+    /// The text would have more than 1,000,000 lines.
+    TooManyLines,
+    /// The text would have more than 16,777,216 bytes, with one counted for each line's end.
+    TooLarge,
+    /// The line of this number, counted from 0 in the text that the edit would leave, begins a container that lies in as
+    /// many others as the options allow; it is the first such.
+    NestedTooDeep { line: usize },
+    /// A text of the unit that begins in this line has a span that lies in as many others as the
+    /// options allow; it is the first such unit.
+    InlineTooDeep { line: usize },
+    /// A growth was refused.
+    NoMemory,
+    /// The prelude is more than definitions: its line of this number, counted from 0, begins a container that lies in as
+    /// many others as the options allow, or, where none does, the first block that is no definition begins in it or in
+    /// the definitions that stand on top of it.
+    NotDefinitions { line: usize },
+}
+
+impl EditFault {
+    /// The name that a reply or an error line gives it.
+    pub fn name(&self) -> &'static str
+        ensures { result.now ≡ name_of (reason_of self.now) }
+    {
+        match self {
+            EditFault::OutOfRange { .. } => "OutOfRange",
+            EditFault::BreakInLine { .. } => "BreakInLine",
+            EditFault::TooManyLines => "TooManyLines",
+            EditFault::TooLarge => "TooLarge",
+            EditFault::NestedTooDeep { .. } => "NestedTooDeep",
+            EditFault::InlineTooDeep { .. } => "InlineTooDeep",
+            EditFault::NoMemory => "NoMemory",
+            EditFault::NotDefinitions { .. } => "NotDefinitions",
+        }
+    }
+
+    /// Its number: of lines, of an added line, or of a line of the text or the prelude; 0 where it has none.
+    pub fn number(&self) -> usize
+        ensures { result ≡ number_of (reason_of self.now) }
+    {
+        match self {
+            EditFault::OutOfRange { lines } => *lines,
+            EditFault::BreakInLine { index } => *index,
+            EditFault::NestedTooDeep { line } | EditFault::InlineTooDeep { line } => *line,
+            EditFault::NotDefinitions { line } => *line,
+            EditFault::TooManyLines | EditFault::TooLarge | EditFault::NoMemory => 0,
+        }
+    }
+}
+
+impl fmt::Display for EditFault {
+    fn fmt<W: fmt::Write>(&self, f: &mut fmt::Formatter<W>) -> fmt::Result {
+        match self {
+            EditFault::OutOfRange { lines } => {
+                write!(f, "the edit reaches past the text, which has {lines} lines")
+            }
+            EditFault::BreakInLine { index } => {
+                write!(f, "the added line {index} holds a line ending")
+            }
+            EditFault::TooManyLines => {
+                write!(f, "the text is refused: it has more than 1,000,000 lines")
+            }
+            EditFault::TooLarge => {
+                write!(f, "the text is refused: it has more than 16,777,216 bytes")
+            }
+            EditFault::NestedTooDeep { line } => {
+                write!(
+                    f,
+                    "the text is refused: a container in line {line} lies in too many others"
+                )
+            }
+            EditFault::InlineTooDeep { line } => {
+                write!(
+                    f,
+                    "the text is refused: a span of the block in line {line} lies in too many others"
+                )
+            }
+            EditFault::NoMemory => write!(f, "no memory"),
+            EditFault::NotDefinitions { line } => {
+                write!(
+                    f,
+                    "the prelude is refused: what begins in its line {line} is more than definitions"
+                )
+            }
+        }
+    }
+}
+
+impl Error for EditFault {}
+
+impl From<AllocError> for EditFault {
+    ghost from_gives = { λ _ e. e ≡ NoMemory };
+
+    fn from(_error: AllocError) -> EditFault {
+        EditFault::NoMemory
+    }
+}
+
+impl<T: Drop> From<AllocFailed<T>> for EditFault {
+    ghost from_gives = { λ _ e. e ≡ NoMemory };
+
+    fn from(_error: AllocFailed<T>) -> EditFault {
+        EditFault::NoMemory
+    }
+}

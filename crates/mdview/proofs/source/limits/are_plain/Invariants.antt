@@ -1,7 +1,0 @@
-use Rattle.std.proofs.Common.{◌≡◌, drop, map}
-use Rattle.std.specs.List.{list_any}
-use Rattle.mdview.specs.Edit.{has_special}
-use Rattle.mdview.proofs.source.limits.are_plain.Given as goal
-
-abbrev pub invariant-loop-line : goal.invariant-loop-line
-invariant-loop-line l = list_any has_special (map (λ line. line.now) (drop l.line-index l.lines)) ≡ list_any has_special (map (λ line. line.now) l.lines)

@@ -1,9 +1,0 @@
-use Rattle.std.proofs.Common.{◌≡◌, ◌-◌, ◌^◌, ◌+◌, ◌≤◌, min, drop, map}
-use Rattle.mdview.specs.Document.{size_of}
-use Rattle.mdview.proofs.source.limits.plain_size.Given as goal
-
-abbrev pub invariant-loop-line : goal.invariant-loop-line
-invariant-loop-line l = record {
-  so_far : min (l.size + size_of (map (λ line. line.now) (drop l.line-index l.lines))) (2 ^ 64 - 1) ≡ min (size_of (map (λ line. line.now) l.lines)) (2 ^ 64 - 1);
-  fits : l.size ≤ 2 ^ 64 - 1;
-}

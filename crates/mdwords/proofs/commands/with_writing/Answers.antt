@@ -1,0 +1,12 @@
+use Rattle.std.proofs.Common.{ap₂, refl, ◌∙◌}
+use Rattle.clap.specs.Words.{with_rule}
+use Rattle.mdwords.proofs.commands.with_writing.Goals as goal
+
+pub returns : goal.returns
+returns c =
+    c.in_ok-all.ensures.shape c.flag-6.ensures.local ∙ ap₂ with_rule
+    (c.in_ok-arg-5.ensures.shape c.flag-5.ensures.local ∙ ap₂ with_rule
+    (c.in_ok-arg-4.ensures.shape c.flag-4.ensures.local ∙ ap₂ with_rule
+    (c.in_ok-arg-3.ensures.shape c.flag-3.ensures.local ∙ ap₂ with_rule
+    (c.in_ok-arg-2.ensures.shape c.flag-2.ensures.local ∙ ap₂ with_rule
+    (c.in_ok-arg.ensures.shape c.flag.ensures.local ∙ ap₂ with_rule refl c.flag.ensures.rule) c.flag-2.ensures.rule) c.flag-3.ensures.rule) c.flag-4.ensures.rule) c.flag-5.ensures.rule) c.flag-6.ensures.rule

@@ -1,5 +1,0 @@
-use Rattle.viewlaws.proofs.Readings.{asks_alike}
-use Rattle.viewlaws.proofs.labels.one_asking_is_the_other.Goals as goal
-
-pub returns : goal.returns
-returns c = asks_alike

@@ -1,4 +1,0 @@
-pub mod ReadStretch
-pub mod UnitTiles
-pub mod UnitTexts
-pub mod LaterTexts
