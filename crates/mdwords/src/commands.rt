@@ -29,6 +29,11 @@ const PREVIEW_EXAMPLE: &str = "A script has three commands:
   prelude ADD      the ADD lines below the command are the prelude: definitions that count below the text's own
   html             all of the HTML
 
+Not there, of cmark-gfm's words:
+  other formats (-t xml, commonmark, latex, man, plaintext, ..), other extensions (-e autolink, tagfilter, footnotes, ..),
+  --footnotes, --smart, --sourcepos, --list-extensions,
+  and more than one FILE
+
 Example:
   printf 'edit 0 0 1\\n# Notes\\nhtml\\n' | mdpreview";
 
