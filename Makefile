@@ -42,7 +42,7 @@ help:
 	@echo "make run                 runs mdrender on a page and mdpreview on a writer's few edits, and shows what goes in and out (from the sources, unproved, where bin/ is empty); PAGE=FILE and EDITS=FILE show files of yours"
 	@echo "make build               proves every crate and builds the programs and the library for C into bin/, side by side; a line a crate, the logs in out/NAME.log"
 	@echo "make programs            proves and builds the two programs alone"
-	@echo "make test                the gate: what can be seen in a minute of layout, sources, edits and pages, and where that fails no more; then every proof from nothing, the tests and must-fail edits, the listings of the pages, the example files, endings and completions, the library from C, the client in Vim; the log in out/gate.log"
+	@echo "make test                the gate: every proof from nothing, all tests, examples and listings of the pages, and wrong code that must be refused; before these what can be seen in a minute of layout, sources, edits and pages, and where that fails no more; then endings and completions, the library from C, the client in Vim; the log in out/gate.log"
 	@echo "make check               a quick check of every crate, over what earlier checks kept"
 	@echo "make more_edits NAMES=\"mdtext mdview\"  tries the must-fail edits that the gate leaves out, of these crates or of all (a minute each)"
 	@echo "make fmt                 lays out the sources"
