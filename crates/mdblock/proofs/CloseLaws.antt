@@ -1,5 +1,5 @@
 -- Closing a level gives the blocks of its lines.
-use Rattle.std.proofs.Common.{Box, Global, Result, Ok, Err, IfOk, ◌≡◌, ℕ, ◌+◌, Bool, true, false, not, ◌&&◌, ◌||◌, List, ◌++◌, length, length-append, refl, sym, ◌∙◌, ap, subst}
+use Rattle.std.proofs.Common.{Box, Global, Result, Ok, Err, IfOk, ◌≡◌, ℕ, ◌+◌, Bool, true, false, not, ◌&&◌, ◌||◌, if◌then◌else◌, List, ◌++◌, length, length-append, refl, sym, ◌∙◌, ap, subst}
 use Rattle.mdtext.specs.EntityTable.{EntityTable}
 use Rattle.mdleaf.specs.LinkDefinition.{LinkDefinition}
 use Rattle.blockspec.specs.BlockStart.{Quote, Item}
@@ -220,3 +220,23 @@ pub taken_item_closes : (level : Level) (inner : Box Level Global) (got : Level)
 taken_item_closes level inner got is-got list is open' old new blocks all =
     subst (λ z. ClosesAll z old blocks new → blocks_view all ≡ blocks_before (blocks_view level.over.items) (tree.block (list_view_with list blocks z.spaced) no_blocks) → ClosesAll level old all new)
     (sym is-got) (item_closes level inner list is open' old new blocks all)
+
+-- the same of a list that is put among the blocks that are over, with the item that ended last
+pub open_list_closes : (level : Level) (inner : Box Level Global) (got : Level) → got ≡ inner.value → (list : OpenList) → level.last ≡ open_block.List inner list → list.item_open ≡ true → (old new : Gathering) (blocks all : List Block) (spaced : Bool) →
+    spaced ≡ got.spaced →
+    ClosesAll got old blocks new →
+    blocks_view all ≡ blocks_before (blocks_view level.over.items) (tree.block (if list.item_open then list_view_with list blocks spaced else list_view list) no_blocks) →
+    ClosesAll level old all new
+open_list_closes level inner got is-got list is open' old new blocks all spaced same closes closed =
+    let over = blocks_view level.over.items in
+    taken_item_closes level inner got is-got list is open' old new blocks all closes
+    (closed
+    ∙ ap (λ z. blocks_before over (tree.block (if z then list_view_with list blocks spaced else list_view list) no_blocks)) open'
+    ∙ ap (λ z. blocks_before over (tree.block (list_view_with list blocks z) no_blocks)) same)
+
+pub ended_list_closes : (level : Level) (inner : Box Level Global) (list : OpenList) → level.last ≡ open_block.List inner list → list.item_open ≡ false → (g : Gathering) (blocks all : List Block) (spaced : Bool) →
+    blocks_view all ≡ blocks_before (blocks_view level.over.items) (tree.block (if list.item_open then list_view_with list blocks spaced else list_view list) no_blocks) →
+    ClosesAll level g all g
+ended_list_closes level inner list is shut g blocks all spaced closed =
+    ended_closes level inner list is shut g all
+    (closed ∙ ap (λ z. blocks_before (blocks_view level.over.items) (tree.block (if z then list_view_with list blocks spaced else list_view list) no_blocks)) shut)

@@ -1,5 +1,5 @@
 -- Where a later item of a list begins in a line, the line goes on with the list, and no container in it lies too deep.
-use Rattle.std.proofs.Common.{◌≡◌, ◌<◌, ℕ, ◌+◌, Bool, true, false, not, ◌&&◌, List, [], ◌∷◌, ◌++◌, length, map, Option, Some, None, refl, sym, ◌∙◌, ap, arith}
+use Rattle.std.proofs.Common.{◌≡◌, ◌<◌, ℕ, ◌+◌, Bool, true, false, not, ◌&&◌, List, [], ◌∷◌, ◌++◌, length, map, Option, Some, None, sym, ◌∙◌, ap, arith}
 use Rattle.std.specs.Option.{option_or}
 use Rattle.std.specs.Prelude.{if◌then◌else◌}
 use Rattle.mdtext.specs.EntityTable.{EntityTable}
@@ -8,7 +8,7 @@ use Rattle.blockspec.specs.BlockLine.{BlockLine, document_line, is_blank_line}
 use Rattle.blockspec.specs.BlockStart.{Item, Holds, begun}
 use Rattle.blockspec.specs.BlockTree.{ListKind}
 use Rattle.blockspec.specs.ContainerLines.{opened}
-use Rattle.blockspec.specs.LineSummary.{Summary, summary, nothing_yet, ended_block, open_leaf, open_container, no_summary, closed, is_apart_after, last_groups, last_in, mark_of, summary_of}
+use Rattle.blockspec.specs.LineSummary.{Summary, summary, nothing_yet, ended_block, open_leaf, open_container, no_summary, closed, is_apart_after, last_in, mark_of, summary_of}
 use Rattle.blockspec.specs.ListGroups.{Listed}
 use Rattle.blockspec.specs.NodeTree.{ItemNodes}
 use Rattle.blockspec.specs.Nesting.{deep_within, first_too_deep}

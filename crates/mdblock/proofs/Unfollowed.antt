@@ -1,5 +1,5 @@
 -- A line that is lazy or blank has neither the marker nor the indentation of any open container.
-use Rattle.std.proofs.Common.{◌≡◌, Bool, true, false, not, ◌&&◌, refl, sym, ◌∙◌, ap}
+use Rattle.std.proofs.Common.{◌≡◌, Bool, true, false, not, ◌&&◌, refl, ◌∙◌, ap}
 use Rattle.std.specs.Prelude.{nat_le}
 use Rattle.blockspec.specs.BlockLine.{BlockLine, indentation, is_blank_line, rest}
 use Rattle.blockspec.specs.ContainerLines.{matches}

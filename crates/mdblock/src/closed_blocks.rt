@@ -1,6 +1,6 @@
 //! The blocks that are over, with one more behind them.
 
-ghost use Rattle.std.specs.Prelude.{◌≡◌, ℕ, IfOk, IfSome, OnOk};
+ghost use Rattle.std.specs.Prelude.{◌≡◌, ℕ, IfSome, OnOk};
 ghost use Rattle.blockspec.specs.BlockTree.{block_quote, no_blocks};
 ghost use Rattle.blockspec.specs.BlockTree as tree;
 ghost use Rattle.mdblock.specs.BlockView.{block_view, blocks_view, items_view};
@@ -71,52 +71,37 @@ fn make_room_for_two(over: &mut Vec<Block>) -> Result<(), AllocError>
     Ok(())
 }
 
-/// The blocks with one more, where there is one.
-pub(crate) fn with_found(
-    mut over: Vec<Block>,
-    found: Option<Block>,
-) -> Result<Vec<Block>, AllocError>
-    ensures pushed { IfOk result (λ blocks. blocks_view blocks.items ≡ blocks_before (blocks_view over.items) (found_view found)) }
-    ensures within { IfOk result (λ blocks. (n : ℕ) → BlocksIn n (blocks_view over.items) → IfSome found (λ block. BlockIn n (block_view block))
-        → BlocksIn n (blocks_view blocks.items)) }
+/// Puts a block quote of these blocks behind those that are over.
+pub(crate) fn push_quote(over: &mut Vec<Block>, blocks: Vec<Block>) -> Result<(), AllocError>
+    ensures pushed { OnOk result (blocks_view over.new.items
+        ≡ blocks_before (blocks_view over.old.items) (tree.block (block_quote (blocks_view blocks.items)) no_blocks)) }
+    ensures within { OnOk result ((n : ℕ) → BlocksIn n (blocks_view over.old.items) → BlocksIn n (blocks_view blocks.items)
+        → BlocksIn n (blocks_view over.new.items)) }
 {
-    push_found(&mut over, found)?;
-    Ok(over)
+    push_block(over, Block::Quote(blocks))
 }
 
-/// The blocks with a block quote of these behind them.
-pub(crate) fn with_quote(mut over: Vec<Block>, blocks: Vec<Block>) -> Result<Vec<Block>, AllocError>
-    ensures pushed { IfOk result (λ all. blocks_view all.items
-        ≡ blocks_before (blocks_view over.items) (tree.block (block_quote (blocks_view blocks.items)) no_blocks)) }
-    ensures within { IfOk result (λ all. (n : ℕ) → BlocksIn n (blocks_view over.items) → BlocksIn n (blocks_view blocks.items)
-        → BlocksIn n (blocks_view all.items)) }
+/// Puts a list behind the blocks that are over.
+pub(crate) fn push_list(over: &mut Vec<Block>, list: OpenList) -> Result<(), AllocError>
+    ensures pushed { OnOk result (blocks_view over.new.items ≡ blocks_before (blocks_view over.old.items) (tree.block (list_view list) no_blocks)) }
+    ensures within { OnOk result ((n : ℕ) → BlocksIn n (blocks_view over.old.items) → ItemsIn n (items_view list.items.items)
+        → BlocksIn n (blocks_view over.new.items)) }
 {
-    push_block(&mut over, Block::Quote(blocks))?;
-    Ok(over)
+    push_block(over, list.end())
 }
 
-/// The blocks with a list behind them.
-pub(crate) fn with_list(mut over: Vec<Block>, list: OpenList) -> Result<Vec<Block>, AllocError>
-    ensures pushed { IfOk result (λ all. blocks_view all.items ≡ blocks_before (blocks_view over.items) (tree.block (list_view list) no_blocks)) }
-    ensures within { IfOk result (λ all. (n : ℕ) → BlocksIn n (blocks_view over.items) → ItemsIn n (items_view list.items.items)
-        → BlocksIn n (blocks_view all.items)) }
-{
-    push_block(&mut over, list.end())?;
-    Ok(over)
-}
-
-/// The blocks with a list behind them that ends with an item of these.
-pub(crate) fn with_item(
-    over: Vec<Block>,
+/// Puts a list that ends with an item of these blocks behind the blocks that are over.
+pub(crate) fn push_item(
+    over: &mut Vec<Block>,
     mut list: OpenList,
     blocks: Vec<Block>,
     gap: bool,
-) -> Result<Vec<Block>, AllocError>
-    ensures pushed { IfOk result (λ all. blocks_view all.items
-        ≡ blocks_before (blocks_view over.items) (tree.block (list_view_with list blocks.items gap) no_blocks)) }
-    ensures within { IfOk result (λ all. (n : ℕ) → BlocksIn n (blocks_view over.items) → ItemsIn n (items_view list.items.items)
-        → BlocksIn n (blocks_view blocks.items) → BlocksIn n (blocks_view all.items)) }
+) -> Result<(), AllocError>
+    ensures pushed { OnOk result (blocks_view over.new.items
+        ≡ blocks_before (blocks_view over.old.items) (tree.block (list_view_with list blocks.items gap) no_blocks)) }
+    ensures within { OnOk result ((n : ℕ) → BlocksIn n (blocks_view over.old.items) → ItemsIn n (items_view list.items.items)
+        → BlocksIn n (blocks_view blocks.items) → BlocksIn n (blocks_view over.new.items)) }
 {
     list.push(blocks, gap)?;
-    Ok(with_list(over, list)?)
+    push_list(over, list)
 }

@@ -1,5 +1,5 @@
 -- What the parts of reading a line make of a level: its blocks end, a block begins behind them, and the next item begins.
-use Rattle.std.specs.Prelude.{Result, IfOk, OnOk, ◌++◌, ◌-◌, take, ◌≡◌, ℕ, suc, Bool, true, false, not, ◌&&◌, ◌||◌, List, [], ◌∷◌, length, Option, None, Some, is_some}
+use Rattle.std.specs.Prelude.{Result, IfOk, OnOk, ◌++◌, ◌-◌, if◌then◌else◌, take, ◌≡◌, ℕ, suc, Bool, true, false, not, ◌&&◌, ◌||◌, List, [], ◌∷◌, length, Option, None, Some, is_some}
 use Rattle.mdtext.specs.EntityTable.{EntityTable}
 use Rattle.mdleaf.specs.LeadingDefinitions.{leading_of}
 use Rattle.mdleaf.specs.LinkDefinition.{LinkDefinition}
@@ -7,7 +7,8 @@ use Rattle.mdleaf.specs.ParagraphText.{behind_definitions, without_end_blanks}
 use Rattle.blockspec.specs.BlockLine.{BlockLine, rest, is_blank_line, without_columns, as_lazy}
 use Rattle.blockspec.specs.BlockStart.{Inside, Quote, Item, Paragraph, SetextHeading, Table, start, begun, item_of, last_text}
 use Rattle.blockspec.specs.ContainerLines.{opened}
-use Rattle.blockspec.specs.BlockTree.{ListKind, heading as heading_block, item, no_items}
+use Rattle.blockspec.specs.BlockTree.{ListKind, heading as heading_block, block_quote, item, no_blocks, no_items}
+use Rattle.blockspec.specs.BlockTree as tree
 use Rattle.mdblock.specs.BlockView.{kind_view, blocks_view, items_view}
 use Rattle.mdblock.specs.held.HandedIn.{gathered_texts, gathered_definitions}
 use Rattle.mdblock.specs.held.HeldTables.{IsTableBehind, first_rows}
@@ -15,7 +16,9 @@ use Rattle.mdblock.specs.held.OpenLeaves.{IsOver}
 use Rattle.mdblock.specs.held.ParagraphLines.{HoldsLines}
 use Rattle.mdblock.specs.declared.leaf.LeafAfter.{LeafAfter}
 use Rattle.mdblock.specs.held.LinesAdded.{IsReadBehind, IsAdded}
-use Rattle.mdblock.specs.held.TreesBehind.{placed_before}
+use Rattle.mdblock.specs.held.TreesBehind.{blocks_before, placed_before}
+use Rattle.mdblock.specs.held.ClosedViews.{list_view, list_view_with}
+use Rattle.mdblock.specs.declared.blocks.Block.{Block}
 use Rattle.mdblock.specs.held.HeldLevel.{StandsFor, StandsForLast, HasGathered, IsShut, is_begun}
 use Rattle.mdblock.specs.held.HeldNodes.{handed_nodes, closed_nodes, tasked}
 use Rattle.blockspec.specs.LineSummary.{Summary, summary, Last, nothing_yet, ended_block, open_leaf, open_container, last_in, last_tip, closed, summary_gap, new_last, begin_after, line_added, is_apart_after, mark_of, part_mark}
@@ -269,6 +272,23 @@ is_content (leaf.Fence f) = true
 is_content (leaf.Html h) = true
 is_content (leaf.Code c) = false
 is_content (leaf.Table t) = false
+
+-- a container that is open, in which all blocks are over
+abbrev pub IsOpenContainer : OpenBlock → Type 0
+IsOpenContainer open_block.Shut = ⊥
+IsOpenContainer (open_block.Leaf held) = ⊥
+IsOpenContainer (open_block.Quote' p over last in_item begun blank spaced) = Unit {0}
+IsOpenContainer (open_block.List' p over last in_item begun blank spaced list) = Unit {0}
+
+-- The blocks that are over with the container behind them; the item that is open in a list is its last one.
+abbrev pub IsClosedBehind : (before : List Block) → OpenBlock → (all : List Block) → Type 0
+IsClosedBehind before open_block.Shut all = ⊥
+IsClosedBehind before (open_block.Leaf held) all = ⊥
+IsClosedBehind before (open_block.Quote' p over last in_item begun blank spaced) all =
+    blocks_view all ≡ blocks_before (blocks_view before) (tree.block (block_quote (blocks_view over.items)) no_blocks)
+IsClosedBehind before (open_block.List' p over last in_item begun blank spaced list) all =
+    blocks_view all
+    ≡ blocks_before (blocks_view before) (tree.block (if list.item_open then list_view_with list over.items spaced else list_view list) no_blocks)
 
 -- ---- an open leaf reads a line
 

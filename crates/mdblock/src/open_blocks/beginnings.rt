@@ -154,7 +154,8 @@ impl Level {
         Ok(())
     }
 
-    /// Reads the first line of another leaf.
+    /// Reads the first line of another leaf. It stands by itself so that a container that begins takes less of the stack.
+    #[inline(never)]
     fn begin_leaf(
         &mut self,
         start: BlockStart,

@@ -5,11 +5,11 @@ ghost use Rattle.mdblock.specs.BlockView.{blocks_view};
 ghost use Rattle.mdblock.specs.Positions.{BlocksIn};
 ghost use Rattle.mdblock.specs.held.EndedItems.{EndsLastItem, KeepsNext};
 ghost use Rattle.mdblock.specs.held.HeldLevel.{ClosesAll, is_shut};
-ghost use Rattle.mdblock.specs.held.LevelSteps.{EndsAll, IsEmpty, IsOpenLeaf};
+ghost use Rattle.mdblock.specs.held.LevelSteps.{EndsAll, HasMarksOf, IsClosedBehind, IsEmpty, IsOpenContainer, IsOpenLeaf};
 ghost use Rattle.mdblock.specs.held.OpenPositions.{LevelIn};
 
 use crate::blocks::Block;
-use crate::closed_blocks::{push_found_inside, with_found, with_item, with_list, with_quote};
+use crate::closed_blocks::{push_found_inside, push_item, push_list, push_quote};
 use crate::container::list_items::end_item;
 use crate::gathering::Gathering;
 use crate::open_blocks::{Level, OpenBlock};
@@ -17,59 +17,51 @@ use std::alloc::{AllocError, Global};
 use std::mem;
 
 impl Level {
-    /// The blocks, the open one included.
+    /// Puts the open block, with all that is open in it, among those that are over.
     #[tactic(auto, using(crate::proofs::Within::growing))]
-    pub(crate) fn close(self, gathering: &mut Gathering) -> Result<Vec<Block>, AllocError>
-        requires { LevelIn (length gathering.old.texts.items) self }
-        ensures within { IfOk result (λ blocks. BlocksIn (length gathering.new.texts.items) (blocks_view blocks.items)) }
+    fn close(&mut self, gathering: &mut Gathering) -> Result<(), AllocError>
+        requires { LevelIn (length gathering.old.texts.items) self.old }
+        ensures within { OnOk result (LevelIn (length gathering.new.texts.items) self.new) }
         ensures grows { length gathering.old.texts.items ≤ length gathering.new.texts.items }
         ensures entities { gathering.new.entities.now ≡ gathering.old.entities.now }
-        ensures closes { IfOk result (λ blocks. ClosesAll self gathering.old blocks.items gathering.new) }
+        ensures closes { OnOk result (ClosesAll self.old gathering.old self.new.over.items gathering.new) }
+        ensures shut { OnOk result (is_shut self.new.last ≡ true) }
+        ensures marks { OnOk result (HasMarksOf self.old self.new) }
     {
-        let first = self.is_at_front();
-        let Level { over, last, .. } = self;
-        match last {
-            OpenBlock::Shut => Ok(over),
-            OpenBlock::Leaf(leaf) => {
-                let found = leaf.end(first, gathering)?;
-                with_found(over, found)
-            }
+        match &mut self.last {
+            OpenBlock::Shut => Ok(()),
+            OpenBlock::Leaf(_) => self.close_leaf(false, gathering),
             OpenBlock::Quote(inner) => {
-                let blocks = Box::into_inner(inner).close(gathering)?;
-                with_quote(over, blocks)
+                inner.close(gathering)?;
+                self.close_container()
             }
             OpenBlock::List(inner, list) => {
                 if !list.is_open() {
-                    return with_list(over, list);
+                    return self.close_container();
                 }
-                let inner = Box::into_inner(inner);
-                let gap = inner.spaced;
-                let blocks = inner.close(gathering)?;
-                with_item(over, list, blocks, gap)
+                inner.close(gathering)?;
+                self.close_container()
             }
         }
     }
 
-    /// Takes all the blocks out, and leaves none.
-    fn take(&mut self, alloc: Global) -> Level
-        ensures taken { result ≡ self.old }
-        ensures left { (n : ℕ) → LevelIn n self.new }
-    {
-        mem::replace(self, Level::new(alloc, false))
-    }
-
-    /// Puts the open block among those that are over. `more`: whether another block comes right behind it.
+    /// Puts the open block among those that are over. `more`: whether another block comes right behind it. Most blocks are leaves.
     pub(super) fn shut(&mut self, more: bool, gathering: &mut Gathering) -> Result<(), AllocError>
         requires { LevelIn (length gathering.old.texts.items) self.old }
         ensures within { OnOk result (LevelIn (length gathering.new.texts.items) self.new) }
         ensures grows { length gathering.old.texts.items ≤ length gathering.new.texts.items }
         ensures entities { gathering.new.entities.now ≡ gathering.old.entities.now }
+        ensures closes { OnOk result (ClosesAll self.old gathering.old self.new.over.items gathering.new) }
+        ensures shut { OnOk result (is_shut self.new.last ≡ true) }
         ensures ends { OnOk result (EndsAll self.old gathering.old self.new gathering.new) }
     {
-        if self.is_open_leaf() {
-            return self.shut_leaf(self.in_item && more, gathering);
+        if self.is_shut() {
+            return Ok(());
         }
-        self.shut_container(gathering)
+        if self.is_open_leaf() {
+            return self.close_leaf(self.in_item && more, gathering);
+        }
+        self.close(gathering)
     }
 
     /// Whether the open block is a leaf.
@@ -79,17 +71,19 @@ impl Level {
         matches!(self.last, OpenBlock::Leaf(_))
     }
 
-    /// Puts the open leaf among the blocks that are over. `more`: whether there is to be room for another block behind it.
+    /// Puts the open leaf among the blocks that are over. `more`: whether there is to be room for another block behind it. It stands by itself, as the
+    /// next, so that a level that closes takes less of the stack.
+    #[inline(never)]
     #[tactic(auto, using(crate::proofs::Within::growing))]
-    fn shut_leaf(&mut self, more: bool, gathering: &mut Gathering) -> Result<(), AllocError>
+    fn close_leaf(&mut self, more: bool, gathering: &mut Gathering) -> Result<(), AllocError>
         requires level { LevelIn (length gathering.old.texts.items) self.old }
         requires leaf { IsOpenLeaf self.old.last }
         ensures within { OnOk result (LevelIn (length gathering.new.texts.items) self.new) }
         ensures grows { length gathering.old.texts.items ≤ length gathering.new.texts.items }
         ensures entities { gathering.new.entities.now ≡ gathering.old.entities.now }
-        ensures ends { OnOk result (EndsAll self.old gathering.old self.new gathering.new) }
         ensures closes { OnOk result (ClosesAll self.old gathering.old self.new.over.items gathering.new) }
         ensures shut { OnOk result (is_shut self.new.last ≡ true) }
+        ensures marks { OnOk result (HasMarksOf self.old self.new) }
     {
         let first = self.is_at_front();
         match mem::replace(&mut self.last, OpenBlock::Shut) {
@@ -104,29 +98,29 @@ impl Level {
         }
     }
 
-    /// Puts the open block, whatever it is, among those that are over. It stands by itself so that what a line goes down through takes less of the stack.
+    /// Puts the open container, in which all blocks are over, among the blocks that are over.
     #[inline(never)]
-    #[tactic(auto, using(crate::proofs::Within::growing))]
-    fn shut_container(&mut self, gathering: &mut Gathering) -> Result<(), AllocError>
-        requires { LevelIn (length gathering.old.texts.items) self.old }
-        ensures within { OnOk result (LevelIn (length gathering.new.texts.items) self.new) }
-        ensures grows { length gathering.old.texts.items ≤ length gathering.new.texts.items }
-        ensures entities { gathering.new.entities.now ≡ gathering.old.entities.now }
-        ensures ends { OnOk result (EndsAll self.old gathering.old self.new gathering.new) }
+    fn close_container(&mut self) -> Result<(), AllocError>
+        requires { IsOpenContainer self.old.last }
+        ensures within { OnOk result ((n : ℕ) → LevelIn n self.old → LevelIn n self.new) }
+        ensures closed { OnOk result (IsClosedBehind self.old.over.items self.old.last self.new.over.items) }
+        ensures shut { OnOk result (is_shut self.new.last ≡ true) }
+        ensures marks { OnOk result (HasMarksOf self.old self.new) }
     {
-        let alloc = gathering.alloc();
-        let (in_item, begun) = (self.in_item, self.begun);
-        let (blank, spaced) = (self.blank, self.spaced);
-        let over = self.take(alloc).close(gathering)?;
-        *self = Level {
-            over,
-            last: OpenBlock::Shut,
-            in_item,
-            begun,
-            blank,
-            spaced,
-        };
-        Ok(())
+        match mem::replace(&mut self.last, OpenBlock::Shut) {
+            OpenBlock::Shut | OpenBlock::Leaf(_) => unreachable!(),
+            OpenBlock::Quote(inner) => {
+                let Level { over, .. } = Box::into_inner(inner);
+                push_quote(&mut self.over, over)
+            }
+            OpenBlock::List(inner, list) => {
+                if !list.is_open() {
+                    return push_list(&mut self.over, list);
+                }
+                let Level { over, spaced, .. } = Box::into_inner(inner);
+                push_item(&mut self.over, list, over, spaced)
+            }
+        }
     }
 
     /// Takes all the blocks out, the open one included, and leaves none, of a list item or not.
@@ -143,14 +137,8 @@ impl Level {
         ensures closes { IfOk result (λ blocks. ClosesAll self.old gathering.old blocks.items gathering.new) }
         ensures empty { OnOk result (IsEmpty in_item self.new) }
     {
-        if self.is_shut() {
-            return Ok(self.take_over(in_item, gathering.alloc()));
-        }
-        if self.is_open_leaf() {
-            self.shut_leaf(false, gathering)?;
-            return Ok(self.take_over(in_item, gathering.alloc()));
-        }
-        mem::replace(self, Level::new(gathering.alloc(), in_item)).close(gathering)
+        self.shut(false, gathering)?;
+        Ok(self.take_over(in_item, gathering.alloc()))
     }
 
     /// Takes all the blocks out where none is open, and leaves none, of a list item or not.

@@ -1,6 +1,5 @@
-use Rattle.std.proofs.Common.{◌+◌, ◌<◌, ◌≡◌, IfSome, length, sym, ◌∙◌, ap, arith, subst}
+use Rattle.std.proofs.Common.{◌+◌, ◌<◌, IfSome, length, ◌∙◌, ap, arith, subst}
 use Rattle.blockspec.specs.ItemMarks.{ItemMark}
-use Rattle.mdblock.specs.FoundLists.{FoundList}
 use Rattle.mdblock.specs.Spliced.{mark_at}
 use Rattle.mdblock.specs.held.ResumedItems.{IsResumedAt}
 use Rattle.mdblock.proofs.ResumedGiven.{lies_within}
