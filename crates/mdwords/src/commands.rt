@@ -53,7 +53,8 @@ pub(crate) fn command<'a>(alloc: Global, program: &'a str) -> Result<Command<'a>
     Ok(versioned(described(command, program)))
 }
 
-/// The options of how HTML is written.
+/// The options of how HTML is written. These and the next ones stand by themselves, so that what each takes of the stack is given back before the next.
+#[inline(never)]
 fn with_writing<'a>(alloc: Global, command: Command<'a>) -> Result<Command<'a>, AllocError>
     ensures { IfOk result (λ all. app_of all ≡ with_writing (app_of command.entry)) }
 {
@@ -92,6 +93,7 @@ fn with_writing<'a>(alloc: Global, command: Command<'a>) -> Result<Command<'a>, 
 }
 
 /// The options of which names of entities are known.
+#[inline(never)]
 fn with_names<'a>(alloc: Global, command: Command<'a>) -> Result<Command<'a>, AllocError>
     ensures { IfOk result (λ all. app_of all ≡ with_names (app_of command.entry)) }
 {
@@ -111,6 +113,7 @@ fn with_names<'a>(alloc: Global, command: Command<'a>) -> Result<Command<'a>, Al
 }
 
 /// The options of how a text is read, and what a stop says.
+#[inline(never)]
 fn with_reading<'a>(alloc: Global, command: Command<'a>) -> Result<Command<'a>, AllocError>
     ensures { IfOk result (λ all. app_of all ≡ with_reading (app_of command.entry)) }
 {
@@ -180,6 +183,7 @@ fn with_lines<'a>(alloc: Global, command: Command<'a>) -> Result<Command<'a>, Al
 }
 
 /// The options of cmark-gfm that say what is done anyway.
+#[inline(never)]
 fn with_done_anyway<'a>(alloc: Global, command: Command<'a>) -> Result<Command<'a>, AllocError>
     ensures { IfOk result (λ all. app_of all ≡ with_done_anyway (app_of command.entry)) }
 {
