@@ -16,6 +16,8 @@ fn main(rt: HostRuntime) -> ExitCode {
     }
 }
 
+/// It stands by itself, so that the words are read before it takes its part of the stack.
+#[inline(never)]
 fn run(rt: &HostRuntime, words: &Words) -> Result<(), Halt>
     requires { HasLimits words.now.options }
 {
