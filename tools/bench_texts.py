@@ -139,6 +139,6 @@ def write_all(folder, seed):
 
 
 if __name__ == "__main__":
-    if len(sys.argv) < 2:
+    if len(sys.argv) < 2 or sys.argv[1].startswith("-"):
         sys.exit(__doc__)
     write_all(sys.argv[1], int(sys.argv[2]) if len(sys.argv) > 2 else 1)
