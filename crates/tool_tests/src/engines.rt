@@ -7,14 +7,12 @@ mod tildes;
 mod tools;
 mod worked_texts;
 
-ghost use Rattle.std.specs.Prelude.{◌<◌};
 ghost use Rattle.mdhtml.specs.Limits.{HasLimits};
 
 use crate::options::SOFT;
-use mdtext::Entities;
+use crate::runs::{Devices, SOUND, served};
 use mdtool::{
-    Breaks, EditFault, MemoryFeed, MemoryOut, Options, Stop, TableFault, ToolFault, WordFault,
-    ending, serve,
+    Breaks, EditFault, MemoryOut, Options, Stop, TableFault, ToolFault, WordFault, ending,
 };
 use std::alloc::{AllocError, Global};
 use std::process::Abort;
@@ -26,24 +24,7 @@ fn options(breaks: Breaks) -> Options
     Options { breaks, ..SOFT }
 }
 
-/// What `serve` writes for a script, how it ends, and how often it flushed.
-fn served(
-    alloc: Global,
-    script: &[u8],
-    step: usize,
-    breaks: Breaks,
-) -> Result<(String, String, u64), AllocError>
-    requires { 0 < step }
-{
-    let mut feed = MemoryFeed::new(script, step, None);
-    let mut out = MemoryOut::new(alloc, step, None);
-    let entities = Entities::builtin(alloc)?;
-    let end = serve(alloc, &mut feed, &mut out, entities, options(breaks), &[]);
-    let written = String::from_utf8_lossy(alloc, out.bytes())?;
-    let end = format!(in alloc; "{end:?}")?;
-    Ok((written, end, out.flushes()))
-}
-
+/// Runs a script, which must be answered so, and end so.
 fn check(
     rt: &impl Abort,
     alloc: Global,
@@ -51,9 +32,21 @@ fn check(
     want: &str,
     want_end: &str,
 ) -> Result<(), AllocError> {
-    let (written, end, _) = served(alloc, script.as_bytes(), 7, Breaks::Soft)?;
-    assert_eq!(rt; written.as_str(), want, "{script}");
-    assert_eq!(rt; end.as_str(), want_end, "{script}");
+    let run = served(alloc, script.as_bytes(), SOUND, SOFT)?;
+    assert!(rt; run.wrote(want), "{script}");
+    assert!(rt; run.ended(want_end), "{script}");
+    Ok(())
+}
+
+/// Runs scripts, each with what it must be answered and how it must end.
+fn check_all(
+    rt: &impl Abort,
+    alloc: Global,
+    rows: &[(&'static str, &'static str, &'static str)],
+) -> Result<(), AllocError> {
+    for (script, want, want_end) in rows {
+        check(rt, alloc, script, want, want_end)?;
+    }
     Ok(())
 }
 
@@ -62,26 +55,25 @@ const EDITS: &str = "edit 0 0 3\n# a\nb  \nc\nedit 0 1 0\nhtml\n";
 const REPLIES: &str =
     "ok 0 0 2 0\npiece 0 11\n<h1>a</h1>\npiece 1 17\n<p>b<br />\nc</p>\nok 0 1 0 0\nhtml 17\n<p>b<br />\nc</p>\n";
 
-#[test]
-fn answers_edits(rt: HostRuntime) -> Result<(), Fail> {
-    let alloc = rt.alloc();
-    check(&rt, alloc, EDITS, REPLIES, "Ok(())")?;
-    check(&rt, alloc, "", "", "Ok(())")?;
+static ANSWERED: [(&str, &str, &str); 4] = [
+    (EDITS, REPLIES, "Ok(())"),
+    ("", "", "Ok(())"),
     // The script goes on after a refusal, and the text is as before.
-    check(
-        &rt,
-        alloc,
+    (
         "edit 0 0 5\na\n\nb\n\nc\nedit 9 1 0\nhtml\n",
         "ok 0 0 3 0\npiece 0 9\n<p>a</p>\npiece 1 9\n<p>b</p>\npiece 2 9\n<p>c</p>\nrefused OutOfRange 5\nhtml 27\n<p>a</p>\n<p>b</p>\n<p>c</p>\n",
         "Ok(())",
-    )?;
-    check(
-        &rt,
-        alloc,
+    ),
+    (
         "edit 0 0 1\na\rb\nhtml\n",
         "refused BreakInLine 0\nhtml 0\n",
         "Ok(())",
-    )?;
+    ),
+];
+
+#[test]
+fn answers_edits(rt: HostRuntime) -> Result<(), Fail> {
+    check_all(&rt, rt.alloc(), &ANSWERED)?;
     Ok(())
 }
 
@@ -95,36 +87,25 @@ static NO_COMMANDS: [&str; 7] = [
     "\u{FEFF}html\n",
 ];
 
-#[test]
-fn ends_at_what_is_no_command(rt: HostRuntime) -> Result<(), Fail> {
-    let alloc = rt.alloc();
-    let bad = "Err(BadCommand(1))";
-    for &script in &NO_COMMANDS {
-        check(&rt, alloc, script, "", bad)?;
-    }
-    check(&rt, alloc, "edit 0 0 2\na\n", "", "Err(Truncated(1))")?;
-    check(
-        &rt,
-        alloc,
-        "edit 0 0 999999999\na\n",
-        "",
-        "Err(Truncated(1))",
-    )?;
-    check(
-        &rt,
-        alloc,
+static ENDED: [(&str, &str, &str); 4] = [
+    ("edit 0 0 2\na\n", "", "Err(Truncated(1))"),
+    ("edit 0 0 999999999\na\n", "", "Err(Truncated(1))"),
+    (
         "edit 0 0 1\na\nfoo\nhtml\n",
         "ok 0 0 1 0\npiece 0 9\n<p>a</p>\n",
         "Err(BadCommand(3))",
-    )?;
+    ),
     // The last line counts without LF.
-    check(
-        &rt,
-        alloc,
-        "edit 00 0 0\nhtml",
-        "ok 0 0 0 0\nhtml 0\n",
-        "Ok(())",
-    )?;
+    ("edit 00 0 0\nhtml", "ok 0 0 0 0\nhtml 0\n", "Ok(())"),
+];
+
+#[test]
+fn ends_at_what_is_no_command(rt: HostRuntime) -> Result<(), Fail> {
+    let alloc = rt.alloc();
+    for &script in &NO_COMMANDS {
+        check(&rt, alloc, script, "", "Err(BadCommand(1))")?;
+    }
+    check_all(&rt, alloc, &ENDED)?;
     Ok(())
 }
 
@@ -158,11 +139,8 @@ fn reads_lines(rt: HostRuntime) -> Result<(), Fail> {
         check_line(&rt, alloc, line, piece)?;
     }
     // Bytes that are no UTF-8 are read as U+FFFD.
-    let (written, _, _) = served(alloc, b"edit 0 0 1\na\xFF\n", 3, Breaks::Soft)?;
-    assert_eq!(rt;
-        written.as_str(),
-        "ok 0 0 1 0\npiece 0 12\n<p>a\u{FFFD}</p>\n"
-    );
+    let run = served(alloc, b"edit 0 0 1\na\xFF\n", SOUND, SOFT)?;
+    assert!(rt; run.wrote("ok 0 0 1 0\npiece 0 12\n<p>a\u{FFFD}</p>\n"));
     Ok(())
 }
 
@@ -176,17 +154,19 @@ static BREAKS: [(Breaks, &str); 3] = [
 fn writes_breaks_as_the_options_say(rt: HostRuntime) -> Result<(), Fail> {
     let alloc = rt.alloc();
     for &(breaks, want) in &BREAKS {
-        let (written, _, _) = served(alloc, b"edit 0 0 3\na \nb\\\nc\nhtml\n", 9, breaks)?;
-        assert!(rt; written.as_str().ends_with(want), "{written}");
+        let script = b"edit 0 0 3\na \nb\\\nc\nhtml\n";
+        let run = served(alloc, script, SOUND, options(breaks))?;
+        assert!(rt; run.ends_with(want), "{want}");
     }
     Ok(())
 }
 
 #[test]
 fn flushes_each_reply(rt: HostRuntime) -> Result<(), Fail> {
-    let (written, _, flushes) = served(rt.alloc(), EDITS.as_bytes(), 1, Breaks::Soft)?;
-    assert_eq!(rt; written.as_str(), REPLIES);
-    assert_eq!(rt; flushes, 3);
+    let devices = Devices { step: 1, ..SOUND };
+    let run = served(rt.alloc(), EDITS.as_bytes(), devices, SOFT)?;
+    assert!(rt; run.wrote(REPLIES));
+    assert_eq!(rt; run.flushes, 3);
     Ok(())
 }
 
@@ -201,124 +181,68 @@ fn stopped(rt: &impl Abort, alloc: Global, fault: ToolFault, want: &str, status:
     ended(rt, alloc, &Stop::Tool(fault), want, status);
 }
 
-fn refused(rt: &impl Abort, alloc: Global, fault: EditFault, want: &str) {
-    stopped(rt, alloc, ToolFault::Refused(fault), want, 1);
-}
-
-fn check_refusals(rt: &impl Abort, alloc: Global) {
-    let out_of_range = EditFault::OutOfRange { lines: 5 };
-    refused(rt, alloc, out_of_range, "mdpreview: refused OutOfRange 5\n");
-    let break_in_line = EditFault::BreakInLine { index: 12 };
-    refused(
-        rt,
-        alloc,
-        break_in_line,
+static REFUSALS: [(EditFault, &str); 6] = [
+    (
+        EditFault::OutOfRange { lines: 5 },
+        "mdpreview: refused OutOfRange 5\n",
+    ),
+    (
+        EditFault::BreakInLine { index: 12 },
         "mdpreview: refused BreakInLine 12\n",
-    );
-    let lines = "mdpreview: refused TooManyLines 0\n";
-    refused(rt, alloc, EditFault::TooManyLines, lines);
-    let large = "mdpreview: refused TooLarge 0\n";
-    refused(rt, alloc, EditFault::TooLarge, large);
-    refused(rt, alloc, EditFault::NoMemory, "mdpreview: no memory\n");
-}
+    ),
+    (
+        EditFault::TooManyLines,
+        "mdpreview: refused TooManyLines 0\n",
+    ),
+    (EditFault::TooLarge, "mdpreview: refused TooLarge 0\n"),
+    (EditFault::NoMemory, "mdpreview: no memory\n"),
+    (
+        EditFault::NotDefinitions { line: 3 },
+        "mdpreview: refused NotDefinitions 3\n",
+    ),
+];
 
-fn check_tables(rt: &impl Abort, alloc: Global) {
-    let not_json = ToolFault::Table(TableFault::NotJson);
-    stopped(
-        rt,
-        alloc,
-        not_json,
-        "mdpreview: entity file is not JSON\n",
-        1,
-    );
-    let bad_entry = ToolFault::Table(TableFault::BadEntry);
-    stopped(
-        rt,
-        alloc,
-        bad_entry,
+static TABLES: [(TableFault, &str); 3] = [
+    (TableFault::NotJson, "mdpreview: entity file is not JSON\n"),
+    (
+        TableFault::BadEntry,
         "mdpreview: bad entry in entity file\n",
-        1,
-    );
-    let no_memory = ToolFault::Table(TableFault::NoMemory);
-    stopped(rt, alloc, no_memory, "mdpreview: no memory\n", 1);
-}
+    ),
+    (TableFault::NoMemory, "mdpreview: no memory\n"),
+];
 
-fn check_other_stops(rt: &impl Abort, alloc: Global) {
+fn check_tool_stops(rt: &impl Abort, alloc: Global) {
+    for &(fault, want) in &REFUSALS {
+        stopped(rt, alloc, ToolFault::Refused(fault), want, 1);
+    }
+    for &(fault, want) in &TABLES {
+        stopped(rt, alloc, ToolFault::Table(fault), want, 1);
+    }
     stopped(rt, alloc, ToolFault::Read, "mdpreview: read failed\n", 1);
     stopped(rt, alloc, ToolFault::Write, "mdpreview: write failed\n", 1);
-    stopped(
-        rt,
-        alloc,
-        ToolFault::BadCommand(7),
-        "mdpreview: bad command in line 7\n",
-        2,
-    );
-    stopped(
-        rt,
-        alloc,
-        ToolFault::Truncated(1),
-        "mdpreview: script ends inside the edit of line 1\n",
-        2,
-    );
+    let bad = "mdpreview: bad command in line 7\n";
+    stopped(rt, alloc, ToolFault::BadCommand(7), bad, 2);
+    let truncated = "mdpreview: script ends inside the edit of line 1\n";
+    stopped(rt, alloc, ToolFault::Truncated(1), truncated, 2);
     stopped(rt, alloc, ToolFault::NoMemory, "mdpreview: no memory\n", 1);
+}
+
+fn check_word_stop(rt: &impl Abort, alloc: Global, fault: WordFault, want: &str, status: u8) {
+    ended(rt, alloc, &Stop::Words(fault), want, status);
 }
 
 #[test]
 fn gives_each_stop_its_line_and_status(rt: HostRuntime) -> Result<(), Fail> {
     let alloc = rt.alloc();
-    let help = String::from_str(alloc, "how to\n")?;
-    ended(
-        &rt,
-        alloc,
-        &Stop::Words(WordFault::Help(help)),
-        "how to\n",
-        0,
-    );
-    let name = String::from_str(alloc, "a b.md")?;
-    ended(
-        &rt,
-        alloc,
-        &Stop::NotOpened(name),
-        "mdpreview: cannot open a b.md\n",
-        1,
-    );
-    ended(
-        &rt,
-        alloc,
-        &Stop::Words(WordFault::NotUnderstood),
-        "mdpreview: words not understood\n",
-        2,
-    );
-    ended(
-        &rt,
-        alloc,
-        &Stop::Words(WordFault::NoMemory),
-        "mdpreview: no memory\n",
-        1,
-    );
-    check_refusals(&rt, alloc);
-    check_tables(&rt, alloc);
-    check_other_stops(&rt, alloc);
+    let help = WordFault::Help(String::from_str(alloc, "how to\n")?);
+    check_word_stop(&rt, alloc, help, "how to\n", 0);
+    let not_understood = "mdpreview: words not understood\n";
+    check_word_stop(&rt, alloc, WordFault::NotUnderstood, not_understood, 2);
+    check_word_stop(&rt, alloc, WordFault::NoMemory, "mdpreview: no memory\n", 1);
+    let name = Stop::NotOpened(String::from_str(alloc, "a b.md")?);
+    ended(&rt, alloc, &name, "mdpreview: cannot open a b.md\n", 1);
+    check_tool_stops(&rt, alloc);
     Ok(())
-}
-
-/// What `serve` writes for the edits, which come so many bytes a call, and how it ends, where a device fails at a call.
-fn served_in_part(
-    alloc: Global,
-    step: usize,
-    feed_fails: Option<u64>,
-    out_fails: Option<u64>,
-) -> Result<(String, String), AllocError>
-    requires { 0 < step }
-{
-    let mut feed = MemoryFeed::new(EDITS.as_bytes(), step, feed_fails);
-    let mut out = MemoryOut::new(alloc, 1000, out_fails);
-    let entities = Entities::builtin(alloc)?;
-    let options = options(Breaks::Soft);
-    let end = serve(alloc, &mut feed, &mut out, entities, options, &[]);
-    let written = String::from_utf8_lossy(alloc, out.bytes())?;
-    let end = format!(in alloc; "{end:?}")?;
-    Ok((written, end))
 }
 
 /// The call that fails, and how many bytes are written: there are a put and a flush for each of the three replies.
@@ -328,14 +252,25 @@ static CALLS: [(u64, usize); 6] = [(0, 0), (1, 61), (2, 61), (3, 72), (4, 72), (
 fn ends_at_each_device_fault(rt: HostRuntime) -> Result<(), Fail> {
     let alloc = rt.alloc();
     for call in 0..8 {
-        let (written, end) = served_in_part(alloc, 6, Some(call), None)?;
-        assert_eq!(rt; end.as_str(), "Err(Read)", "read {call}");
-        assert!(rt; REPLIES.starts_with(written.as_str()), "read {call}");
+        let devices = Devices {
+            step: 6,
+            feed_fails: Some(call),
+            out_fails: None,
+        };
+        let run = served(alloc, EDITS.as_bytes(), devices, SOFT)?;
+        assert!(rt; run.ended("Err(Read)"), "read {call}");
+        assert!(rt; run.began(REPLIES), "read {call}");
     }
     for &(call, len) in &CALLS {
-        let (written, end) = served_in_part(alloc, 1000, None, Some(call))?;
-        assert_eq!(rt; end.as_str(), "Err(Write)", "write {call}");
-        assert_eq!(rt; written.len(), len, "write {call}");
+        let devices = Devices {
+            step: 1000,
+            feed_fails: None,
+            out_fails: Some(call),
+        };
+        let run = served(alloc, EDITS.as_bytes(), devices, SOFT)?;
+        assert!(rt; run.ended("Err(Write)"), "write {call}");
+        assert!(rt; run.began(REPLIES), "write {call}");
+        assert_eq!(rt; run.written.len(), len, "write {call}");
     }
     Ok(())
 }

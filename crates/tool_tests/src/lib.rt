@@ -8,4 +8,6 @@ mod engines;
 #[cfg(test)]
 mod options;
 #[cfg(test)]
+mod runs;
+#[cfg(test)]
 mod walks;

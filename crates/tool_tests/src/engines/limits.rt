@@ -4,8 +4,8 @@ ghost use Rattle.std.specs.Prelude.{◌≤◌};
 ghost use Rattle.mdhtml.specs.Limits.{HasLimits};
 
 use crate::options::SOFT;
-use mdtext::Entities;
-use mdtool::{MemoryFeed, MemoryOut, Options, convert, read_words, serve};
+use crate::runs::{WIDE, converted, served};
+use mdtool::{Options, read_words};
 use std::alloc::{AllocError, Global};
 use std::process::Abort;
 use std::test::Fail;
@@ -34,20 +34,9 @@ fn check(
 ) -> Result<(), AllocError>
     requires { HasLimits options }
 {
-    let mut feed = MemoryFeed::new(text.as_bytes(), 4096, None);
-    let mut out = MemoryOut::new(alloc, 4096, None);
-    let end = convert(
-        alloc,
-        &mut feed,
-        &mut out,
-        Entities::builtin(alloc)?,
-        options,
-        &[],
-    );
-    let written = String::from_utf8_lossy(alloc, out.bytes())?;
-    let end = format!(in alloc; "{end:?}")?;
-    assert_eq!(rt; written.as_str(), want);
-    assert_eq!(rt; end.as_str(), want_end);
+    let run = converted(alloc, text.as_bytes(), WIDE, options)?;
+    assert!(rt; run.wrote(want), "{want_end}");
+    assert!(rt; run.ended(want_end), "{want_end}");
     Ok(())
 }
 
@@ -193,23 +182,14 @@ fn deep_replies(alloc: Global) -> Result<String, AllocError> {
     Ok(replies)
 }
 
-/// What `serve` writes for a script with the largest limits, and how it ends.
-fn served(alloc: Global, script: &str) -> Result<(String, String), AllocError> {
-    let mut feed = MemoryFeed::new(script.as_bytes(), 4096, None);
-    let mut out = MemoryOut::new(alloc, 4096, None);
-    let entities = Entities::builtin(alloc)?;
-    let limits = with_limits(256, 256);
-    let end = serve(alloc, &mut feed, &mut out, entities, limits, &[]);
-    let written = String::from_utf8_lossy(alloc, out.bytes())?;
-    let end = format!(in alloc; "{end:?}")?;
-    Ok((written, end))
-}
-
 #[test]
 fn the_deepest_texts_are_edited(rt: HostRuntime) -> Result<(), Fail> {
-    let (written, end) = served(rt.alloc(), &deep_edits(rt.alloc())?)?;
-    assert_eq!(rt; end.as_str(), "Ok(())");
-    assert_eq!(rt; written.as_str(), deep_replies(rt.alloc())?.as_str());
+    let script = deep_edits(rt.alloc())?;
+    let replies = deep_replies(rt.alloc())?;
+    let limits = with_limits(256, 256);
+    let run = served(rt.alloc(), script.as_bytes(), WIDE, limits)?;
+    assert!(rt; run.ended("Ok(())"));
+    assert!(rt; run.wrote(replies.as_str()));
     Ok(())
 }
 

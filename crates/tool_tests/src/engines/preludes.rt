@@ -1,38 +1,30 @@
 //! Preludes: the worked script, those that are handed in, and their refusals.
 
-ghost use Rattle.std.specs.Prelude.{◌<◌};
-ghost use Rattle.mdhtml.specs.Limits.{HasLimits};
-
-use super::{check, options};
+use super::{check, check_all};
+use crate::options::SOFT;
+use crate::runs::{Devices, Run, SOUND, WIDE, converted_beside, served, served_beside};
 use mdtext::Entities;
-use mdtool::{
-    Breaks, EditFault, MemoryFeed, MemoryOut, Options, Stop, ToolFault, convert, ending,
-    prelude_from, serve,
-};
-use std::alloc::{AllocError, Global};
-use std::process::Abort;
+use mdtool::{MemoryFeed, ToolFault, prelude_from};
+use std::alloc::Global;
 use std::test::Fail;
 
-#[test]
-fn a_script_sets_preludes(rt: HostRuntime) -> Result<(), Fail> {
-    let alloc = rt.alloc();
-    check(
-        &rt,
-        alloc,
+static SET: [(&str, &str, &str); 2] = [
+    (
         "edit 0 0 1\n[foo]\nprelude 1\n[foo]: /p\nedit 1 0 2\n\n[foo]: /a\nprelude 0\nprelude 1\nx\n",
         "ok 0 0 1 0\npiece 0 13\n<p>[foo]</p>\nok 0 0 0 1\npiece 0 28\n<p><a href=\"/p\">foo</a></p>\nok 0 1 2 0\npiece 0 28\n<p><a href=\"/a\">foo</a></p>\npiece 1 0\nok 0 0 0 0\nrefused NotDefinitions 0\n",
         "Ok(())",
-    )
-    .map_err(Fail::from)?;
+    ),
     // The text's definition goes, and the label leads where the prelude says; a refused prelude is not held.
-    check(
-        &rt,
-        alloc,
+    (
         "prelude 2\n[a]: /p\n[a]: /q\nedit 0 0 3\n[a]\n\n[a]: /t\nprelude 2\n[a]: /r\n# b\nedit 2 1 0\nprelude 1\n[b]: /p\nhtml\n",
         "ok 0 0 0 0\nok 0 0 2 0\npiece 0 26\n<p><a href=\"/t\">a</a></p>\npiece 1 0\nrefused NotDefinitions 1\nok 0 2 1 0\npiece 0 26\n<p><a href=\"/p\">a</a></p>\nok 0 0 0 1\npiece 0 11\n<p>[a]</p>\nhtml 11\n<p>[a]</p>\n",
         "Ok(())",
-    )
-    .map_err(Fail::from)?;
+    ),
+];
+
+#[test]
+fn a_script_sets_preludes(rt: HostRuntime) -> Result<(), Fail> {
+    check_all(&rt, rt.alloc(), &SET)?;
     Ok(())
 }
 
@@ -97,22 +89,11 @@ fn a_prelude_makes_no_text_too_deep(rt: HostRuntime) -> Result<(), Fail> {
         script.push_str(" a*")?;
     }
     script.push_str("\nprelude 1\n[k]: /u\nprelude 1\n[m]: /u\nedit 0 1 1\n[m]\n")?;
-    let mut feed = MemoryFeed::new(script.as_bytes(), 4096, None);
-    let mut out = MemoryOut::new(alloc, 4096, None);
-    let entities = Entities::builtin(alloc)?;
-    let end = serve(
-        alloc,
-        &mut feed,
-        &mut out,
-        entities,
-        options(Breaks::Soft),
-        &[],
-    );
-    assert!(rt; end.is_ok());
-    let written = String::from_utf8_lossy(alloc, out.bytes())?;
+    let run = served(alloc, script.as_bytes(), WIDE, SOFT)?;
+    assert!(rt; run.ended("Ok(())"));
     let want =
         "refused InlineTooDeep 2\nok 0 0 0 0\nok 0 1 1 0\npiece 0 26\n<p><a href=\"/u\">m</a></p>\n";
-    assert!(rt; written.as_str().ends_with(want), "{written}");
+    assert!(rt; run.ends_with(want));
     Ok(())
 }
 
@@ -134,22 +115,11 @@ fn reads_the_lines_of_a_prelude(rt: HostRuntime) -> Result<(), Fail> {
     Ok(())
 }
 
-/// What `convert` writes for a text beside a prelude, and how it ends.
-fn converted(
-    alloc: Global,
-    prelude: &[u8],
-    text: &str,
-    options: Options,
-) -> Result<(String, String), Fail>
-    requires { HasLimits options }
-{
+/// What `convert` does with a text beside a prelude.
+fn converted(alloc: Global, prelude: &[u8], text: &[u8]) -> Result<Run, Fail> {
     let lines = lines_in(alloc, prelude).map_err(|_| "not read")?;
-    let mut feed = MemoryFeed::new(text.as_bytes(), 7, None);
-    let mut out = MemoryOut::new(alloc, 7, None);
     let entities = Entities::builtin(alloc)?;
-    let end = convert(alloc, &mut feed, &mut out, entities, options, &lines);
-    let written = String::from_utf8_lossy(alloc, out.bytes())?;
-    Ok((written, format!(in alloc; "{end:?}")?))
+    Ok(converted_beside(alloc, entities, &lines, text, SOUND, SOFT)?)
 }
 
 static BESIDE: [(&str, &str, &str, &str); 3] = [
@@ -171,11 +141,10 @@ static BESIDE: [(&str, &str, &str, &str); 3] = [
 #[test]
 fn a_text_stands_beside_its_prelude(rt: HostRuntime) -> Result<(), Fail> {
     let alloc = rt.alloc();
-    let options = options(Breaks::Soft);
     for &(prelude, text, want, want_end) in &BESIDE {
-        let (written, end) = converted(alloc, prelude.as_bytes(), text, options)?;
-        assert_eq!(rt; written.as_str(), want);
-        assert_eq!(rt; end.as_str(), want_end);
+        let run = converted(alloc, prelude.as_bytes(), text.as_bytes())?;
+        assert!(rt; run.wrote(want), "{text}");
+        assert!(rt; run.ended(want_end), "{text}");
     }
     Ok(())
 }
@@ -185,29 +154,12 @@ fn a_text_stands_beside_its_prelude(rt: HostRuntime) -> Result<(), Fail> {
 fn a_refused_prelude_ends_a_script(rt: HostRuntime) -> Result<(), Fail> {
     let alloc = rt.alloc();
     let lines = lines_in(alloc, b"# a").map_err(|_| "not read")?;
-    let mut feed = MemoryFeed::new(b"html\n".as_slice(), 7, Some(0));
-    let mut out = MemoryOut::new(alloc, 7, None);
-    let entities = Entities::builtin(alloc)?;
-    let end = serve(
-        alloc,
-        &mut feed,
-        &mut out,
-        entities,
-        options(Breaks::Soft),
-        &lines,
-    );
-    assert!(rt;
-        matches!(
-            end,
-            Err(ToolFault::Refused(EditFault::NotDefinitions { line: 0 }))
-        )
-    );
-    assert!(rt; out.bytes().is_empty());
-    let mut err = MemoryOut::new(alloc, 7, None);
-    let stop = Stop::Tool(ToolFault::Refused(EditFault::NotDefinitions { line: 3 }));
-    let status = ending("mdpreview", &stop, &mut err);
-    assert_eq!(rt; status, 1);
-    let line = String::from_utf8_lossy(alloc, err.bytes())?;
-    assert_eq!(rt; line.as_str(), "mdpreview: refused NotDefinitions 3\n");
+    let devices = Devices {
+        feed_fails: Some(0),
+        ..SOUND
+    };
+    let run = served_beside(alloc, &lines, b"html\n", devices, SOFT)?;
+    assert!(rt; run.ended("Err(Refused(NotDefinitions { line: 0 }))"));
+    assert!(rt; run.wrote(""));
     Ok(())
 }

@@ -1,9 +1,8 @@
 //! Strikethrough by two tildes alone, as cmark-gfm 0.29.0.gfm.6 writes it with `--strikethrough-double-tilde`.
 
 use crate::options::SOFT;
+use crate::runs::{SOUND, converted_beside};
 use mdtext::Entities;
-use mdtool::{MemoryFeed, MemoryOut, convert};
-use std::alloc::{AllocError, Global};
 use std::test::Fail;
 
 static TILDES: [(&str, &str); 14] = [
@@ -26,22 +25,14 @@ static TILDES: [(&str, &str); 14] = [
     ("~", "<p>~</p>\n"),
 ];
 
-/// What `convert` writes where one tilde alone is text.
-fn converted(alloc: Global, text: &str) -> Result<String, AllocError> {
-    let mut feed = MemoryFeed::new(text.as_bytes(), 7, None);
-    let mut out = MemoryOut::new(alloc, 7, None);
-    let entities = Entities::builtin(alloc)?.with_double_tilde(true);
-    if convert(alloc, &mut feed, &mut out, entities, SOFT, &[]).is_err() {
-        return String::from_str(alloc, "refused");
-    }
-    String::from_utf8_lossy(alloc, out.bytes())
-}
-
 #[test]
 fn strikes_through_between_two_tildes_alone(rt: HostRuntime) -> Result<(), Fail> {
+    let alloc = rt.alloc();
     for (text, want) in &TILDES {
-        let html = converted(rt.alloc(), text)?;
-        assert_eq!(rt; html.as_str(), *want, "{text}");
+        let entities = Entities::builtin(alloc)?.with_double_tilde(true);
+        let run = converted_beside(alloc, entities, &[], text.as_bytes(), SOUND, SOFT)?;
+        assert!(rt; run.wrote(want), "{text}");
+        assert!(rt; run.ended("Ok(())"), "{text}");
     }
     Ok(())
 }

@@ -1,36 +1,15 @@
 //! The whole-text engine, entity files and words, at worked rows; devices that fail at each call.
 
-ghost use Rattle.std.specs.Prelude.{◌<◌};
 ghost use Rattle.mdhtml.specs.Limits.{HasLimits};
 
 use crate::options::SOFT;
-use mdtext::Entities;
-use mdtool::{
-    Breaks, MemoryFeed, MemoryOut, Options, Words, convert, entities_from, read_words, serve,
-};
+use crate::runs::{Devices, Run, SOUND, converted, served};
+use mdtool::{Breaks, MemoryFeed, Options, Words, entities_from, read_words};
 use std::alloc::{AllocError, Global};
 use std::process::Abort;
 use std::test::Fail;
 
-/// What `convert` writes, and how it ends.
-fn converted(
-    alloc: Global,
-    text: &[u8],
-    options: Options,
-    feed_fails: Option<u64>,
-    out_fails: Option<u64>,
-) -> Result<(String, String), AllocError>
-    requires { HasLimits options }
-{
-    let mut feed = MemoryFeed::new(text, 7, feed_fails);
-    let mut out = MemoryOut::new(alloc, 7, out_fails);
-    let entities = Entities::builtin(alloc)?;
-    let end = convert(alloc, &mut feed, &mut out, entities, options, &[]);
-    let written = String::from_utf8_lossy(alloc, out.bytes())?;
-    let end = format!(in alloc; "{end:?}")?;
-    Ok((written, end))
-}
-
+/// Converts a text, of which this must be written, and which must end so.
 fn check(
     rt: &impl Abort,
     alloc: Global,
@@ -41,42 +20,37 @@ fn check(
 ) -> Result<(), AllocError>
     requires { HasLimits options }
 {
-    let (written, end) = converted(alloc, text, options, None, None)?;
-    assert_eq!(rt; written.as_str(), want);
-    assert_eq!(rt; end.as_str(), want_end);
+    let run = converted(alloc, text, SOUND, options)?;
+    assert!(rt; run.wrote(want), "{want}");
+    assert!(rt; run.ended(want_end), "{want_end}");
     Ok(())
 }
+
+const RAW: Options = Options {
+    unsafe_html: true,
+    ..SOFT
+};
+
+const SPACES: Options = Options {
+    breaks: Breaks::Space,
+    ..SOFT
+};
+
+/// Texts as they are converted in the usual way.
+static CONVERTED: [(&[u8], &str); 3] = [
+    (b"", ""),
+    (b"a\xFF\rb", "<p>a\u{FFFD}\nb</p>\n"),
+    (LINKS, LINKS_HTML),
+];
 
 #[test]
 fn converts_worked_texts(rt: HostRuntime) -> Result<(), Fail> {
     let alloc = rt.alloc();
-    let raw = Options {
-        unsafe_html: true,
-        ..SOFT
-    };
-    let spaces = Options {
-        breaks: Breaks::Space,
-        ..SOFT
-    };
-    check(&rt, alloc, b"", SOFT, "", "Ok(())")?;
-    check(
-        &rt,
-        alloc,
-        b"a\xFF\rb",
-        SOFT,
-        "<p>a\u{FFFD}\nb</p>\n",
-        "Ok(())",
-    )?;
-    check(&rt, alloc, b"a\nb", spaces, "<p>a b</p>\n", "Ok(())")?;
-    check(&rt, alloc, b"<b>x</b>", raw, "<p><b>x</b></p>\n", "Ok(())")?;
-    check(
-        &rt,
-        alloc,
-        b"[foo][bar][baz]\n\n[baz]: /url1\n[foo]: /url2\n",
-        SOFT,
-        "<p>[foo]<a href=\"/url1\">bar</a></p>\n",
-        "Ok(())",
-    )?;
+    for &(text, want) in &CONVERTED {
+        check(&rt, alloc, text, SOFT, want, "Ok(())")?;
+    }
+    check(&rt, alloc, b"a\nb", SPACES, "<p>a b</p>\n", "Ok(())")?;
+    check(&rt, alloc, b"<b>x</b>", RAW, "<p><b>x</b></p>\n", "Ok(())")?;
     Ok(())
 }
 
@@ -100,26 +74,38 @@ const LINKS: &[u8] = b"[foo][bar][baz]\n\n[baz]: /url1\n[foo]: /url2\n";
 
 const LINKS_HTML: &str = "<p>[foo]<a href=\"/url1\">bar</a></p>\n";
 
+/// What `convert` does with these links where a device fails.
+fn links_converted(
+    alloc: Global,
+    feed_fails: Option<u64>,
+    out_fails: Option<u64>,
+) -> Result<Run, AllocError> {
+    let devices = Devices {
+        step: 7,
+        feed_fails,
+        out_fails,
+    };
+    converted(alloc, LINKS, devices, SOFT)
+}
+
 /// The text comes in 7 calls of 7 bytes with one more that finds the end; its 36 bytes go in 6 calls and a flush.
 #[test]
 fn ends_at_each_device_fault(rt: HostRuntime) -> Result<(), Fail> {
     let alloc = rt.alloc();
     for calls in 0..8 {
-        let (written, end) = converted(alloc, LINKS, SOFT, Some(calls), None)?;
-        if calls < 7 {
-            assert_eq!(rt; written.as_str(), "", "{calls}");
-            assert_eq!(rt; end.as_str(), "Err(Read)", "{calls}");
-        }
+        let run = links_converted(alloc, Some(calls), None)?;
+        assert!(rt; run.wrote(""), "{calls}");
+        assert!(rt; run.ended("Err(Read)"), "{calls}");
     }
     for calls in 0..7 {
-        let (written, end) = converted(alloc, LINKS, SOFT, None, Some(calls))?;
-        assert!(rt; LINKS_HTML.starts_with(written.as_str()), "{calls}");
-        assert_eq!(rt; written.len() as u64, (calls * 7).min(36), "{calls}");
-        assert_eq!(rt; end.as_str(), "Err(Write)", "{calls}");
+        let run = links_converted(alloc, None, Some(calls))?;
+        assert!(rt; run.began(LINKS_HTML), "{calls}");
+        assert_eq!(rt; run.written.len() as u64, (calls * 7).min(36), "{calls}");
+        assert!(rt; run.ended("Err(Write)"), "{calls}");
     }
-    let (written, end) = converted(alloc, LINKS, SOFT, None, Some(7))?;
-    assert_eq!(rt; written.as_str(), LINKS_HTML);
-    assert_eq!(rt; end.as_str(), "Ok(())");
+    let run = links_converted(alloc, None, Some(7))?;
+    assert!(rt; run.wrote(LINKS_HTML));
+    assert!(rt; run.ended("Ok(())"));
     Ok(())
 }
 
@@ -143,19 +129,18 @@ piece 2 0
 /// The bytes of the first of these replies; the second has as many.
 const REPLY: u64 = 79;
 
-/// What `serve` writes for these edits, how it ends, and how often it flushed.
+/// What `serve` does with these edits where a device fails.
 fn replied(
     alloc: Global,
     feed_fails: Option<u64>,
     out_fails: Option<u64>,
-) -> Result<(String, String, u64), AllocError> {
-    let mut feed = MemoryFeed::new(EDITS, 7, feed_fails);
-    let mut out = MemoryOut::new(alloc, 7, out_fails);
-    let entities = Entities::builtin(alloc)?;
-    let end = serve(alloc, &mut feed, &mut out, entities, SOFT, &[]);
-    let written = String::from_utf8_lossy(alloc, out.bytes())?;
-    let end = format!(in alloc; "{end:?}")?;
-    Ok((written, end, out.flushes()))
+) -> Result<Run, AllocError> {
+    let devices = Devices {
+        step: 7,
+        feed_fails,
+        out_fails,
+    };
+    served(alloc, EDITS, devices, SOFT)
 }
 
 static FEED_FAULTS: [(u64, u64); 9] = [
@@ -175,11 +160,11 @@ static FEED_FAULTS: [(u64, u64); 9] = [
 fn a_script_ends_at_each_feed_fault(rt: HostRuntime) -> Result<(), Fail> {
     let alloc = rt.alloc();
     for &(calls, replies) in &FEED_FAULTS {
-        let (written, end, flushes) = replied(alloc, Some(calls), None)?;
-        assert!(rt; REPLIES.starts_with(written.as_str()), "{calls}");
-        assert_eq!(rt; written.len() as u64, replies * REPLY, "{calls}");
-        assert_eq!(rt; flushes, replies, "{calls}");
-        assert_eq!(rt; end.as_str(), "Err(Read)", "{calls}");
+        let run = replied(alloc, Some(calls), None)?;
+        assert!(rt; run.began(REPLIES), "{calls}");
+        assert_eq!(rt; run.written.len() as u64, replies * REPLY, "{calls}");
+        assert_eq!(rt; run.flushes, replies, "{calls}");
+        assert!(rt; run.ended("Err(Read)"), "{calls}");
     }
     Ok(())
 }
@@ -189,16 +174,16 @@ fn a_script_ends_at_each_feed_fault(rt: HostRuntime) -> Result<(), Fail> {
 fn a_script_ends_at_each_out_fault(rt: HostRuntime) -> Result<(), Fail> {
     let alloc = rt.alloc();
     for calls in 0..26 {
-        let (written, end, _) = replied(alloc, None, Some(calls))?;
+        let run = replied(alloc, None, Some(calls))?;
         let want = calls / 13 * REPLY + (calls % 13 * 7).min(REPLY);
-        assert!(rt; REPLIES.starts_with(written.as_str()), "{calls}");
-        assert_eq!(rt; written.len() as u64, want, "{calls}");
-        assert_eq!(rt; end.as_str(), "Err(Write)", "{calls}");
+        assert!(rt; run.began(REPLIES), "{calls}");
+        assert_eq!(rt; run.written.len() as u64, want, "{calls}");
+        assert!(rt; run.ended("Err(Write)"), "{calls}");
     }
-    let (written, end, flushes) = replied(alloc, None, Some(26))?;
-    assert_eq!(rt; written.as_str(), REPLIES);
-    assert_eq!(rt; end.as_str(), "Ok(())");
-    assert_eq!(rt; flushes, 2);
+    let run = replied(alloc, None, Some(26))?;
+    assert!(rt; run.wrote(REPLIES));
+    assert!(rt; run.ended("Ok(())"));
+    assert_eq!(rt; run.flushes, 2);
     Ok(())
 }
 
@@ -218,17 +203,24 @@ fn check_entities(
     Ok(())
 }
 
+const ENTITY_FILE: &[u8] = b"{\"&x;\":{\"characters\":\"y\"}}";
+
+/// Files, at which call the feed fails, and what the name `x` stands for.
+static ENTITY_FILES: [(&[u8], Option<u64>, &str); 6] = [
+    (ENTITY_FILE, None, "Some(\"y\")"),
+    (b"{\"&a\":5}", None, "None"),
+    (b"[]", None, "Table(NotJson)"),
+    (b"{\"&;\":{\"characters\":\"x\"}}", None, "Table(BadEntry)"),
+    (ENTITY_FILE, Some(0), "Read"),
+    (ENTITY_FILE, Some(3), "Read"),
+];
+
 #[test]
 fn reads_entity_files(rt: HostRuntime) -> Result<(), Fail> {
     let alloc = rt.alloc();
-    let file = b"{\"&x;\":{\"characters\":\"y\"}}";
-    check_entities(&rt, alloc, file, None, "Some(\"y\")")?;
-    check_entities(&rt, alloc, b"{\"&a\":5}", None, "None")?;
-    check_entities(&rt, alloc, b"[]", None, "Table(NotJson)")?;
-    let bad = b"{\"&;\":{\"characters\":\"x\"}}";
-    check_entities(&rt, alloc, bad, None, "Table(BadEntry)")?;
-    check_entities(&rt, alloc, file, Some(0), "Read")?;
-    check_entities(&rt, alloc, file, Some(3), "Read")?;
+    for &(file, fails, want) in &ENTITY_FILES {
+        check_entities(&rt, alloc, file, fails, want)?;
+    }
     Ok(())
 }
 
@@ -251,41 +243,31 @@ fn check_words(
     Ok(())
 }
 
-#[test]
-fn reads_words(rt: HostRuntime) -> Result<(), Fail> {
-    let alloc = rt.alloc();
-    let bad = "NotUnderstood";
-    check_words(&rt, alloc, &["mdrender"], "false Soft None None")?;
-    check_words(&rt, alloc, &["mdrender", "--lines"], bad)?;
-    check_words(
-        &rt,
-        alloc,
-        &["mdpreview", "--lines"],
-        "false Soft None None",
-    )?;
-    check_words(
-        &rt,
-        alloc,
-        &["mdrender", "--nobreaks"],
-        "false Space None None",
-    )?;
-    check_words(
-        &rt,
-        alloc,
+static WORDS_READ: &[(&[&str], &str)] = &[
+    (&["mdrender"], "false Soft None None"),
+    (&["mdrender", "--lines"], "NotUnderstood"),
+    (&["mdpreview", "--lines"], "false Soft None None"),
+    (&["mdrender", "--nobreaks"], "false Space None None"),
+    (
         &["mdrender", "--unsafe", "--hardbreaks", "a"],
         "true Hard None Some(\"a\")",
-    )?;
-    check_words(
-        &rt,
-        alloc,
+    ),
+    (
         &["mdpreview", "--entities", "e", "--", "-a"],
         "false Soft Some(\"e\") Some(\"-a\")",
-    )?;
-    check_words(&rt, alloc, &["mdrender", "--hardbreaks", "--nobreaks"], bad)?;
-    check_words(&rt, alloc, &["mdrender", "--unsafe", "--unsafe"], bad)?;
-    check_words(&rt, alloc, &["mdrender", "--entities"], bad)?;
-    check_words(&rt, alloc, &["mdrender", "--nosuch"], bad)?;
-    check_words(&rt, alloc, &["mdrender", "a", "b"], bad)?;
+    ),
+    (&["mdrender", "--hardbreaks", "--nobreaks"], "NotUnderstood"),
+    (&["mdrender", "--unsafe", "--unsafe"], "NotUnderstood"),
+    (&["mdrender", "--entities"], "NotUnderstood"),
+    (&["mdrender", "--nosuch"], "NotUnderstood"),
+    (&["mdrender", "a", "b"], "NotUnderstood"),
+];
+
+#[test]
+fn reads_words(rt: HostRuntime) -> Result<(), Fail> {
+    for (words, want) in WORDS_READ {
+        check_words(&rt, rt.alloc(), words, want)?;
+    }
     Ok(())
 }
 

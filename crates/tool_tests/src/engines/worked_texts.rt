@@ -1,8 +1,9 @@
 //! Worked texts with their HTML, seen through `serve`: CommonMark 0.31.2 and GFM 0.29, and our own profile of them.
 
 use crate::options::SOFT;
-use mdtext::{Entities, lines_of};
-use mdtool::{MemoryFeed, MemoryOut, Options, serve};
+use crate::runs::{WIDE, served};
+use mdtext::lines_of;
+use mdtool::Options;
 use std::alloc::{AllocError, Global};
 use std::process::Abort;
 use std::test::Fail;
@@ -162,22 +163,20 @@ fn answered(alloc: Global, text: &str, unsafe_html: bool) -> Result<String, Allo
         script.push_str("\n")?;
     }
     script.push_str("html\n")?;
-    served(alloc, &script, unsafe_html)
+    replies(alloc, &script, unsafe_html)
 }
 
 /// What `serve` answers to a script.
-fn served(alloc: Global, script: &str, unsafe_html: bool) -> Result<String, AllocError> {
-    let mut feed = MemoryFeed::new(script.as_bytes(), 4096, None);
-    let mut out = MemoryOut::new(alloc, 4096, None);
-    let entities = Entities::builtin(alloc)?;
+fn replies(alloc: Global, script: &str, unsafe_html: bool) -> Result<String, AllocError> {
     let options = Options {
         unsafe_html,
         ..SOFT
     };
-    if serve(alloc, &mut feed, &mut out, entities, options, &[]).is_err() {
+    let run = served(alloc, script.as_bytes(), WIDE, options)?;
+    if !run.ended("Ok(())") {
         return Err(AllocError);
     }
-    String::from_utf8_lossy(alloc, out.bytes())
+    String::from_utf8_lossy(alloc, &run.written)
 }
 
 fn check(
@@ -340,7 +339,7 @@ fn refused_depth_changes_nothing(rt: HostRuntime) -> Result<(), Fail> {
     let alloc = rt.alloc();
     let mut script = repeated(alloc, "edit 0 0 4\n", "*a ", "[k]", " a*", 64)?;
     script.push_str("\n\nx\n\nedit 4 0 1\n[k]: /u\nhtml\n")?;
-    let written = served(alloc, &script, false)?;
+    let written = replies(alloc, &script, false)?;
     assert!(rt; written.starts_with("ok 0 0 2 0\n"));
     assert!(rt; written.ends_with(refusal(alloc)?.as_str()));
     Ok(())

@@ -1,0 +1,139 @@
+//! Runs of the engines over memory: what is written, how the run ends, and how often it flushed.
+//!
+//! An engine is called here alone: a call of it is dear to prove.
+
+ghost use Rattle.std.specs.Prelude.{◌<◌};
+ghost use Rattle.mdhtml.specs.Limits.{HasLimits};
+
+use mdtext::Entities;
+use mdtool::{MemoryFeed, MemoryOut, Options, ToolFault, convert, serve};
+use std::alloc::{AllocError, Global};
+
+/// How many bytes a call moves at most, and which call of a device fails.
+#[derive(Clone, Copy)]
+pub(crate) struct Devices {
+    pub(crate) step: usize,
+    pub(crate) feed_fails: Option<u64>,
+    pub(crate) out_fails: Option<u64>,
+}
+
+/// Devices of which no call fails.
+pub(crate) const SOUND: Devices = Devices {
+    step: 7,
+    feed_fails: None,
+    out_fails: None,
+};
+
+/// The same, for long texts.
+pub(crate) const WIDE: Devices = Devices {
+    step: 4096,
+    feed_fails: None,
+    out_fails: None,
+};
+
+/// What a run wrote, how it ended, and how often it flushed.
+#[derive(Drop)]
+pub(crate) struct Run {
+    pub(crate) written: Vec<u8>,
+    pub(crate) end: String,
+    pub(crate) flushes: u64,
+}
+
+impl Run {
+    fn of(alloc: Global, out: &MemoryOut, end: Result<(), ToolFault>) -> Result<Run, AllocError> {
+        Ok(Run {
+            written: out.bytes().to_vec(alloc)?,
+            end: format!(in alloc; "{end:?}")?,
+            flushes: out.flushes(),
+        })
+    }
+
+    /// Whether it wrote this.
+    pub(crate) fn wrote(&self, want: &str) -> bool {
+        self.written.as_slice() == want.as_bytes()
+    }
+
+    /// Whether what it wrote is a beginning of this.
+    pub(crate) fn began(&self, want: &str) -> bool {
+        want.as_bytes().starts_with(&self.written)
+    }
+
+    /// Whether what it wrote ends with this.
+    pub(crate) fn ends_with(&self, want: &str) -> bool {
+        self.written.ends_with(want.as_bytes())
+    }
+
+    /// Whether it ended so.
+    pub(crate) fn ended(&self, want: &str) -> bool {
+        self.end.as_str() == want
+    }
+}
+
+/// What `convert` does with a text beside the definitions of a prelude.
+pub(crate) fn converted_beside(
+    alloc: Global,
+    entities: Entities,
+    prelude: &[String],
+    text: &[u8],
+    devices: Devices,
+    options: Options,
+) -> Result<Run, AllocError>
+    requires step { 0 < devices.step }
+    requires limits { HasLimits options }
+{
+    let mut feed = MemoryFeed::new(text, devices.step, devices.feed_fails);
+    let mut out = MemoryOut::new(alloc, devices.step, devices.out_fails);
+    let end = convert(alloc, &mut feed, &mut out, entities, options, prelude);
+    Run::of(alloc, &out, end)
+}
+
+/// What `serve` does with a script beside the definitions of a prelude.
+pub(crate) fn served_beside(
+    alloc: Global,
+    prelude: &[String],
+    script: &[u8],
+    devices: Devices,
+    options: Options,
+) -> Result<Run, AllocError>
+    requires step { 0 < devices.step }
+    requires limits { HasLimits options }
+{
+    let mut feed = MemoryFeed::new(script, devices.step, devices.feed_fails);
+    let mut out = MemoryOut::new(alloc, devices.step, devices.out_fails);
+    let entities = Entities::builtin(alloc)?;
+    let end = serve(alloc, &mut feed, &mut out, entities, options, prelude);
+    Run::of(alloc, &out, end)
+}
+
+/// What `convert` does with a text.
+pub(crate) fn converted(
+    alloc: Global,
+    text: &[u8],
+    devices: Devices,
+    options: Options,
+) -> Result<Run, AllocError>
+    requires step { 0 < devices.step }
+    requires limits { HasLimits options }
+{
+    converted_beside(
+        alloc,
+        Entities::builtin(alloc)?,
+        &[],
+        text,
+        devices,
+        options,
+    )
+}
+
+/// What `serve` does with a script.
+pub(crate) fn served(
+    alloc: Global,
+    script: &[u8],
+    devices: Devices,
+    options: Options,
+) -> Result<Run, AllocError>
+    requires step { 0 < devices.step }
+    requires limits { HasLimits options }
+{
+    served_beside(alloc, &[], script, devices, options)
+}
