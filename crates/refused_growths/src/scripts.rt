@@ -4,51 +4,38 @@ use crate::changes::{Change, try_changes};
 use std::alloc::{AllocError, Global};
 
 /// Lines with a link, a paragraph and a definition.
-const LINKED: &str = "[foo]\n\nx\n\n[foo]: /a\n";
+const LINKED: Change<'static> = Change::Edit {
+    at: 0,
+    del: 0,
+    add: "[foo]\n\nx\n\n[foo]: /a\n",
+};
 
-/// Makes each of the scripts of a preview of its own.
-pub fn try_scripts(alloc: Global, said: &mut String) -> Result<(), AllocError> {
-    try_definitions(alloc, said)?;
-    try_preludes(alloc, said)?;
-    try_table(alloc, said)?;
-    try_depth(alloc, said)?;
-    try_long_list(alloc, said)
-}
-
-/// A definition is changed, another is put above it, and taken away again.
-fn try_definitions(alloc: Global, said: &mut String) -> Result<(), AllocError> {
-    let linked = Change::Edit {
-        at: 0,
-        del: 0,
-        add: LINKED,
-    };
-    let changed = Change::Edit {
-        at: 4,
-        del: 1,
-        add: "[foo]: /b\n",
-    };
-    try_changes(alloc, &[linked, changed], said)?;
-    let linked = Change::Edit {
-        at: 0,
-        del: 0,
-        add: LINKED,
-    };
-    let above = Change::Edit {
-        at: 0,
-        del: 0,
-        add: "[foo]: /c\n\n",
-    };
-    let away = Change::Edit {
-        at: 0,
-        del: 2,
-        add: "",
-    };
-    try_changes(alloc, &[linked, above, away], said)
-}
-
-/// A definition comes in a prelude, one of the text stands before it, and a prelude with another block is refused.
-fn try_preludes(alloc: Global, said: &mut String) -> Result<(), AllocError> {
-    let changes = [
+static SCRIPTS: [&[Change<'static>]; 4] = [
+    // a definition is changed
+    &[
+        LINKED,
+        Change::Edit {
+            at: 4,
+            del: 1,
+            add: "[foo]: /b\n",
+        },
+    ],
+    // another one is put above it, and taken away again
+    &[
+        LINKED,
+        Change::Edit {
+            at: 0,
+            del: 0,
+            add: "[foo]: /c\n\n",
+        },
+        Change::Edit {
+            at: 0,
+            del: 2,
+            add: "",
+        },
+    ],
+    // a definition comes in a prelude, one of the text stands before it, and a prelude with another block is refused
+    &[
         Change::Edit {
             at: 0,
             del: 0,
@@ -62,13 +49,9 @@ fn try_preludes(alloc: Global, said: &mut String) -> Result<(), AllocError> {
         },
         Change::Prelude(""),
         Change::Prelude("x\n"),
-    ];
-    try_changes(alloc, &changes, said)
-}
-
-/// A paragraph's first line is taken away, so that the others are a table.
-fn try_table(alloc: Global, said: &mut String) -> Result<(), AllocError> {
-    let changes = [
+    ],
+    // a paragraph's first line is taken away, so that the others are a table
+    &[
         Change::Edit {
             at: 0,
             del: 0,
@@ -79,8 +62,16 @@ fn try_table(alloc: Global, said: &mut String) -> Result<(), AllocError> {
             del: 1,
             add: "",
         },
-    ];
-    try_changes(alloc, &changes, said)
+    ],
+];
+
+/// Makes each of the scripts of a preview of its own.
+pub fn try_scripts(alloc: Global, said: &mut String) -> Result<(), AllocError> {
+    for changes in &SCRIPTS {
+        try_changes(alloc, changes, said)?;
+    }
+    try_depth(alloc, said)?;
+    try_long_list(alloc, said)
 }
 
 /// A definition would make a link in as many spans as may be, so that it is refused.
