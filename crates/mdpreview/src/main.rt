@@ -4,8 +4,8 @@
 ghost use Rattle.mdhtml.specs.Limits.{HasLimits};
 
 use mdtool::{
-    Halt, ReadFeed, Source, Words, WriteOut, ended, entities_of, opened, prelude_of,
-    serve_to_the_end, text_end, words_of, words_refused,
+    Halt, Words, WriteOut, ended, entities_of, prelude_of, serve_to_the_end, text_end, text_of,
+    words_of, words_refused,
 };
 use std::process::ExitCode;
 
@@ -23,33 +23,16 @@ fn run(rt: &HostRuntime, words: &Words) -> Result<(), Halt>
 {
     let entities = entities_of(rt, words)?;
     let prelude = prelude_of(rt, words)?;
+    let mut feed = text_of(rt, words)?;
     let mut out = WriteOut::new(rt.stdout());
-    match &words.file {
-        Some(name) => {
-            let mut feed = opened(rt, name, Source::Text)?;
-            let end = serve_to_the_end(
-                rt.alloc(),
-                words.replies,
-                &mut feed,
-                &mut out,
-                entities,
-                words.options,
-                &prelude,
-            );
-            text_end(end, &feed)
-        }
-        None => {
-            let mut feed = ReadFeed::new(rt.stdin());
-            let end = serve_to_the_end(
-                rt.alloc(),
-                words.replies,
-                &mut feed,
-                &mut out,
-                entities,
-                words.options,
-                &prelude,
-            );
-            text_end(end, &feed)
-        }
-    }
+    let end = serve_to_the_end(
+        rt.alloc(),
+        words.replies,
+        &mut feed,
+        &mut out,
+        entities,
+        words.options,
+        &prelude,
+    );
+    text_end(end, &feed)
 }

@@ -4,8 +4,8 @@
 ghost use Rattle.mdhtml.specs.Limits.{HasLimits};
 
 use mdtool::{
-    Cause, Halt, ReadFeed, Source, Stop, ToolFault, Words, WriteOut, convert, ended, entities_of,
-    opened, prelude_of, text_end, words_of, words_refused,
+    Cause, Halt, Source, Stop, ToolFault, Words, WriteOut, convert, ended, entities_of, prelude_of,
+    text_end, text_of, words_of, words_refused,
 };
 use std::io::BufWriter;
 use std::process::ExitCode;
@@ -22,40 +22,25 @@ fn main(rt: HostRuntime) -> ExitCode {
 fn run(rt: &HostRuntime, words: &Words) -> Result<(), Halt>
     requires { HasLimits words.now.options }
 {
+    let alloc = rt.alloc();
     let entities = entities_of(rt, words)?;
     let prelude = prelude_of(rt, words)?;
-    let Ok(writer) = BufWriter::new(rt.alloc(), rt.stdout()) else {
+    let Ok(writer) = BufWriter::new(alloc, rt.stdout()) else {
         return Err(Halt {
             stop: Stop::Tool(ToolFault::NoMemory),
             source: Source::Text,
             cause: Cause::Other,
         });
     };
+    let mut feed = text_of(rt, words)?;
     let mut out = WriteOut::new(writer);
-    match &words.file {
-        Some(name) => {
-            let mut feed = opened(rt, name, Source::Text)?;
-            let end = convert(
-                rt.alloc(),
-                &mut feed,
-                &mut out,
-                entities,
-                words.options,
-                &prelude,
-            );
-            text_end(end, &feed)
-        }
-        None => {
-            let mut feed = ReadFeed::new(rt.stdin());
-            let end = convert(
-                rt.alloc(),
-                &mut feed,
-                &mut out,
-                entities,
-                words.options,
-                &prelude,
-            );
-            text_end(end, &feed)
-        }
-    }
+    let end = convert(
+        alloc,
+        &mut feed,
+        &mut out,
+        entities,
+        words.options,
+        &prelude,
+    );
+    text_end(end, &feed)
 }

@@ -6,6 +6,7 @@ use Rattle.mdwords.specs.declared.tool_words.Words.{Words}
 use Rattle.mdtool.specs.BuiltInEntities.{IsBuiltIn}
 use Rattle.mdtool.specs.Convert.{LinesRead}
 use Rattle.mdtool.specs.Drained.{TakesSome}
+use Rattle.mdtool.specs.Endings.{IsNotOpened}
 use Rattle.mdtool.specs.EntityTables.{EntitiesRead}
 use Rattle.mdtool.specs.Steps.{Steps}
 use Rattle.mdtool.specs.declared.fault.Stop.{Stop}
@@ -44,3 +45,8 @@ PreludeOf None (Ok lines) = lines.items ≡ []
 PreludeOf None (Err halt) = ⊥
 PreludeOf (Some name) (Ok lines) = LinesRead None (map string_bytes lines.items) None
 PreludeOf (Some name) (Err halt) = EndsSo (string_bytes name) (λ fault. Steps {T = Unit {0}} (Err fault) (λ _. ⊥) (TakesSome None None) (TakesSome None None)) halt.stop
+
+-- the file of this name was not opened; where none is named nothing is
+abbrev pub IsNotOpenedOf : Option (String Global) → Stop → Type 0
+IsNotOpenedOf None stop = ⊥
+IsNotOpenedOf (Some name) stop = IsNotOpened (string_bytes name) stop

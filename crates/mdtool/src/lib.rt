@@ -23,6 +23,7 @@ mod programs;
 mod replies;
 mod script;
 mod serving;
+mod text_input;
 
 pub use converting::convert;
 pub use counting::serve_counts;
@@ -40,5 +41,8 @@ pub use mdview::EditFault;
 pub use mdwords::{ReplyForm, VERSION, WordFault, Words, read_words};
 pub use memory_devices::{MemoryFeed, MemoryOut};
 pub use preludes::prelude_from;
-pub use programs::{ended, entities_of, opened, prelude_of, text_end, words_of, words_refused};
+pub use programs::{
+    ended, entities_of, opened, prelude_of, text_end, text_of, words_of, words_refused,
+};
 pub use serving::{serve, serve_to_the_end};
+pub use text_input::TextInput;

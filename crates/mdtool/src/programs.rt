@@ -3,7 +3,7 @@ ghost use Rattle.std.specs.Prelude.{◌≡◌, ◌-◌, ◌^◌, ◌==◌, IfErr
 ghost use Rattle.std.specs.Process.{exit_status};
 ghost use Rattle.mdhtml.specs.Limits.{HasLimits};
 ghost use Rattle.mdtool.specs.Endings.{EndsBy, IsNotOpened, end_status, status_of};
-ghost use Rattle.mdtool.specs.NamedFiles.{EntitiesOf, NamesOf, PreludeOf};
+ghost use Rattle.mdtool.specs.NamedFiles.{EntitiesOf, IsNotOpenedOf, NamesOf, PreludeOf};
 
 use crate::built_in_entities::built_in_entities;
 use crate::device::Feed;
@@ -14,6 +14,7 @@ use crate::fault::{Stop, ToolFault};
 use crate::halt::{Cause, Halt, Source, cause_of};
 use crate::io_devices::{ReadFeed, WriteOut};
 use crate::preludes::prelude_from;
+use crate::text_input::TextInput;
 use mdtext::Entities;
 use mdwords::{WordFault, Words, read_words};
 use std::alloc::{AllocError, Global};
@@ -135,8 +136,30 @@ pub fn opened(rt: &HostRuntime, name: &str, source: Source) -> Result<ReadFeed<F
     ensures stop { IfErr result (λ halt. IsNotOpened name.now halt.stop) }
     ensures source { IfErr result (λ halt. halt.source ≡ source) }
 {
+    Ok(ReadFeed::new(opened_file(rt, name, source)?))
+}
+
+/// What the words name as the text or the script, or standard input where they name no file, as a feed.
+pub fn text_of(rt: &HostRuntime, words: &Words) -> Result<ReadFeed<TextInput>, Halt>
+    ensures feed { IfOk result (λ feed. ⟦<ReadFeed<TextInput> as Feed>⟧.failures feed ≡ 0) }
+    ensures stop { IfErr result (λ halt. IsNotOpenedOf words.now.file halt.stop) }
+    ensures source { IfErr result (λ halt. halt.source ≡ Source.Text) }
+{
+    match &words.file {
+        Some(name) => {
+            let file = opened_file(rt, name, Source::Text)?;
+            Ok(ReadFeed::new(TextInput::Named(file)))
+        }
+        None => Ok(ReadFeed::new(TextInput::Standard(rt.stdin()))),
+    }
+}
+
+fn opened_file(rt: &HostRuntime, name: &str, source: Source) -> Result<File, Halt>
+    ensures stop { IfErr result (λ halt. IsNotOpened name.now halt.stop) }
+    ensures source { IfErr result (λ halt. halt.source ≡ source) }
+{
     match File::open(rt, name) {
-        Ok(file) => Ok(ReadFeed::new(file)),
+        Ok(file) => Ok(file),
         Err(error) => Err(Halt {
             stop: not_opened(rt, name),
             source,
