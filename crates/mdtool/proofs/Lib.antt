@@ -7,6 +7,7 @@ pub mod Searches
 pub mod StepEnds
 pub mod Texts
 pub mod LineLengths
+pub mod WholeLines
 pub mod CommandReading
 pub mod PatchLine
 pub mod ServeRuns

@@ -1,5 +1,5 @@
 -- What a script has taken from its feed and not read yet, and how lines are read off it.
-use Rattle.std.specs.Prelude.{◌≡◌, ℕ, ◌+◌, ◌<◌, Bool, true, false, List, [], ◌++◌, Option, ◌⊎◌, length, take, drop, get_or}
+use Rattle.std.specs.Prelude.{◌≡◌, ℕ, ◌+◌, ◌<◌, ◌≤◌, Bool, true, false, List, [], ◌++◌, Option, ◌⊎◌, length, take, drop, get_or}
 use Rattle.mdtool.specs.Bytes.{Takes, AtEnd}
 use Rattle.mdtool.specs.Commands.{has_break, script_lines, capped}
 
@@ -47,3 +47,8 @@ fresh = record { bytes = []; is_ended = false; lines = 0 }
 pub record IsOver (ended : Bool) (pending : Pending) : Type 0 where
   pub no_line : script_lines ended pending.bytes ≡ []
   pub is_ended : pending.is_ended ≡ ended
+
+-- these lines stand whole at the front of the pending bytes, and were used
+pub record Uses (old : Pending) (lines : List (List ℕ)) (new : Pending) : Type 0 where
+  pub reads : (left : Option (List ℕ)) → Reads left old lines left new
+  pub shorter : length new.bytes ≤ length old.bytes

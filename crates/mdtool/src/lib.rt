@@ -17,6 +17,7 @@ mod header;
 mod io_devices;
 mod joined_lines;
 mod laws;
+mod line_breaks;
 mod memory_devices;
 mod preludes;
 mod programs;

@@ -2,18 +2,18 @@
 //!
 //! Bytes are taken in chunks, and each is searched once for the end of its line.
 ghost use Rattle.std.specs.Prelude.{◌≡◌, ◌+◌, ◌*◌, ◌-◌, ◌^◌, ◌<◌, ◌≤◌, true, false, [], MatchOption};
-ghost use Rattle.std.specs.Prelude.{length, take, drop, get_or, OnOk, IfOk, IfSome, IfNone, OnSome, if◌then◌else◌};
+ghost use Rattle.std.specs.Prelude.{ℕ, List, ◌++◌, length, take, drop, OnOk, IfOk, IfSome, OnSome, if◌then◌else◌};
 ghost use Rattle.mdtool.specs.Commands.{has_break};
-ghost use Rattle.mdtool.specs.Pending.{Reads, Draws, HasLine, IsOver, used, fresh};
+ghost use Rattle.mdtool.specs.Pending.{Reads, Draws, HasLine, IsOver, Uses, used, fresh};
 ghost use Rattle.mdtool.specs.Steps.{Steps, failures_after, FewLines, ReadsTexts, NextCommand};
 
 use crate::command::{Command, Header};
 use crate::device::Feed;
 use crate::fault::ToolFault;
 use crate::header::header;
-use crate::joined_lines::JoinedLines;
-use memchr::memchr;
-use std::alloc::Global;
+use crate::joined_lines::{ByteLines, JoinedLines};
+use crate::line_breaks::{first_break, whole_lines};
+use std::alloc::{AllocError, Global};
 use std::marker::Model;
 
 const CHUNK: usize = 16384;
@@ -117,15 +117,16 @@ impl Script {
         ensures failures { R.failures feed.new ≡ failures_after result (R.failures feed.old) }
         ensures weight { OnOk result (R.calls_left feed.new * 16384 + length self.new.bytes ≤ R.calls_left feed.old * 16384 + length self.old.bytes) }
     {
-        let mut texts = JoinedLines::new(alloc);
-        while texts.len() < count {
+        let mut lines = ByteLines::new(alloc);
+        while lines.len() < count {
             let Some(len) = self.find_line(feed)? else {
                 return Ok(None);
             };
-            texts.push_lossy(alloc, self.front(len))?;
+            lines.push(self.front(len))?;
             self.use_line(len);
+            self.use_whole_lines(alloc, count, &mut lines)?;
         }
-        Ok(Some(texts))
+        Ok(Some(lines.into_texts(alloc)?))
     }
 
     /// How long the next line is, without its LF, or nothing at the end.
@@ -216,15 +217,25 @@ impl Script {
         self.searched = self.start;
         self.lines = self.lines.saturating_add(1);
     }
-}
 
-/// Where the first LF stands.
-#[tactic(auto, using(crate::proofs::Searches::first_found, crate::proofs::Searches::none_found))]
-fn first_break(bytes: &[u8]) -> Option<usize>
-    ensures some { IfSome result (λ at. (at < length bytes.now) × (get_or bytes.now at 0 ≡ 10) × (has_break (take at bytes.now) ≡ false)) }
-    ensures none { IfNone result (has_break bytes.now ≡ false) }
-{
-    memchr(b'\n', bytes)
+    /// Uses the whole lines at the front of what was taken, until there are so many, with one copy of their bytes.
+    fn use_whole_lines(
+        &mut self,
+        alloc: Global,
+        most: usize,
+        lines: &mut ByteLines,
+    ) -> Result<(), AllocError>
+        requires { length lines.old ≤ most }
+        ensures lines { OnOk result ((used : List (List ℕ)) × (lines.new ≡ lines.old ++ used) × Uses self.old used self.new) }
+        ensures few { OnOk result (length lines.new ≤ most) }
+    {
+        let (lens, end) = whole_lines(alloc, &self.taken[self.start..], most - lines.len())?;
+        lines.append(&self.taken[self.start..self.start + end], &lens)?;
+        self.start += end;
+        self.searched = self.start;
+        self.lines = self.lines.saturating_add(lens.len() as u64);
+        Ok(())
+    }
 }
 
 /// Takes the first bytes away: the others are moved to their place.

@@ -1,8 +1,12 @@
-use Rattle.std.proofs.lemmas.Str.{IsCharBoundary-from_drop}
-use Rattle.mdtool.proofs.LineLengths.{are_text, next_length}
+use Rattle.mdtool.proofs.LineLengths.{next_length, line_ends, rest_begins}
 use Rattle.mdtool.proofs.joined_lines.JoinedLines.lent.Goals as goal
 
 pub split_at-requires : goal.split_at-requires
 split_at-requires c =
     let next = next_length _ _ _ c.loop-len-test.true c.loop-len.invariant.are in
-    IsCharBoundary-from_drop _ _ next.0 (are_text _ _ next.2)
+    line_ends _ _ next.0 next.1
+
+pub range_from-rest-requires : goal.range_from-rest-requires
+range_from-rest-requires c = λ some.
+    let next = next_length _ _ _ c.loop-len-test.true c.loop-len.invariant.are in
+    rest_begins _ _ _ c.loop-len.invariant.utf8 next.0 next.1 c.split_at.ensures.back
