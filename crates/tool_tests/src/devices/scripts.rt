@@ -1,5 +1,7 @@
 //! Scripts.
 
+ghost use Rattle.std.specs.Prelude.{◌<◌};
+
 use super::OPTIONS;
 use crate::runs::{self, Devices, Run, WIDE};
 use std::alloc::{AllocError, Global};
