@@ -165,16 +165,3 @@ placed_none n (leaf_node (html_leaf lines) a) h = absurd (let x : ⊥ = cc in x)
 placed_none n (leaf_node (table_leaf aligns head rows) a) h = absurd (let x : ⊥ = cc in x)
 placed_none n (quote_node inner a) h = absurd (let x : ⊥ = cc in x)
 placed_none n (list_node kind tight items a) h = absurd (let x : ⊥ = cc in x)
-
-pub texts_none : (a : Nodes) → has_block a ≡ false → texts_in a ≡ []
-unfolding texts_in
-texts_none no_nodes h = refl
-texts_none (leaf_node (definition_leaf definition) a) h = texts_none a h
-texts_none (leaf_node (paragraph_leaf task text) a) h = absurd (let x : ⊥ = cc in x)
-texts_none (leaf_node (heading_leaf level text) a) h = absurd (let x : ⊥ = cc in x)
-texts_none (leaf_node break_leaf a) h = absurd (let x : ⊥ = cc in x)
-texts_none (leaf_node (code_leaf lang meta body) a) h = absurd (let x : ⊥ = cc in x)
-texts_none (leaf_node (html_leaf lines) a) h = absurd (let x : ⊥ = cc in x)
-texts_none (leaf_node (table_leaf aligns head rows) a) h = absurd (let x : ⊥ = cc in x)
-texts_none (quote_node inner a) h = absurd (let x : ⊥ = cc in x)
-texts_none (list_node kind tight items a) h = absurd (let x : ⊥ = cc in x)

@@ -2,8 +2,8 @@
 
 ghost use Rattle.std.specs.Prelude.{◌≡◌, ◌+◌, ◌<◌, ◌++◌, IfOk, OnOk, IfSome, length, drop, slice_index, option_map, string_bytes, true};
 ghost use Rattle.std.specs.Str.{IsCharBoundary};
-ghost use Rattle.mdtext.specs.References.{added, reference, reference_or};
-ghost use Rattle.mdtext.specs.Referents.{meaning_of, referent_text};
+ghost use Rattle.mdtext.specs.References.{reference};
+ghost use Rattle.mdtext.specs.Referents.{meaning_of};
 ghost use Rattle.mdscan.specs.Spans.{IsEndAfter};
 ghost use Rattle.inlinespec.specs.AutolinkText.{without_references};
 ghost use Rattle.inlinespec.specs.Lexing.{reference_lexeme};
@@ -13,7 +13,7 @@ ghost use Rattle.mdinline.specs.held.Recognised.{IsFound};
 
 use crate::scanner::{Found, leaf_of};
 use crate::tokens::Token;
-use mdtext::{Entities, Reference, Referent, read_reference};
+use mdtext::{Entities, Reference, push_reference, read_reference};
 use std::alloc::AllocError;
 
 /// The reference whose `&` stands at a place.
@@ -40,15 +40,6 @@ fn reference_at<'a>(text: &str, at: usize, entities: &'a Entities) -> Option<Ref
     read_reference(&text[at + 1..], entities)
 }
 
-pub(crate) fn push_referent(referent: Referent<'_>, out: &mut String) -> Result<(), AllocError>
-    ensures { OnOk result (string_bytes out.new ≡ string_bytes out.old ++ referent_text referent.entry) }
-{
-    match referent {
-        Referent::Character(character) => out.push(character),
-        Referent::Text(text) => out.push_str(text),
-    }
-}
-
 /// Appends a text in which each reference is replaced by what it stands for. Backslashes stay.
 pub(crate) fn append_without_references(
     text: &str,
@@ -60,26 +51,9 @@ pub(crate) fn append_without_references(
     let mut rest = text;
     while let Some((plain, after)) = rest.split_once('&') {
         out.push_str(plain)?;
-        let taken = push_meaning(after, entities, out)?;
+        let taken = push_reference(after, entities, out)?;
         rest = &after[taken..];
     }
     out.push_str(rest)?;
     Ok(())
-}
-
-/// Appends what a `&` stands for with what follows it, and answers how much of that goes with it.
-fn push_meaning(after: &str, entities: &Entities, out: &mut String) -> Result<usize, AllocError>
-    ensures cut { IfOk result (λ taken. IsCharBoundary after.now taken) }
-    ensures value { IfOk result (λ taken. (taken, string_bytes out.new) ≡ added (string_bytes out.old) (reference_or 38 (reference entities.now after.now))) }
-{
-    match read_reference(after, entities) {
-        Some(reference) => {
-            push_referent(reference.referent, out)?;
-            Ok(reference.len - 1)
-        }
-        None => {
-            out.push_str("&")?;
-            Ok(0)
-        }
-    }
 }

@@ -2,9 +2,10 @@
 
 ghost use Rattle.std.specs.Prelude.{◌≡◌, ◌+◌, ◌<◌, ◌≤◌, IfSome, length};
 ghost use Rattle.std.specs.Str.{IsCharBoundary};
-ghost use Rattle.inlinespec.specs.Lexing.{delimiters_at, is_lone_tilde};
+ghost use Rattle.inlinespec.specs.Lexing.{delimiters_at};
 
-use mdpair::{DelimiterChar, DelimiterRun, delimiter_run};
+use crate::strikethrough::is_lone_tilde;
+use mdpair::{DelimiterRun, delimiter_run};
 use mdtext::Entities;
 
 /// The delimiter run that begins at a place, or none; one tilde is none where one alone is text.
@@ -20,14 +21,4 @@ pub(crate) fn delimiters_at(text: &str, at: usize, entities: &Entities) -> Optio
         return None;
     }
     Some(run)
-}
-
-fn is_lone_tilde(delimiter: DelimiterChar, length: usize) -> bool
-    ensures { result ≡ is_lone_tilde delimiter length }
-{
-    match delimiter {
-        DelimiterChar::Asterisk => false,
-        DelimiterChar::Underscore => false,
-        DelimiterChar::Tilde => length == 1,
-    }
 }

@@ -1,20 +1,19 @@
 //! What was read of a text, handed to what takes its inlines.
 
 ghost use Rattle.std.specs.Prelude.{◌≡◌, [], ◌∷◌, ◌++◌, All, IfOk, IfSome, OnOk, replicate, string_bytes};
-ghost use Rattle.mdtext.specs.Escaped.{escaped};
 ghost use Rattle.mdtext.specs.Referents.{referent_text};
 ghost use Rattle.mdscan.specs.Spans.{IsSpanOf, part};
 ghost use Rattle.mdpair.specs.Neighbours.{byte_of};
 ghost use Rattle.inlinespec.specs.AutolinkText.{scheme_before, without_references};
 ghost use Rattle.inlinespec.specs.InlineEvents.{Enter, Leave, written};
 ghost use Rattle.inlinespec.specs.LinkTails.{part_text};
-ghost use Rattle.inlinespec.specs.Settled.{bracket_text};
 ghost use Rattle.inlinespec.specs.TextReading.{span_to};
 ghost use Rattle.mdinline.specs.held.LeafEvents.{IsGoalOf, IsTokenOf, autolink_events, begun_events, goal_target, leaf_events};
 ghost use Rattle.mdinline.specs.held.LeafEvents.{paired_events, token_events, tokens_events};
 
-use crate::character_references::{append_without_references, push_referent};
+use crate::character_references::append_without_references;
 use crate::emphasis::text_of;
+use crate::images::{bracket_text, enter_goal};
 use crate::sinks::InlineSink;
 use crate::tokens::{Begun, Goal, PairedRun, Token};
 use mdpair::DelimiterChar;
@@ -113,14 +112,6 @@ pub(crate) fn hand_leaf<S: InlineSink>(
     }
 }
 
-#[tactic(auto, unfolding(mdtext::specs::Escaped::escaped_byte))]
-fn bracket_text(is_image: bool) -> &'static str
-    ensures value { written result.now ≡ bracket_text is_image }
-    ensures plain { escaped result.now ≡ result.now }
-{
-    if is_image { "![" } else { "[" }
-}
-
 /// The text of a span.
 pub(crate) fn part(text: &str, span: Span) -> &str
     requires { IsSpanOf text.now span }
@@ -129,6 +120,7 @@ pub(crate) fn part(text: &str, span: Span) -> &str
     &text[span.start..span.end]
 }
 
+/// Hands out what a reference stands for.
 fn hand_meaning<S: InlineSink>(
     referent: Referent<'_>,
     scratch: &mut Scratch,
@@ -136,9 +128,14 @@ fn hand_meaning<S: InlineSink>(
 ) -> Result<(), NoMemory>
     ensures { OnOk result (S.takes sink.old (written (referent_text referent.entry)) sink.new) }
 {
-    scratch.title.clear();
-    push_referent(referent, &mut scratch.title)?;
-    sink.text(&scratch.title)
+    match referent {
+        Referent::Character(character) => {
+            scratch.title.clear();
+            scratch.title.push(character)?;
+            sink.text(&scratch.title)
+        }
+        Referent::Text(text) => sink.text(text),
+    }
 }
 
 /// Hands out the link of an autolink. References are replaced, and backslashes stay.
@@ -193,21 +190,6 @@ fn hand_goal<S: InlineSink>(
             write_part(source, title, &mut scratch.title)?;
             enter_goal(is_image, &scratch.url, &scratch.title, sink)
         }
-    }
-}
-
-fn enter_goal<S: InlineSink>(
-    is_image: bool,
-    url: &str,
-    title: &str,
-    sink: &mut S,
-) -> Result<(), NoMemory>
-    ensures { OnOk result (S.takes sink.old (Enter (span_to is_image (record { url = url.now; title = title.now })) ∷ []) sink.new) }
-{
-    if is_image {
-        sink.enter_image(url, title)
-    } else {
-        sink.enter_link(url, title)
     }
 }
 

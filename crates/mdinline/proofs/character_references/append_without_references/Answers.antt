@@ -18,7 +18,7 @@ loop-plain-preserved c =
     let meant = ap (λ t. added t (reference_or 38 (reference table c.in-Some.after.now))) c.in_ok-push_str.ensures.bytes in
     record {
       text = c.range_from-rest.utf8;
-      written = ap (λ t. string_bytes c.push_meaning.new.out ++ without_references table 0 t) c.range_from-rest.ensures.value
-          ∙ write_part table (string_bytes c.loop-plain.out) c.in-Some.plain.now c.in-Some.after.now c.loop-plain.rest.now (string_bytes c.args.out.now ++ without_references table 0 c.args.text.now) (string_bytes c.push_meaning.new.out) c.in_ok-taken.taken
-          parts.1 parts.0 (c.in_ok-taken.ensures.value ∙ meant) c.loop-plain.invariant.written;
+      written = ap (λ t. string_bytes c.push_reference.new.out ++ without_references table 0 t) c.range_from-rest.ensures.value
+          ∙ write_part table (string_bytes c.loop-plain.out) c.in-Some.plain.now c.in-Some.after.now c.loop-plain.rest.now (string_bytes c.args.out.now ++ without_references table 0 c.args.text.now) (string_bytes c.push_reference.new.out) c.in_ok-taken.taken
+          parts.1 parts.0 (c.in_ok-taken.ensures.ok ∙ meant) c.loop-plain.invariant.written;
     }
