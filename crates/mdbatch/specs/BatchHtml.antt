@@ -5,8 +5,6 @@ use Rattle.std.specs.List.{concat}
 use Rattle.inlinespec.specs.LinkTails.{Table}
 use Rattle.blockspec.specs.BlockUnits.{units}
 use Rattle.blockspec.specs.Nesting.{first_too_deep}
-use Rattle.mdblock.specs.declared.faults.BlockFault.{BlockFault}
-use Rattle.mdblock.specs.declared.faults.BlockFault.TheVariants as block
 use Rattle.blockspec.specs.UnitTree.{FoundUnit}
 use Rattle.viewspec.specs.Refusals.{is_too_deep}
 use Rattle.viewspec.specs.Setting.{Setting}
@@ -35,12 +33,6 @@ deep_line setting labels found = option_map begin_in (find (is_too_deep setting.
 pub record WritesUnits (setting : Setting) (labels : Table) (found : List FoundUnit) (old new : List ℕ) : Type 0 where
   pub within : deep_line setting labels found ≡ None
   pub written : new ≡ old ++ pieces_of setting labels found
-
--- the fault of an edit for a fault of the reader in a line; behind no fault a line is read
-abbrev pub fault_of : BlockFault → ℕ → EditFault
-fault_of block.NestedTooDeep line = NestedTooDeep line
-fault_of block.NoMemory line = NoMemory
-fault_of block.Failed line = NoMemory
 
 -- a fault of the reading of a text in which this line, if any, begins a container too many
 abbrev pub IsReadFault : (nested : Option ℕ) → EditFault → Type 0

@@ -14,11 +14,11 @@ ghost use Rattle.mdbatch.specs.TextLabels.{target_on_page};
 ghost use Rattle.mdbatch.specs.UnitsAtOnce.{AddsUnits};
 
 use crate::page_labels::PageLabels;
-use crate::units::{fault_in_line, next_line};
+use crate::units::next_line;
 use mdblock::{Found, Reader};
 use mdhtml::{Options, UnitWriter};
 use mdinline::{InlineFault, LabelTable};
-use mdsource::{EditFault, Prelude};
+use mdsource::{EditFault, Prelude, fault_in_line};
 use mdtext::{Entities, NoMemory, Tally};
 use std::alloc::{AllocError, Global};
 

@@ -9,7 +9,7 @@ ghost use Rattle.mdhtml.specs.BlockHtml.{ends_line};
 ghost use Rattle.mdsource.specs.SourceLimits.{size_of};
 ghost use Rattle.mdsource.specs.Preludes.{IsDefinedBy};
 ghost use Rattle.mdbatch.specs.BatchHtml.{IsFaultOf, TextHtml, WritesPage, WritesUnits, deep_line, deep_on_page};
-ghost use Rattle.mdsource.specs.TextFaults.{IsTextFault, text_fault_in};
+ghost use Rattle.mdsource.specs.TextFaults.{IsTextFault};
 ghost use Rattle.mdbatch.specs.GatheredUnits.{EndsLine, Gathers, HasGathered, IsWoven, IsWrittenTo, setting_of};
 ghost use Rattle.mdbatch.specs.TextLabels.{page_table, target_on_page};
 ghost use Rattle.mdbatch.specs.ViewHtml.{ViewHtml};
@@ -21,8 +21,7 @@ use crate::limits::within_limits;
 use crate::page_labels::PageLabels;
 use crate::units::gathered_units;
 use mdhtml::{Options, UnitWriter};
-use mdinline::InlineFault;
-use mdsource::{EditFault, Prelude};
+use mdsource::{EditFault, Prelude, fault_in_unit};
 use mdtext::{Entities, NoMemory, after_mark, clean_line, is_clean};
 use std::alloc::Global;
 
@@ -146,13 +145,4 @@ fn put_behind(html: String, out: &mut String) -> Result<(), NoMemory>
     }
     out.push_str(&html)?;
     Ok(())
-}
-
-fn fault_in_unit(fault: InlineFault, begin: usize) -> EditFault
-    ensures { result ≡ text_fault_in fault begin }
-{
-    match fault {
-        InlineFault::TooDeep => EditFault::InlineTooDeep { line: begin },
-        InlineFault::NoMemory => EditFault::NoMemory,
-    }
 }

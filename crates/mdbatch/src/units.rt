@@ -6,14 +6,14 @@ ghost use Rattle.blockspec.specs.BlockUnits.{units};
 ghost use Rattle.blockspec.specs.Nesting.{first_too_deep};
 ghost use Rattle.mdhtml.specs.Limits.{HasLimits};
 ghost use Rattle.mdsource.specs.SourceLimits.{size_of};
-ghost use Rattle.mdbatch.specs.BatchHtml.{IsReadFault, fault_of};
+ghost use Rattle.mdbatch.specs.BatchHtml.{IsReadFault};
 ghost use Rattle.mdbatch.specs.GatheredUnits.{Gathers};
 
 use crate::gathered::Gathered;
-use mdblock::{BlockFault, Reader};
+use mdblock::Reader;
 use mdhtml::{Options, UnitWriter};
 use mdinline::LabelTable;
-use mdsource::EditFault;
+use mdsource::{EditFault, fault_in_line};
 use mdtext::{Entities, Tally, split_line};
 use std::alloc::Global;
 
@@ -64,15 +64,5 @@ pub(crate) fn next_line(text: &str) -> (&str, &str)
     match text.strip_prefix('\n') {
         Some(after) => ("", after),
         None => split_line(text),
-    }
-}
-
-/// No line is fed after a fault, so none is answered `Failed`.
-pub(crate) fn fault_in_line(fault: BlockFault, line: usize) -> EditFault
-    ensures { result ≡ fault_of fault line }
-{
-    match fault {
-        BlockFault::NestedTooDeep => EditFault::NestedTooDeep { line },
-        BlockFault::NoMemory | BlockFault::Failed => EditFault::NoMemory,
     }
 }

@@ -1,3 +1,4 @@
+pub mod BlockFaults
 pub mod Defining
 pub mod FaultNames
 pub mod FaultReasons

@@ -7,9 +7,11 @@ mod fault;
 mod lent_lines;
 mod limits;
 mod preludes;
+mod reading_faults;
 
 pub use clean::clean_lines;
 pub use fault::EditFault;
 pub use lent_lines::Lines;
 pub use limits::{MAX_LINES, MAX_SIZE, are_plain, clean_size, first_line_break};
 pub use preludes::{Prelude, or_beside};
+pub use reading_faults::{fault_in_line, fault_in_unit};

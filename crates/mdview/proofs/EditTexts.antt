@@ -50,7 +50,7 @@ use Rattle.mdview.specs.KeptTexts.{kept_texts, number_kept, texts_with_kept}
 use Rattle.mdview.specs.LabelTargets.{led_by}
 use Rattle.mdview.specs.NewText.{lines_of as new_lines}
 use Rattle.mdsource.specs.Preludes.{HeldPrelude, IsDefinedBy, target_beside}
-use Rattle.mdview.specs.ReadingFaults.{OfBlocks}
+use Rattle.mdsource.specs.BlockFaults.{OfBlocks}
 use Rattle.mdview.proofs.KeptTexts.{kept_within, none_read}
 use Rattle.mdview.proofs.ReadStretches.{is_edit}
 use Rattle.mdview.proofs.Replacing.{head_behind}

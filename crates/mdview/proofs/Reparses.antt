@@ -26,7 +26,8 @@ use Rattle.viewspec.proofs.Splices.{IsEdit, from_above}
 use Rattle.viewspec.proofs.StretchEnds.{counts_join, deep_here, fits_before, handed_above}
 use Rattle.viewspec.proofs.StretchReadings.{meets_at, meets_nowhere}
 use Rattle.viewspec.proofs.UnitPlaces.{above_from, ahead_later, counts_here}
-use Rattle.mdview.specs.HeldBlocks.{HoldsUnits, IsDeepAt, fault_in, is_at, line_before, lines_in, old_lines, places_of}
+use Rattle.mdsource.specs.BlockFaults.{block_fault_in}
+use Rattle.mdview.specs.HeldBlocks.{HoldsUnits, IsDeepAt, is_at, line_before, lines_in, old_lines, places_of}
 use Rattle.mdview.specs.HeldLists.{StandsAt}
 use Rattle.mdview.specs.HeldUnit.{HeldUnit, read_of}
 use Rattle.mdview.specs.NewText.{lines_of}
@@ -209,7 +210,7 @@ met_all limit e old new p w fits old_reader reader old_found found unit line d o
     pushed ∙ ap (λ z. z ++ option_to_list unit) s.handed_out ∙ sym (hands limit e ls s.reads) ∙ ap (handed e) (sym next) in
     (meet, found_above limit e old new p w line d order below c found out, new_fits limit e old new p w fits line meet deep)
 
-pub deep_told : (first : Option ℕ) (fault : BlockFault) (line : ℕ) → (fault ≡ block.NestedTooDeep → first ≡ Some line) → IsDeepAt first (fault_in fault line)
+pub deep_told : (first : Option ℕ) (fault : BlockFault) (line : ℕ) → (fault ≡ block.NestedTooDeep → first ≡ Some line) → IsDeepAt first (block_fault_in fault line)
 deep_told first block.NestedTooDeep line deep = deep refl
 deep_told first block.NoMemory line deep = tt
 deep_told first block.Failed line deep = tt

@@ -5,8 +5,6 @@ use Rattle.mdtext.specs.EntityTable.{EntityTable}
 use Rattle.blockspec.specs.BlockUnits.{begins, units}
 use Rattle.blockspec.specs.UnitTree.{UnitTree}
 use Rattle.mdblock.specs.FoundLists.{found_unit}
-use Rattle.mdblock.specs.declared.faults.BlockFault.{BlockFault}
-use Rattle.mdblock.specs.declared.faults.BlockFault.TheVariants as block
 use Rattle.viewspec.specs.Stretch.{Places, from_line, meeting_line, units_before, units_removed}
 use Rattle.viewspec.specs.UnitTiles.{front_of, tile_of}
 use Rattle.mdview.specs.NewText.{lines_of as new_lines}
@@ -85,12 +83,6 @@ IsDeepAt first (OutOfRange lines) = Unit {0}
 IsDeepAt first (BreakInLine index) = Unit {0}
 IsDeepAt first TooManyLines = Unit {0}
 IsDeepAt first TooLarge = Unit {0}
-
--- the fault of an edit for a fault of the reader in a line; behind no fault a line is read
-abbrev pub fault_in : BlockFault → ℕ → EditFault
-fault_in block.NestedTooDeep line = NestedTooDeep line
-fault_in block.NoMemory line = NoMemory
-fault_in block.Failed line = NoMemory
 
 -- a unit begins in this line
 abbrev pub is_at : ℕ → Option ℕ → Bool

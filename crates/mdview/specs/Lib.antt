@@ -4,7 +4,6 @@ pub mod HeldLists
 pub mod KeptTexts
 pub mod HeldTexts
 pub mod StopLines
-pub mod ReadingFaults
 pub mod Lists
 pub mod Document
 pub mod Edit

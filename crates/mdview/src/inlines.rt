@@ -7,7 +7,6 @@ ghost use Rattle.mdtext.specs.Counted.{counted};
 ghost use Rattle.viewspec.specs.Refusals.{is_deep};
 ghost use Rattle.viewspec.specs.View.{reading_of};
 ghost use Rattle.mdview.specs.HeldTexts.{entities_in, labels_behind};
-ghost use Rattle.mdsource.specs.TextFaults.{text_fault_in};
 
 mod alike_texts;
 pub(crate) mod concerned_texts;
@@ -18,7 +17,6 @@ use crate::labels::changes::LabelsAfter;
 use crate::pieces::text_room::TextRoom;
 use mdhtml::Options;
 use mdinline::{InlineFault, Parsed};
-use mdsource::EditFault;
 use mdtext::Count;
 use std::alloc::Global;
 
@@ -47,14 +45,5 @@ impl<'a> UnitTextReader<'a> {
     {
         room.reader
             .read(text, self.labels, self.options.max_spans, count)
-    }
-}
-
-pub(crate) fn fault_in_unit(fault: InlineFault, begin: usize) -> EditFault
-    ensures { result ≡ text_fault_in fault begin }
-{
-    match fault {
-        InlineFault::TooDeep => EditFault::InlineTooDeep { line: begin },
-        InlineFault::NoMemory => EditFault::NoMemory,
     }
 }

@@ -14,7 +14,7 @@ ghost use Rattle.mdhtml.specs.Limits.{HasLimits};
 ghost use Rattle.viewspec.specs.Stretch.{is_meeting};
 ghost use Rattle.viewspec.specs.UnitTexts.{trees_in};
 ghost use Rattle.viewspec.specs.UnitTiles.{IsAhead};
-ghost use Rattle.mdview.specs.HeldBlocks.{HoldsUnits, IsDeepAt, IsReread, fault_in, is_at, line_before, lines_in, old_lines, places_of};
+ghost use Rattle.mdview.specs.HeldBlocks.{HoldsUnits, IsDeepAt, IsReread, is_at, line_before, lines_in, old_lines, places_of};
 ghost use Rattle.mdview.specs.HeldItems.{IsCounted, IsItemAt, IsItemOf, IsSpliced, kept_of, mark_in};
 ghost use Rattle.mdview.specs.HeldLists.{list_in};
 ghost use Rattle.mdview.specs.HeldUnit.{read_of};
@@ -23,16 +23,16 @@ ghost use Rattle.mdview.specs.StopLines.{IsReadToStop, stops_of};
 ghost use Rattle.mdblock.specs.CountedLines.{counted_by};
 ghost use Rattle.mdsource.specs.SourceLimits.{size_of};
 ghost use Rattle.mdview.specs.NewText.{lines_of};
-ghost use Rattle.mdview.specs.ReadingFaults.{OfBlocks};
+ghost use Rattle.mdsource.specs.BlockFaults.{OfBlocks};
 ghost use Rattle.mdsource.specs.declared.fault.EditFault.TheVariants.{NoMemory};
 
 use crate::blocks::held_places::{HeldItem, Resume, UnitCursor, UnitStart, resume_at};
 use crate::held::HeldText;
 use crate::held::units::HeldUnit;
 use crate::source::new_text::NewText;
-use mdblock::{BlockFault, Found, Reader, splice};
+use mdblock::{Found, Reader, splice};
 use mdchunks::Chunks;
-use mdsource::EditFault;
+use mdsource::{EditFault, fault_in_line};
 use mdtext::Count;
 use std::alloc::AllocError;
 
@@ -240,17 +240,6 @@ fn push_some(found: &mut Vec<Found>, unit: Option<Found>) -> Result<(), AllocErr
         found.push(unit)?;
     }
     Ok(())
-}
-
-/// No line is fed after a fault, so none is answered `Failed`.
-fn fault_in_line(fault: BlockFault, line: usize) -> EditFault
-    ensures reading { OfBlocks result }
-    ensures value { result ≡ fault_in fault line }
-{
-    match fault {
-        BlockFault::NestedTooDeep => EditFault::NestedTooDeep { line },
-        BlockFault::NoMemory | BlockFault::Failed => EditFault::NoMemory,
-    }
 }
 
 /// Whether the line of this number, the last that was read, begins a unit.

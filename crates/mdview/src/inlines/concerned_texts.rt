@@ -20,11 +20,11 @@ ghost use Rattle.mdview.specs.LabelTargets.{IsElsewhere};
 use crate::held::marked_units::{line_from, next_marked};
 use crate::held::pieces::Piece;
 use crate::held::units::HeldUnit;
-use crate::inlines::{UnitTextReader, fault_in_unit};
+use crate::inlines::UnitTextReader;
 use crate::pieces::text_room::TextRoom;
 use mdchunks::{Change, Chunks};
 use mdinline::{InlineFault, Parsed};
-use mdsource::EditFault;
+use mdsource::{EditFault, fault_in_unit};
 use mdtext::Count;
 
 /// A unit that is held, by its number, with what its texts read as after an edit, and its piece then.

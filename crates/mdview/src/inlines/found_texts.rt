@@ -14,12 +14,12 @@ ghost use Rattle.mdview.specs.LabelTargets.{IsElsewhere};
 
 use crate::held::SPLICE_ROOM;
 use crate::held::units::HeldUnit;
-use crate::inlines::{UnitTextReader, fault_in_unit};
+use crate::inlines::UnitTextReader;
 use crate::pieces::text_room::{Alike, TextRoom};
 use mdblock::{Found, Unit};
 use mdchunks::{Chunks, Iter};
 use mdinline::{InlineFault, Parsed};
-use mdsource::EditFault;
+use mdsource::{EditFault, fault_in_unit};
 use mdtext::Count;
 
 impl<'a> UnitTextReader<'a> {

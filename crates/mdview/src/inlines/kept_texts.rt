@@ -17,12 +17,12 @@ ghost use Rattle.mdview.specs.LabelTargets.{IsElsewhere};
 
 use crate::blocks::reparse::KeptTexts;
 use crate::held::units::HeldUnit;
-use crate::inlines::{UnitTextReader, fault_in_unit};
+use crate::inlines::UnitTextReader;
 use crate::pieces::text_room::{Alike, TextRoom};
 use mdblock::{Found, Unit};
 use mdchunks::Chunks;
 use mdinline::{InlineFault, Parsed};
-use mdsource::EditFault;
+use mdsource::{EditFault, fault_in_unit};
 use mdtext::Count;
 
 /// What the texts of a unit from number `at` on read as before the edit.

@@ -46,7 +46,7 @@ returns-in-Err-clause-fault c =
     let line = c.next_line.result.0.now in
     let later = split_lines c.next_line.result.1.now in
     let fed = c.fed.ensures ∙ ap (λ (r : ReaderState). r.fed) c.in-Err.ensures.fault ∙ lines_fed limit c.args.entities.now c.loop-rest.reader before.0 before.2 in
-    subst (IsReadFault _) (sym c.fault_in_line.ensures)
+    subst (IsReadFault _) (sym c.fault_in_line.ensures.value)
     (fault_is limit (split_lines c.args.text.now) before.0 rest line later c.in-Err.fault c.fed.result before.1 c.next_line.ensures.lines fed
     (λ is. c.in-Err.ensures.deep (ap Err is) limit c.args.entities.now before.0 before.2))
 
