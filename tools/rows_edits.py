@@ -5,14 +5,14 @@ import sys
 
 import rows_common as common
 
-CRATES = ['mdtext', 'mdscan', 'mdpair', 'mdleaf', 'blockspec', 'block_rows', 'inlinespec', 'inline_rows', 'mdinline', 'mdblock', 'mdhtml', 'viewspec', 'edit_rows']
+CRATES = ['mdtext', 'mdchunks', 'mdscan', 'mdpair', 'mdleaf', 'blockspec', 'block_rows', 'inlinespec', 'inline_rows', 'mdinline', 'mdblock', 'mdhtml', 'mdsource', 'edit_rows']
 IN_A_FILE = 25
 ROWS = 300
 
 HEAD = '''-- Rows of edits and of the pieces behind them, by computation.
 use Rattle.std.proofs.Common.{◌≡◌, ℕ, List, [], ◌∷◌, ◌++◌, refl, codes}
-use Rattle.viewspec.specs.Calls.{edit, set_prelude}
-use Rattle.viewspec.specs.Refusals.{out_of_range, break_in_line, too_many_lines, too_large, nested_too_deep, inline_too_deep, not_definitions}
+use Rattle.mdsource.specs.Calls.{edit, set_prelude}
+use Rattle.mdsource.specs.Refusals.{out_of_range, break_in_line, too_many_lines, too_large, nested_too_deep, inline_too_deep, not_definitions}
 use Rattle.edit_rows.proofs.ReadEdits.{answers, refused, source_of, limited, plain, answer, pieces}
 '''
 

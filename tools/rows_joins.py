@@ -6,13 +6,13 @@ import sys
 import rows_common as common
 from rows_edits import call_term, is_plain, source_term
 
-CRATES = ['mdtext', 'mdscan', 'mdpair', 'mdleaf', 'blockspec', 'block_rows', 'inlinespec', 'inline_rows', 'mdinline', 'mdblock', 'mdhtml', 'viewspec', 'edit_rows']
+CRATES = ['mdtext', 'mdchunks', 'mdscan', 'mdpair', 'mdleaf', 'blockspec', 'block_rows', 'inlinespec', 'inline_rows', 'mdinline', 'mdblock', 'mdhtml', 'mdsource', 'edit_rows']
 IN_A_FILE = 25
 ROWS = 300
 
 HEAD = '''-- Rows of edits inside a list, and of where lists may be parted, by computation.
 use Rattle.std.proofs.Common.{◌≡◌, ℕ, List, [], ◌∷◌, ◌++◌, refl, codes}
-use Rattle.viewspec.specs.Calls.{edit}
+use Rattle.mdsource.specs.Calls.{edit}
 use Rattle.edit_rows.proofs.ReadEdits.{source_of, plain}
 use Rattle.edit_rows.proofs.ReadJoins.{stops_read, joins_read, facts, join}
 '''

@@ -1,6 +1,6 @@
 -- Rows of edits that change where labels lead, by computation.
 use Rattle.std.proofs.Common.{◌≡◌, [], ◌∷◌, ◌++◌, refl, codes}
-use Rattle.viewspec.specs.Calls.{edit}
+use Rattle.mdsource.specs.Calls.{edit}
 use Rattle.edit_rows.proofs.ReadEdits.{answers, source_of, plain, answer, pieces}
 
 -- a definition at the end is changed; the text that uses it stands far above

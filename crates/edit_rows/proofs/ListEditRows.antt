@@ -1,6 +1,6 @@
 -- Rows of edits inside a list, by computation: where reading begins, where it would end at a unit, where at an item, where it stops, and how many lines and inline texts are read.
 use Rattle.std.proofs.Common.{◌≡◌, [], ◌∷◌, refl, codes}
-use Rattle.viewspec.specs.Calls.{edit}
+use Rattle.mdsource.specs.Calls.{edit}
 use Rattle.edit_rows.proofs.ReadEdits.{source_of, plain}
 use Rattle.edit_rows.proofs.ReadJoins.{stops_read, facts}
 

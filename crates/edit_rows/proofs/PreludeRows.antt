@@ -1,7 +1,7 @@
 -- Rows of preludes, by computation.
 use Rattle.std.proofs.Common.{◌≡◌, [], ◌∷◌, refl, codes}
-use Rattle.viewspec.specs.Calls.{edit, set_prelude}
-use Rattle.viewspec.specs.Refusals.{break_in_line, inline_too_deep, not_definitions}
+use Rattle.mdsource.specs.Calls.{edit, set_prelude}
+use Rattle.mdsource.specs.Refusals.{break_in_line, inline_too_deep, not_definitions}
 use Rattle.edit_rows.proofs.ReadEdits.{answers, refused, source_of, limited, plain, answer, pieces}
 
 -- a text that uses a label

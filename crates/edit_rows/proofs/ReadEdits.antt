@@ -10,12 +10,12 @@ use Rattle.mdhtml.specs.Attributes.{is_harmful}
 use Rattle.mdhtml.specs.BlockHtml.{fresh}
 use Rattle.block_rows.proofs.ReadText.{deep_line}
 use Rattle.inline_rows.specs.Opened.{inline_words}
-use Rattle.viewspec.specs.Setting.{Setting, Source}
-use Rattle.viewspec.specs.View.{view}
-use Rattle.viewspec.specs.Refusals.{Refusal}
-use Rattle.viewspec.specs.Calls.{Call, due, put}
-use Rattle.viewspec.specs.Stretch.{from_line, meeting_line}
-use Rattle.viewspec.specs.Changes.{changed_labels, places, patch_of, texts_read}
+use Rattle.mdsource.specs.Setting.{Setting, Source}
+use Rattle.mdsource.specs.View.{view}
+use Rattle.mdsource.specs.Refusals.{Refusal}
+use Rattle.mdsource.specs.Calls.{Call, due, put}
+use Rattle.mdsource.specs.Stretch.{from_line, meeting_line}
+use Rattle.mdsource.specs.Changes.{changed_labels, places, patch_of, texts_read}
 
 -- what a row says of a call that is accepted: the first line read and the one at which reading ends, the patch, how many texts are read, and the labels that changed
 pub record Facts : Type 0 where

@@ -8,12 +8,12 @@ use Rattle.blockspec.specs.BlockUnits.{units}
 use Rattle.blockspec.specs.ListItems.{with_item, tops_of, top_blocks}
 use Rattle.blockspec.specs.ItemMarks.{ItemMark, item_marks, list_marks}
 use Rattle.blockspec.specs.Joins.{Join, block_joins}
-use Rattle.viewspec.specs.Setting.{Setting, Source}
-use Rattle.viewspec.specs.Calls.{Call}
-use Rattle.viewspec.specs.Stretch.{from_line, meeting_line}
-use Rattle.viewspec.specs.Stops.{near_line, stop_line, stops, lines_soon}
-use Rattle.viewspec.specs.SoonTexts.{texts_soon}
-use Rattle.viewspec.specs.UnitItems.{own_joins}
+use Rattle.mdsource.specs.Setting.{Setting, Source}
+use Rattle.mdsource.specs.Calls.{Call}
+use Rattle.mdsource.specs.Stretch.{from_line, meeting_line}
+use Rattle.mdsource.specs.Stops.{near_line, stop_line, stops, lines_soon}
+use Rattle.mdsource.specs.SoonTexts.{texts_soon}
+use Rattle.mdsource.specs.UnitItems.{own_joins}
 
 -- what a row says of an edit: the first line read, the first behind the edit at which a unit begins in both texts, the first at which a later item does, where reading stops, and how many lines and inline texts are read
 pub record Facts : Type 0 where

@@ -1,7 +1,7 @@
 -- Rows of refusals, by computation.
 use Rattle.std.proofs.Common.{◌≡◌, [], ◌∷◌, refl, codes}
-use Rattle.viewspec.specs.Calls.{edit}
-use Rattle.viewspec.specs.Refusals.{out_of_range, break_in_line, nested_too_deep, inline_too_deep}
+use Rattle.mdsource.specs.Calls.{edit}
+use Rattle.mdsource.specs.Refusals.{out_of_range, break_in_line, nested_too_deep, inline_too_deep}
 use Rattle.edit_rows.proofs.ReadEdits.{answers, refused, source_of, limited, plain, answer}
 
 -- at is past the last line

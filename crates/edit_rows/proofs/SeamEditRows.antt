@@ -1,6 +1,6 @@
 -- Rows of edits after which items are looser or tighter, hold other blocks, or lie in them, by computation.
 use Rattle.std.proofs.Common.{◌≡◌, [], ◌∷◌, refl, codes}
-use Rattle.viewspec.specs.Calls.{edit}
+use Rattle.mdsource.specs.Calls.{edit}
 use Rattle.edit_rows.proofs.ReadEdits.{source_of, plain}
 use Rattle.edit_rows.proofs.ReadJoins.{stops_read, facts}
 

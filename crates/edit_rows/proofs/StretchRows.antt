@@ -1,6 +1,6 @@
 -- Rows of what an edit reads again, by computation.
 use Rattle.std.proofs.Common.{◌≡◌, [], ◌∷◌, ◌++◌, refl, codes}
-use Rattle.viewspec.specs.Calls.{edit}
+use Rattle.mdsource.specs.Calls.{edit}
 use Rattle.edit_rows.proofs.ReadEdits.{answers, source_of, plain, answer}
 
 -- a fence that is not closed any more takes all behind it

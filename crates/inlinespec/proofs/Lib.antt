@@ -18,3 +18,4 @@ pub mod PairedSpans
 pub mod ReadingBalanced
 pub mod TailEnds
 pub mod TreeEvents
+pub mod UnaskedTexts

@@ -17,10 +17,10 @@ use Rattle.mdview.specs.Document.{empty, pieces_of, readings_of}
 use Rattle.mdview.specs.Edit.{call_of}
 use Rattle.mdview.specs.Outcome.{answer_of, is_starved, outcome_of}
 use Rattle.mdsource.specs.Preludes.{HeldPrelude}
-use Rattle.viewspec.specs.Outcome.{accepted}
-use Rattle.viewspec.specs.Calls.{Call, set_prelude}
-use Rattle.viewspec.specs.ChangedPieces.{ChangedPieces}
-use Rattle.viewspec.specs.Patch.{Brings}
+use Rattle.mdsource.specs.Outcome.{accepted}
+use Rattle.mdsource.specs.Calls.{Call, set_prelude}
+use Rattle.mdsource.specs.ChangedPieces.{ChangedPieces}
+use Rattle.mdsource.specs.Patch.{Brings}
 use Rattle.mdbatch.specs.BatchHtml.{TextHtml}
 use Rattle.jirmoans.specs.declared.faults.Refusal.{Refusal}
 use Rattle.jirmoans.specs.declared.faults.Refusal.TheVariants.{Edit, Table, NotUtf8, NoSuchUnit, NotOpen, AlreadyOpen, UnknownBreaks, LimitTooLarge}

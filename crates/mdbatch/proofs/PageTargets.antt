@@ -3,8 +3,8 @@ use Rattle.std.proofs.Common.{◌≡◌, ℕ, List, [], Option, Some, None, Bor,
 use Rattle.std.specs.Option.{option_or}
 use Rattle.blockspec.specs.UnitTree.{FoundUnit}
 use Rattle.inlinespec.specs.LabelMap.{LabelMap, LinkTarget, target_in, target_of}
-use Rattle.viewspec.proofs.LabelsLead.{units_lead}
-use Rattle.viewspec.specs.LabelTable.{with_units}
+use Rattle.mdsource.proofs.LabelsLead.{units_lead}
+use Rattle.mdsource.specs.LabelTable.{with_units}
 use Rattle.mdtext.specs.declared.labels.Target.{Target}
 use Rattle.mdsource.specs.Preludes.{HeldPrelude, target_beside}
 use Rattle.mdbatch.specs.TextLabels.{page_table, target_by}

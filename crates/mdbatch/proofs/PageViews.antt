@@ -10,13 +10,13 @@ use Rattle.blockspec.specs.FirstDefinitions.{first_definition}
 use Rattle.blockspec.specs.Nesting.{first_too_deep}
 use Rattle.blockspec.proofs.DocumentLaws.{first_of_both}
 use Rattle.inlinespec.specs.LabelMap.{target_in}
-use Rattle.viewspec.specs.LabelTable.{table, table_of, target_defined}
-use Rattle.viewspec.specs.Refusals.{Refusal, nested_too_deep, inline_too_deep, inline_refusal, is_too_deep, nesting_refusal}
-use Rattle.viewspec.specs.Refusals.{refusal as due_refusal}
-use Rattle.viewspec.specs.Setting.{Setting}
-use Rattle.viewspec.specs.View.{ViewedUnit, view, viewed}
-use Rattle.viewspec.proofs.Cuts.{no_units}
-use Rattle.viewspec.proofs.LabelsLead.{units_lead}
+use Rattle.mdsource.specs.LabelTable.{table, table_of, target_defined}
+use Rattle.mdsource.specs.Refusals.{Refusal, nested_too_deep, inline_too_deep, inline_refusal, is_too_deep, nesting_refusal}
+use Rattle.mdsource.specs.Refusals.{refusal as due_refusal}
+use Rattle.mdsource.specs.Setting.{Setting}
+use Rattle.mdsource.specs.View.{ViewedUnit, view, viewed}
+use Rattle.mdsource.proofs.Cuts.{no_units}
+use Rattle.mdsource.proofs.LabelsLead.{units_lead}
 use Rattle.mdsource.specs.declared.fault.EditFault.{EditFault}
 use Rattle.mdsource.specs.declared.fault.EditFault.TheVariants.{OutOfRange, BreakInLine, TooManyLines, TooLarge, NestedTooDeep, InlineTooDeep, NoMemory, NotDefinitions}
 use Rattle.mdsource.specs.SourceLimits.{refusal}

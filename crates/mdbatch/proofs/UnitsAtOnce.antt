@@ -8,8 +8,8 @@ use Rattle.blockspec.specs.BlockUnits.{definitions_of}
 use Rattle.blockspec.specs.UnitTree.{FoundUnit}
 use Rattle.inlinespec.specs.LabelMap.{LabelMap, target_in}
 use Rattle.inlinespec.specs.LinkTails.{Table}
-use Rattle.viewspec.specs.LabelTable.{table_of}
-use Rattle.viewspec.specs.Setting.{Setting}
+use Rattle.mdsource.specs.LabelTable.{table_of}
+use Rattle.mdsource.specs.Setting.{Setting}
 use Rattle.mdsource.specs.Preludes.{HeldPrelude, target_beside}
 use Rattle.mdbatch.specs.BatchHtml.{WritesUnits}
 use Rattle.mdbatch.specs.TextLabels.{page_table, target_by}

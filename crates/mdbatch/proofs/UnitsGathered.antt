@@ -9,8 +9,8 @@ use Rattle.inlinespec.specs.LinkTails.{Table}
 use Rattle.mdhtml.specs.WrittenUnits.{is_deep_unit}
 use Rattle.mdinline.specs.declared.faults.InlineFault.{InlineFault}
 use Rattle.mdinline.specs.declared.faults.InlineFault.TheVariants as inline
-use Rattle.viewspec.specs.LabelTable.{with_units}
-use Rattle.viewspec.specs.Setting.{Setting}
+use Rattle.mdsource.specs.LabelTable.{with_units}
+use Rattle.mdsource.specs.Setting.{Setting}
 use Rattle.mdblock.specs.FoundLists.{found_unit}
 use Rattle.mdsource.specs.declared.fault.EditFault.{EditFault}
 use Rattle.mdsource.specs.declared.fault.EditFault.TheVariants.{OutOfRange, BreakInLine, TooManyLines, TooLarge, NestedTooDeep, InlineTooDeep, NoMemory, NotDefinitions}

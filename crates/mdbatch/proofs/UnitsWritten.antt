@@ -11,11 +11,11 @@ use Rattle.inlinespec.specs.TextTree.{asked, inl}
 use Rattle.blockspec.specs.UnitTree.{FoundUnit}
 use Rattle.mdhtml.specs.BlockHtml.{blocks_html, texts_html}
 use Rattle.mdhtml.specs.WrittenUnits.{is_deep_text, is_deep_unit, read_html, written_unit}
-use Rattle.viewspec.specs.Refusals.{is_deep, is_too_deep}
-use Rattle.viewspec.specs.Setting.{Setting}
-use Rattle.viewspec.specs.View.{ViewedUnit, reading_of, viewed, viewed_with}
-use Rattle.viewspec.proofs.ReadingsUnder.{all_under}
-use Rattle.viewspec.proofs.UnaskedTexts.{asks_none, reads_alike}
+use Rattle.mdsource.specs.Refusals.{is_deep, is_too_deep}
+use Rattle.mdsource.specs.Setting.{Setting}
+use Rattle.mdsource.specs.View.{ViewedUnit, reading_of, viewed, viewed_with}
+use Rattle.mdsource.proofs.ReadingsUnder.{all_under}
+use Rattle.inlinespec.proofs.UnaskedTexts.{asks_none, reads_alike}
 use Rattle.mdbatch.specs.GatheredUnits.{closes_bracket}
 use Rattle.mdbatch.specs.BatchHtml.{WritesUnits, begin_in, deep_line, piece_in, pieces_of}
 

@@ -6,9 +6,9 @@ use Rattle.inlinespec.specs.LinkTails.{Table}
 use Rattle.blockspec.specs.BlockUnits.{units}
 use Rattle.blockspec.specs.Nesting.{first_too_deep}
 use Rattle.blockspec.specs.UnitTree.{FoundUnit}
-use Rattle.viewspec.specs.Refusals.{is_too_deep}
-use Rattle.viewspec.specs.Setting.{Setting}
-use Rattle.viewspec.specs.View.{ViewedUnit, viewed}
+use Rattle.mdsource.specs.Refusals.{is_too_deep}
+use Rattle.mdsource.specs.Setting.{Setting}
+use Rattle.mdsource.specs.View.{ViewedUnit, viewed}
 use Rattle.mdsource.specs.declared.fault.EditFault.{EditFault}
 use Rattle.mdsource.specs.declared.fault.EditFault.TheVariants.{OutOfRange, BreakInLine, TooManyLines, TooLarge, NestedTooDeep, InlineTooDeep, NoMemory, NotDefinitions}
 use Rattle.mdsource.specs.SourceLimits.{refusal}

@@ -7,11 +7,11 @@ use Rattle.mdblock.specs.FoundLists.{found_unit}
 use Rattle.mdhtml.specs.BlockHtml.{ends_line}
 use Rattle.mdhtml.specs.WrittenUnits.{entities_of, options_of}
 use Rattle.mdhtml.specs.declared.unit_writer.UnitWriter.{UnitWriter}
-use Rattle.viewspec.specs.Setting.{Setting}
+use Rattle.mdsource.specs.Setting.{Setting}
 use Rattle.mdbatch.specs.declared.gathered.Gathered.{Gathered}
 use Rattle.mdbatch.specs.declared.gathered.Waiting.{Waiting}
 use Rattle.mdbatch.specs.BatchHtml.{WritesUnits, deep_line}
-use Rattle.viewspec.specs.LabelTable.{with_units}
+use Rattle.mdsource.specs.LabelTable.{with_units}
 
 -- what a writer reads texts with
 abbrev pub setting_of : UnitWriter → Setting

@@ -5,7 +5,7 @@ use Rattle.blockspec.specs.BlockUnits.{definitions_of}
 use Rattle.blockspec.specs.UnitTree.{FoundUnit}
 use Rattle.inlinespec.specs.LabelMap.{LabelMap, LinkTarget, target_in}
 use Rattle.inlinespec.specs.LinkTails.{Table}
-use Rattle.viewspec.specs.LabelTable.{table_of}
+use Rattle.mdsource.specs.LabelTable.{table_of}
 use Rattle.mdsource.specs.Preludes.{HeldPrelude, target_beside}
 use Rattle.mdbatch.specs.declared.page_labels.PageLabels.{PageLabels}
 

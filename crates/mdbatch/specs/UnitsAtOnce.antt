@@ -4,7 +4,7 @@ use Rattle.inlinespec.specs.LinkTails.{Table}
 use Rattle.blockspec.specs.BlockUnits.{definitions_of}
 use Rattle.blockspec.specs.UnitTree.{FoundUnit}
 use Rattle.mdhtml.specs.BlockHtml.{ends_line}
-use Rattle.viewspec.specs.Setting.{Setting}
+use Rattle.mdsource.specs.Setting.{Setting}
 use Rattle.mdbatch.specs.BatchHtml.{WritesUnits}
 
 -- behind the text so far stand the pieces of these units, which define no label, and the text is empty or ends with LF

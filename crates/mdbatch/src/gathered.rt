@@ -4,7 +4,7 @@ ghost use Rattle.std.specs.List.{list_any};
 ghost use Rattle.std.specs.Option.{option_map, option_to_list};
 ghost use Rattle.blockspec.specs.UnitTree.{FoundUnit};
 ghost use Rattle.mdblock.specs.FoundLists.{found_unit};
-ghost use Rattle.viewspec.specs.Setting.{Setting};
+ghost use Rattle.mdsource.specs.Setting.{Setting};
 ghost use Rattle.mdsource.specs.declared.fault.EditFault.TheVariants.{NoMemory};
 ghost use Rattle.mdbatch.specs.GatheredUnits.{Gathers, HasGathered, closes_bracket, setting_of};
 ghost use Rattle.mdbatch.specs.declared.gathered.Waiting.{Waiting};

@@ -1,7 +1,7 @@
 //! The link labels that a text defines.
 ghost use Rattle.std.specs.Prelude.{◌≡◌, OnOk, map};
 ghost use Rattle.mdleaf.specs.LinkDefinition.{definition_of};
-ghost use Rattle.viewspec.specs.LabelTable.{with_definitions};
+ghost use Rattle.mdsource.specs.LabelTable.{with_definitions};
 
 use mdblock::Definition;
 use mdinline::LabelTable;

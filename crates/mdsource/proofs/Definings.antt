@@ -16,10 +16,10 @@ use Rattle.mdblock.specs.declared.faults.BlockFault.{BlockFault}
 use Rattle.mdblock.specs.declared.faults.BlockFault.TheVariants as block
 use Rattle.mdtext.specs.declared.labels.Target.{Target}
 use Rattle.mdblock.specs.declared.blocks.Block.{Block}
-use Rattle.viewspec.specs.LabelTable.{with_definitions, with_units}
-use Rattle.viewspec.specs.Refusals.{is_more, undefining_line}
-use Rattle.viewspec.specs.Setting.{Setting}
-use Rattle.viewspec.proofs.LabelsLead.{labels_more}
+use Rattle.mdsource.specs.LabelTable.{with_definitions, with_units}
+use Rattle.mdsource.specs.Refusals.{is_more, undefining_line}
+use Rattle.mdsource.specs.Setting.{Setting}
+use Rattle.mdsource.proofs.LabelsLead.{labels_more}
 use Rattle.mdsource.specs.Defining.{Defines, EndsAt, fault_of, first_other, shown}
 use Rattle.mdsource.specs.Preludes.{IsUndefiningAt, OfDefinitions}
 use Rattle.mdsource.specs.declared.fault.EditFault.{EditFault}

@@ -2,9 +2,9 @@
 use Rattle.std.proofs.Common.{◌≡◌, ℕ, ◌+◌, Bool, true, false, List, [], ◌∷◌, length, map, Option, Some, None, cond, nat_lt, option_map, refl, ap, ◌∙◌}
 use Rattle.std.specs.Option.{option_or}
 use Rattle.mdtext.specs.Lines.{without_nul}
-use Rattle.viewspec.specs.Calls.{set_prelude, due_at_once, line_ending_from}
-use Rattle.viewspec.specs.Refusals.{break_in_line, size_refusal, too_large, too_many_lines}
-use Rattle.viewspec.specs.Setting.{Source}
+use Rattle.mdsource.specs.Calls.{set_prelude, due_at_once, line_ending_from}
+use Rattle.mdsource.specs.Refusals.{break_in_line, size_refusal, too_large, too_many_lines}
+use Rattle.mdsource.specs.Setting.{Source}
 use Rattle.mdsource.specs.declared.fault.EditFault.TheVariants.{TooManyLines, TooLarge}
 use Rattle.mdsource.specs.SourceLimits.{due_of_prelude, due_of_text, first_with_ending, has_line_ending, refusal, size_of}
 use Rattle.mdsource.specs.FaultReasons.{reason_of}

@@ -6,8 +6,8 @@ use Rattle.inlinespec.specs.LabelMap.{LabelMap, target_of}
 use Rattle.mdblock.specs.declared.faults.BlockFault.{BlockFault}
 use Rattle.mdblock.specs.declared.faults.BlockFault.TheVariants as block
 use Rattle.mdtext.specs.declared.labels.Target.{Target}
-use Rattle.viewspec.specs.LabelTable.{with_units}
-use Rattle.viewspec.specs.Refusals.{is_more}
+use Rattle.mdsource.specs.LabelTable.{with_units}
+use Rattle.mdsource.specs.Refusals.{is_more}
 use Rattle.mdsource.specs.declared.defining.Defined.{Defined}
 use Rattle.mdsource.specs.declared.fault.EditFault.{EditFault}
 use Rattle.mdsource.specs.declared.fault.EditFault.TheVariants.{NoMemory, NotDefinitions}

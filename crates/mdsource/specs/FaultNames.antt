@@ -1,6 +1,6 @@
 -- The names and numbers of refusals.
 use Rattle.std.specs.Prelude.{ℕ, List, codes}
-use Rattle.viewspec.specs.Refusals.{Refusal, out_of_range, break_in_line, too_many_lines, too_large, nested_too_deep, inline_too_deep, no_memory, not_definitions}
+use Rattle.mdsource.specs.Refusals.{Refusal, out_of_range, break_in_line, too_many_lines, too_large, nested_too_deep, inline_too_deep, no_memory, not_definitions}
 
 -- a refusal's name and number
 abbrev pub name_of : Refusal → List ℕ

@@ -1,5 +1,5 @@
 -- A fault as the definition's refusal.
-use Rattle.viewspec.specs.Refusals.{Refusal, out_of_range, break_in_line, too_many_lines, too_large, nested_too_deep, inline_too_deep, no_memory, not_definitions}
+use Rattle.mdsource.specs.Refusals.{Refusal, out_of_range, break_in_line, too_many_lines, too_large, nested_too_deep, inline_too_deep, no_memory, not_definitions}
 use Rattle.mdsource.specs.declared.fault.EditFault.{EditFault}
 use Rattle.mdsource.specs.declared.fault.EditFault.TheVariants.{OutOfRange, BreakInLine, TooManyLines, TooLarge, NestedTooDeep, InlineTooDeep, NoMemory, NotDefinitions}
 

@@ -9,7 +9,7 @@ ghost use Rattle.mdhtml.specs.Limits.{HasLimits};
 ghost use Rattle.mdtext.specs.Lines.{without_nul};
 ghost use Rattle.mdsource.specs.SourceLimits.{due_of_prelude, has_special, size_of};
 ghost use Rattle.mdsource.specs.Preludes.{IsDefinedBy, IsUndefiningAt, RefusesPrelude, target_beside};
-ghost use Rattle.viewspec.specs.Refusals.{undefining_line};
+ghost use Rattle.mdsource.specs.Refusals.{undefining_line};
 
 use crate::clean::clean_lines;
 use crate::defining::read_definitions;

@@ -5,7 +5,7 @@ use Rattle.std.proofs.lemmas.Bool.Decides.{nat_tests}
 use Rattle.mdtool.specs.declared.fault.ToolFault.{ToolFault}
 use Rattle.mdtool.specs.declared.fault.ToolFault.TheVariants.{Read, Write, Refused, BadCommand, Truncated, Table, NoMemory}
 use Rattle.mdtool.specs.Commands.{Command, Html, Change, Head, HtmlHead, Stop, Open, Bad, head_of, command_of, with_texts, first_command, stop_of, stop_at, script_lines, capped}
-use Rattle.viewspec.specs.Calls.{Call}
+use Rattle.mdsource.specs.Calls.{Call}
 use Rattle.mdtool.specs.Pending.{Pending, MayFollow, Reads, Draws, HasLine, IsOver, used}
 use Rattle.mdtool.specs.Steps.{Steps, StopsAt, ReadsCommand, FewLines, ReadsTexts, NextCommand}
 use Rattle.mdtool.proofs.Readings.{reads_on, reads_line}

@@ -1,7 +1,7 @@
 -- The ends of a conversion, from those of its steps.
 use Rattle.std.proofs.Common.{◌≡◌, ℕ, List, [], Option, Some, None, Result, Ok, Err, String, string_bytes, refl, ap, sym, ◌∙◌, subst, inl, inr}
 use Rattle.std.specs.Global.{Global}
-use Rattle.viewspec.specs.Setting.{Setting}
+use Rattle.mdsource.specs.Setting.{Setting}
 use Rattle.mdtext.specs.Lines.{text_lines}
 use Rattle.mdsource.specs.declared.fault.EditFault.{EditFault}
 use Rattle.mdsource.specs.declared.fault.EditFault.TheVariants.{OutOfRange, BreakInLine, TooManyLines, TooLarge, NestedTooDeep, InlineTooDeep, NotDefinitions}

@@ -3,11 +3,11 @@ use Rattle.std.proofs.Common.{◌≡◌, ℕ, ◌+◌, ◌≤◌, List, [], ◌�
 use Rattle.std.proofs.lemmas.List.{map-append}
 use Rattle.mdtool.specs.declared.fault.ToolFault.{ToolFault}
 use Rattle.mdtool.specs.declared.fault.ToolFault.TheVariants.{Read, Write, Refused, BadCommand, Truncated, Table, NoMemory}
-use Rattle.viewspec.specs.SoonTexts.{texts_soon}
-use Rattle.viewspec.specs.Stops.{lines_soon}
-use Rattle.viewspec.specs.Calls.{Call}
-use Rattle.viewspec.specs.ChangedPieces.{ChangedPieces}
-use Rattle.viewspec.specs.Outcome.{Answer}
+use Rattle.mdsource.specs.SoonTexts.{texts_soon}
+use Rattle.mdsource.specs.Stops.{lines_soon}
+use Rattle.mdsource.specs.Calls.{Call}
+use Rattle.mdsource.specs.ChangedPieces.{ChangedPieces}
+use Rattle.mdsource.specs.Outcome.{Answer}
 use Rattle.mdsource.specs.declared.fault.EditFault.{EditFault}
 use Rattle.mdview.specs.Document.{Document, setting_of, source_of}
 use Rattle.mdview.specs.Outcome.{answer_of, is_starved, outcome_of}

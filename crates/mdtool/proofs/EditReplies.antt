@@ -1,9 +1,9 @@
 -- An edit, or a new prelude, that was answered so is replied to so.
 use Rattle.std.proofs.Common.{◌≡◌, ℕ, ap, ◌∙◌, length, Result, Ok, Err, IfOk, String, Global, string_bytes}
 use Rattle.std.specs.declared.alloc.AllocError.{AllocError}
-use Rattle.viewspec.specs.Calls.{Call}
-use Rattle.viewspec.specs.ChangedPieces.{ChangedPieces}
-use Rattle.viewspec.specs.Outcome.{Answer}
+use Rattle.mdsource.specs.Calls.{Call}
+use Rattle.mdsource.specs.ChangedPieces.{ChangedPieces}
+use Rattle.mdsource.specs.Outcome.{Answer}
 use Rattle.mdsource.specs.declared.fault.EditFault.{EditFault}
 use Rattle.mdview.specs.Document.{Document}
 use Rattle.mdview.specs.Outcome.{answer_of, is_starved, outcome_of}

@@ -1,7 +1,7 @@
 -- The line of a patch, as it is printed.
 use Rattle.std.proofs.Common.{◌≡◌, ℕ, [], ◌∷◌, ◌++◌, length, append_assoc}
 use Rattle.std.specs.Prelude.{codes, decimal}
-use Rattle.viewspec.specs.ChangedPieces.{ChangedPieces}
+use Rattle.mdsource.specs.ChangedPieces.{ChangedPieces}
 use Rattle.mdtool.specs.Replies.{patch_line}
 
 pub patch_printed : (patch : ChangedPieces) (again : ℕ) → again ≡ length patch.again

@@ -2,9 +2,9 @@
 use Rattle.std.proofs.Common.{◌≡◌, ℕ, List, map, Option, Some, None, Err, option_map, refl, ap, sym, ◌∙◌}
 use Rattle.std.specs.Option.{option_or}
 use Rattle.mdtext.specs.Lines.{without_nul}
-use Rattle.viewspec.specs.Calls.{set_prelude, due_by_reading}
-use Rattle.viewspec.specs.Refusals.{Refusal, not_definitions, undefining_line}
-use Rattle.viewspec.specs.Setting.{Setting}
+use Rattle.mdsource.specs.Calls.{set_prelude, due_by_reading}
+use Rattle.mdsource.specs.Refusals.{Refusal, not_definitions, undefining_line}
+use Rattle.mdsource.specs.Setting.{Setting}
 use Rattle.mdsource.specs.declared.fault.EditFault.{EditFault}
 use Rattle.mdsource.specs.declared.fault.EditFault.TheVariants.{OutOfRange, BreakInLine, TooManyLines, TooLarge, NestedTooDeep, InlineTooDeep, NotDefinitions}
 use Rattle.mdsource.specs.declared.fault.EditFault.TheVariants.{NoMemory as EditNoMemory}

@@ -1,7 +1,7 @@
 -- The ends of a script whose prelude is read first.
 use Rattle.std.proofs.Common.{◌≡◌, ℕ, List, Option, Result, Ok, Err, refl, subst, inl, inr}
-use Rattle.viewspec.specs.Calls.{set_prelude}
-use Rattle.viewspec.specs.ChangedPieces.{ChangedPieces}
+use Rattle.mdsource.specs.Calls.{set_prelude}
+use Rattle.mdsource.specs.ChangedPieces.{ChangedPieces}
 use Rattle.mdsource.specs.declared.fault.EditFault.{EditFault}
 use Rattle.mdsource.specs.declared.fault.EditFault.TheVariants.{OutOfRange, BreakInLine, TooManyLines, TooLarge, NestedTooDeep, InlineTooDeep, NotDefinitions}
 use Rattle.mdsource.specs.declared.fault.EditFault.TheVariants.{NoMemory as EditNoMemory}

@@ -3,9 +3,9 @@ use Rattle.std.proofs.Common.{◌≡◌, ℕ, List, [], ◌∷◌, Some, None, t
 use Rattle.std.specs.Fmt.{digits}
 use Rattle.mdtext.specs.EntityTable.{usual_table}
 use Rattle.mdhtml.specs.Limits.{plain}
-use Rattle.viewspec.specs.Calls.{edit}
-use Rattle.viewspec.specs.Outcome.{accepted, refused}
-use Rattle.viewspec.specs.Refusals.{nested_too_deep, not_definitions}
+use Rattle.mdsource.specs.Calls.{edit}
+use Rattle.mdsource.specs.Outcome.{accepted, refused}
+use Rattle.mdsource.specs.Refusals.{nested_too_deep, not_definitions}
 use Rattle.mdview.specs.Document.{empty}
 use Rattle.mdtool.specs.Commands.{Change, HtmlHead, PreludeHead, EditHead, split_number, head_of}
 use Rattle.mdwords.specs.Numbers.{number}

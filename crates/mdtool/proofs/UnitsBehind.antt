@@ -7,11 +7,11 @@ use Rattle.blockspec.specs.BlockUnits.{begins, units}
 use Rattle.blockspec.specs.UnitBegin.{shift_found}
 use Rattle.blockspec.specs.UnitTree.{FoundUnit}
 use Rattle.blockspec.proofs.DocumentLaws.{map_length}
-use Rattle.viewspec.specs.Spliced.{IsSpliced, in_parts}
-use Rattle.viewspec.specs.Stretch.{Places, from_line, meeting_line, old_line, units_added, units_before, units_removed}
-use Rattle.viewspec.proofs.Counts.{spliced}
-use Rattle.viewspec.proofs.Cuts.{begins_in}
-use Rattle.viewspec.proofs.Splices.{IsEdit, Meets, meets}
+use Rattle.mdsource.specs.Spliced.{IsSpliced, in_parts}
+use Rattle.mdsource.specs.Stretch.{Places, from_line, meeting_line, old_line, units_added, units_before, units_removed}
+use Rattle.mdsource.proofs.Counts.{spliced}
+use Rattle.mdsource.proofs.Cuts.{begins_in}
+use Rattle.mdsource.proofs.Splices.{IsEdit, Meets, meets}
 
 -- units that stand so many lines further on, in two texts of so many lines
 shifted_alike : (us : List FoundUnit) (a b c d : ℕ) → a + c ≡ b + d

@@ -4,7 +4,7 @@ use Rattle.std.specs.List.{list_any, list_all, before_first, after_first, positi
 use Rattle.std.specs.Cmp.Lexicographic.{pointwise}
 use Rattle.std.specs.Char.{is_ascii_digit}
 use Rattle.std.specs.Str.Lossy.{utf8_lossy}
-use Rattle.viewspec.specs.Calls.{Call, edit, set_prelude}
+use Rattle.mdsource.specs.Calls.{Call, edit, set_prelude}
 use Rattle.mdwords.specs.Numbers.{number}
 
 pub data Command : Type 0 where

@@ -3,9 +3,9 @@ use Rattle.std.specs.Prelude.{◌≡◌, ◌⊎◌, ℕ, List, Option, Some, Non
 use Rattle.std.specs.Global.{Global}
 use Rattle.std.specs.Str.Lossy.{utf8_lossy}
 use Rattle.mdtext.specs.Lines.{text_lines, without_nul}
-use Rattle.viewspec.specs.Calls.{set_prelude, due}
-use Rattle.viewspec.specs.Refusals.{Refusal, refusal}
-use Rattle.viewspec.specs.Setting.{Setting, Source}
+use Rattle.mdsource.specs.Calls.{set_prelude, due}
+use Rattle.mdsource.specs.Refusals.{Refusal, refusal}
+use Rattle.mdsource.specs.Setting.{Setting, Source}
 use Rattle.mdsource.specs.declared.fault.EditFault.{EditFault}
 use Rattle.mdview.specs.Document.{nothing}
 use Rattle.mdsource.specs.FaultReasons.{reason_of}

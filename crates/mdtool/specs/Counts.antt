@@ -1,7 +1,7 @@
 -- What a script's commands are said to have read, at each end.
 use Rattle.std.specs.Prelude.{◌≡◌, ◌⊎◌, ℕ, ◌≤◌, Bool, List, [], ◌∷◌, ◌++◌, Option, Result, Ok, Err, decimal, map}
-use Rattle.viewspec.specs.SoonTexts.{texts_soon}
-use Rattle.viewspec.specs.Stops.{lines_soon}
+use Rattle.mdsource.specs.SoonTexts.{texts_soon}
+use Rattle.mdsource.specs.Stops.{lines_soon}
 use Rattle.mdview.specs.Document.{Document, setting_of, source_of}
 use Rattle.mdtool.specs.declared.fault.ToolFault.{ToolFault}
 use Rattle.mdtool.specs.declared.fault.ToolFault.TheVariants.{Read, Write, Refused, BadCommand, Truncated, Table, NoMemory}

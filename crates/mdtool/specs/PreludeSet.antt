@@ -1,6 +1,6 @@
 -- A prelude that is set before anything is read.
 use Rattle.std.specs.Prelude.{◌≡◌, ℕ, List, Option, Some, None, Result, Ok, Err}
-use Rattle.viewspec.specs.Calls.{due, put, set_prelude}
+use Rattle.mdsource.specs.Calls.{due, put, set_prelude}
 use Rattle.mdtool.specs.declared.fault.ToolFault.{ToolFault}
 use Rattle.mdtool.specs.declared.fault.ToolFault.TheVariants.{Read, Write, Refused, BadCommand, Truncated, Table, NoMemory}
 use Rattle.mdsource.specs.declared.fault.EditFault.{EditFault}

@@ -1,6 +1,6 @@
 -- A refusal as replies and error lines have it.
 use Rattle.std.specs.Prelude.{ℕ, List, ◌∷◌, ◌++◌, codes, decimal}
-use Rattle.viewspec.specs.Refusals.{Refusal}
+use Rattle.mdsource.specs.Refusals.{Refusal}
 use Rattle.mdsource.specs.declared.fault.EditFault.{EditFault}
 use Rattle.mdsource.specs.FaultNames.{name_of, number_of}
 use Rattle.mdsource.specs.FaultReasons.{reason_of}

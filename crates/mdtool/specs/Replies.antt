@@ -5,10 +5,10 @@ use Rattle.blockspec.specs.BlockUnits.{begins as begins_of}
 use Rattle.mdwords.specs.declared.reply_forms.ReplyForm.{ReplyForm}
 use Rattle.mdwords.specs.declared.reply_forms.ReplyForm.TheVariants.{Plain, WithLines}
 use Rattle.mdtool.specs.RefusalText.{refused_text}
-use Rattle.viewspec.specs.ChangedPieces.{ChangedPieces}
-use Rattle.viewspec.specs.Outcome.{Answer, accepted, refused}
-use Rattle.viewspec.specs.Refusals.{Refusal}
-use Rattle.viewspec.specs.Patch.{brought}
+use Rattle.mdsource.specs.ChangedPieces.{ChangedPieces}
+use Rattle.mdsource.specs.Outcome.{Answer, accepted, refused}
+use Rattle.mdsource.specs.Refusals.{Refusal}
+use Rattle.mdsource.specs.Patch.{brought}
 use Rattle.mdview.specs.Document.{Document, pieces_of}
 use Rattle.mdview.specs.Outcome.{outcome_of}
 use Rattle.mdtool.specs.Commands.{Command, Html, Change}

@@ -4,7 +4,7 @@ use Rattle.mdtool.specs.declared.command.Header.TheVariants.{Html as HtmlHeader,
 use Rattle.mdtool.specs.declared.command.Command.{Command as TheCommand}
 use Rattle.mdtool.specs.declared.command.Command.TheVariants.{Html as TheHtml, Prelude as ThePrelude, Edit as TheEdit}
 use Rattle.mdtool.specs.Commands.{Command, Html, Change, Head, HtmlHead, PreludeHead, EditHead}
-use Rattle.viewspec.specs.Calls.{edit, set_prelude}
+use Rattle.mdsource.specs.Calls.{edit, set_prelude}
 
 abbrev pub head_view : Header → Head
 head_view HtmlHeader = HtmlHead

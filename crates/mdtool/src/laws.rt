@@ -2,9 +2,9 @@
 
 ghost use Rattle.std.specs.Prelude.{◌≡◌, ◌+◌, ◌≤◌, ℕ, List, drop, length, map};
 ghost use Rattle.blockspec.specs.BlockUnits.{begins};
-ghost use Rattle.viewspec.specs.Calls.{edit, put};
-ghost use Rattle.viewspec.specs.Changes.{patch_of};
-ghost use Rattle.viewspec.specs.Setting.{Setting, Source};
+ghost use Rattle.mdsource.specs.Calls.{edit, put};
+ghost use Rattle.mdsource.specs.Changes.{patch_of};
+ghost use Rattle.mdsource.specs.Setting.{Setting, Source};
 
 /// Each unit behind those that come with an edit begins so many lines later than before it as the text is longer, or so many earlier as it is shorter.
 pub fn units_behind_move_alike()

@@ -2,7 +2,7 @@
 ghost use Rattle.std.specs.Prelude.{◌≡◌, ◌+◌, ◌++◌, string_bytes, IfOk, OnOk, length};
 ghost use Rattle.std.specs.List.{concat};
 ghost use Rattle.blockspec.specs.BlockUnits.{begins};
-ghost use Rattle.viewspec.specs.Patch.{brought};
+ghost use Rattle.mdsource.specs.Patch.{brought};
 ghost use Rattle.mdview.specs.Document.{pieces_of};
 ghost use Rattle.mdsource.specs.FaultReasons.{reason_of};
 ghost use Rattle.mdview.specs.Outcome.{answer_of};

@@ -5,9 +5,9 @@ use Rattle.std.proofs.Math.Seq.{drop-length}
 use Rattle.mdtext.specs.EntityTable.{EntityTable}
 use Rattle.mdinline.specs.ParsedText.{ParsedText}
 use Rattle.blockspec.specs.UnitTree.{UnitTree}
-use Rattle.viewspec.specs.View.{reading_of}
-use Rattle.viewspec.specs.UnitTexts.{readings_under}
-use Rattle.viewspec.proofs.ReadingsUnder.{unasked_stays}
+use Rattle.mdsource.specs.View.{reading_of}
+use Rattle.mdsource.specs.UnitTexts.{readings_under}
+use Rattle.mdsource.proofs.ReadingsUnder.{unasked_stays}
 use Rattle.mdview.specs.AlikeUnits.{AreAlike}
 use Rattle.mdview.specs.HeldTexts.{labels_before, labels_behind}
 use Rattle.mdview.specs.HeldUnit.{HeldUnit}

@@ -5,8 +5,8 @@ use Rattle.std.proofs.lemmas.List.{length-drop}
 use Rattle.std.proofs.lemmas.List.Elements.{All-from_get_or}
 use Rattle.std.proofs.lemmas.List.Folds.{list_any_none}
 use Rattle.std.specs.List.{list_any}
-use Rattle.viewspec.specs.ChangedPieces.{ChangedPieces}
-use Rattle.viewspec.specs.Patch.{brings, brought}
+use Rattle.mdsource.specs.ChangedPieces.{ChangedPieces}
+use Rattle.mdsource.specs.Patch.{brings, brought}
 
 module _ {A : Type 0} where
   -- patches that bring pieces of the same numbers

@@ -15,9 +15,9 @@ use Rattle.mdview.specs.declared.inlines.concerned_texts.Again.{Again}
 use Rattle.mdview.specs.declared.update.Update.{Update}
 use Rattle.mdview.specs.HeldUnit.{HeldUnit, ReadUnit, IsRendered, unit_in, piece_of, read_of, texts_before, texts_in, texts_of, unit_piece}
 use Rattle.mdview.specs.Lists.{replaced}
-use Rattle.viewspec.specs.Patch.{Brings}
+use Rattle.mdsource.specs.Patch.{Brings}
 use Rattle.mdview.specs.Update.{IsPatchOf, IsFitFor, all_renewed, number_after}
-use Rattle.viewspec.specs.ChangedPieces.{ChangedPieces}
+use Rattle.mdsource.specs.ChangedPieces.{ChangedPieces}
 use Rattle.mdview.proofs.RenewedUnits.{all_rendered, unit_trees_stay, none_other, units_stay}
 use Rattle.mdview.proofs.Sizes.{map_replaced}
 use Rattle.mdview.proofs.Splices.{Stays, all_replaced, spliced_brings}

@@ -11,8 +11,8 @@ use Rattle.std.proofs.lemmas.Option.{slice_get-get_or, slice_get-map}
 use Rattle.mdtext.specs.EntityTable.{EntityTable}
 use Rattle.blockspec.specs.UnitTree.{UnitTree}
 use Rattle.inlinespec.specs.LinkTails.{Table}
-use Rattle.viewspec.specs.UnitTexts.{asking_units, asks_again, readings_under}
-use Rattle.viewspec.proofs.ReadingsUnder.{unasked_stays}
+use Rattle.mdsource.specs.UnitTexts.{asking_units, asks_again, readings_under}
+use Rattle.mdsource.proofs.ReadingsUnder.{unasked_stays}
 use Rattle.mdview.specs.declared.inlines.concerned_texts.Again.{Again}
 use Rattle.mdview.specs.HeldTexts.{IsReadUnder, IsReread, asking_in_parts, between, number_again}
 use Rattle.mdview.specs.HeldUnit.{HeldUnit, unit_in}

@@ -4,7 +4,7 @@ use Rattle.std.specs.Global.{Global}
 use Rattle.std.specs.List.{filter, list_any}
 use Rattle.std.specs.Option.{is_some}
 use Rattle.mdinline.specs.ParsedText.{ParsedText}
-use Rattle.viewspec.specs.Changes.{asks_changed, leads_elsewhere}
+use Rattle.mdsource.specs.Changes.{asks_changed, leads_elsewhere}
 use Rattle.mdview.specs.HeldTexts.{labels_before, labels_behind}
 use Rattle.mdview.specs.LabelTargets.{IsElsewhere, at}
 use Rattle.mdview.specs.declared.inlines.UnitTextReader.{UnitTextReader}

@@ -1,10 +1,10 @@
 -- Why a call is refused whatever the memory, as the code tells it, is why the definition refuses it.
 use Rattle.std.proofs.Common.{◌≡◌, ℕ, ◌-◌, ◌||◌, Bool, true, false, length, Option, Some, None, cond, nat_lt, option_map, refl, ap, sym, ◌∙◌}
 use Rattle.std.specs.Option.{option_or}
-use Rattle.viewspec.specs.Calls.{Call, edit, set_prelude, due_at_once, line_ending_from}
-use Rattle.viewspec.specs.Calls.{put as source_put}
-use Rattle.viewspec.specs.Refusals.{Refusal, break_in_line, out_of_range, size_refusal}
-use Rattle.viewspec.specs.Setting.{Source}
+use Rattle.mdsource.specs.Calls.{Call, edit, set_prelude, due_at_once, line_ending_from}
+use Rattle.mdsource.specs.Calls.{put as source_put}
+use Rattle.mdsource.specs.Refusals.{Refusal, break_in_line, out_of_range, size_refusal}
+use Rattle.mdsource.specs.Setting.{Source}
 use Rattle.mdsource.specs.declared.fault.EditFault.{EditFault}
 use Rattle.mdsource.specs.declared.fault.EditFault.TheVariants.{OutOfRange}
 use Rattle.mdsource.specs.FaultReasons.{reason_of}

@@ -11,22 +11,22 @@ use Rattle.blockspec.specs.BlockUnits.{units as text_units}
 use Rattle.blockspec.specs.Nesting.{first_too_deep}
 use Rattle.inlinespec.specs.LinkTails.{Table}
 use Rattle.mdhtml.specs.declared.options.Options.{Options}
-use Rattle.viewspec.specs.Calls.{edit, put}
-use Rattle.viewspec.specs.ChangedPieces.{ChangedPieces}
-use Rattle.viewspec.specs.Changes.{asking_from, patch_of, places}
-use Rattle.viewspec.specs.LabelTable.{table}
-use Rattle.viewspec.specs.Patch.{Brings}
-use Rattle.viewspec.specs.Refusals.{nesting_refusal}
-use Rattle.viewspec.specs.Setting.{Setting}
-use Rattle.viewspec.specs.Spliced.{IsSpliced}
-use Rattle.viewspec.specs.Stretch.{Places, units_added, units_before, units_removed}
-use Rattle.viewspec.specs.View.{view}
+use Rattle.mdsource.specs.Calls.{edit, put}
+use Rattle.mdsource.specs.ChangedPieces.{ChangedPieces}
+use Rattle.mdsource.specs.Changes.{asking_from, patch_of, places}
+use Rattle.mdsource.specs.LabelTable.{table}
+use Rattle.mdsource.specs.Patch.{Brings}
+use Rattle.mdsource.specs.Refusals.{nesting_refusal}
+use Rattle.mdsource.specs.Setting.{Setting}
+use Rattle.mdsource.specs.Spliced.{IsSpliced}
+use Rattle.mdsource.specs.Stretch.{Places, units_added, units_before, units_removed}
+use Rattle.mdsource.specs.View.{view}
 use Rattle.blockspec.specs.Joins.{joins}
-use Rattle.viewspec.specs.SoonTexts.{texts_of_read, texts_soon, units_read}
-use Rattle.viewspec.specs.Stops.{lines_soon, lines_to_stop}
-use Rattle.viewspec.specs.UnitTexts.{asking_units, trees_in}
-use Rattle.viewspec.proofs.AskingUnits.{asking_renumbered, asking_spliced}
-use Rattle.viewspec.proofs.Counts.{spliced}
+use Rattle.mdsource.specs.SoonTexts.{texts_of_read, texts_soon, units_read}
+use Rattle.mdsource.specs.Stops.{lines_soon, lines_to_stop}
+use Rattle.mdsource.specs.UnitTexts.{asking_units, trees_in}
+use Rattle.mdsource.proofs.AskingUnits.{asking_renumbered, asking_spliced}
+use Rattle.mdsource.proofs.Counts.{spliced}
 use Rattle.mdview.specs.declared.held.labels.HeldLabels.{HeldLabels}
 use Rattle.mdview.specs.declared.source.new_text.NewText.{NewText}
 use Rattle.mdview.specs.declared.inlines.concerned_texts.Again.{Again}

@@ -11,18 +11,18 @@ use Rattle.std.proofs.lemmas.Option.{slice_get-map, slice_get_past}
 use Rattle.mdtext.specs.EntityTable.{EntityTable}
 use Rattle.blockspec.specs.BlockUnits.{begins, units}
 use Rattle.blockspec.specs.UnitTree.{FoundUnit, UnitTree}
-use Rattle.viewspec.specs.Calls.{edit, put}
-use Rattle.viewspec.specs.Changes.{patch_of, places, texts_due, texts_read}
-use Rattle.viewspec.specs.LabelTable.{table}
-use Rattle.viewspec.specs.View.{view}
+use Rattle.mdsource.specs.Calls.{edit, put}
+use Rattle.mdsource.specs.Changes.{patch_of, places, texts_due, texts_read}
+use Rattle.mdsource.specs.LabelTable.{table}
+use Rattle.mdsource.specs.View.{view}
 use Rattle.mdhtml.specs.declared.options.Options.{Options}
-use Rattle.viewspec.specs.ChangedPieces.{ChangedPieces}
-use Rattle.viewspec.specs.Setting.{Setting, Source}
-use Rattle.viewspec.specs.Stretch.{Places, units_added, units_before, units_removed, from_line, meeting_line}
-use Rattle.viewspec.specs.UnitTiles.{begins_from, lines_of, tile_of}
-use Rattle.viewspec.proofs.Counts.{spliced}
-use Rattle.viewspec.proofs.UnitTiles.{units_tile}
-use Rattle.viewspec.proofs.UnitPlaces.{small_begins}
+use Rattle.mdsource.specs.ChangedPieces.{ChangedPieces}
+use Rattle.mdsource.specs.Setting.{Setting, Source}
+use Rattle.mdsource.specs.Stretch.{Places, units_added, units_before, units_removed, from_line, meeting_line}
+use Rattle.mdsource.specs.UnitTiles.{begins_from, lines_of, tile_of}
+use Rattle.mdsource.proofs.Counts.{spliced}
+use Rattle.mdsource.proofs.UnitTiles.{units_tile}
+use Rattle.mdsource.proofs.UnitPlaces.{small_begins}
 use Rattle.mdview.specs.HeldBlocks.{HoldsUnits, IsReplacing, lines_in, old_lines, places_of, tile_in}
 use Rattle.mdview.specs.HeldUnit.{HeldUnit, ReadUnit, first_line, read_of}
 use Rattle.mdview.specs.NewText.{lines_of as new_lines}

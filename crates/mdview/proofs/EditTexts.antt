@@ -16,26 +16,26 @@ use Rattle.blockspec.specs.UnitTree.{FoundUnit, UnitTree}
 use Rattle.blockspec.proofs.DocumentLaws.{first_of_both}
 use Rattle.inlinespec.specs.LabelMap.{target_in}
 use Rattle.inlinespec.specs.LinkTails.{Table}
-use Rattle.viewspec.specs.Changes.{texts_due}
-use Rattle.viewspec.specs.LabelTable.{table, table_of, target_defined}
-use Rattle.viewspec.specs.Refusals.{Refusal, inline_refusal, inline_too_deep, nested_too_deep, nesting_refusal}
-use Rattle.viewspec.specs.Setting.{Setting, Source}
-use Rattle.viewspec.specs.Spliced.{IsSpliced}
-use Rattle.viewspec.specs.Stretch.{Places, from_line, meeting_line, units_added, units_before, units_removed}
-use Rattle.viewspec.specs.View.{viewed}
+use Rattle.mdsource.specs.Changes.{texts_due}
+use Rattle.mdsource.specs.LabelTable.{table, table_of, target_defined}
+use Rattle.mdsource.specs.Refusals.{Refusal, inline_refusal, inline_too_deep, nested_too_deep, nesting_refusal}
+use Rattle.mdsource.specs.Setting.{Setting, Source}
+use Rattle.mdsource.specs.Spliced.{IsSpliced}
+use Rattle.mdsource.specs.Stretch.{Places, from_line, meeting_line, units_added, units_before, units_removed}
+use Rattle.mdsource.specs.View.{viewed}
 use Rattle.blockspec.specs.Nesting.{first_too_deep}
-use Rattle.viewspec.specs.UnitTexts.{asking_texts, asking_units, deep_found, deep_from, is_deep_under, readings_under, trees_in}
-use Rattle.viewspec.specs.UnitTiles.{front_of, lines_of, tile_of}
-use Rattle.viewspec.proofs.AskingUnits.{texts_spliced, trees_of_tiles, trees_spliced}
-use Rattle.viewspec.proofs.Counts.{spliced}
-use Rattle.viewspec.proofs.Cuts.{begins_before_end, begins_in, begins_within, no_units}
-use Rattle.viewspec.proofs.DeepUnits.{deep_spliced, refused_for_spans}
-use Rattle.viewspec.proofs.LabelsLead.{units_lead}
-use Rattle.viewspec.proofs.ReadingsUnder.{all_under, asking_texts_under, asking_units_under, deep_found_under, deep_from_under}
-use Rattle.viewspec.proofs.Splices.{MeetsBehind, from_above, meets_behind}
-use Rattle.viewspec.proofs.UnitTiles.{units_end}
-use Rattle.viewspec.specs.LaterTexts.{asking_of}
-use Rattle.viewspec.proofs.StopTexts.{asking_few}
+use Rattle.mdsource.specs.UnitTexts.{asking_texts, asking_units, deep_found, deep_from, is_deep_under, readings_under, trees_in}
+use Rattle.mdsource.specs.UnitTiles.{front_of, lines_of, tile_of}
+use Rattle.mdsource.proofs.AskingUnits.{texts_spliced, trees_of_tiles, trees_spliced}
+use Rattle.mdsource.proofs.Counts.{spliced}
+use Rattle.mdsource.proofs.Cuts.{begins_before_end, begins_in, begins_within, no_units}
+use Rattle.mdsource.proofs.DeepUnits.{deep_spliced, refused_for_spans}
+use Rattle.mdsource.proofs.LabelsLead.{units_lead}
+use Rattle.mdsource.proofs.ReadingsUnder.{all_under, asking_texts_under, asking_units_under, deep_found_under, deep_from_under}
+use Rattle.mdsource.proofs.Splices.{MeetsBehind, from_above, meets_behind}
+use Rattle.mdsource.proofs.UnitTiles.{units_end}
+use Rattle.mdsource.specs.LaterTexts.{asking_of}
+use Rattle.mdsource.proofs.StopTexts.{asking_few}
 use Rattle.mdblock.specs.FoundLists.{found_unit}
 use Rattle.mdsource.specs.declared.fault.EditFault.{EditFault}
 use Rattle.mdsource.specs.declared.fault.EditFault.TheVariants.{OutOfRange, BreakInLine, TooManyLines, TooLarge, NestedTooDeep, InlineTooDeep, NoMemory, NotDefinitions}

@@ -17,7 +17,7 @@ use Rattle.std.proofs.lemmas.Map.Text.{is_eq-slice_cmp}
 use Rattle.std.proofs.lemmas.Slice.Eq.{bytes_eq-Decides}
 use Rattle.inlinespec.specs.LabelMap.{LinkTarget, target_of}
 use Rattle.mdtext.specs.declared.labels.Target.{Target}
-use Rattle.viewspec.specs.Changes.{is_same_target}
+use Rattle.mdsource.specs.Changes.{is_same_target}
 use Rattle.mdview.specs.LabelTargets.{at, changed}
 use Rattle.mdview.specs.ToldLabels.{elsewhere, said, told_in}
 

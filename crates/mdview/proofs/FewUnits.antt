@@ -4,8 +4,8 @@ use Rattle.std.specs.List.{All}
 use Rattle.std.proofs.lemmas.List.Elements.{All-head, All-tail}
 use Rattle.mdtext.specs.EntityTable.{EntityTable}
 use Rattle.blockspec.specs.BlockUnits.{begins}
-use Rattle.viewspec.proofs.StretchReadings.{Ascends, begins_ascend}
-use Rattle.viewspec.proofs.UnitPlaces.{small_begins}
+use Rattle.mdsource.proofs.StretchReadings.{Ascends, begins_ascend}
+use Rattle.mdsource.proofs.UnitPlaces.{small_begins}
 use Rattle.mdview.specs.HeldBlocks.{HoldsUnits}
 use Rattle.mdview.specs.HeldUnit.{HeldUnit, read_of}
 use Rattle.mdview.proofs.EditPlaces.{begins_many}

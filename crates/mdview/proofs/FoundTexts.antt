@@ -3,7 +3,7 @@ use Rattle.std.proofs.Common.{◌≡◌, ℕ, true, false, List, ◌∷◌, Some
 use Rattle.mdtext.specs.EntityTable.{EntityTable}
 use Rattle.blockspec.specs.UnitTree.{FoundUnit}
 use Rattle.inlinespec.specs.LinkTails.{Table}
-use Rattle.viewspec.specs.UnitTexts.{deep_found, is_deep_under}
+use Rattle.mdsource.specs.UnitTexts.{deep_found, is_deep_under}
 
 module _ (limit : ℕ) (e : EntityTable) (labels : Table) (one : FoundUnit) (rest : List FoundUnit) where
   pub deep_later : is_deep_under limit e labels one.unit ≡ false → deep_found limit e labels (one ∷ rest) ≡ deep_found limit e labels rest

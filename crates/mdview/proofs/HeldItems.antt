@@ -18,16 +18,16 @@ use Rattle.blockspec.specs.UnitTree.{FoundUnit, UnitTree}
 use Rattle.blockspec.specs.ItemMarks.{ItemMark, list_marks}
 use Rattle.blockspec.specs.Joins.{joins}
 use Rattle.mdblock.specs.FoundLists.{FoundList, StandsForUnit}
-use Rattle.viewspec.specs.StoppedInside.{HoldsLine}
-use Rattle.viewspec.specs.UnitItems.{own_joins, own_lines}
-use Rattle.viewspec.proofs.NearStretch.{never_both}
-use Rattle.viewspec.proofs.PartedLists.{joins_ascend, joins_within}
-use Rattle.viewspec.specs.MetInside.{first_line}
-use Rattle.viewspec.proofs.UnitCuts.{split_behind, unit_ends}
-use Rattle.viewspec.proofs.UnitJoins.{front_tells, unit_marks, unit_tells}
-use Rattle.viewspec.proofs.Cuts.{begins_in}
-use Rattle.viewspec.proofs.StretchReadings.{Ascends}
-use Rattle.viewspec.specs.UnitTiles.{tile_of}
+use Rattle.mdsource.specs.StoppedInside.{HoldsLine}
+use Rattle.mdsource.specs.UnitItems.{own_joins, own_lines}
+use Rattle.mdsource.proofs.NearStretch.{never_both}
+use Rattle.mdsource.proofs.PartedLists.{joins_ascend, joins_within}
+use Rattle.mdsource.specs.MetInside.{first_line}
+use Rattle.mdsource.proofs.UnitCuts.{split_behind, unit_ends}
+use Rattle.mdsource.proofs.UnitJoins.{front_tells, unit_marks, unit_tells}
+use Rattle.mdsource.proofs.Cuts.{begins_in}
+use Rattle.mdsource.proofs.StretchReadings.{Ascends}
+use Rattle.mdsource.specs.UnitTiles.{tile_of}
 use Rattle.mdview.specs.HeldBlocks.{HoldsUnits, lines_in, tile_in}
 use Rattle.mdview.specs.HeldLists.{item_line, list_in}
 use Rattle.mdview.specs.HeldUnit.{HeldUnit, read_of}

@@ -9,7 +9,7 @@ use Rattle.std.proofs.lemmas.Option.{slice_get-map, slice_get_within}
 use Rattle.mdtext.specs.EntityTable.{EntityTable}
 use Rattle.blockspec.specs.BlockUnits.{begins}
 use Rattle.mdblock.specs.FoundLists.{FoundList, StandsForUnit}
-use Rattle.viewspec.specs.UnitTiles.{IsAhead, begins_from}
+use Rattle.mdsource.specs.UnitTiles.{IsAhead, begins_from}
 use Rattle.mdview.specs.HeldBlocks.{HoldsUnits, lines_in}
 use Rattle.mdview.specs.HeldLists.{StandForUnits, list_in}
 use Rattle.mdview.specs.HeldUnit.{HeldUnit, read_of}

@@ -6,17 +6,17 @@ use Rattle.mdtext.specs.EntityTable.{EntityTable}
 use Rattle.blockspec.specs.BlockUnits.{units as text_units}
 use Rattle.blockspec.specs.Nesting.{first_too_deep}
 use Rattle.inlinespec.specs.LinkTails.{Table}
-use Rattle.viewspec.specs.LabelTable.{table, with_units}
-use Rattle.viewspec.specs.Refusals.{inline_refusal, inline_too_deep, nesting_refusal}
-use Rattle.viewspec.specs.Setting.{Setting, Source}
-use Rattle.viewspec.specs.UnitTexts.{asking_in, asking_texts, asking_units, deep_found, deep_from, readings_under}
-use Rattle.viewspec.specs.Changes.{asks_changed}
-use Rattle.viewspec.specs.View.{reading_of}
+use Rattle.mdsource.specs.LabelTable.{table, with_units}
+use Rattle.mdsource.specs.Refusals.{inline_refusal, inline_too_deep, nesting_refusal}
+use Rattle.mdsource.specs.Setting.{Setting, Source}
+use Rattle.mdsource.specs.UnitTexts.{asking_in, asking_texts, asking_units, deep_found, deep_from, readings_under}
+use Rattle.mdsource.specs.Changes.{asks_changed}
+use Rattle.mdsource.specs.View.{reading_of}
 use Rattle.std.proofs.lemmas.List.Sums.{sum_by-cons}
-use Rattle.viewspec.specs.UnitTiles.{tile_of}
-use Rattle.viewspec.proofs.Cuts.{no_units}
-use Rattle.viewspec.proofs.DeepUnits.{deep_of_text, refused_for_spans}
-use Rattle.viewspec.proofs.ReadingsUnder.{deep_found_under}
+use Rattle.mdsource.specs.UnitTiles.{tile_of}
+use Rattle.mdsource.proofs.Cuts.{no_units}
+use Rattle.mdsource.proofs.DeepUnits.{deep_of_text, refused_for_spans}
+use Rattle.mdsource.proofs.ReadingsUnder.{deep_found_under}
 use Rattle.std.proofs.lemmas.List.{length-map, take_all}
 use Rattle.mdview.specs.declared.held.labels.HeldLabels.{HeldLabels}
 use Rattle.mdview.specs.declared.labels.changes.LabelChanges.{LabelChanges}

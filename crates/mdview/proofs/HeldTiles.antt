@@ -6,13 +6,13 @@ use Rattle.mdtext.specs.EntityTable.{EntityTable}
 use Rattle.blockspec.specs.BlockUnits.{units}
 use Rattle.blockspec.specs.UnitTree.{UnitTree}
 use Rattle.mdblock.specs.FoundLists.{FoundList, found_unit}
-use Rattle.viewspec.specs.Spliced.{IsSpliced}
-use Rattle.viewspec.specs.Stretch.{Places, from_line, meeting_line, units_before, units_removed}
-use Rattle.viewspec.specs.UnitTiles.{front_of, tile_of}
-use Rattle.viewspec.proofs.Counts.{spliced}
-use Rattle.viewspec.proofs.Cuts.{no_units}
-use Rattle.viewspec.proofs.Splices.{IsEdit}
-use Rattle.viewspec.proofs.TileSplices.{tiles_spliced}
+use Rattle.mdsource.specs.Spliced.{IsSpliced}
+use Rattle.mdsource.specs.Stretch.{Places, from_line, meeting_line, units_before, units_removed}
+use Rattle.mdsource.specs.UnitTiles.{front_of, tile_of}
+use Rattle.mdsource.proofs.Counts.{spliced}
+use Rattle.mdsource.proofs.Cuts.{no_units}
+use Rattle.mdsource.proofs.Splices.{IsEdit}
+use Rattle.mdsource.proofs.TileSplices.{tiles_spliced}
 use Rattle.mdview.specs.HeldBlocks.{HoldsUnits, held_tile, tile_in, unit_lines}
 use Rattle.mdview.specs.HeldLists.{StandForUnits, list_in, list_read, unplaced}
 use Rattle.mdview.specs.HeldUnit.{HeldUnit, read_of}

@@ -5,10 +5,10 @@ use Rattle.blockspec.specs.BlockUnits.{units as text_units}
 use Rattle.blockspec.specs.UnitTree.{FoundUnit, UnitTree}
 use Rattle.inlinespec.specs.LinkTails.{Table}
 use Rattle.mdinline.specs.ParsedText.{ParsedText}
-use Rattle.viewspec.specs.LabelTable.{table}
-use Rattle.viewspec.specs.Setting.{Setting}
-use Rattle.viewspec.specs.View.{ViewedUnit, view, viewed}
-use Rattle.viewspec.specs.UnitTexts.{readings_under, trees_in}
+use Rattle.mdsource.specs.LabelTable.{table}
+use Rattle.mdsource.specs.Setting.{Setting}
+use Rattle.mdsource.specs.View.{ViewedUnit, view, viewed}
+use Rattle.mdsource.specs.UnitTexts.{readings_under, trees_in}
 use Rattle.mdview.specs.declared.held.labels.HeldLabels.{HeldLabels}
 use Rattle.mdview.specs.HeldBlocks.{HoldsUnits}
 use Rattle.mdview.specs.HeldTexts.{HoldsTexts, IsReadUnder}

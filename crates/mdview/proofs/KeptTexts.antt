@@ -14,11 +14,11 @@ use Rattle.blockspec.specs.UnitTree.{FoundUnit, UnitTree}
 use Rattle.inlinespec.specs.LinkTails.{Table}
 use Rattle.mdinline.specs.declared.faults.InlineFault.{InlineFault}
 use Rattle.mdinline.specs.declared.faults.InlineFault.TheVariants.{TooDeep, NoMemory}
-use Rattle.viewspec.specs.Refusals.{is_deep}
-use Rattle.viewspec.specs.View.{reading_of}
-use Rattle.viewspec.specs.UnitTexts.{deep_found, is_deep_under}
-use Rattle.viewspec.proofs.DeepUnits.{found_append}
-use Rattle.viewspec.specs.LaterTexts.{asking_of}
+use Rattle.mdsource.specs.Refusals.{is_deep}
+use Rattle.mdsource.specs.View.{reading_of}
+use Rattle.mdsource.specs.UnitTexts.{deep_found, is_deep_under}
+use Rattle.mdsource.proofs.DeepUnits.{found_append}
+use Rattle.mdsource.specs.LaterTexts.{asking_of}
 use Rattle.mdsource.specs.declared.fault.EditFault.{EditFault}
 use Rattle.mdview.specs.declared.inlines.kept_texts.KeptReadings.{KeptReadings}
 use Rattle.mdview.specs.declared.blocks.reparse.KeptTexts.{KeptTexts}

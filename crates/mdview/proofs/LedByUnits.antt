@@ -12,8 +12,8 @@ use Rattle.blockspec.proofs.DocumentLaws.{first_of_both}
 use Rattle.inlinespec.specs.LabelMap.{LabelMap, LinkTarget, target_in, target_of}
 use Rattle.mdleaf.specs.LinkDefinition.{LinkDefinition}
 use Rattle.mdtext.specs.declared.labels.Target.{Target}
-use Rattle.viewspec.specs.Changes.{is_same_target}
-use Rattle.viewspec.specs.LabelTable.{table_of, target_defined}
+use Rattle.mdsource.specs.Changes.{is_same_target}
+use Rattle.mdsource.specs.LabelTable.{table_of, target_defined}
 use Rattle.mdview.specs.LabelTargets.{changed, definitions_by}
 use Rattle.mdview.specs.ToldLabels.{first_led, labels_by, labels_in, said, told_by, touched_by}
 use Rattle.mdview.proofs.ToldLaws.{definitions_append, map_same, or_assoc, or_none}

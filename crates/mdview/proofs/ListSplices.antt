@@ -10,13 +10,13 @@ use Rattle.blockspec.specs.BlockUnits.{units}
 use Rattle.blockspec.specs.UnitBegin.{shift_found}
 use Rattle.blockspec.specs.UnitTree.{FoundUnit, UnitTree}
 use Rattle.mdblock.specs.FoundLists.{FoundList}
-use Rattle.viewspec.specs.Spliced.{IsSpliced}
-use Rattle.viewspec.specs.Stretch.{Places, from_line, meeting_line, old_line, units_before, units_removed}
-use Rattle.viewspec.specs.UnitTiles.{front_of, lines_of, tile_of}
-use Rattle.viewspec.proofs.Cuts.{begins_before_end, units_cut}
-use Rattle.viewspec.proofs.Splices.{IsEdit, MeetsBehind, from_above, meets, meets_behind}
-use Rattle.viewspec.proofs.TileSplices.{behind_tiles, front_read, front_tiles, tiles_shifted, tiles_spliced}
-use Rattle.viewspec.proofs.UnitTiles.{units_end}
+use Rattle.mdsource.specs.Spliced.{IsSpliced}
+use Rattle.mdsource.specs.Stretch.{Places, from_line, meeting_line, old_line, units_before, units_removed}
+use Rattle.mdsource.specs.UnitTiles.{front_of, lines_of, tile_of}
+use Rattle.mdsource.proofs.Cuts.{begins_before_end, units_cut}
+use Rattle.mdsource.proofs.Splices.{IsEdit, MeetsBehind, from_above, meets, meets_behind}
+use Rattle.mdsource.proofs.TileSplices.{behind_tiles, front_read, front_tiles, tiles_shifted, tiles_spliced}
+use Rattle.mdsource.proofs.UnitTiles.{units_end}
 use Rattle.mdview.specs.HeldBlocks.{unit_lines}
 use Rattle.mdview.specs.HeldLists.{StandForUnits, list_lines}
 use Rattle.mdview.proofs.ListsStand.{all_lines, stand_joined, stand_parts, stand_same, stand_within}

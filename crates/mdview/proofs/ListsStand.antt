@@ -10,8 +10,8 @@ use Rattle.std.proofs.lemmas.List.Sums.{sum_by-cons}
 use Rattle.mdtext.specs.EntityTable.{EntityTable}
 use Rattle.blockspec.specs.BlockUnits.{units}
 use Rattle.mdblock.specs.FoundLists.{FoundList, StandsForUnit, found_unit}
-use Rattle.viewspec.specs.UnitTiles.{begins_from, front_of, lines_of}
-use Rattle.viewspec.proofs.UnitTiles.{units_end, units_tile}
+use Rattle.mdsource.specs.UnitTiles.{begins_from, front_of, lines_of}
+use Rattle.mdsource.proofs.UnitTiles.{units_end, units_tile}
 use Rattle.mdview.specs.HeldBlocks.{unit_lines}
 use Rattle.mdview.specs.HeldLists.{StandForUnits, StandsAt, list_lines, unplaced}
 

@@ -12,15 +12,15 @@ use Rattle.blockspec.specs.UnitTree.{FoundUnit, UnitTree}
 use Rattle.mdblock.specs.FoundLists.{FoundList, found_unit}
 use Rattle.mdblock.specs.held.ReaderState.{ReaderState}
 use Rattle.mdblock.specs.held.Reads.{Reads, handed}
-use Rattle.viewspec.specs.Stops.{Stops, near_line, stop_line}
-use Rattle.viewspec.specs.Stretch.{Places, from_line, meeting_line, units_before, units_removed}
-use Rattle.viewspec.specs.UnitTexts.{trees_in}
+use Rattle.mdsource.specs.Stops.{Stops, near_line, stop_line}
+use Rattle.mdsource.specs.Stretch.{Places, from_line, meeting_line, units_before, units_removed}
+use Rattle.mdsource.specs.UnitTexts.{trees_in}
 use Rattle.mdview.specs.HeldBlocks.{IsReread, old_lines, places_of}
 use Rattle.mdview.specs.HeldItems.{IsItemOf, IsSpliced, kept_of, mark_in}
 use Rattle.mdview.specs.KeptTexts.{IsKept, kept_texts, last_texts, number_kept}
 use Rattle.mdview.specs.StopLines.{IsReadToStop, stops_of}
-use Rattle.viewspec.specs.LaterTexts.{texts_of, trees_to}
-use Rattle.viewspec.proofs.TakenTexts.{many_in_trees}
+use Rattle.mdsource.specs.LaterTexts.{texts_of, trees_to}
+use Rattle.mdsource.proofs.TakenTexts.{many_in_trees}
 use Rattle.mdview.specs.HeldLists.{StandsAt, list_in}
 use Rattle.mdview.specs.HeldUnit.{HeldUnit, texts_in}
 use Rattle.mdview.specs.NewText.{lines_of}

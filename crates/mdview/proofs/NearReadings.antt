@@ -14,16 +14,16 @@ use Rattle.blockspec.specs.Joins.{joins}
 use Rattle.mdblock.specs.FoundLists.{FoundList, StandsForUnit, found_unit}
 use Rattle.mdblock.specs.held.ReaderState.{ReaderState}
 use Rattle.mdblock.specs.held.Reads.{Reads, handed}
-use Rattle.viewspec.specs.StoppedInside.{HoldsLine, IsStoppedIn}
-use Rattle.viewspec.specs.Stops.{Stops, near_line}
-use Rattle.viewspec.specs.UnitItems.{own_lines}
-use Rattle.viewspec.proofs.NearDepths.{near_deep}
-use Rattle.viewspec.proofs.NearLines.{IsStop}
-use Rattle.viewspec.proofs.NearStretch.{joins_told, line_more, near_above, near_there, near_within}
-use Rattle.viewspec.proofs.StoppedLists.{stopped_in}
-use Rattle.viewspec.specs.Stretch.{Places, from_line, meeting_line, old_line, units_before, units_removed}
-use Rattle.viewspec.proofs.ReadLines.{none_deep}
-use Rattle.viewspec.specs.UnitTiles.{lines_of}
+use Rattle.mdsource.specs.StoppedInside.{HoldsLine, IsStoppedIn}
+use Rattle.mdsource.specs.Stops.{Stops, near_line}
+use Rattle.mdsource.specs.UnitItems.{own_lines}
+use Rattle.mdsource.proofs.NearDepths.{near_deep}
+use Rattle.mdsource.proofs.NearLines.{IsStop}
+use Rattle.mdsource.proofs.NearStretch.{joins_told, line_more, near_above, near_there, near_within}
+use Rattle.mdsource.proofs.StoppedLists.{stopped_in}
+use Rattle.mdsource.specs.Stretch.{Places, from_line, meeting_line, old_line, units_before, units_removed}
+use Rattle.mdsource.proofs.ReadLines.{none_deep}
+use Rattle.mdsource.specs.UnitTiles.{lines_of}
 use Rattle.mdview.specs.HeldItems.{IsSpliced}
 use Rattle.mdview.specs.HeldLists.{StandsAt}
 use Rattle.mdview.specs.HeldUnit.{texts_in}

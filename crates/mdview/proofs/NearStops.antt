@@ -15,17 +15,17 @@ use Rattle.blockspec.specs.ItemMarks.{ItemMark}
 use Rattle.blockspec.specs.Joins.{is_joined, joins}
 use Rattle.mdblock.specs.FoundLists.{FoundList, found_unit}
 use Rattle.mdblock.specs.held.ReaderState.{ReaderState}
-use Rattle.viewspec.specs.StoppedInside.{HoldsLine}
-use Rattle.viewspec.specs.Stops.{Stops, is_near, lines_to_stop, near_line, stop_line}
-use Rattle.viewspec.specs.UnitItems.{own_joins, own_lines}
-use Rattle.viewspec.proofs.NearLines.{IsStop}
-use Rattle.viewspec.proofs.NearStretch.{near_before, near_told, stop_high}
-use Rattle.viewspec.proofs.PartedLists.{joins_within}
-use Rattle.viewspec.proofs.UnitJoins.{unit_marks}
-use Rattle.viewspec.specs.Stretch.{Places, from_line, is_meeting, meeting_line, old_line}
-use Rattle.viewspec.specs.UnitTexts.{trees_in}
-use Rattle.viewspec.proofs.Cuts.{begins_in, begins_within}
-use Rattle.viewspec.proofs.Splices.{IsEdit, MeetsBehind, meets_behind}
+use Rattle.mdsource.specs.StoppedInside.{HoldsLine}
+use Rattle.mdsource.specs.Stops.{Stops, is_near, lines_to_stop, near_line, stop_line}
+use Rattle.mdsource.specs.UnitItems.{own_joins, own_lines}
+use Rattle.mdsource.proofs.NearLines.{IsStop}
+use Rattle.mdsource.proofs.NearStretch.{near_before, near_told, stop_high}
+use Rattle.mdsource.proofs.PartedLists.{joins_within}
+use Rattle.mdsource.proofs.UnitJoins.{unit_marks}
+use Rattle.mdsource.specs.Stretch.{Places, from_line, is_meeting, meeting_line, old_line}
+use Rattle.mdsource.specs.UnitTexts.{trees_in}
+use Rattle.mdsource.proofs.Cuts.{begins_in, begins_within}
+use Rattle.mdsource.proofs.Splices.{IsEdit, MeetsBehind, meets_behind}
 use Rattle.mdview.specs.HeldBlocks.{HoldsUnits, line_before, old_lines, places_of}
 use Rattle.mdview.specs.HeldItems.{IsItemAt, IsItemOf, mark_in}
 use Rattle.mdview.specs.HeldLists.{item_line, list_in}

@@ -6,10 +6,10 @@ use Rattle.mdtext.specs.EntityTable.{EntityTable}
 use Rattle.blockspec.specs.UnitTree.{UnitTree}
 use Rattle.inlinespec.specs.LinkTails.{Table}
 use Rattle.mdinline.specs.ParsedText.{ParsedText}
-use Rattle.viewspec.specs.Changes.{asks_changed, leads_elsewhere}
-use Rattle.viewspec.specs.Refusals.{is_deep}
-use Rattle.viewspec.specs.UnitTexts.{asking_units, asks_again, deep_from, readings_under}
-use Rattle.viewspec.proofs.ReadingsUnder.{unasked_stays}
+use Rattle.mdsource.specs.Changes.{asks_changed, leads_elsewhere}
+use Rattle.mdsource.specs.Refusals.{is_deep}
+use Rattle.mdsource.specs.UnitTexts.{asking_units, asks_again, deep_from, readings_under}
+use Rattle.mdsource.proofs.ReadingsUnder.{unasked_stays}
 use Rattle.mdview.specs.HeldBlocks.{held_tile}
 use Rattle.mdview.specs.HeldTexts.{IsShallow, labels_before, labels_behind}
 use Rattle.mdview.specs.HeldUnit.{HeldUnit}

@@ -3,11 +3,11 @@ use Rattle.std.proofs.Common.{◌≡◌, ℕ, Bool, true, false, List, Option, S
 use Rattle.std.specs.Option.{option_or}
 use Rattle.std.specs.Prelude.{IsErrAnd}
 use Rattle.std.proofs.lemmas.Result.{err_from_is_err_and}
-use Rattle.viewspec.specs.Calls.{Call, due as view_due, due_at_once, due_by_reading, put}
-use Rattle.viewspec.specs.ChangedPieces.{ChangedPieces}
-use Rattle.viewspec.specs.Changes.{patch_of}
-use Rattle.viewspec.specs.Outcome.{Answer, accepted, refused, ends, goes_on}
-use Rattle.viewspec.specs.Refusals.{Refusal, no_memory}
+use Rattle.mdsource.specs.Calls.{Call, due as view_due, due_at_once, due_by_reading, put}
+use Rattle.mdsource.specs.ChangedPieces.{ChangedPieces}
+use Rattle.mdsource.specs.Changes.{patch_of}
+use Rattle.mdsource.specs.Outcome.{Answer, accepted, refused, ends, goes_on}
+use Rattle.mdsource.specs.Refusals.{Refusal, no_memory}
 use Rattle.mdsource.specs.declared.fault.EditFault.{EditFault}
 use Rattle.mdsource.specs.declared.fault.EditFault.TheVariants.{OutOfRange, BreakInLine, TooManyLines, TooLarge, NestedTooDeep, InlineTooDeep, NoMemory, NotDefinitions}
 use Rattle.mdview.specs.Document.{Document, document, setting_of, source_of}

@@ -14,12 +14,12 @@ use Rattle.blockspec.specs.BlockUnits.{begins, units}
 use Rattle.blockspec.specs.UnitTree.{FoundUnit}
 use Rattle.blockspec.specs.ItemMarks.{ItemMark}
 use Rattle.blockspec.specs.Joins.{joins}
-use Rattle.viewspec.specs.MetInside.{first_line as first_begin}
-use Rattle.viewspec.specs.UnitItems.{own_lines}
-use Rattle.viewspec.proofs.UnitCuts.{unit_ends}
-use Rattle.viewspec.proofs.UnitJoins.{front_tells}
-use Rattle.viewspec.specs.UnitTiles.{IsAhead, front_of, tile_of}
-use Rattle.viewspec.proofs.Cuts.{begins_within}
+use Rattle.mdsource.specs.MetInside.{first_line as first_begin}
+use Rattle.mdsource.specs.UnitItems.{own_lines}
+use Rattle.mdsource.proofs.UnitCuts.{unit_ends}
+use Rattle.mdsource.proofs.UnitJoins.{front_tells}
+use Rattle.mdsource.specs.UnitTiles.{IsAhead, front_of, tile_of}
+use Rattle.mdsource.proofs.Cuts.{begins_within}
 use Rattle.mdview.specs.HeldBlocks.{HoldsUnits, lines_in, tile_in}
 use Rattle.mdview.specs.HeldLists.{item_line, list_in}
 use Rattle.mdview.specs.HeldUnit.{HeldUnit, first_line, read_of}

@@ -16,13 +16,13 @@ use Rattle.inlinespec.specs.LabelMap.{LinkTarget}
 use Rattle.inlinespec.specs.LinkTails.{Table}
 use Rattle.mdchunks.specs.Marks.{IsApart}
 use Rattle.mdleaf.specs.LinkDefinition.{LinkDefinition}
-use Rattle.viewspec.specs.Changes.{asks_changed, leads_elsewhere}
-use Rattle.viewspec.specs.LabelTable.{target_defined}
-use Rattle.viewspec.specs.Refusals.{is_deep}
-use Rattle.viewspec.specs.UnitTexts.{asking_in, asking_texts, asking_units, asks_again, deep_from}
-use Rattle.viewspec.proofs.AskingUnits.{asking_append}
-use Rattle.viewspec.proofs.DeepUnits.{deep_append}
-use Rattle.viewspec.proofs.ReadingsUnder.{unasked_stays}
+use Rattle.mdsource.specs.Changes.{asks_changed, leads_elsewhere}
+use Rattle.mdsource.specs.LabelTable.{target_defined}
+use Rattle.mdsource.specs.Refusals.{is_deep}
+use Rattle.mdsource.specs.UnitTexts.{asking_in, asking_texts, asking_units, asks_again, deep_from}
+use Rattle.mdsource.proofs.AskingUnits.{asking_append}
+use Rattle.mdsource.proofs.DeepUnits.{deep_append}
+use Rattle.mdsource.proofs.ReadingsUnder.{unasked_stays}
 use Rattle.mdview.specs.HeldBlocks.{held_tile, lines_in}
 use Rattle.mdview.specs.HeldTexts.{IsReadUnder, IsShallow, between, labels_before, labels_behind}
 use Rattle.mdview.specs.HeldUnit.{HeldUnit, unit_in}

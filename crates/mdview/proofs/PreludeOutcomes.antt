@@ -10,17 +10,17 @@ use Rattle.mdtext.specs.EntityTable.{EntityTable}
 use Rattle.mdtext.specs.Lines.{without_nul}
 use Rattle.blockspec.specs.BlockUnits.{units as text_units}
 use Rattle.mdhtml.specs.declared.options.Options.{Options}
-use Rattle.viewspec.specs.Calls.{put, set_prelude}
-use Rattle.viewspec.specs.ChangedPieces.{ChangedPieces}
-use Rattle.viewspec.specs.Changes.{asking_from, patch_of, texts_due, texts_read}
-use Rattle.viewspec.specs.LabelTable.{table}
-use Rattle.viewspec.specs.Patch.{Brings}
-use Rattle.viewspec.specs.Refusals.{inline_refusal, inline_too_deep, not_definitions, prelude_refusal, undefining_line}
-use Rattle.viewspec.specs.Setting.{Setting, Source}
-use Rattle.viewspec.specs.View.{view}
-use Rattle.viewspec.specs.UnitTexts.{asking_texts, asking_units, deep_from}
-use Rattle.viewspec.proofs.AskingUnits.{asking_all, asking_renumbered, texts_all}
-use Rattle.viewspec.proofs.ReadingsUnder.{asking_texts_under, asking_units_under}
+use Rattle.mdsource.specs.Calls.{put, set_prelude}
+use Rattle.mdsource.specs.ChangedPieces.{ChangedPieces}
+use Rattle.mdsource.specs.Changes.{asking_from, patch_of, texts_due, texts_read}
+use Rattle.mdsource.specs.LabelTable.{table}
+use Rattle.mdsource.specs.Patch.{Brings}
+use Rattle.mdsource.specs.Refusals.{inline_refusal, inline_too_deep, not_definitions, prelude_refusal, undefining_line}
+use Rattle.mdsource.specs.Setting.{Setting, Source}
+use Rattle.mdsource.specs.View.{view}
+use Rattle.mdsource.specs.UnitTexts.{asking_texts, asking_units, deep_from}
+use Rattle.mdsource.proofs.AskingUnits.{asking_all, asking_renumbered, texts_all}
+use Rattle.mdsource.proofs.ReadingsUnder.{asking_texts_under, asking_units_under}
 use Rattle.mdsource.specs.declared.fault.EditFault.{EditFault}
 use Rattle.mdsource.specs.declared.fault.EditFault.TheVariants.{OutOfRange, BreakInLine, TooManyLines, TooLarge, NestedTooDeep, InlineTooDeep, NoMemory, NotDefinitions}
 use Rattle.mdview.specs.declared.held.labels.HeldLabels.{HeldLabels}

@@ -9,11 +9,11 @@ use Rattle.std.proofs.Math.Seq.{drop-append_seam, drop-length, take-append_seam}
 use Rattle.mdtext.specs.EntityTable.{EntityTable}
 use Rattle.blockspec.specs.BlockUnits.{begins}
 use Rattle.mdblock.specs.held.Reads.{last_of, open_begin}
-use Rattle.viewspec.specs.Stretch.{Places, from_line, is_meeting, meeting_line}
-use Rattle.viewspec.specs.ReadStretch.{IsReadStretch}
-use Rattle.viewspec.proofs.Cuts.{IsCut}
-use Rattle.viewspec.proofs.Splices.{IsEdit, found_is, from_cut}
-use Rattle.viewspec.proofs.StretchReadings.{stretch_begins}
+use Rattle.mdsource.specs.Stretch.{Places, from_line, is_meeting, meeting_line}
+use Rattle.mdsource.specs.ReadStretch.{IsReadStretch}
+use Rattle.mdsource.proofs.Cuts.{IsCut}
+use Rattle.mdsource.proofs.Splices.{IsEdit, found_is, from_cut}
+use Rattle.mdsource.proofs.StretchReadings.{stretch_begins}
 use Rattle.mdview.specs.HeldBlocks.{old_lines, places_of}
 use Rattle.mdview.specs.NewText.{lines_of as new_lines}
 use Rattle.mdview.specs.declared.source.new_text.NewText.{NewText}

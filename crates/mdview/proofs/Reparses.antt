@@ -16,16 +16,16 @@ use Rattle.mdblock.specs.declared.faults.BlockFault.{BlockFault}
 use Rattle.mdblock.specs.declared.faults.BlockFault.TheVariants as block
 use Rattle.mdblock.specs.held.ReaderState.{ReaderState}
 use Rattle.mdblock.specs.held.Reads.{Reads, handed, open_begin}
-use Rattle.viewspec.specs.Stretch.{Places, count_between, from_line, is_meeting, lines_read, meeting_line, old_line, units_before, units_removed}
-use Rattle.viewspec.specs.UnitTiles.{IsAhead, begins_from}
+use Rattle.mdsource.specs.Stretch.{Places, count_between, from_line, is_meeting, lines_read, meeting_line, old_line, units_before, units_removed}
+use Rattle.mdsource.specs.UnitTiles.{IsAhead, begins_from}
 use Rattle.blockspec.proofs.NestingLaws.{moved_on}
-use Rattle.viewspec.proofs.Cuts.{begins_before_end, begins_within}
-use Rattle.viewspec.proofs.Depths.{deep_spliced}
-use Rattle.viewspec.proofs.ReadLines.{none_deep}
-use Rattle.viewspec.proofs.Splices.{IsEdit, from_above}
-use Rattle.viewspec.proofs.StretchEnds.{counts_join, deep_here, fits_before, handed_above}
-use Rattle.viewspec.proofs.StretchReadings.{meets_at, meets_nowhere}
-use Rattle.viewspec.proofs.UnitPlaces.{above_from, ahead_later, counts_here}
+use Rattle.mdsource.proofs.Cuts.{begins_before_end, begins_within}
+use Rattle.mdsource.proofs.Depths.{deep_spliced}
+use Rattle.mdsource.proofs.ReadLines.{none_deep}
+use Rattle.mdsource.proofs.Splices.{IsEdit, from_above}
+use Rattle.mdsource.proofs.StretchEnds.{counts_join, deep_here, fits_before, handed_above}
+use Rattle.mdsource.proofs.StretchReadings.{meets_at, meets_nowhere}
+use Rattle.mdsource.proofs.UnitPlaces.{above_from, ahead_later, counts_here}
 use Rattle.mdsource.specs.BlockFaults.{block_fault_in}
 use Rattle.mdview.specs.HeldBlocks.{HoldsUnits, IsDeepAt, is_at, line_before, lines_in, old_lines, places_of}
 use Rattle.mdview.specs.HeldLists.{StandsAt}

@@ -4,9 +4,9 @@ use Rattle.std.specs.Prelude.{IfOk, nat_eq}
 use Rattle.std.proofs.lemmas.Bool.Decides.{nat_tests}
 use Rattle.mdtext.specs.EntityTable.{EntityTable}
 use Rattle.blockspec.specs.BlockUnits.{units}
-use Rattle.viewspec.specs.Stretch.{Places, from_line, meeting_line}
-use Rattle.viewspec.specs.UnitTiles.{front_of, tile_of}
-use Rattle.viewspec.proofs.TileSplices.{front_kept, front_read}
+use Rattle.mdsource.specs.Stretch.{Places, from_line, meeting_line}
+use Rattle.mdsource.specs.UnitTiles.{front_of, tile_of}
+use Rattle.mdsource.proofs.TileSplices.{front_kept, front_read}
 use Rattle.mdblock.specs.FoundLists.{found_unit}
 use Rattle.mdview.specs.HeldBlocks.{HoldsUnits, IsReplacing, IsReread, old_lines, places_of, unit_lines}
 use Rattle.mdview.specs.HeldLists.{StandForUnits, list_in, unplaced}

@@ -15,18 +15,18 @@ use Rattle.mdblock.specs.FoundLists.{FoundList, StandsForUnit}
 use Rattle.mdblock.specs.Spliced.{mark_at}
 use Rattle.mdblock.specs.held.ReaderState.{ReaderState}
 use Rattle.mdblock.specs.held.Reads.{Reads, handed}
-use Rattle.viewspec.specs.MetInside.{first_line as first_begin}
-use Rattle.viewspec.specs.Stops.{Stops, lines_to_stop, near_line}
-use Rattle.viewspec.specs.UnitItems.{own_lines}
-use Rattle.viewspec.proofs.NearLines.{IsStop, NearBehind, near_behind}
-use Rattle.viewspec.proofs.NearStretch.{stop_high}
-use Rattle.viewspec.proofs.UnitCuts.{next_cut, split_behind, unit_alone, unit_ends, units_parted}
-use Rattle.viewspec.specs.Stretch.{Places, from_line, is_meeting, meeting_line, old_line}
-use Rattle.viewspec.proofs.Cuts.{IsCut, begins_before_end, begins_in, beginning_kept}
-use Rattle.viewspec.proofs.Depths.{deep_cut, neither}
-use Rattle.viewspec.proofs.ReadLines.{none_handed}
-use Rattle.viewspec.proofs.Splices.{IsEdit, MeetsBehind, meets_behind}
-use Rattle.viewspec.proofs.StretchReadings.{Ascends, begins_ascend}
+use Rattle.mdsource.specs.MetInside.{first_line as first_begin}
+use Rattle.mdsource.specs.Stops.{Stops, lines_to_stop, near_line}
+use Rattle.mdsource.specs.UnitItems.{own_lines}
+use Rattle.mdsource.proofs.NearLines.{IsStop, NearBehind, near_behind}
+use Rattle.mdsource.proofs.NearStretch.{stop_high}
+use Rattle.mdsource.proofs.UnitCuts.{next_cut, split_behind, unit_alone, unit_ends, units_parted}
+use Rattle.mdsource.specs.Stretch.{Places, from_line, is_meeting, meeting_line, old_line}
+use Rattle.mdsource.proofs.Cuts.{IsCut, begins_before_end, begins_in, beginning_kept}
+use Rattle.mdsource.proofs.Depths.{deep_cut, neither}
+use Rattle.mdsource.proofs.ReadLines.{none_handed}
+use Rattle.mdsource.proofs.Splices.{IsEdit, MeetsBehind, meets_behind}
+use Rattle.mdsource.proofs.StretchReadings.{Ascends, begins_ascend}
 use Rattle.mdview.specs.HeldBlocks.{HoldsUnits}
 use Rattle.mdview.specs.HeldLists.{list_in, unplaced}
 use Rattle.mdview.specs.HeldUnit.{HeldUnit, first_line, read_of}

@@ -1,9 +1,9 @@
 -- What is held after a list of edits and new preludes.
 use Rattle.std.proofs.Common.{◌≡◌, Bool, true, false, List, [], ◌∷◌, Option, Some, None, refl, ap, ◌∙◌}
-use Rattle.viewspec.specs.Calls.{Call, due_at_once, due_by_reading, put}
-use Rattle.viewspec.specs.Outcome.{ends, goes_on, outcome}
-use Rattle.viewspec.specs.Refusals.{Refusal}
-use Rattle.viewspec.specs.Setting.{Setting, Source}
+use Rattle.mdsource.specs.Calls.{Call, due_at_once, due_by_reading, put}
+use Rattle.mdsource.specs.Outcome.{ends, goes_on, outcome}
+use Rattle.mdsource.specs.Refusals.{Refusal}
+use Rattle.mdsource.specs.Setting.{Setting, Source}
 use Rattle.mdview.specs.Document.{document}
 use Rattle.mdview.specs.Run.{Turn, held_after, after, source_after}
 

@@ -10,17 +10,17 @@ use Rattle.blockspec.specs.BlockTree.{no_blocks}
 use Rattle.blockspec.specs.BlockUnits.{units}
 use Rattle.blockspec.specs.UnitTree.{UnitTree}
 use Rattle.inlinespec.specs.LinkTails.{Table}
-use Rattle.viewspec.specs.LabelTable.{table}
-use Rattle.viewspec.specs.Setting.{Setting, Source}
-use Rattle.viewspec.specs.Stretch.{from_line, meeting_line}
-use Rattle.viewspec.specs.UnitTexts.{asking_in, trees_in}
-use Rattle.viewspec.proofs.ReadingsUnder.{asking_texts_under}
-use Rattle.viewspec.specs.SoonTexts.{texts_of_read, units_read}
-use Rattle.viewspec.specs.Stops.{Stops, stop_line}
-use Rattle.viewspec.specs.LaterTexts.{asking_of, later_texts, texts_of, trees_to}
-use Rattle.viewspec.proofs.NearLines.{IsStop}
-use Rattle.viewspec.proofs.StopTexts.{soon_by_later}
-use Rattle.viewspec.proofs.TakenTexts.{many_in_trees}
+use Rattle.mdsource.specs.LabelTable.{table}
+use Rattle.mdsource.specs.Setting.{Setting, Source}
+use Rattle.mdsource.specs.Stretch.{from_line, meeting_line}
+use Rattle.mdsource.specs.UnitTexts.{asking_in, trees_in}
+use Rattle.mdsource.proofs.ReadingsUnder.{asking_texts_under}
+use Rattle.mdsource.specs.SoonTexts.{texts_of_read, units_read}
+use Rattle.mdsource.specs.Stops.{Stops, stop_line}
+use Rattle.mdsource.specs.LaterTexts.{asking_of, later_texts, texts_of, trees_to}
+use Rattle.mdsource.proofs.NearLines.{IsStop}
+use Rattle.mdsource.proofs.StopTexts.{soon_by_later}
+use Rattle.mdsource.proofs.TakenTexts.{many_in_trees}
 use Rattle.mdblock.specs.FoundLists.{found_unit}
 use Rattle.mdview.specs.declared.source.new_text.NewText.{NewText}
 use Rattle.mdview.specs.declared.blocks.reparse.Reparsed.{Reparsed}

@@ -9,8 +9,8 @@ use Rattle.std.proofs.lemmas.List.Elements.{All-append, All-take, All-drop}
 use Rattle.std.proofs.lemmas.List.FromFn.{fill_by_all}
 use Rattle.std.proofs.lemmas.Option.{unwrap_or-slice_get}
 use Rattle.mdview.specs.Lists.{replaced}
-use Rattle.viewspec.specs.Patch.{Brings, brings}
-use Rattle.viewspec.specs.ChangedPieces.{ChangedPieces}
+use Rattle.mdsource.specs.Patch.{Brings, brings}
+use Rattle.mdsource.specs.ChangedPieces.{ChangedPieces}
 use Rattle.mdview.proofs.Sizes.{length_replaced}
 
 pub all_replaced : {A : Type 0} (P : A → Type 0) (xs add : List A) (at del : ℕ) → All P xs → All P add → All P (replaced xs at del add)

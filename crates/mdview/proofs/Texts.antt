@@ -9,7 +9,7 @@ use Rattle.mdview.specs.declared.inlines.concerned_texts.Again.{Again}
 use Rattle.mdview.specs.HeldUnit.{HeldUnit, ReadUnit, unit_in, read_of, texts_in, texts_of, html_of}
 use Rattle.mdtext.specs.EntityTable.{EntityTable}
 use Rattle.inlinespec.specs.LinkTails.{Table}
-use Rattle.viewspec.specs.UnitTexts.{readings_under}
+use Rattle.mdsource.specs.UnitTexts.{readings_under}
 use Rattle.mdview.specs.HeldTexts.{IsReread}
 use Rattle.mdview.specs.Update.{Fits, IsWritten}
 

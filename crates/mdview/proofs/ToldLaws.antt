@@ -12,7 +12,7 @@ use Rattle.blockspec.specs.UnitTree.{UnitTree}
 use Rattle.inlinespec.specs.LabelMap.{LinkTarget, target_of}
 use Rattle.mdleaf.specs.LinkDefinition.{LinkDefinition}
 use Rattle.mdtext.specs.declared.labels.Target.{Target}
-use Rattle.viewspec.specs.LabelTable.{target_defined}
+use Rattle.mdsource.specs.LabelTable.{target_defined}
 use Rattle.mdview.specs.LabelTargets.{at, definitions_by}
 use Rattle.mdview.specs.ToldLabels.{first_led, labels_by, labels_in, told_by, told_in, touched_by}
 

@@ -11,9 +11,9 @@ use Rattle.blockspec.specs.UnitTree.{UnitTree}
 use Rattle.inlinespec.specs.LinkTails.{Table}
 use Rattle.mdinline.specs.declared.faults.InlineFault.{InlineFault}
 use Rattle.mdinline.specs.declared.faults.InlineFault.TheVariants as inline
-use Rattle.viewspec.specs.UnitTexts.{asking_in, asking_texts, asking_units, deep_from, is_deep_under}
-use Rattle.viewspec.proofs.AskingUnits.{asking_append}
-use Rattle.viewspec.proofs.DeepUnits.{deep_append}
+use Rattle.mdsource.specs.UnitTexts.{asking_in, asking_texts, asking_units, deep_from, is_deep_under}
+use Rattle.mdsource.proofs.AskingUnits.{asking_append}
+use Rattle.mdsource.proofs.DeepUnits.{deep_append}
 use Rattle.mdview.specs.HeldBlocks.{held_tile, lines_in}
 use Rattle.mdview.specs.HeldTexts.{IsShallow, between}
 use Rattle.mdsource.specs.TextFaults.{IsTextFault, text_fault_in}

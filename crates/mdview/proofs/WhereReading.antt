@@ -9,9 +9,9 @@ use Rattle.std.proofs.lemmas.List.Sums.{sum_by_more}
 use Rattle.mdchunks.specs.Sequences.{IsLastAt}
 use Rattle.mdtext.specs.EntityTable.{EntityTable}
 use Rattle.blockspec.specs.BlockUnits.{begins}
-use Rattle.viewspec.specs.Stretch.{count_between}
-use Rattle.viewspec.specs.UnitTiles.{IsAhead, begins_from}
-use Rattle.viewspec.proofs.UnitPlaces.{resumed_here, resuming_begins, resuming_next, seen_next}
+use Rattle.mdsource.specs.Stretch.{count_between}
+use Rattle.mdsource.specs.UnitTiles.{IsAhead, begins_from}
+use Rattle.mdsource.proofs.UnitPlaces.{resumed_here, resuming_begins, resuming_next, seen_next}
 use Rattle.mdview.specs.HeldBlocks.{lines_in}
 use Rattle.mdview.specs.HeldUnit.{HeldUnit}
 use Rattle.mdview.proofs.UnitSizes.{begins_at, sizes_here}

@@ -1,7 +1,7 @@
 -- The pieces that a patch brings.
 use Rattle.std.specs.Prelude.{ℕ, List}
-use Rattle.viewspec.specs.ChangedPieces.{ChangedPieces}
-use Rattle.viewspec.specs.Patch.{brought}
+use Rattle.mdsource.specs.ChangedPieces.{ChangedPieces}
+use Rattle.mdsource.specs.Patch.{brought}
 
 -- `added` pieces from number `first` on are new, and those of some numbers were made again
 abbrev pub changed : (first added : ℕ) → (again : List ℕ) → ChangedPieces

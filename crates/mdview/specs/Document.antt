@@ -4,8 +4,8 @@ use Rattle.mdtext.specs.EntityTable.{EntityTable}
 use Rattle.mdinline.specs.ParsedText.{ParsedText}
 use Rattle.blockspec.specs.UnitTree.{UnitTree}
 use Rattle.mdhtml.specs.declared.options.Options.{Options}
-use Rattle.viewspec.specs.Setting.{Setting, Source}
-use Rattle.viewspec.specs.View.{ViewedUnit, view}
+use Rattle.mdsource.specs.Setting.{Setting, Source}
+use Rattle.mdsource.specs.View.{ViewedUnit, view}
 
 -- the entities and options that it was made with, its lines, and those of its prelude
 pub record Document : Type 0 where

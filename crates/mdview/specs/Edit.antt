@@ -4,8 +4,8 @@ use Rattle.mdsource.specs.declared.fault.EditFault.{EditFault}
 use Rattle.mdsource.specs.declared.fault.EditFault.TheVariants.{OutOfRange}
 use Rattle.mdtext.specs.Lines.{without_nul}
 use Rattle.mdview.specs.Lists.{replaced}
-use Rattle.viewspec.specs.Calls.{Call, edit, set_prelude}
-use Rattle.viewspec.specs.Setting.{Source}
+use Rattle.mdsource.specs.Calls.{Call, edit, set_prelude}
+use Rattle.mdsource.specs.Setting.{Source}
 use Rattle.mdsource.specs.SourceLimits.{due_of_prelude, due_of_text, first_with_ending}
 
 abbrev pub call_of : ℕ → ℕ → List (List ℕ) → Call

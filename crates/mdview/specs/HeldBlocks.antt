@@ -5,8 +5,8 @@ use Rattle.mdtext.specs.EntityTable.{EntityTable}
 use Rattle.blockspec.specs.BlockUnits.{begins, units}
 use Rattle.blockspec.specs.UnitTree.{UnitTree}
 use Rattle.mdblock.specs.FoundLists.{found_unit}
-use Rattle.viewspec.specs.Stretch.{Places, from_line, meeting_line, units_before, units_removed}
-use Rattle.viewspec.specs.UnitTiles.{front_of, tile_of}
+use Rattle.mdsource.specs.Stretch.{Places, from_line, meeting_line, units_before, units_removed}
+use Rattle.mdsource.specs.UnitTiles.{front_of, tile_of}
 use Rattle.mdview.specs.NewText.{lines_of as new_lines}
 use Rattle.mdview.specs.declared.source.new_text.NewText.{NewText}
 use Rattle.mdview.specs.declared.blocks.reparse.Reparsed.{Reparsed}

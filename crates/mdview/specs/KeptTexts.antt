@@ -4,10 +4,10 @@ use Rattle.std.specs.List.{list_any}
 use Rattle.mdtext.specs.EntityTable.{EntityTable}
 use Rattle.blockspec.specs.UnitTree.{UnitTree}
 use Rattle.inlinespec.specs.LinkTails.{Table}
-use Rattle.viewspec.specs.Refusals.{is_deep}
-use Rattle.viewspec.specs.View.{reading_of}
-use Rattle.viewspec.specs.UnitTexts.{is_deep_under, readings_under}
-use Rattle.viewspec.specs.LaterTexts.{asking_of}
+use Rattle.mdsource.specs.Refusals.{is_deep}
+use Rattle.mdsource.specs.View.{reading_of}
+use Rattle.mdsource.specs.UnitTexts.{is_deep_under, readings_under}
+use Rattle.mdsource.specs.LaterTexts.{asking_of}
 use Rattle.mdview.specs.declared.inlines.kept_texts.KeptReadings.{KeptReadings}
 use Rattle.mdview.specs.declared.blocks.reparse.KeptTexts.{KeptTexts}
 use Rattle.mdview.specs.HeldUnit.{HeldUnit, texts_in}

@@ -9,8 +9,8 @@ use Rattle.blockspec.specs.UnitTree.{UnitTree}
 use Rattle.inlinespec.specs.LabelMap.{LabelMap, LinkTarget, target_of}
 use Rattle.mdleaf.specs.LinkDefinition.{LinkDefinition}
 use Rattle.mdtext.specs.declared.labels.Target.{Target}
-use Rattle.viewspec.specs.Changes.{leads_elsewhere}
-use Rattle.viewspec.specs.LabelTable.{table_of}
+use Rattle.mdsource.specs.Changes.{leads_elsewhere}
+use Rattle.mdsource.specs.LabelTable.{table_of}
 use Rattle.mdsource.specs.Preludes.{HeldPrelude, target_beside}
 use Rattle.mdview.specs.declared.held.labels.HeldLabels.{HeldLabels}
 use Rattle.mdview.specs.declared.labels.changes.LabelsAfter.{LabelsAfter}

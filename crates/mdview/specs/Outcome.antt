@@ -1,8 +1,8 @@
 -- What a call of a preview answers and leaves, in the words of the view.
 use Rattle.std.specs.Prelude.{Bool, true, false, Result, Ok, Err}
-use Rattle.viewspec.specs.Calls.{Call}
-use Rattle.viewspec.specs.ChangedPieces.{ChangedPieces}
-use Rattle.viewspec.specs.Outcome.{Answer, accepted, refused, outcome}
+use Rattle.mdsource.specs.Calls.{Call}
+use Rattle.mdsource.specs.ChangedPieces.{ChangedPieces}
+use Rattle.mdsource.specs.Outcome.{Answer, accepted, refused, outcome}
 use Rattle.mdsource.specs.declared.fault.EditFault.{EditFault}
 use Rattle.mdsource.specs.declared.fault.EditFault.TheVariants.{OutOfRange, BreakInLine, TooManyLines, TooLarge, NestedTooDeep, InlineTooDeep, NoMemory, NotDefinitions}
 use Rattle.mdview.specs.Document.{Document, document, setting_of, source_of}

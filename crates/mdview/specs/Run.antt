@@ -1,8 +1,8 @@
 -- Lists of edits and new preludes.
 use Rattle.std.specs.Prelude.{Bool, List, [], ◌∷◌}
-use Rattle.viewspec.specs.Calls.{Call, put}
-use Rattle.viewspec.specs.Outcome.{Answer, accepted, refused, outcome}
-use Rattle.viewspec.specs.Setting.{Setting, Source}
+use Rattle.mdsource.specs.Calls.{Call, put}
+use Rattle.mdsource.specs.Outcome.{Answer, accepted, refused, outcome}
+use Rattle.mdsource.specs.Setting.{Setting, Source}
 use Rattle.mdview.specs.Document.{Document}
 use Rattle.mdview.specs.Outcome.{outcome_of}
 

@@ -2,9 +2,9 @@
 use Rattle.std.specs.Prelude.{◌≡◌, ◌-◌, length, map, option_map, sum_by}
 use Rattle.mdtext.specs.EntityTable.{EntityTable}
 use Rattle.blockspec.specs.Joins.{joins}
-use Rattle.viewspec.specs.UnitTexts.{trees_in}
-use Rattle.viewspec.specs.Stops.{Stops, stop_line}
-use Rattle.viewspec.specs.LaterTexts.{texts_of, trees_to}
+use Rattle.mdsource.specs.UnitTexts.{trees_in}
+use Rattle.mdsource.specs.Stops.{Stops, stop_line}
+use Rattle.mdsource.specs.LaterTexts.{texts_of, trees_to}
 use Rattle.mdblock.specs.FoundLists.{found_unit}
 use Rattle.mdview.specs.declared.source.new_text.NewText.{NewText}
 use Rattle.mdview.specs.declared.blocks.reparse.Reparsed.{Reparsed}

@@ -6,8 +6,8 @@ use Rattle.blockspec.specs.UnitTree.{UnitTree}
 use Rattle.inlinespec.specs.LabelMap.{LinkTarget, target_of}
 use Rattle.mdleaf.specs.LinkDefinition.{LinkDefinition}
 use Rattle.mdtext.specs.declared.labels.Target.{Target}
-use Rattle.viewspec.specs.Changes.{is_same_target}
-use Rattle.viewspec.specs.LabelTable.{target_defined}
+use Rattle.mdsource.specs.Changes.{is_same_target}
+use Rattle.mdsource.specs.LabelTable.{target_defined}
 use Rattle.mdview.specs.LabelTargets.{at, definitions_by, target_held}
 use Rattle.mdsource.specs.Preludes.{HeldPrelude, target_beside}
 use Rattle.mdview.specs.declared.held.labels.HeldLabels.{HeldLabels}

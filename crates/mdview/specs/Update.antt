@@ -6,7 +6,7 @@ use Rattle.mdhtml.specs.declared.options.Options.{Options}
 use Rattle.mdview.specs.declared.inlines.concerned_texts.Again.{Again}
 use Rattle.mdview.specs.declared.update.Update.{Update}
 use Rattle.mdview.specs.HeldUnit.{AreEnds, HeldUnit, IsRendered, html_of}
-use Rattle.viewspec.specs.ChangedPieces.{ChangedPieces}
+use Rattle.mdsource.specs.ChangedPieces.{ChangedPieces}
 
 -- the list with its i-th member changed, if it has one
 unfoldable pub map_at : {A : Type 0} → (A → A) → ℕ → List A → List A

@@ -4,8 +4,8 @@ ghost use Rattle.std.specs.Prelude.{◌≡◌, IfOk, IsErrOf, OnOk, false, true}
 ghost use Rattle.mdhtml.specs.Limits.{HasLimits};
 ghost use Rattle.mdinline.specs.declared.faults.InlineFault.TheVariants.{TooDeep};
 ghost use Rattle.mdtext.specs.Counted.{counted};
-ghost use Rattle.viewspec.specs.Refusals.{is_deep};
-ghost use Rattle.viewspec.specs.View.{reading_of};
+ghost use Rattle.mdsource.specs.Refusals.{is_deep};
+ghost use Rattle.mdsource.specs.View.{reading_of};
 ghost use Rattle.mdview.specs.HeldTexts.{entities_in, labels_behind};
 
 mod alike_texts;

@@ -2,8 +2,8 @@
 ghost use Rattle.std.specs.Prelude.{◌≡◌, ℕ, Bool, Err, List};
 ghost use Rattle.mdtext.specs.EntityTable.{EntityTable};
 ghost use Rattle.mdhtml.specs.declared.options.Options.{Options};
-ghost use Rattle.viewspec.specs.Setting.{Setting};
-ghost use Rattle.viewspec.specs.Calls.{Call};
+ghost use Rattle.mdsource.specs.Setting.{Setting};
+ghost use Rattle.mdsource.specs.Calls.{Call};
 ghost use Rattle.mdsource.specs.declared.fault.EditFault.{EditFault};
 ghost use Rattle.mdview.specs.Document.{Document, document, empty, nothing};
 ghost use Rattle.mdview.specs.Outcome.{answer_of, outcome_of};

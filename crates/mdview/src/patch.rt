@@ -1,7 +1,7 @@
 //! What an accepted edit answers: which pieces to replace.
 
 ghost use Rattle.std.specs.Prelude.{◌≡◌, [], None, IfOk, option_map, slice_get, if◌then◌else◌, not, nat_lt, ◌+◌, ◌&&◌};
-ghost use Rattle.viewspec.specs.Patch.{brings, brought};
+ghost use Rattle.mdsource.specs.Patch.{brings, brought};
 ghost use Rattle.mdview.specs.Document.{pieces_of};
 
 use crate::pieces::patch_pieces::{PatchPieces, is_within};
@@ -20,7 +20,7 @@ pub struct Patch {
 }
 
 impl Model for Patch {
-    ghost use Rattle.viewspec.specs.ChangedPieces.{ChangedPieces};
+    ghost use Rattle.mdsource.specs.ChangedPieces.{ChangedPieces};
 
     ghost Value = { ChangedPieces };
 

@@ -4,8 +4,8 @@ ghost use Rattle.std.specs.Prelude.{◌≡◌, ◌≤◌, ◌<◌, ◌-◌, ◌^
 ghost use Rattle.std.specs.List.{filter, fold, list_any};
 ghost use Rattle.mdtext.specs.EntityTable.{EntityTable};
 ghost use Rattle.blockspec.specs.BlockUnits.{begins};
-ghost use Rattle.viewspec.specs.Stretch.{count_between};
-ghost use Rattle.viewspec.specs.UnitTiles.{IsAhead, begins_from};
+ghost use Rattle.mdsource.specs.Stretch.{count_between};
+ghost use Rattle.mdsource.specs.UnitTiles.{IsAhead, begins_from};
 ghost use Rattle.mdview.specs.HeldBlocks.{HoldsUnits, lines_in};
 ghost use Rattle.mdview.specs.HeldItems.{IsCounted, IsItemAt, IsItemOf};
 ghost use Rattle.blockspec.specs.Joins.{joins};

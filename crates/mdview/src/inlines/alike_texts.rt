@@ -6,8 +6,8 @@ ghost use Rattle.mdhtml.specs.Limits.{HasLimits};
 ghost use Rattle.mdinline.specs.ParsedText.{ParsedText};
 ghost use Rattle.mdinline.specs.declared.faults.InlineFault.TheVariants.{TooDeep};
 ghost use Rattle.mdtext.specs.Counted.{counted};
-ghost use Rattle.viewspec.specs.Refusals.{is_deep};
-ghost use Rattle.viewspec.specs.View.{reading_of};
+ghost use Rattle.mdsource.specs.Refusals.{is_deep};
+ghost use Rattle.mdsource.specs.View.{reading_of};
 ghost use Rattle.mdview.specs.HeldTexts.{IsReadUnder, IsShallow, entities_in, labels_before, labels_behind};
 ghost use Rattle.mdview.specs.LabelTargets.{IsElsewhere, at};
 

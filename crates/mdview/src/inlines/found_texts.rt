@@ -5,7 +5,7 @@ ghost use Rattle.std.specs.List.{All};
 ghost use Rattle.mdblock.specs.FoundLists.{found_unit};
 ghost use Rattle.mdhtml.specs.Limits.{HasLimits};
 ghost use Rattle.mdinline.specs.declared.faults.InlineFault.TheVariants.{TooDeep};
-ghost use Rattle.viewspec.specs.UnitTexts.{deep_found, is_deep_under, readings_under, trees_in};
+ghost use Rattle.mdsource.specs.UnitTexts.{deep_found, is_deep_under, readings_under, trees_in};
 ghost use Rattle.mdview.specs.HeldUnit.{IsRendered, texts_in};
 ghost use Rattle.mdview.specs.HeldLists.{list_in, unplaced};
 ghost use Rattle.mdview.specs.HeldTexts.{IsReadUnder, IsShallow, entities_in, labels_before, labels_behind, line_on};

@@ -10,7 +10,7 @@ ghost use Rattle.std.specs.Option.{option_to_list};
 ghost use Rattle.std.specs.Ordering.{eq_by_cmp, nat_cmp};
 ghost use Rattle.std.specs.Set.{is_member};
 ghost use Rattle.mdblock.specs.FoundLists.{found_unit};
-ghost use Rattle.viewspec.specs.UnitTexts.{trees_in};
+ghost use Rattle.mdsource.specs.UnitTexts.{trees_in};
 ghost use Rattle.mdview.specs.HeldUnit.{unit_in};
 ghost use Rattle.mdview.specs.LabelMarks.{label_mark};
 ghost use Rattle.mdview.specs.LabelTargets.{HasRoom, IsElsewhere, Leads, LeadsAfter, at, led_after, target_held, leading, target_after};

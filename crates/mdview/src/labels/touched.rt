@@ -5,7 +5,7 @@ ghost use Rattle.std.specs.Int.RustNames.{bit_and};
 ghost use Rattle.std.specs.Option.{option_or};
 ghost use Rattle.inlinespec.specs.LabelMap.{target_of};
 ghost use Rattle.mdleaf.specs.LinkDefinition.{definition_of};
-ghost use Rattle.viewspec.specs.Changes.{is_same_target};
+ghost use Rattle.mdsource.specs.Changes.{is_same_target};
 ghost use Rattle.mdview.specs.HeldTexts.{between};
 ghost use Rattle.mdview.specs.HeldUnit.{unit_in};
 ghost use Rattle.mdview.specs.LabelMarks.{label_mark};

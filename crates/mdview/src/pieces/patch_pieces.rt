@@ -4,7 +4,7 @@ ghost use Rattle.std.specs.Prelude.{◌≡◌, ◌==◌, ◌≤◌, ◌<◌, ◌
 ghost use Rattle.std.specs.Iterator.{YieldsFirstBy, item_count};
 ghost use Rattle.std.specs.List.{list_any};
 ghost use Rattle.std.specs.List.Sorted.{IsNonDecreasing};
-ghost use Rattle.viewspec.specs.Patch.{brings};
+ghost use Rattle.mdsource.specs.Patch.{brings};
 ghost use Rattle.mdview.specs.BroughtPieces.{changed, changed_pieces};
 
 use crate::pieces::Pieces;

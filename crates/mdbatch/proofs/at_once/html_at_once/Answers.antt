@@ -1,7 +1,7 @@
 use Rattle.std.proofs.lemmas.Result.{IfOk-weaker}
 use Rattle.mdtext.specs.Lines.{split_lines}
 use Rattle.blockspec.specs.BlockUnits.{units}
-use Rattle.viewspec.specs.Setting.{Setting}
+use Rattle.mdsource.specs.Setting.{Setting}
 use Rattle.mdbatch.proofs.UnitsAtOnce.{added_if_some}
 use Rattle.mdbatch.proofs.at_once.html_at_once.Goals as goal
 

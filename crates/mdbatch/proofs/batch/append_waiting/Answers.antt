@@ -4,7 +4,7 @@ use Rattle.std.proofs.lemmas.List.Elements.{All-head, All-tail}
 use Rattle.std.specs.List.{All}
 use Rattle.mdhtml.specs.BlockHtml.{ends_line}
 use Rattle.mdhtml.specs.WrittenUnits.{is_deep_unit, written_unit}
-use Rattle.viewspec.specs.Setting.{Setting}
+use Rattle.mdsource.specs.Setting.{Setting}
 use Rattle.mdblock.specs.FoundLists.{found_unit}
 use Rattle.mdbatch.specs.BatchHtml.{deep_line}
 use Rattle.mdsource.specs.TextFaults.{IsTextFault, text_fault_in}

@@ -1,6 +1,6 @@
 use Rattle.std.proofs.Common.{[], ap, ◌∙◌, string_bytes, subst, sym}
 use Rattle.std.proofs.lemmas.Result.{err_from_is_err_and}
-use Rattle.viewspec.specs.Setting.{Setting}
+use Rattle.mdsource.specs.Setting.{Setting}
 use Rattle.mdbatch.specs.GatheredUnits.{IsWoven, setting_of}
 use Rattle.mdbatch.proofs.UnitsGathered.{cut_on_page, never_some, page_written, waiting_fault}
 use Rattle.mdbatch.proofs.batch.gathered_html.Goals as goal

@@ -9,9 +9,9 @@ use Rattle.mdblock.specs.held.Reads.{handed}
 use Rattle.mdsource.specs.SourceLimits.{size_of}
 use Rattle.mdblock.specs.FoundLists.{found_unit}
 use Rattle.mdbatch.specs.BatchHtml.{IsReadFault}
-use Rattle.viewspec.specs.Setting.{Setting}
+use Rattle.mdsource.specs.Setting.{Setting}
 use Rattle.mdbatch.specs.GatheredUnits.{Gathers, setting_of}
-use Rattle.viewspec.proofs.ReadLines.{lines_fed, none_deep, none_handed}
+use Rattle.mdsource.proofs.ReadLines.{lines_fed, none_deep, none_handed}
 use Rattle.mdbatch.proofs.ReadLines.{all_fed, fault_is, next_fed}
 use Rattle.mdbatch.proofs.SplitText.{size_next}
 use Rattle.mdbatch.proofs.units.gathered_units.Goals as goal

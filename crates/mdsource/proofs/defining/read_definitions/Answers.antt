@@ -1,8 +1,8 @@
 use Rattle.std.proofs.Common.{◌≡◌, ◌+◌, ◌∙◌, Err, ap, arith, map, refl, string_bytes, subst, sym, take}
 use Rattle.std.proofs.lemmas.List.{length-map}
 use Rattle.mdblock.specs.held.Reads.{Reads, handed}
-use Rattle.viewspec.specs.Setting.{Setting}
-use Rattle.viewspec.proofs.ReadLines.{none_deep, none_handed}
+use Rattle.mdsource.specs.Setting.{Setting}
+use Rattle.mdsource.proofs.ReadLines.{none_deep, none_handed}
 use Rattle.mdsource.specs.Defining.{Defines}
 use Rattle.mdsource.specs.Preludes.{IsUndefiningAt}
 use Rattle.mdsource.proofs.Definings.{all_lines, definitions_alone, undefined, undefined_at}

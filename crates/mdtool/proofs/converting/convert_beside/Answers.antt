@@ -3,7 +3,7 @@ use Rattle.std.specs.Prelude.{not}
 use Rattle.std.specs.Result.{is_ok}
 use Rattle.std.proofs.lemmas.Result.{err_from_is_err_and}
 use Rattle.mdtext.specs.Lines.{text_lines}
-use Rattle.viewspec.specs.Setting.{Setting}
+use Rattle.mdsource.specs.Setting.{Setting}
 use Rattle.mdtool.specs.Convert.{HasHtml, WholeHtml, with_prelude}
 use Rattle.mdtool.proofs.Conversions.{page_feed_refused, page_no_html, page_out_refused, page_reads, page_unread}
 use Rattle.mdtool.proofs.converting.convert_beside.Goals as goal

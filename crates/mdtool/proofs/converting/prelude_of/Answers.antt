@@ -1,5 +1,5 @@
 use Rattle.std.proofs.Common.{◌≡◌, Err, List, ℕ, map, string_bytes, ap, sym, subst, ◌∙◌}
-use Rattle.viewspec.specs.Setting.{Setting}
+use Rattle.mdsource.specs.Setting.{Setting}
 use Rattle.mdtool.specs.Convert.{IsPreludeOf, PreludeRead}
 use Rattle.mdtool.specs.ToolRefusals.{refusal_of}
 use Rattle.mdtool.proofs.PreludeDue.{page_prelude_of, page_prelude_refused}

@@ -1,8 +1,8 @@
 use Rattle.std.proofs.Common.{◌≡◌, ◌+◌, ◌≤◌, ℕ, List, map, length, ap, subst, sym, ◌∙◌}
 use Rattle.std.proofs.lemmas.List.{length-map}
-use Rattle.viewspec.specs.SoonTexts.{texts_soon}
-use Rattle.viewspec.specs.Stops.{lines_soon}
-use Rattle.viewspec.specs.Calls.{edit, set_prelude}
+use Rattle.mdsource.specs.SoonTexts.{texts_soon}
+use Rattle.mdsource.specs.Stops.{lines_soon}
+use Rattle.mdsource.specs.Calls.{edit, set_prelude}
 use Rattle.mdview.specs.Document.{setting_of, source_of}
 use Rattle.mdview.specs.Outcome.{answer_of, is_starved, outcome_of}
 use Rattle.mdtool.proofs.CountRuns.{counting}

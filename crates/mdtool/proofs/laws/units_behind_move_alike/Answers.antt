@@ -1,6 +1,6 @@
-use Rattle.viewspec.specs.Calls.{edit, put}
-use Rattle.viewspec.specs.Changes.{places}
-use Rattle.viewspec.proofs.PutLines.{edit_is}
+use Rattle.mdsource.specs.Calls.{edit, put}
+use Rattle.mdsource.specs.Changes.{places}
+use Rattle.mdsource.proofs.PutLines.{edit_is}
 use Rattle.mdtool.proofs.UnitsBehind.{units_move}
 use Rattle.mdtool.proofs.laws.units_behind_move_alike.Goals as goal
 

@@ -1,6 +1,6 @@
 use Rattle.std.proofs.Common.{◌≡◌, ◌+◌, ◌++◌, length, string_bytes}
 use Rattle.blockspec.specs.BlockUnits.{begins}
-use Rattle.viewspec.specs.Patch.{brought}
+use Rattle.mdsource.specs.Patch.{brought}
 use Rattle.mdview.specs.Document.{pieces_of}
 use Rattle.mdtool.specs.Replies.{moved_line, patch_line, pieces_reply}
 use Rattle.mdtool.proofs.replies.accepted_reply.Given as goal

@@ -1,5 +1,5 @@
 use Rattle.std.proofs.Common.{◌≡◌, map, ap, ◌∙◌}
-use Rattle.viewspec.specs.Calls.{Call, edit, set_prelude}
+use Rattle.mdsource.specs.Calls.{Call, edit, set_prelude}
 use Rattle.mdtool.proofs.EditReplies.{edit_replied}
 use Rattle.mdtool.proofs.serving.reply_to.Goals as goal
 

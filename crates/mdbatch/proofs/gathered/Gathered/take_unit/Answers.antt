@@ -6,8 +6,8 @@ use Rattle.mdhtml.specs.BlockHtml.{ends_line}
 use Rattle.mdhtml.specs.WrittenUnits.{is_deep_unit, written_unit}
 use Rattle.mdblock.specs.FoundLists.{found_unit}
 use Rattle.mdbatch.specs.GatheredUnits.{EndsLine, IsWoven, closes_bracket, setting_of}
-use Rattle.viewspec.specs.LabelTable.{with_definitions}
-use Rattle.viewspec.proofs.LabelsLead.{labels_more}
+use Rattle.mdsource.specs.LabelTable.{with_definitions}
+use Rattle.mdsource.proofs.LabelsLead.{labels_more}
 use Rattle.mdbatch.proofs.UnitsGathered.{cut_more, is_none, not_both, not_none, woven_kept, woven_more}
 use Rattle.mdbatch.proofs.UnitsWritten.{deep_anyhow, one_deep, one_written, written_anyhow}
 use Rattle.mdbatch.proofs.gathered.Gathered.take_unit.Goals as goal

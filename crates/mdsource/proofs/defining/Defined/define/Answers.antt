@@ -4,7 +4,7 @@ use Rattle.std.specs.Cmp.Lexicographic.{slice_cmp}
 use Rattle.std.specs.Ordering.{nat_cmp}
 use Rattle.inlinespec.proofs.FirstTargets.{kept, put}
 use Rattle.mdleaf.specs.LinkDefinition.{definition_of}
-use Rattle.viewspec.specs.LabelTable.{target_defined}
+use Rattle.mdsource.specs.LabelTable.{target_defined}
 use Rattle.mdsource.specs.Defining.{shown}
 use Rattle.mdsource.proofs.Definings.{copy_put}
 use Rattle.mdsource.proofs.defining.Defined.define.Goals as goal

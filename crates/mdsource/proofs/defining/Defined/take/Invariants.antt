@@ -1,6 +1,6 @@
 use Rattle.std.proofs.Common.{◌≡◌, drop, map}
 use Rattle.mdleaf.specs.LinkDefinition.{definition_of}
-use Rattle.viewspec.specs.LabelTable.{with_definitions}
+use Rattle.mdsource.specs.LabelTable.{with_definitions}
 use Rattle.mdsource.specs.Defining.{shown}
 use Rattle.mdsource.proofs.defining.Defined.take.Given as goal
 

@@ -1,6 +1,6 @@
 use Rattle.std.proofs.Common.{◌≡◌, sym, ap, ◌∙◌, refl, Some, true, false}
 use Rattle.std.proofs.lemmas.Result.{err_from_is_err_and}
-use Rattle.viewspec.specs.Calls.{edit, set_prelude}
+use Rattle.mdsource.specs.Calls.{edit, set_prelude}
 use Rattle.mdtool.specs.Commands.{head_of, EditHead, HtmlHead, PreludeHead}
 use Rattle.mdtool.specs.declared.command.Header.{Header}
 use Rattle.mdtool.specs.Views.{head_view}

@@ -8,10 +8,10 @@ use Rattle.blockspec.specs.Nesting.{first_too_deep}
 use Rattle.mdblock.specs.FoundLists.{found_unit}
 use Rattle.mdblock.specs.held.Reads.{Reads, handed, open_begin}
 use Rattle.mdtext.specs.EntityTable.{EntityTable}
-use Rattle.viewspec.specs.Stretch.{from_line, is_meeting}
-use Rattle.viewspec.specs.UnitTiles.{IsAhead}
-use Rattle.viewspec.proofs.ReadLines.{none_deep}
-use Rattle.viewspec.proofs.UnitPlaces.{ahead_later}
+use Rattle.mdsource.specs.Stretch.{from_line, is_meeting}
+use Rattle.mdsource.specs.UnitTiles.{IsAhead}
+use Rattle.mdsource.proofs.ReadLines.{none_deep}
+use Rattle.mdsource.proofs.UnitPlaces.{ahead_later}
 use Rattle.mdview.specs.HeldBlocks.{IsDeepAt, is_at, line_before, lines_in, old_lines, places_of}
 use Rattle.mdview.specs.NewText.{lines_of}
 use Rattle.mdchunks.specs.Sequences.{Sequence}
@@ -24,15 +24,15 @@ use Rattle.mdview.proofs.ListsStand.{stands_pushed}
 use Rattle.mdview.proofs.ReadStretches.{is_edit, stretch_next}
 use Rattle.mdview.proofs.Reparses.{ReadAbove, begin_told, begins_reading, deep_at, deep_told, ended, found_all, met_all, met_told, new_fits, next_ends, next_is, in_new, read_next, stands_read, units_pushed, unmet_told}
 use Rattle.mdview.proofs.ResumedReading.{few_above, res_above, res_near}
-use Rattle.viewspec.specs.Stops.{near_line}
-use Rattle.viewspec.proofs.NearStretch.{near_told}
+use Rattle.mdsource.specs.Stops.{near_line}
+use Rattle.mdsource.proofs.NearStretch.{near_told}
 use Rattle.std.specs.Prelude.{IfOk}
 use Rattle.std.proofs.lemmas.Bool.Decides.{nat_tests}
 use Rattle.blockspec.proofs.NestingLaws.{moved_on}
 use Rattle.blockspec.specs.Joins.{is_joined}
-use Rattle.viewspec.specs.Stops.{is_near}
-use Rattle.viewspec.proofs.NearDepths.{near_deep}
-use Rattle.viewspec.specs.Stretch.{units_before}
+use Rattle.mdsource.specs.Stops.{is_near}
+use Rattle.mdsource.proofs.NearDepths.{near_deep}
+use Rattle.mdsource.specs.Stretch.{units_before}
 use Rattle.mdview.specs.HeldBlocks.{HoldsUnits}
 use Rattle.mdview.specs.HeldItems.{IsCounted, IsItemOf}
 use Rattle.mdview.specs.StopLines.{stops_of}

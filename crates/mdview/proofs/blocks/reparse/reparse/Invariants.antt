@@ -1,10 +1,10 @@
 use Rattle.std.proofs.Common.{◌≡◌, ◌+◌, ◌≤◌, ◌-◌, drop, map, take}
 use Rattle.std.specs.List.{All}
 use Rattle.mdblock.specs.FoundLists.{found_unit}
-use Rattle.viewspec.specs.Stretch.{from_line}
-use Rattle.viewspec.specs.UnitTiles.{IsAhead}
+use Rattle.mdsource.specs.Stretch.{from_line}
+use Rattle.mdsource.specs.UnitTiles.{IsAhead}
 use Rattle.mdview.specs.HeldBlocks.{line_before, lines_in, places_of}
-use Rattle.viewspec.specs.Stops.{near_line}
+use Rattle.mdsource.specs.Stops.{near_line}
 use Rattle.mdview.specs.HeldItems.{IsCounted}
 use Rattle.mdview.specs.StopLines.{stops_of}
 use Rattle.mdview.specs.HeldLists.{StandsAt}

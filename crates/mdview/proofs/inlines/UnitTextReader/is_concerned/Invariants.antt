@@ -1,6 +1,6 @@
 use Rattle.std.proofs.Common.{◌≡◌, drop}
 use Rattle.std.specs.List.{list_any}
-use Rattle.viewspec.specs.Changes.{asks_changed}
+use Rattle.mdsource.specs.Changes.{asks_changed}
 use Rattle.mdview.specs.HeldTexts.{labels_before, labels_behind}
 use Rattle.mdview.proofs.inlines.UnitTextReader.is_concerned.Given as goal
 

@@ -1,8 +1,8 @@
 use Rattle.std.proofs.Common.{◌≡◌, false, ap, ◌∙◌, sym}
-use Rattle.viewspec.specs.Changes.{asks_changed}
-use Rattle.viewspec.specs.Refusals.{is_deep}
-use Rattle.viewspec.specs.View.{reading_of}
-use Rattle.viewspec.proofs.Readings.{reads_as_before}
+use Rattle.mdsource.specs.Changes.{asks_changed}
+use Rattle.mdsource.specs.Refusals.{is_deep}
+use Rattle.mdsource.specs.View.{reading_of}
+use Rattle.mdsource.proofs.Readings.{reads_as_before}
 use Rattle.mdview.specs.HeldTexts.{entities_in, labels_before, labels_behind}
 use Rattle.mdview.proofs.Concerns.{concerned}
 use Rattle.mdview.proofs.inlines.UnitTextReader.keep_one.Goals as goal

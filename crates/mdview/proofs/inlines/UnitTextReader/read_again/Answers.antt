@@ -4,7 +4,7 @@ use Rattle.std.specs.List.{All}
 use Rattle.std.proofs.lemmas.List.{append-nil}
 use Rattle.std.proofs.lemmas.Option.{slice_get-map}
 use Rattle.std.proofs.lemmas.List.Elements.{All-drop, All-take}
-use Rattle.viewspec.specs.UnitTexts.{asking_in, asking_units, is_deep_under}
+use Rattle.mdsource.specs.UnitTexts.{asking_in, asking_units, is_deep_under}
 use Rattle.mdview.specs.HeldTexts.{IsReadUnder, IsReread, IsShallow, between, entities_in, labels_before, labels_behind, number_again}
 use Rattle.mdview.specs.HeldUnit.{HeldUnit, unit_in}
 use Rattle.mdview.proofs.Ahead.{first_comes, first_left, left_at, left_behind, something_comes}

@@ -1,6 +1,6 @@
 use Rattle.std.proofs.Common.{◌≡◌, ◌+◌, ◌-◌, ◌≤◌, ◌<◌, ◌++◌, None, drop, map}
 use Rattle.std.specs.List.{All}
-use Rattle.viewspec.specs.UnitTexts.{asking_texts, asking_units, deep_from}
+use Rattle.mdsource.specs.UnitTexts.{asking_texts, asking_units, deep_from}
 use Rattle.mdview.specs.HeldBlocks.{held_tile}
 use Rattle.mdview.specs.HeldTexts.{IsReread, between, entities_in, labels_before, labels_behind, number_again}
 use Rattle.mdview.specs.HeldUnit.{unit_in}

@@ -2,8 +2,8 @@ use Rattle.std.proofs.Common.{◌≡◌, ◌∷◌, ◌++◌, [], Err, Some, fal
 use Rattle.std.specs.Prelude.{IfSome}
 use Rattle.std.specs.List.{list_any}
 use Rattle.std.proofs.lemmas.Option.{IfSome_then, slice_get-map, slice_get_read}
-use Rattle.viewspec.specs.Refusals.{is_deep}
-use Rattle.viewspec.specs.View.{reading_of}
+use Rattle.mdsource.specs.Refusals.{is_deep}
+use Rattle.mdsource.specs.View.{reading_of}
 use Rattle.mdblock.proofs.LevelBegins.{err_is}
 use Rattle.mdview.specs.HeldTexts.{IsReadUnder, IsShallow, entities_in, labels_before, labels_behind}
 use Rattle.mdview.proofs.AlikeTexts.{at_next, few_next, fronts_next, of_both}

@@ -1,7 +1,7 @@
 use Rattle.std.proofs.Common.{◌≡◌, ◌+◌, ◌≤◌, ◌++◌, IfSome, false, map, string_bytes, take, true}
 use Rattle.std.specs.List.{list_any}
-use Rattle.viewspec.specs.Refusals.{is_deep}
-use Rattle.viewspec.specs.View.{reading_of}
+use Rattle.mdsource.specs.Refusals.{is_deep}
+use Rattle.mdsource.specs.View.{reading_of}
 use Rattle.mdview.specs.HeldTexts.{entities_in, labels_behind}
 use Rattle.mdview.proofs.inlines.UnitTextReader.read_alike.Given as goal
 

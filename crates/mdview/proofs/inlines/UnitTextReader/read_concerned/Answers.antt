@@ -1,8 +1,8 @@
 use Rattle.std.proofs.Common.{◌∷◌, ◌++◌, [], Err, append_assoc, arith, ap, map, refl, string_bytes, take, ◌∙◌, sym}
 use Rattle.std.specs.List.{list_any}
-use Rattle.viewspec.specs.Changes.{asks_changed}
-use Rattle.viewspec.specs.Refusals.{is_deep}
-use Rattle.viewspec.specs.View.{reading_of}
+use Rattle.mdsource.specs.Changes.{asks_changed}
+use Rattle.mdsource.specs.Refusals.{is_deep}
+use Rattle.mdsource.specs.View.{reading_of}
 use Rattle.mdblock.proofs.LevelBegins.{err_is}
 use Rattle.mdview.specs.HeldTexts.{entities_in, labels_before, labels_behind}
 use Rattle.mdview.proofs.Concerns.{counted_next, counted_within}

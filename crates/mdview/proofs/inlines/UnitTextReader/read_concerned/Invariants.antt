@@ -1,8 +1,8 @@
 use Rattle.std.proofs.Common.{◌≡◌, ◌+◌, ◌≤◌, ◌++◌, false, length, map, string_bytes, take}
 use Rattle.std.specs.List.{filter, list_any}
-use Rattle.viewspec.specs.Changes.{asks_changed}
-use Rattle.viewspec.specs.Refusals.{is_deep}
-use Rattle.viewspec.specs.View.{reading_of}
+use Rattle.mdsource.specs.Changes.{asks_changed}
+use Rattle.mdsource.specs.Refusals.{is_deep}
+use Rattle.mdsource.specs.View.{reading_of}
 use Rattle.mdview.specs.HeldTexts.{entities_in, labels_before, labels_behind}
 use Rattle.mdview.proofs.inlines.UnitTextReader.read_concerned.Given as goal
 

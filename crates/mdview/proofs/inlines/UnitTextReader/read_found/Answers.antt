@@ -2,7 +2,7 @@ use Rattle.std.proofs.Common.{◌≡◌, ◌++◌, ◌∷◌, ℕ, List, None, [
 use Rattle.std.proofs.lemmas.List.{map-append}
 use Rattle.blockspec.specs.UnitTree.{FoundUnit}
 use Rattle.mdblock.specs.FoundLists.{found_unit}
-use Rattle.viewspec.specs.UnitTexts.{deep_found, is_deep_under}
+use Rattle.mdsource.specs.UnitTexts.{deep_found, is_deep_under}
 use Rattle.mdview.specs.HeldTexts.{entities_in, labels_behind, line_on}
 use Rattle.mdsource.specs.TextFaults.{IsTextFault, text_fault_in}
 use Rattle.mdview.proofs.KeptTexts.{fault_before, fault_last, none_deep}

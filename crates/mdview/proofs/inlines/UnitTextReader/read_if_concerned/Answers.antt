@@ -2,10 +2,10 @@ use Rattle.std.proofs.Common.{◌≡◌, ◌++◌, ◌∷◌, [], Bool, Err, Som
 use Rattle.std.specs.Prelude.{slice_get}
 use Rattle.std.specs.List.{list_any}
 use Rattle.std.proofs.lemmas.List.{map-append}
-use Rattle.viewspec.specs.Changes.{asks_changed}
-use Rattle.viewspec.specs.Refusals.{is_deep}
-use Rattle.viewspec.specs.UnitTexts.{asks_again}
-use Rattle.viewspec.proofs.ReadingsUnder.{unasked_stays}
+use Rattle.mdsource.specs.Changes.{asks_changed}
+use Rattle.mdsource.specs.Refusals.{is_deep}
+use Rattle.mdsource.specs.UnitTexts.{asks_again}
+use Rattle.mdsource.proofs.ReadingsUnder.{unasked_stays}
 use Rattle.mdblock.proofs.LevelBegins.{err_is}
 use Rattle.mdview.specs.HeldTexts.{IsReread, entities_in, labels_before, labels_behind, number_again}
 use Rattle.mdview.specs.Update.{Fits, IsWritten}

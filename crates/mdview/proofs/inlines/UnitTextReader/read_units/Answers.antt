@@ -4,7 +4,7 @@ use Rattle.std.specs.List.{sum_by}
 use Rattle.std.proofs.lemmas.List.{nil_from_length}
 use Rattle.std.proofs.lemmas.List.Sums.{sum_by-cons}
 use Rattle.mdblock.specs.FoundLists.{found_unit}
-use Rattle.viewspec.specs.UnitTexts.{deep_found, is_deep_under, trees_in}
+use Rattle.mdsource.specs.UnitTexts.{deep_found, is_deep_under, trees_in}
 use Rattle.mdview.specs.HeldLists.{list_in, unplaced}
 use Rattle.mdview.specs.HeldTexts.{IsReadUnder, IsShallow, entities_in, labels_before, labels_behind}
 use Rattle.mdview.specs.HeldUnit.{IsRendered, texts_in}

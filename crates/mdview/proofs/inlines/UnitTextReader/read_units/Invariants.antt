@@ -1,7 +1,7 @@
 use Rattle.std.proofs.Common.{◌≡◌, ◌+◌, ◌≤◌, ◌++◌, length, map}
 use Rattle.std.specs.List.{All, sum_by}
 use Rattle.mdblock.specs.FoundLists.{found_unit}
-use Rattle.viewspec.specs.UnitTexts.{deep_found, trees_in}
+use Rattle.mdsource.specs.UnitTexts.{deep_found, trees_in}
 use Rattle.mdview.specs.HeldLists.{list_in, unplaced}
 use Rattle.mdview.specs.HeldTexts.{IsReadUnder, IsShallow, entities_in, labels_before, labels_behind}
 use Rattle.mdview.specs.HeldUnit.{IsRendered, texts_in}

@@ -1,7 +1,7 @@
 use Rattle.std.proofs.Common.{◌≡◌, ◌∙◌, ap, option_map, sym, true, false}
 use Rattle.std.specs.Option.{option_copied}
 use Rattle.inlinespec.specs.LabelMap.{target_of}
-use Rattle.viewspec.specs.Changes.{is_same_target}
+use Rattle.mdsource.specs.Changes.{is_same_target}
 use Rattle.mdview.specs.LabelTargets.{target_held}
 use Rattle.mdview.proofs.Elsewhere.{found_led, left_out, put_in}
 use Rattle.mdview.proofs.labels.touched.put_elsewhere.Goals as goal

@@ -1,12 +1,12 @@
 use Rattle.std.proofs.Common.{◌≡◌, ◌+◌, ℕ, false, ◌-◌, ◌^◌, ◌<◌, ◌≤◌, List, map, length, string_bytes, arith, ap, sym, ◌∙◌, refl, subst}
 use Rattle.std.proofs.lemmas.List.{length-map}
-use Rattle.viewspec.specs.Calls.{Call, put}
-use Rattle.viewspec.specs.SoonTexts.{texts_soon}
-use Rattle.viewspec.specs.Stops.{lines_soon}
-use Rattle.viewspec.specs.Outcome.{accepted}
-use Rattle.viewspec.specs.Patch.{Brings}
-use Rattle.viewspec.specs.Refusals.{nesting_refusal}
-use Rattle.viewspec.specs.Setting.{Setting}
+use Rattle.mdsource.specs.Calls.{Call, put}
+use Rattle.mdsource.specs.SoonTexts.{texts_soon}
+use Rattle.mdsource.specs.Stops.{lines_soon}
+use Rattle.mdsource.specs.Outcome.{accepted}
+use Rattle.mdsource.specs.Patch.{Brings}
+use Rattle.mdsource.specs.Refusals.{nesting_refusal}
+use Rattle.mdsource.specs.Setting.{Setting}
 use Rattle.mdview.specs.Document.{Document, pieces_of, readings_of, setting_of, source_of}
 use Rattle.mdsource.specs.SourceLimits.{size_of}
 use Rattle.mdview.specs.Edit.{call_of, due}

@@ -1,7 +1,7 @@
 use Rattle.std.proofs.Common.{◌≡◌, Bor, Option, Some, None, map, option_map, refl, string_bytes, sym, ap, ◌∙◌}
 use Rattle.std.specs.Prelude.{slice_get}
 use Rattle.std.proofs.lemmas.Option.{slice_get-map}
-use Rattle.viewspec.specs.Setting.{Setting}
+use Rattle.mdsource.specs.Setting.{Setting}
 use Rattle.mdview.specs.Document.{Document, pieces_of, readings_of}
 use Rattle.mdview.specs.HeldUnit.{HeldUnit, piece_of, shown_in}
 use Rattle.mdview.proofs.HeldViews.{pieces_are_viewed, readings_are_viewed}

@@ -1,5 +1,5 @@
 use Rattle.std.proofs.Common.{arith, refl}
-use Rattle.viewspec.proofs.Depths.{none_too_deep}
+use Rattle.mdsource.proofs.Depths.{none_too_deep}
 use Rattle.mdview.proofs.HeldReadings.{holds_no_texts}
 use Rattle.mdview.proofs.HeldTiles.{holds_nothing}
 use Rattle.mdview.proofs.preview.Preview.new.Goals as goal

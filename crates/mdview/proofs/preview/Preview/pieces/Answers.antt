@@ -1,5 +1,5 @@
 use Rattle.std.proofs.Common.{map, string_bytes, ap, ◌∙◌}
-use Rattle.viewspec.specs.Setting.{Setting}
+use Rattle.mdsource.specs.Setting.{Setting}
 use Rattle.mdview.specs.Document.{pieces_of}
 use Rattle.mdview.specs.HeldUnit.{piece_of}
 use Rattle.mdview.proofs.HeldViews.{pieces_are_viewed}

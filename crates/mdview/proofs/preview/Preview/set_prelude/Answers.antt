@@ -1,15 +1,15 @@
 use Rattle.std.proofs.Common.{sym, ◌≡◌, ℕ, false, None, Option, ◌≤◌, List, length, map, string_bytes, arith, ap, ◌∙◌, subst}
 use Rattle.std.proofs.lemmas.List.{length-map}
 use Rattle.inlinespec.specs.LabelMap.{LinkTarget}
-use Rattle.viewspec.specs.Calls.{Call, set_prelude}
-use Rattle.viewspec.specs.SoonTexts.{texts_soon}
-use Rattle.viewspec.proofs.StopTexts.{soon_of_prelude}
-use Rattle.viewspec.specs.Changes.{texts_read}
-use Rattle.viewspec.specs.Outcome.{accepted}
-use Rattle.viewspec.specs.Patch.{Brings}
-use Rattle.viewspec.specs.Refusals.{prelude_refusal, undefining_line}
-use Rattle.viewspec.specs.Setting.{Setting}
-use Rattle.viewspec.specs.UnitTexts.{asking_texts}
+use Rattle.mdsource.specs.Calls.{Call, set_prelude}
+use Rattle.mdsource.specs.SoonTexts.{texts_soon}
+use Rattle.mdsource.proofs.StopTexts.{soon_of_prelude}
+use Rattle.mdsource.specs.Changes.{texts_read}
+use Rattle.mdsource.specs.Outcome.{accepted}
+use Rattle.mdsource.specs.Patch.{Brings}
+use Rattle.mdsource.specs.Refusals.{prelude_refusal, undefining_line}
+use Rattle.mdsource.specs.Setting.{Setting}
+use Rattle.mdsource.specs.UnitTexts.{asking_texts}
 use Rattle.mdview.specs.Document.{Document, pieces_of, readings_of, setting_of, source_of}
 use Rattle.mdview.specs.HeldTexts.{IsRefusedBy}
 use Rattle.mdview.specs.HeldUnit.{HeldUnit, unit_in}

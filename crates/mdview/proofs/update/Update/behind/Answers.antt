@@ -2,7 +2,7 @@ use Rattle.std.proofs.Common.{◌≡◌, ℕ, ◌++◌, List, arith, length, map
 use Rattle.std.specs.Prelude.{IfSome}
 use Rattle.std.specs.List.{All}
 use Rattle.std.specs.Option.{option_or}
-use Rattle.viewspec.specs.UnitTexts.{asking_texts, asking_units, deep_found, deep_from, trees_in}
+use Rattle.mdsource.specs.UnitTexts.{asking_texts, asking_units, deep_found, deep_from, trees_in}
 use Rattle.mdblock.specs.FoundLists.{found_unit}
 use Rattle.mdview.specs.HeldBlocks.{held_tile}
 use Rattle.mdview.specs.HeldTexts.{IsReadUnder, IsReread, IsShallow, between, deep_in_parts, entities_in, head_read, line_on, number_again}

@@ -3,11 +3,11 @@ use Rattle.std.specs.List.{All}
 use Rattle.std.proofs.lemmas.Result.{IfErr-weaker, IfOk-weaker}
 use Rattle.inlinespec.specs.LinkTails.{Table}
 use Rattle.blockspec.specs.BlockUnits.{units as text_units}
-use Rattle.viewspec.specs.LabelTable.{table}
-use Rattle.viewspec.specs.Refusals.{inline_too_deep, nesting_refusal}
-use Rattle.viewspec.specs.Setting.{Setting}
-use Rattle.viewspec.proofs.DeepUnits.{refused_for_spans}
-use Rattle.viewspec.proofs.ReadingsUnder.{deep_found_under}
+use Rattle.mdsource.specs.LabelTable.{table}
+use Rattle.mdsource.specs.Refusals.{inline_too_deep, nesting_refusal}
+use Rattle.mdsource.specs.Setting.{Setting}
+use Rattle.mdsource.proofs.DeepUnits.{refused_for_spans}
+use Rattle.mdsource.proofs.ReadingsUnder.{deep_found_under}
 use Rattle.mdview.specs.HeldBlocks.{old_lines}
 use Rattle.mdview.specs.HeldTexts.{IsReadUnder, IsRefusedBy, IsReread, asking_in_parts, deep_in_parts, head_read, number_again, setting_in, source_before, source_behind}
 use Rattle.mdsource.specs.TextFaults.{IsTextFault}

@@ -2,8 +2,8 @@ use Rattle.std.proofs.Common.{◌≡◌, ℕ, List, None, Option, arith, map, su
 use Rattle.std.specs.Prelude.{IfErr}
 use Rattle.std.specs.List.{All}
 use Rattle.std.proofs.lemmas.Result.{IfOk-weaker, on_ok_weaker}
-use Rattle.viewspec.specs.UnitTexts.{asking_units}
-use Rattle.viewspec.proofs.ReadingsUnder.{asking_texts_under, asking_units_under, deep_from_under}
+use Rattle.mdsource.specs.UnitTexts.{asking_units}
+use Rattle.mdsource.proofs.ReadingsUnder.{asking_texts_under, asking_units_under, deep_from_under}
 use Rattle.mdview.specs.HeldBlocks.{held_tile}
 use Rattle.mdview.specs.HeldTexts.{IsReread, asking_in_parts, head_read, number_again}
 use Rattle.mdsource.specs.TextFaults.{IsTextFault}

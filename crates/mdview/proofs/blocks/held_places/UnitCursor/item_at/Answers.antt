@@ -4,7 +4,7 @@ use Rattle.std.specs.Prelude.{IfSome, slice_get}
 use Rattle.blockspec.specs.BlockUnits.{begins}
 use Rattle.blockspec.specs.Joins.{joins}
 use Rattle.mdchunks.specs.Sequences.{Sequence}
-use Rattle.viewspec.specs.UnitTiles.{IsAhead}
+use Rattle.mdsource.specs.UnitTiles.{IsAhead}
 use Rattle.std.proofs.lemmas.List.{length-map}
 use Rattle.mdview.specs.HeldBlocks.{lines_in}
 use Rattle.mdview.specs.HeldItems.{IsItemAt}

@@ -4,7 +4,7 @@ use Rattle.std.proofs.lemmas.Bool.Decides.{nat_tests}
 use Rattle.std.proofs.lemmas.List.{length-map}
 use Rattle.blockspec.specs.BlockUnits.{begins}
 use Rattle.mdchunks.specs.Sequences.{Sequence}
-use Rattle.viewspec.proofs.UnitPlaces.{ahead_next, none_left, unit_tells}
+use Rattle.mdsource.proofs.UnitPlaces.{ahead_next, none_left, unit_tells}
 use Rattle.mdview.specs.HeldBlocks.{lines_in}
 use Rattle.mdview.specs.HeldUnit.{HeldUnit}
 use Rattle.mdview.proofs.Ahead.{first_comes, first_left, left_at, left_behind, something_comes}

@@ -1,7 +1,7 @@
 use Rattle.std.proofs.Common.{◌≡◌, ◌-◌, ◌≤◌, ℕ, List, length, map}
 use Rattle.mdtext.specs.EntityTable.{EntityTable}
 use Rattle.blockspec.specs.BlockUnits.{begins}
-use Rattle.viewspec.specs.UnitTiles.{IsAhead}
+use Rattle.mdsource.specs.UnitTiles.{IsAhead}
 use Rattle.mdview.specs.HeldBlocks.{lines_in}
 use Rattle.mdview.specs.HeldItems.{IsCounted}
 use Rattle.mdview.proofs.blocks.held_places.UnitCursor.pass.Given as goal

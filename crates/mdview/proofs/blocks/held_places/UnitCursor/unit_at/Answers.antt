@@ -4,7 +4,7 @@ use Rattle.std.proofs.lemmas.Bool.Decides.{nat_tests}
 use Rattle.std.proofs.lemmas.List.{length-map}
 use Rattle.blockspec.specs.BlockUnits.{begins}
 use Rattle.mdchunks.specs.Sequences.{Sequence}
-use Rattle.viewspec.proofs.UnitPlaces.{none_left, unit_tells}
+use Rattle.mdsource.proofs.UnitPlaces.{none_left, unit_tells}
 use Rattle.mdview.specs.HeldBlocks.{lines_in}
 use Rattle.mdview.specs.HeldUnit.{HeldUnit}
 use Rattle.mdview.proofs.blocks.held_places.UnitCursor.unit_at.Goals.{else-self-len-via-then-self-len+else-self-line, else-self-len-via-else-self-len}

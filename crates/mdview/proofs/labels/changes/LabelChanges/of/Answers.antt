@@ -4,7 +4,7 @@ use Rattle.std.proofs.lemmas.List.{drop-map, take-map, take_all}
 use Rattle.std.proofs.lemmas.Simd.{map-map}
 use Rattle.blockspec.specs.UnitTree.{FoundUnit}
 use Rattle.mdblock.specs.FoundLists.{found_unit}
-use Rattle.viewspec.specs.LabelTable.{table_of}
+use Rattle.mdsource.specs.LabelTable.{table_of}
 use Rattle.mdview.specs.HeldUnit.{unit_in}
 use Rattle.mdview.specs.LabelTargets.{at, definitions_by, target_held}
 use Rattle.mdsource.specs.Preludes.{target_beside}

@@ -1,6 +1,6 @@
 use Rattle.std.proofs.Common.{◌≡◌, ◌==◌, ◌||◌, ◌&&◌, ◌+◌, not, nat_lt, sym, ap, ℕ, arith}
 use Rattle.std.proofs.lemmas.List.Sorted.{IsNonDecreasingBy-from_sort, list_any-IsPermutation}
-use Rattle.viewspec.specs.Patch.{brings}
+use Rattle.mdsource.specs.Patch.{brings}
 use Rattle.mdview.specs.BroughtPieces.{changed}
 use Rattle.mdview.proofs.BroughtLaws.{brought_alike}
 use Rattle.mdview.proofs.pieces.patch_pieces.PatchPieces.new.Goals as goal

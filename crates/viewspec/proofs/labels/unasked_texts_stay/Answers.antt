@@ -1,5 +1,0 @@
-use Rattle.viewspec.proofs.Readings.{reads_as_before}
-use Rattle.viewspec.proofs.labels.unasked_texts_stay.Goals as goal
-
-pub returns : goal.returns
-returns c = reads_as_before

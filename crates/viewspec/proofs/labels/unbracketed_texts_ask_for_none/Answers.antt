@@ -1,8 +1,0 @@
-use Rattle.viewspec.proofs.UnaskedTexts.{asks_none, reads_alike}
-use Rattle.viewspec.proofs.labels.unbracketed_texts_ask_for_none.Goals as goal
-
-pub returns-clause-asks : goal.returns-clause-asks
-returns-clause-asks c = asks_none
-
-pub returns-clause-reads : goal.returns-clause-reads
-returns-clause-reads c = reads_alike

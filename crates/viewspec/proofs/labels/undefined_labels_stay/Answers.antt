@@ -1,9 +1,0 @@
-use Rattle.viewspec.specs.Calls.{edit, put}
-use Rattle.viewspec.specs.Changes.{places}
-use Rattle.viewspec.proofs.Definitions.{undefined_stays}
-use Rattle.viewspec.proofs.PutLines.{edit_is}
-use Rattle.viewspec.proofs.labels.undefined_labels_stay.Goals as goal
-
-pub returns : goal.returns
-returns c = λ setting old at del add label fits gone come.
-    undefined_stays setting.entities old.lines (put old (edit at del add)).lines old.prelude (places setting old (edit at del add)) (edit_is setting old at del add fits) label gone come

@@ -1,8 +1,0 @@
-use Rattle.viewspec.specs.Calls.{edit, put}
-use Rattle.viewspec.specs.Stops.{stops}
-use Rattle.viewspec.proofs.NearLines.{stop_is}
-use Rattle.viewspec.proofs.StopTexts.{soon_by_later}
-use Rattle.viewspec.proofs.texts.later_texts_are_read_where_they_asked.Goals as goal
-
-pub returns : goal.returns
-returns c = λ setting old at del add fits. soon_by_later setting old (put old (edit at del add)) (stops setting old (edit at del add)) (stop_is setting old at del add fits)

@@ -1,8 +1,0 @@
-use Rattle.viewspec.proofs.OwnLines.{own_last, own_later}
-use Rattle.viewspec.proofs.unit_items.own_lines_stay.Goals as goal
-
-pub returns-clause-later : goal.returns-clause-later
-returns-clause-later c = own_later
-
-pub returns-clause-last : goal.returns-clause-last
-returns-clause-last c = own_last
