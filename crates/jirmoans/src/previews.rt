@@ -11,7 +11,7 @@ use crate::shown::{Changes, Text};
 use mdview::EditFault;
 use std::alloc::Global;
 
-/// Opens a preview of the empty text.
+/// Opens a preview of the empty text. Refused, in this order: `AlreadyOpen`, what the settings and the entities are refused for, want of memory; then it is as it was.
 #[unsafe(no_mangle)]
 pub extern "C" fn jirmoans_open(
     alloc: Global,
@@ -38,7 +38,7 @@ pub extern "C" fn jirmoans_open(
     }
 }
 
-/// Lets a preview go with all its memory.
+/// Lets a preview go with all its memory. Where it is not open nothing is done.
 #[unsafe(no_mangle)]
 pub extern "C" fn jirmoans_close(alloc: Global, handle: &mut Handle)
     ensures { handle.new.slot.held ≡ None }
@@ -46,7 +46,8 @@ pub extern "C" fn jirmoans_close(alloc: Global, handle: &mut Handle)
     drop(handle.take(alloc));
 }
 
-/// Replaces `del` lines from line `at` by the lines of a text.
+/// Replaces `del` lines from line `at` by the lines of a text. Refused: `NotOpen`, else bytes that are no UTF-8, else as `Preview::edit` refuses it; then the preview
+/// and `changes` are as they were.
 #[unsafe(no_mangle)]
 pub extern "C" fn jirmoans_edit(
     alloc: Global,
@@ -66,7 +67,8 @@ pub extern "C" fn jirmoans_edit(
     answer(ended, changes)
 }
 
-/// Replaces the prelude by the lines of a text.
+/// Replaces the prelude by the lines of a text. Refused: `NotOpen`, else bytes that are no UTF-8, else as `Preview::set_prelude` refuses it; then the preview and
+/// `changes` are as they were.
 #[unsafe(no_mangle)]
 pub extern "C" fn jirmoans_set_prelude(
     alloc: Global,
@@ -84,7 +86,7 @@ pub extern "C" fn jirmoans_set_prelude(
     answer(ended, changes)
 }
 
-/// The HTML of a unit.
+/// The HTML of a unit. Refused: `NotOpen`, else `NoSuchUnit`, else want of memory; then `piece` is as it was.
 #[unsafe(no_mangle)]
 pub extern "C" fn jirmoans_piece(
     alloc: Global,
@@ -102,7 +104,8 @@ pub extern "C" fn jirmoans_piece(
     answer(ended, piece)
 }
 
-/// The HTML of a whole text, with the entities, the options and the prelude of a preview.
+/// The HTML of a whole text, with the entities, the options and the prelude of a preview. Refused: `NotOpen`, else bytes that are no UTF-8, else as `to_html` refuses
+/// it; then `html` is as it was.
 #[unsafe(no_mangle)]
 pub extern "C" fn jirmoans_html(
     alloc: Global,
@@ -120,7 +123,7 @@ pub extern "C" fn jirmoans_html(
     answer(ended, html)
 }
 
-/// The line at which a unit begins.
+/// The line at which a unit begins. Refused: `NotOpen`, else `NoSuchUnit`; then `line` is as it was.
 #[unsafe(no_mangle)]
 pub extern "C" fn jirmoans_first_line(
     alloc: Global,
@@ -138,7 +141,7 @@ pub extern "C" fn jirmoans_first_line(
     answer(ended, line)
 }
 
-/// How many units the text has.
+/// How many units the text has; none where the preview is not open.
 #[unsafe(no_mangle)]
 pub extern "C" fn jirmoans_units(alloc: Global, handle: &mut Handle) -> usize
     ensures value { result ≡ units_in handle.old.slot.held }
@@ -152,7 +155,7 @@ pub extern "C" fn jirmoans_units(alloc: Global, handle: &mut Handle) -> usize
     units
 }
 
-/// How many lines the text has.
+/// How many lines the text has; none where the preview is not open.
 #[unsafe(no_mangle)]
 pub extern "C" fn jirmoans_lines(alloc: Global, handle: &mut Handle) -> usize
     ensures value { result ≡ lines_in handle.old.slot.held }

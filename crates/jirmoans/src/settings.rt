@@ -28,9 +28,9 @@ pub struct Settings {
     pub double_tilde: bool,
 }
 
-const USUAL_LIMIT: usize = 64;
+const DEFAULT_LIMIT: usize = 64;
 
-const GREATEST_LIMIT: usize = 256;
+const MAX_LIMIT: usize = 256;
 
 impl Settings {
     /// The options that they stand for.
@@ -43,7 +43,7 @@ impl Settings {
         };
         let max_containers = limit_of(self.max_containers);
         let max_spans = limit_of(self.max_spans);
-        if max_containers > GREATEST_LIMIT || max_spans > GREATEST_LIMIT {
+        if max_containers > MAX_LIMIT || max_spans > MAX_LIMIT {
             return Err(Refusal::LimitTooLarge);
         }
         Ok(Options {
@@ -76,5 +76,5 @@ fn breaks_of(number: u32) -> Option<Breaks>
 fn limit_of(number: usize) -> usize
     ensures { result ≡ limit_of number }
 {
-    if number == 0 { USUAL_LIMIT } else { number }
+    if number == 0 { DEFAULT_LIMIT } else { number }
 }

@@ -3,12 +3,8 @@ ghost use Rattle.std.specs.Prelude.{◌≡◌, ◌+◌, ◌*◌, ◌≤◌, IfEr
 ghost use Rattle.mdtext.specs.Lines.{split_lines, without_nul};
 ghost use Rattle.mdsource.specs.SourceLimits.{refusal};
 
-use mdsource::EditFault;
+use mdsource::{EditFault, MAX_LINES, MAX_SIZE};
 use mdtext::{clean_len, split_line};
-
-const MAX_LINES: usize = 1_000_000;
-
-const MAX_SIZE: usize = 16_777_216;
 
 /// Whether the text, U+FFFD standing for each U+0000, has no more than 1,000,000 lines and 16,777,216 bytes, with one counted for each line's end.
 /// Takes no memory.

@@ -14,7 +14,7 @@ use mdinline::Parsed;
 use mdtext::NoMemory;
 use std::alloc::Global;
 
-/// The HTML of a unit: of its blocks, whose texts read as `texts`. A piece that is not empty ends with LF.
+/// The HTML of a unit: of its blocks, whose texts read as `texts`. A piece that is not empty ends with LF. It is refused for want of memory alone.
 pub fn unit_html(
     alloc: Global,
     blocks: &[Block],

@@ -7,7 +7,8 @@ ghost use Rattle.mdsource.specs.SourceLimits.{has_special};
 use mdtext::clean_line;
 use std::alloc::{AllocError, Global};
 
-/// The lines with U+FFFD for each NUL, in a list with room for so many more; all are known to be plain, or nothing is known of them.
+/// The lines with U+FFFD for each NUL, in a list with room for so many more; all are known to be plain, or nothing is known of them. Refused for want of
+/// memory alone.
 pub fn clean_lines(
     alloc: Global,
     lines: &[&str],

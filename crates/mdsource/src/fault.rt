@@ -28,9 +28,9 @@ pub enum EditFault {
     InlineTooDeep { line: usize },
     /// A growth was refused.
     NoMemory,
-    /// The prelude is more than definitions: its line of this number, counted from 0, begins a container that lies in as
-    /// many others as the options allow, or, where none does, the first block that is no definition begins in it or in
-    /// the definitions that stand on top of it.
+    /// The prelude is more than definitions: its line of this number, counted from 0, is the first that begins a container
+    /// which lies in as many others as the options allow, or, where none does, the first line of the first unit with a block
+    /// that is no definition; definitions right above a paragraph are of its unit.
     NotDefinitions { line: usize },
 }
 

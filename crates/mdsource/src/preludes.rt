@@ -135,7 +135,7 @@ fn accept(lines: &[&str], are_plain: bool) -> Result<(), EditFault>
 }
 
 /// Where a label leads that the text defines so, if it does: a definition of the text counts before one of the prelude
-/// (CommonMark 4.7).
+/// (CommonMark 4.7). Refused for want of memory alone.
 pub fn or_beside(
     alloc: Global,
     target: Option<Target>,

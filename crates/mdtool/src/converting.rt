@@ -42,7 +42,7 @@ pub fn convert<R: Feed, W: Out>(
     ensures feed { R.failures feed.new ≡ failures_after result (R.failures feed.old) }
     ensures out { W.failures out.new ≡ out_failures_after result (W.failures out.old) }
 {
-    let prelude = prelude_of(alloc, prelude, &entities, &options)?;
+    let prelude = read_prelude(alloc, prelude, &entities, &options)?;
     convert_beside(alloc, feed, out, &entities, &options, &prelude)
 }
 
@@ -72,7 +72,7 @@ fn convert_beside<R: Feed, W: Out>(
 }
 
 /// The prelude of these lines.
-fn prelude_of(
+fn read_prelude(
     alloc: Global,
     lines: &[String],
     entities: &Entities,

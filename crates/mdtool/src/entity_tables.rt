@@ -11,7 +11,7 @@ use std::alloc::Global;
 
 /// The entities of all bytes that the feed has left, a JSON file as HTML's file of names is (CommonMark 2.5).
 ///
-/// `Table` says why the bytes are no such file. `Read` comes where the feed failed.
+/// `Table` says why the bytes are no such file. `Read` comes where the feed failed, `NoMemory` where a growth was refused; then some of its bytes may be gone.
 pub fn entities_from<R: Feed>(alloc: Global, feed: &mut R) -> Result<Entities, ToolFault>
     requires { R.failures feed.old < 2 ^ 64 - 1 }
     ensures read { EntitiesRead result (R.left feed.old) (R.left feed.new) }

@@ -61,7 +61,7 @@ fn put_explanation<W: Out>(alloc: Global, words: &Words, halt: &Halt, err: &mut 
     }
 }
 
-/// The explanation of a stop, as one line: the file, the line counted from 1, what is wrong, and what to do.
+/// The explanation of a stop, as one line: the file, the line counted from 1, what is wrong, and what to do. Refused for want of memory alone.
 pub fn explanation(alloc: Global, words: &Words, halt: &Halt) -> Result<String, AllocError>
     ensures { IfOk result (λ text. string_bytes text ≡ explanation words.now halt.now) }
 {

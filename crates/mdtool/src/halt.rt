@@ -37,7 +37,9 @@ pub enum Cause {
 /// Why a program stopped before its end, and what it was reading.
 #[derive(Debug, Drop)]
 pub struct Halt {
+    /// Why it stopped.
     pub stop: Stop,
+    /// What it was reading.
     pub source: Source,
     /// Why the system refused the file, where a file could not be opened or read.
     pub cause: Cause,

@@ -23,7 +23,8 @@ use std::fs::File;
 use std::io::{ErrorKind, Read};
 use std::process::ExitCode;
 
-/// The words that the process was started with, read as those of the program of this name.
+/// The words that the process was started with, read as those of the program of this name. Refused as `read_words` refuses them; words that are no UTF-8 are not
+/// understood.
 pub fn words_of(rt: &HostRuntime, program: &str) -> Result<Words, Stop>
     ensures { IfOk result (λ words. HasLimits words.options) }
 {
@@ -70,7 +71,8 @@ fn renamed<'a>(
     Ok(words)
 }
 
-/// The entities of the file that the words name, or those that are built in, with tildes read as the words say.
+/// The entities of the file that the words name, or those that are built in, with tildes read as the words say. It stops where the file can't be opened or read,
+/// is no file of entities, or a growth was refused.
 pub fn entities_of(rt: &HostRuntime, words: &Words) -> Result<Entities, Halt>
     ensures read { EntitiesOf words.now result }
     ensures source { IfErr result (λ halt. halt.source ≡ Source.Entities) }
@@ -101,7 +103,7 @@ fn names_of(rt: &HostRuntime, words: &Words) -> Result<Entities, Halt>
     }
 }
 
-/// The lines of the prelude's file that the words name, or none.
+/// The lines of the prelude's file that the words name, or none. It stops where the file can't be opened or read, or a growth was refused.
 pub fn prelude_of(rt: &HostRuntime, words: &Words) -> Result<Vec<String>, Halt>
     ensures read { PreludeOf words.now.prelude result }
     ensures source { IfErr result (λ halt. halt.source ≡ Source.Prelude) }
@@ -130,7 +132,7 @@ fn halted(fault: ToolFault, source: Source, cause: Cause) -> Halt
     }
 }
 
-/// The file of this name, as a feed.
+/// The file of this name, as a feed. It stops where the file can't be opened.
 pub fn opened(rt: &HostRuntime, name: &str, source: Source) -> Result<ReadFeed<File>, Halt>
     ensures feed { IfOk result (λ feed. ⟦<ReadFeed<File> as Feed>⟧.failures feed ≡ 0) }
     ensures stop { IfErr result (λ halt. IsNotOpened name.now halt.stop) }
@@ -139,7 +141,7 @@ pub fn opened(rt: &HostRuntime, name: &str, source: Source) -> Result<ReadFeed<F
     Ok(ReadFeed::new(opened_file(rt, name, source)?))
 }
 
-/// What the words name as the text or the script, or standard input where they name no file, as a feed.
+/// What the words name as the text or the script, or standard input where they name no file, as a feed. It stops where the file can't be opened.
 pub fn text_of(rt: &HostRuntime, words: &Words) -> Result<ReadFeed<TextInput>, Halt>
     ensures feed { IfOk result (λ feed. ⟦<ReadFeed<TextInput> as Feed>⟧.failures feed ≡ 0) }
     ensures stop { IfErr result (λ halt. IsNotOpenedOf words.now.file halt.stop) }

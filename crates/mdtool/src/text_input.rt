@@ -6,7 +6,9 @@ use std::io::{Read, Result, Stdin};
 /// A file that the words name, or standard input.
 #[derive(Drop)]
 pub enum TextInput {
+    /// The file that the words name.
     Named(File),
+    /// Standard input, where they name none.
     Standard(Stdin),
 }
 

@@ -166,7 +166,7 @@ impl Preview {
         }
     }
 
-    /// A walk over the unit of this number, its blocks and inlines alike; nothing where the text has fewer units.
+    /// A walk over the unit of this number, its blocks and inlines alike; nothing where the text has fewer units. It is refused for want of memory alone.
     pub fn walk(&self, i: usize) -> Result<Option<Walk<'_>>, AllocError>
         ensures { IfOk result (λ walk. option_map edges_left walk ≡ option_map unit_edges (slice_get (readings_of self.now) i)) }
     {
@@ -332,7 +332,7 @@ impl Preview {
     ///
     /// The lines are read as a text of their own, and counted against limits of their own. Refused, in this order:
     /// `BreakInLine`, `TooManyLines`, `TooLarge`, whatever the memory; then `NotDefinitions`, `InlineTooDeep`; `NoMemory` at
-    /// any point. After each the preview is as before, and after the first three the counter too. `NotDefinitions` comes
+    /// any point behind the first three. After each the preview is as before, and after those the counter too. `NotDefinitions` comes
     /// before any inline text is read.
     pub fn set_prelude<C: Count>(
         &mut self,

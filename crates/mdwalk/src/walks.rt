@@ -22,7 +22,7 @@ pub struct Walk<'a> {
 impl<'a> Walk<'a> {
     ghost use Rattle.mdwalk.specs.EdgeView.{edges_left};
 
-    /// A walk over the blocks of a unit, whose texts read as `texts`.
+    /// A walk over the blocks of a unit, whose texts read as `texts`. It is refused for want of memory alone.
     pub fn new(
         alloc: Global,
         blocks: &'a [Block],

@@ -38,7 +38,7 @@ pub struct Like<'a> {
 }
 
 /// Writes what `append_unit_ends` does. Where the unit is one list and the one that was written before is one of the same kind, tight or loose as it is, the bytes
-/// of the items that are the same in both, at the front and at the end, are taken from there.
+/// of the items that are the same in both, at the front and at the end, are taken from there. After `NoMemory` a beginning of both may stand there.
 pub fn append_unit_like(
     blocks: &[Block],
     texts: &[Parsed],

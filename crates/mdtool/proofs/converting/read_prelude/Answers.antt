@@ -3,7 +3,7 @@ use Rattle.mdsource.specs.Setting.{Setting}
 use Rattle.mdtool.specs.Convert.{IsPreludeOf, PreludeRead}
 use Rattle.mdtool.specs.ToolRefusals.{refusal_of}
 use Rattle.mdtool.proofs.PreludeDue.{page_prelude_of, page_prelude_refused}
-use Rattle.mdtool.proofs.converting.prelude_of.Goals as goal
+use Rattle.mdtool.proofs.converting.read_prelude.Goals as goal
 
 pub returns-in-Ok : goal.returns-in-Ok
 returns-in-Ok c =
