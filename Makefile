@@ -40,7 +40,7 @@ BUILT_PROGRAMS := $(PROGRAMS:%=bin/%)
 
 help:
 	@echo "make run                 runs mdrender on a page and mdpreview on a writer's few edits, and shows what goes in and out (from the sources, unproved, where bin/ is empty); PAGE=FILE and EDITS=FILE show files of yours"
-	@echo "make build               proves every crate and builds the programs and the library for C into bin/, side by side; a line a crate, the logs in out/NAME.log"
+	@echo "make build               proves the programs, the library for C and all that they stand on, side by side, and builds them into bin/; a line a crate, the logs in out/NAME.log"
 	@echo "make programs            proves and builds the two programs alone"
 	@echo "make test                the gate: every proof from nothing, all tests, examples and listings of the pages, and wrong code that must be refused; before these what can be seen in a minute of layout, sources, edits and pages, and where that fails no more; then endings and completions, the library from C, the client in Vim; the log in out/gate.log"
 	@echo "make check               a quick check of every crate, over what earlier checks kept"
@@ -154,7 +154,7 @@ install-programs:
 	@there=; for program in $(PROGRAMS); do \
 	  if [ -e bin/$$program ]; then there="$$there $$program"; else echo "bin/$$program is not built, and so not installed (make programs)"; fi; \
 	done; \
-	[ -n "$$there" ] || exit 1; \
+	[ -n "$$there" ] || exit $(if $(wildcard $(LIBRARY)),0,1); \
 	$(INSTALL) -d "$(DESTDIR)$(BIN_DIR)" "$(DESTDIR)$(MAN_DIR)" "$(DESTDIR)$(DATA_DIR)" "$(DESTDIR)$(BASH_COMPLETION_DIR)" "$(DESTDIR)$(ZSH_COMPLETION_DIR)" && \
 	$(INSTALL) -m 644 bench/entities.json "$(DESTDIR)$(DATA_DIR)" && \
 	for program in $$there; do \

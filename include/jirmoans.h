@@ -166,9 +166,9 @@ void jirmoans_close(jirmoans_preview *preview) JIRMOANS_NONNULL;
  * line. A whole file is brought by one edit: jirmoans_edit(preview, 0, 0, file, size, &changes).
  * U+0000 is read as U+FFFD. A U+FEFF at the front of a file is read as text here: take it off.
  *
- * Of these the first that is due: JIRMOANS_NOT_UTF8, JIRMOANS_OUT_OF_RANGE, JIRMOANS_TOO_MANY_LINES,
- * JIRMOANS_TOO_LARGE, JIRMOANS_NESTED_TOO_DEEP, JIRMOANS_INLINE_TOO_DEEP; JIRMOANS_NO_MEMORY at any
- * point. Then the preview and `changes` are as they were. */
+ * JIRMOANS_NOT_OPEN; else of these the first that is due: JIRMOANS_NOT_UTF8, JIRMOANS_OUT_OF_RANGE,
+ * JIRMOANS_TOO_MANY_LINES, JIRMOANS_TOO_LARGE, JIRMOANS_NESTED_TOO_DEEP, JIRMOANS_INLINE_TOO_DEEP;
+ * JIRMOANS_NO_MEMORY at any point. Then the preview and `changes` are as they were. */
 jirmoans_fault jirmoans_edit(jirmoans_preview *preview, size_t at, size_t del, const char *text,
                              size_t len, jirmoans_changes *changes) JIRMOANS_NONNULL;
 
@@ -176,15 +176,16 @@ jirmoans_fault jirmoans_edit(jirmoans_preview *preview, size_t at, size_t del, c
  * that stand below the text's own. No piece comes or goes; those with a link that leads elsewhere are
  * made again.
  *
- * JIRMOANS_NOT_UTF8, JIRMOANS_TOO_MANY_LINES, JIRMOANS_TOO_LARGE, JIRMOANS_NOT_DEFINITIONS,
- * JIRMOANS_INLINE_TOO_DEEP; JIRMOANS_NO_MEMORY at any point. Then all is as it was. */
+ * JIRMOANS_NOT_OPEN; else of these the first that is due: JIRMOANS_NOT_UTF8, JIRMOANS_TOO_MANY_LINES,
+ * JIRMOANS_TOO_LARGE, JIRMOANS_NOT_DEFINITIONS, JIRMOANS_INLINE_TOO_DEEP; JIRMOANS_NO_MEMORY at any
+ * point. Then all is as it was. */
 jirmoans_fault jirmoans_set_prelude(jirmoans_preview *preview, const char *text, size_t len,
                                     jirmoans_changes *changes) JIRMOANS_NONNULL;
 
 /* The HTML of the unit of this number. It is empty or ends with LF.
  *
- * JIRMOANS_NO_SUCH_UNIT or JIRMOANS_NO_MEMORY. Then `piece` is as it was; after the second, what was
- * shown before is gone. */
+ * JIRMOANS_NOT_OPEN, JIRMOANS_NO_SUCH_UNIT or JIRMOANS_NO_MEMORY. Then `piece` is as it was; after the
+ * last, what was shown before is gone. */
 jirmoans_fault jirmoans_piece(jirmoans_preview *preview, size_t unit,
                               jirmoans_text *piece) JIRMOANS_NONNULL;
 
@@ -195,7 +196,8 @@ jirmoans_fault jirmoans_piece(jirmoans_preview *preview, size_t unit,
 jirmoans_fault jirmoans_html(jirmoans_preview *preview, const char *text, size_t len,
                              jirmoans_text *html) JIRMOANS_NONNULL;
 
-/* The line at which the unit of this number begins. JIRMOANS_NO_SUCH_UNIT leaves `line` alone. */
+/* The line at which the unit of this number begins. JIRMOANS_NOT_OPEN and JIRMOANS_NO_SUCH_UNIT leave
+ * `line` alone. */
 jirmoans_fault jirmoans_first_line(jirmoans_preview *preview, size_t unit,
                                    size_t *line) JIRMOANS_NONNULL;
 

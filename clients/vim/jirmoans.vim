@@ -4,7 +4,7 @@ vim9script
 #   :source clients/vim/jirmoans.vim
 #   :Jirmoans                          opens the window, and closes it again
 #
-# g:jirmoans_program names the program, if it is not the mdpreview on the path, and g:jirmoans_options is a list of its words, as ['--unsafe']. A program that is not
+# g:jirmoans_program names the program, if it is not the mdpreview on the path, and g:jirmoans_options is a list of its words, as ['--unsafe']: any but '--lines'. A program that is not
 # there, or ends, is said so, and the window closes. Each piece is a run of lines of the HTML's buffer, whose last line is always
 # empty; after a change only the lines of the pieces that the reply names are replaced. One edit is under way at a time.
 
