@@ -2,8 +2,8 @@
 """memory.py [--scripts N] [--edits N] [--seed S] [--bin DIR]: each growth of memory refused in turn, in bin/refused_growths, bin/mdrender and bin/mdpreview.
 
 A program runs as often as it asks for memory; in each run one of these growths is refused, by a library that is loaded before C's (refuse_memory.c; a C compiler is
-needed). refused_growths makes each call of the libraries that takes memory: it must write what it always does, and where the growth was refused inside a call a line
-more, that all was as before. Then come the examples' texts and scripts, and N random scripts of edits (3, of 40 edits each). mdpreview must
+needed). refused_growths makes the calls of the libraries that take memory: it must write what it always does, and where the growth was refused inside a call a line
+more, that all was as before. Then come the examples' texts and scripts, two edits of a few bytes beside a long unit, and N random scripts of edits (3, of 40 edits each). mdpreview must
 answer `refused NoMemory 0` to one command, and all others as if that command had not been sent; or end with status 1 and `no memory`, with a beginning of its replies
 written; or go on as ever. An edit of a few bytes, beside a long unit or in its place, must be done though a large block of memory is refused. mdrender must write all
 or nothing, and say `no memory`. The last line is 'N passed, M failed', over the growths."""
@@ -130,7 +130,7 @@ class Render:
 
 
 class Calls:
-    """The program that makes each call, and makes it again where it was refused."""
+    """The program that makes the calls, and makes one again where it was refused."""
 
     least = 0
 
@@ -185,7 +185,7 @@ def subjects(options, loaded):
         if not os.path.exists(name.removesuffix(".script") + ".status"):
             with open(name, "rb") as file:
                 yield os.path.relpath(name, ROOT), Preview(options.bin, [], file.read(), loaded)
-    for name, script in short_edits() if options.scripts else []:
+    for name, script in short_edits():
         yield name, ShortEdit(options.bin, [], script, loaded)
     for number in range(options.scripts):
         yield f"random script {number}", Preview(options.bin, [], random_script(f"{options.seed}:{number}", options.edits), loaded)
