@@ -188,12 +188,13 @@ def Toggle()
   Send()
 enddef
 
-# For scripts: waits until the HTML is that of the text, or the window is closed.
+# For scripts: waits until the HTML is that of the text, or the window is closed; ten seconds at the most.
 def g:JirmoansSettle()
   if text != 0
     listener_flush(text)
   endif
-  while text != 0 && (busy || held != Lines() && refused != Lines())
+  var begun = reltime()
+  while text != 0 && (busy || held != Lines() && refused != Lines()) && reltimefloat(reltime(begun)) < 10.0
     sleep 1m
   endwhile
 enddef

@@ -1,6 +1,6 @@
 -- Rows of the pieces of a text, by computation.
 use Rattle.std.proofs.Common.{◌≡◌, [], ◌∷◌, refl, codes, true, false}
-use Rattle.edit_rows.proofs.ReadEdits.{source_of, plain, with_meta, pieces}
+use Rattle.edit_rows.proofs.ReadEdits.{source_of, plain, with_meta, with_styles, pieces}
 
 -- a heading, a list, a quote, a table
 each_block : pieces plain (source_of (codes "# A *b*" ∷ [] ∷ codes "- [x] c" ∷ codes "- d" ∷ [] ∷ codes "> e  " ∷ codes "f" ∷ [] ∷ codes "| g | h |" ∷ codes "|:-|-:|" ∷ codes "| `i` | ~~j~~ |" ∷ []) []) ≡
@@ -23,6 +23,12 @@ metas = refl
 metas_on_pre : pieces (with_meta true) (source_of (codes "~~~ x y *z*" ∷ []) []) ≡ codes "<pre lang=\"x\" data-meta=\"y *z*\"><code></code></pre>\n" ∷ []
 unfolding pieces
 metas_on_pre = refl
+
+-- the language on `pre` and alignments as styles, as cmark-gfm writes them
+styles : pieces with_styles (source_of (codes "~~~ x y" ∷ codes "a" ∷ codes "~~~" ∷ codes "|a|b|c|" ∷ codes "|:-|:-:|-:|" ∷ codes "|1|2|3|" ∷ []) []) ≡
+    codes "<pre lang=\"x\"><code>a\n</code></pre>\n" ∷ codes "<table>\n<thead>\n<tr>\n<th style=\"text-align: left\">a</th>\n<th style=\"text-align: center\">b</th>\n<th style=\"text-align: right\">c</th>\n</tr>\n</thead>\n<tbody>\n<tr>\n<td style=\"text-align: left\">1</td>\n<td style=\"text-align: center\">2</td>\n<td style=\"text-align: right\">3</td>\n</tr>\n</tbody>\n</table>\n" ∷ []
+unfolding pieces
+styles = refl
 
 -- links, images, autolinks, references and escapes
 links : pieces plain (source_of (codes "[a](javascript:x) ![b *c*](/d \"e\")" ∷ [] ∷ codes "<http://f> &amp; \\*" ∷ []) []) ≡

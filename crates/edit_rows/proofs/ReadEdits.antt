@@ -50,6 +50,10 @@ plain = limited 64 64
 abbrev pub with_meta : (pre_lang : Bool) → Setting
 with_meta pre_lang = record plain { options = record plain.options { pre_lang = pre_lang; full_info_string = true } }
 
+-- with the language of code on `pre`, and alignments as styles
+abbrev pub with_styles : Setting
+with_styles = record plain { options = record plain.options { pre_lang = true; align_style = true } }
+
 abbrev pub answer_by : Setting → Source → Call → Option Refusal → Answer
 answer_by setting source call (Some reason) = refused reason
 answer_by setting source call None =
