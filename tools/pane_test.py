@@ -262,6 +262,25 @@ def hands_on(browser, name):
         server.wait()
 
 
+def opens_beside(browser, name):
+    """A link that leads to a file of the folder opens beside the page, which stays, and that file is served."""
+    notes = os.path.join(os.path.dirname(name), "notes.md")
+    save(notes, "Notes.\n")
+    save(name, "[there](notes.md)\n")
+    server, address = started(name)
+    try:
+        browser.call("Page.navigate", url=address)
+        wait(lambda: browser.value("document.querySelectorAll('#pieces a').length") == 1)
+        browser.value("window.open = (...words) => { window.opened = words; }")
+        browser.value("document.querySelector('#pieces a').click()")
+        with urllib.request.urlopen(address + "notes.md") as answer:
+            served = answer.read() == b"Notes.\n"
+        return served and browser.value("window.opened") == [address + "notes.md", "_blank", "noopener"] and browser.value("location.href") == address
+    finally:
+        server.terminate()
+        server.wait()
+
+
 def leaks(address, name):
     """Whether a file that is neither an image nor a text, or that lies outside of the folder, is served."""
     home = os.path.dirname(name)
@@ -324,6 +343,7 @@ def main():
                 (scrolls(browser, os.path.join(home, "pages", "long.md")), "the page does not scroll with the cursor"),
                 (not answers_strangers(address), "a request from elsewhere was answered"),
                 (hands_on(browser, os.path.join(home, "pages", "names.md")), "an option of the program is not handed on"),
+                (opens_beside(browser, os.path.join(home, "pages", "links.md")), "a link does not open beside the page, or its file is not served"),
                 (not leaks(address, name), "a file that is not to be served was"),
                 (ends_with_a_line(address, name), "a pane that can't be begun does not say why, or goes on"),
                 (refused_at_first(browser, os.path.join(home, "pages", "other.md")), "a text that is refused at first is not said to be, or a picture is not shown"),
