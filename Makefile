@@ -40,7 +40,7 @@ BUILT_PROGRAMS := $(PROGRAMS:%=bin/%)
 
 help:
 	@echo "make run                 runs mdrender on a page and mdpreview on a writer's few edits, and shows what goes in and out (from the sources, unproved, where bin/ is empty); PAGE=FILE and EDITS=FILE show files of yours"
-	@echo "make build               proves the programs, the library for C and all that they stand on, side by side, and builds them into bin/; a line a crate, the logs in out/NAME.log"
+	@echo "make build               proves the programs, the library for C and all that they stand on, and builds them into bin/, side by side; a line a crate, the logs in out/NAME.log"
 	@echo "make programs            proves and builds the two programs alone"
 	@echo "make test                the gate: every proof from nothing, all tests, examples and listings of the pages, and wrong code that must be refused; before these what can be seen in a minute of layout, sources, edits and pages, and where that fails no more; then endings and completions, the library from C, the client in Vim; the log in out/gate.log"
 	@echo "make check               a quick check of every crate, over what earlier checks kept"
