@@ -139,6 +139,8 @@ counts:
 	@$(if $(BUILT),,$(MAKE) -s build PROGRAMS=edit_counts)
 	@tools/counts $(ORACLE) $(SCRIPTS)
 
+# With the library alone built, that no program is there is no failure of the whole.
+install: NO_PROGRAM = $(if $(wildcard $(LIBRARY)),0,1)
 install: install-programs
 	@if [ -e $(LIBRARY) ]; then \
 	  $(INSTALL) -d "$(DESTDIR)$(LIB_DIR)" "$(DESTDIR)$(INCLUDE_DIR)" "$(DESTDIR)$(PKG_CONFIG_DIR)" && \
@@ -154,7 +156,7 @@ install-programs:
 	@there=; for program in $(PROGRAMS); do \
 	  if [ -e bin/$$program ]; then there="$$there $$program"; else echo "bin/$$program is not built, and so not installed (make programs)"; fi; \
 	done; \
-	[ -n "$$there" ] || exit $(if $(wildcard $(LIBRARY)),0,1); \
+	[ -n "$$there" ] || exit $(or $(NO_PROGRAM),1); \
 	$(INSTALL) -d "$(DESTDIR)$(BIN_DIR)" "$(DESTDIR)$(MAN_DIR)" "$(DESTDIR)$(DATA_DIR)" "$(DESTDIR)$(BASH_COMPLETION_DIR)" "$(DESTDIR)$(ZSH_COMPLETION_DIR)" && \
 	$(INSTALL) -m 644 bench/entities.json "$(DESTDIR)$(DATA_DIR)" && \
 	for program in $$there; do \
