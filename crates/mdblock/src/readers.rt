@@ -144,7 +144,8 @@ impl<'e> Reader<'e> {
 
     /// Counts the next line, which has no line ending, and reads it. Answers the unit before the one that the line begins.
     ///
-    /// A fault stays: from then on the answer is `Failed`, and nothing is handed out. It is inlined: most lines end no unit, and a unit is a large answer.
+    /// `NestedTooDeep` where a container of the line lies in too many others, `NoMemory` where a growth is refused. Such a fault stays: from then on the
+    /// answer is `Failed`, and nothing is handed out. It is inlined: most lines end no unit, and a unit is a large answer.
     #[inline(always)]
     pub fn line<C: Count>(&mut self, text: &str, count: &mut C) -> Result<Option<Found>, BlockFault>
         requires short { 4 * length text.now < 2 ^ 64 }
@@ -185,7 +186,7 @@ impl<'e> Reader<'e> {
         }
     }
 
-    /// The last unit. After a fault the answer is `Failed`; that containers lie too deep is answered by `line` alone.
+    /// The last unit, if there is one. `NoMemory` where a growth is refused, `Failed` after a fault; that containers lie too deep is answered by `line` alone.
     pub fn finish(self) -> Result<Option<Found>, BlockFault>
         ensures failed { self.entry.held ≡ None → IsErrOf result Failed }
         ensures failed_before { IsErrOf result Failed → self.entry.held ≡ None }

@@ -10,9 +10,11 @@ pub trait Weighed {
 
     ghost marks: { Self → ℕ };
 
+    /// The weight.
     fn weight(&self) -> usize
         ensures { result ≡ weight self.now };
 
+    /// The marks, as bits.
     fn marks(&self) -> u64
         ensures { result ≡ marks self.now };
 }
@@ -38,6 +40,7 @@ pub trait Change<T> {
 
     ghost changed: { Self → T → T };
 
+    /// Changes a member for which the change can be made.
     fn change(self, member: &mut T)
         requires { can_change self member.old }
         ensures { member.new ≡ changed self member.old };
@@ -46,7 +49,9 @@ pub trait Change<T> {
 /// A member by its number, and the weight in front of it.
 #[derive(Clone, Copy)]
 pub struct WeightPlace {
+    /// The number of the member, from 0.
     pub member: usize,
+    /// The sum of the weights of all members before it.
     pub front: usize,
 }
 

@@ -54,6 +54,7 @@ impl Asked {
         self.labels.len()
     }
 
+    /// Whether no label was looked up. Takes no memory.
     pub fn is_empty(&self) -> bool
         ensures { result ≡ (length self.now == 0) }
     {

@@ -18,7 +18,9 @@ use std::alloc::Global;
 /// A link reference definition (CommonMark 4.7): a label, and where links with that label lead.
 #[derive(Debug, Drop)]
 pub struct Definition {
+    /// The label that is defined.
     pub label: Label,
+    /// Where it leads.
     pub target: Target,
 }
 
@@ -26,11 +28,13 @@ pub struct Definition {
 /// bytes.
 #[derive(Debug, Drop)]
 pub struct Leading {
+    /// The definitions, in their order.
     pub definitions: Vec<Definition>,
+    /// Where the rest begins, in bytes.
     pub rest: usize,
 }
 
-/// The link reference definitions that stand at the front of a paragraph's text one after the other (CommonMark 4.7).
+/// The link reference definitions that stand at the front of a paragraph's text one after the other (CommonMark 4.7). Refused for want of memory alone.
 pub fn leading_definitions(
     alloc: Global,
     text: &str,

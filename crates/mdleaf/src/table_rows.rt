@@ -13,12 +13,14 @@ use std::alloc::Global;
 /// A table's first two rows: the alignment of each column, and the texts of the header cells, as many.
 #[derive(Debug, Drop)]
 pub struct Header {
+    /// How each column is aligned.
     pub aligns: Vec<Align>,
+    /// The text of each column's cell; as many as there are columns.
     pub cells: Vec<String>,
 }
 
 /// The header of the table that a delimiter row makes of the line before it (GFM Tables (extension)). `None` where the two have
-/// not equally many cells, or the second is no delimiter row.
+/// not equally many cells, or the second is no delimiter row. Refused for want of memory alone.
 #[tactic(auto, unfolding(crate::specs::TableRows::table_header))]
 pub fn table_header(alloc: Global, head: &str, delimiters: &str) -> Result<Option<Header>, NoMemory>
     ensures header { IfOk result (λ header. option_map header_of header ≡ table_header head.now delimiters.now) }
@@ -44,7 +46,7 @@ pub fn begins_table(head: &str, delimiters: &str) -> bool
 }
 
 /// The texts of a table's row with so many columns (GFM Tables (extension)): missing cells are empty, and excess cells left out. A
-/// bar that a backslash stands directly before is written without it.
+/// bar that a backslash stands directly before is written without it. Refused for want of memory alone.
 pub fn data_row(alloc: Global, row: &str, columns: usize) -> Result<Vec<String>, NoMemory>
     ensures { IfOk result (λ cells. map string_bytes cells.items ≡ filled columns (row_texts row.now)) }
 {

@@ -33,7 +33,7 @@ pub(crate) struct Remaining {
 /// Which runs belong together, in the order in which they are taken.
 ///
 /// Again and again the leftmost closer that has an admissible opener takes the nearest such opener; the runs between the two are then text, and
-/// so is what is left of runs in the end. `runs` are all runs of one text, in its order; the inside of a link is a text of its own.
+/// so is what is left of runs in the end. `runs` are all runs of one text, in its order; the inside of a link is a text of its own. Refused for want of memory alone.
 pub fn pair(alloc: Global, runs: &[DelimiterRun]) -> Result<Vec<Match>, AllocError>
     ensures value { IfOk result (λ ts. ts.items ≡ matches runs.now) }
     ensures processed { IfOk result (λ ts. IsProcessed runs.now ts.items) }
@@ -71,7 +71,7 @@ impl Pairing {
         }
     }
 
-    /// Pairs these runs, as [`pair`] does. Their matches are those of the value until the next call.
+    /// Pairs these runs, as [`pair`] does. Their matches are those of the value until the next call. Refused for want of memory alone; the matches are of no use then.
     pub fn pair(&mut self, runs: &[DelimiterRun]) -> Result<(), AllocError>
         ensures value { OnOk result (matches_of self.new ≡ matches runs.now) }
         ensures ordered { OnOk result (All (IsOrdered (length runs.now)) (matches_of self.new)) }

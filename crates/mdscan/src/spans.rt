@@ -9,7 +9,9 @@ use crate::runs::{leading_blanks, trailing_blanks};
 /// The bytes from `start` up to `end`.
 #[derive(Clone, Copy, Debug, PartialEq, Eq)]
 pub struct Span {
+    /// Where it begins, in bytes.
     pub start: usize,
+    /// Where it ends, in bytes: the place behind its last one.
     pub end: usize,
 }
 
@@ -22,7 +24,7 @@ pub(crate) fn trimmed(text: &str, at: usize) -> Span
     trimmed_bytes(text.as_bytes(), at)
 }
 
-/// The same of bytes.
+/// What stands from `at` on in these bytes, without the spaces and tabs at its ends.
 pub(crate) fn trimmed_bytes(text: &[u8], at: usize) -> Span
     requires { at ≤ length text.now }
     ensures value { result ≡ trimmed_from text.now at }

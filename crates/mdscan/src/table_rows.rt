@@ -12,7 +12,7 @@ use std::alloc::{AllocError, Global};
 const NEAR: usize = 8;
 
 /// The cells of a table's row, without the spaces and tabs at their ends (GFM Tables (extension)). A backslash before a bar
-/// is still there.
+/// is still there. Refused for want of memory alone.
 pub fn cells(alloc: Global, row: &str) -> Result<Vec<Span>, AllocError>
     ensures items { IfOk result (λ cells. cells.items ≡ row_cells row.now) }
     ensures spans { IfOk result (λ cells. All (IsSpanOf row.now) cells.items) }

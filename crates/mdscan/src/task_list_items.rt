@@ -9,7 +9,9 @@ use crate::runs::{blank, leading_blanks};
 /// A task marker: whether it is ticked, and where the text goes on after it and the spaces and tabs behind it.
 #[derive(Clone, Copy, Debug, PartialEq, Eq)]
 pub struct TaskMark {
+    /// Whether the box has a tick.
     pub ticked: bool,
+    /// Where the text goes on, in bytes.
     pub after: usize,
 }
 

@@ -101,7 +101,7 @@ impl<'a> Cursor<'a> {
         self.left == 0 && self.rest.len() - self.text.len() == self.indent
     }
 
-    /// The same for any spaces and tabs, one after another.
+    /// Goes over columns of any spaces and tabs, one after another. Of a tab only some columns may be taken.
     #[inline(never)]
     fn skip_widths(&mut self, columns: usize)
         requires { columns ≤ indent (line_at self.old) }

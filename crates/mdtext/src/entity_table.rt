@@ -56,7 +56,8 @@ impl Model for Entities {
 
 impl Entities {
     /// The names `amp`, `lt`, `gt`, `quot`, `apos`, `nbsp`, `copy`, `reg`, `trade`, `AElig`, `auml`, `ouml`, `frac34`,
-    /// `Dcaron`, `ndash`, `mdash`, `lsquo`, `rsquo`, `ldquo`, `rdquo`, `hellip`, `euro` and `times`, with HTML's characters.
+    /// `Dcaron`, `ndash`, `mdash`, `lsquo`, `rsquo`, `ldquo`, `rdquo`, `hellip`, `euro` and `times`, with HTML's characters. Refused for want
+    /// of memory alone.
     pub fn builtin(alloc: Global) -> Result<Entities, NoMemory>
         ensures { IfOk result (λ entities. entities ≡ builtin_table) }
     {
@@ -66,7 +67,7 @@ impl Entities {
     /// The entities of a JSON object: `&`, letters or digits and `;` as the names of its members, each an object with a
     /// text `characters`, as in the file of HTML's names. Members whose names don't end with `;` are ignored.
     ///
-    /// `NotJson` where the bytes are no JSON or their value is no object, `BadEntry` where another member is not so.
+    /// `NotJson` where the bytes are no JSON or their value is no object, `BadEntry` where another member is not so; `NoMemory` at any point.
     pub fn from_json(alloc: Global, bytes: &[u8]) -> Result<Entities, TableFault>
         ensures ok { IfOk result (λ entities. file_table bytes.now ≡ Ok entities) }
         ensures err { IfErr result (λ fault. fault ≢ TableFault.NoMemory → file_table bytes.now ≡ Err fault) }
@@ -77,8 +78,8 @@ impl Entities {
         }
     }
 
-    /// HTML's 2,125 names that end with `;`, as `from_json` reads them of HTML's file (CommonMark 2.5). `NoMemory` where a growth is refused; of the other faults only one
-    /// that `from_json` has of this constant.
+    /// HTML's 2,125 names that end with `;`, as `from_json` reads them of HTML's file (CommonMark 2.5). `NoMemory` where a growth is refused; no other
+    /// fault, since the file has none.
     pub fn html(alloc: Global) -> Result<Entities, TableFault>
         ensures ok { IfOk result (λ entities. file_table HTML_NAMES.now ≡ Ok entities) }
         ensures err { IfErr result (λ fault. fault ≢ TableFault.NoMemory → file_table HTML_NAMES.now ≡ Err fault) }
@@ -97,7 +98,7 @@ impl Entities {
         Ok(usual(texts))
     }
 
-    /// The same names. With `double_tilde` one tilde alone is text, and two strike through, as with `--strikethrough-double-tilde`
+    /// These names. With `double_tilde` one tilde alone is text, and two strike through, as with `--strikethrough-double-tilde`
     /// of `cmark-gfm`; without it one strikes through too, which is the usual way (GFM Strikethrough (extension)).
     pub fn with_double_tilde(self, double_tilde: bool) -> Entities
         ensures { result ≡ record self { double_tilde = double_tilde } }

@@ -84,7 +84,7 @@ impl Label {
         self.folded.as_str()
     }
 
-    /// An equal label.
+    /// An equal label. Refused for want of memory alone.
     pub fn copy(&self, alloc: Global) -> Result<Label, NoMemory>
         ensures { IfOk result (λ label. label ≡ self.now) }
     {
@@ -147,7 +147,7 @@ pub struct Target {
 }
 
 impl Target {
-    /// An equal target.
+    /// An equal target. Refused for want of memory alone.
     pub fn copy(&self, alloc: Global) -> Result<Target, NoMemory>
         ensures url { IfOk result (λ target. string_bytes target.url ≡ string_bytes self.now.url) }
         ensures title { IfOk result (λ target. string_bytes target.title ≡ string_bytes self.now.title) }
@@ -162,7 +162,7 @@ impl Target {
 /// The label that stands in brackets, from what stands between them (CommonMark 4.7).
 ///
 /// `None` where it has no character but spaces, tabs and line endings, more than 999 characters, or a bracket that no
-/// backslash escapes. Escapes and references stay as they are written.
+/// backslash escapes. Escapes and references stay as they are written. Refused for want of memory alone.
 pub fn fold_label(alloc: Global, inside: &str) -> Result<Option<Label>, NoMemory>
     ensures { IfOk result (λ label. label ≡ label_of inside.now) }
 {

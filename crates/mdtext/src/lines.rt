@@ -10,7 +10,7 @@ use memchr::memchr;
 use std::alloc::Global;
 
 /// The lines of a whole text (CommonMark 2.1): a line ends at LF, at CR LF, at CR without LF after it, and at the end of
-/// the text. A leading U+FEFF is dropped, and U+FFFD stands for each U+0000. The empty text has no line.
+/// the text. A leading U+FEFF is dropped, and U+FFFD stands for each U+0000. The empty text has no line. Refused for want of memory alone.
 pub fn lines_of(alloc: Global, text: &str) -> Result<Vec<String>, NoMemory>
     ensures { IfOk result (λ lines. map string_bytes lines.items ≡ text_lines text.now) }
 {
@@ -60,7 +60,7 @@ fn after_lf(text: &str) -> &str
     }
 }
 
-/// The line with U+FFFD for each U+0000 (CommonMark 2.3).
+/// The line with U+FFFD for each U+0000 (CommonMark 2.3). Refused for want of memory alone.
 pub fn clean_line(alloc: Global, line: &str) -> Result<String, NoMemory>
     ensures { IfOk result (λ clean. string_bytes clean ≡ without_nul line.now) }
 {

@@ -24,7 +24,7 @@ pub(crate) const SOUND: Devices = Devices {
     out_fails: None,
 };
 
-/// The same, for long texts.
+/// Devices for long texts, of which no call fails.
 pub(crate) const WIDE: Devices = Devices {
     step: 4096,
     feed_fails: None,
