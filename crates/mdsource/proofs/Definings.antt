@@ -21,7 +21,7 @@ use Rattle.mdsource.specs.Refusals.{is_more, undefining_line}
 use Rattle.mdsource.specs.Setting.{Setting}
 use Rattle.mdsource.proofs.LabelsLead.{labels_more}
 use Rattle.mdsource.specs.Defining.{Defines, EndsAt, fault_of, first_other, shown}
-use Rattle.mdsource.specs.Preludes.{IsUndefiningAt, OfDefinitions}
+use Rattle.mdsource.specs.Preludes.{IsUndefiningAt}
 use Rattle.mdsource.specs.declared.fault.EditFault.{EditFault}
 use Rattle.mdsource.specs.declared.defining.Defined.{Defined}
 

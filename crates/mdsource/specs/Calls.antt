@@ -1,6 +1,6 @@
 -- What a call of a preview means: the text that it would leave, why it is refused, and what is there after some calls.
 use Rattle.std.specs.Prelude.{ℕ, ◌+◌, ◌-◌, ◌==◌, ◌||◌, Bool, List, [], ◌∷◌, ◌++◌, length, map, take, drop, nat_lt, Option, Some, None, option_map, if◌then◌else◌}
-use Rattle.std.specs.List.{list_any, find}
+use Rattle.std.specs.List.{list_any}
 use Rattle.std.specs.Option.{option_or}
 use Rattle.mdtext.specs.Lines.{without_nul}
 use Rattle.mdsource.specs.Setting.{Setting, Source}

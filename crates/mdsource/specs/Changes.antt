@@ -1,6 +1,6 @@
 -- What an edit changes elsewhere: units whose texts asked for a label that leads elsewhere now are made again.
-use Rattle.std.specs.Prelude.{ℕ, ◌+◌, ◌-◌, ◌&&◌, ◌||◌, Bool, true, false, not, List, [], ◌∷◌, ◌++◌, length, map, nat_lt, nat_le, Option, Some, None, if◌then◌else◌}
-use Rattle.std.specs.List.{filter, list_any, sum_by}
+use Rattle.std.specs.Prelude.{ℕ, ◌+◌, ◌&&◌, Bool, true, false, not, List, [], ◌∷◌, ◌++◌, length, map, nat_lt, nat_le, Option, Some, None, if◌then◌else◌}
+use Rattle.std.specs.List.{filter, list_any}
 use Rattle.std.specs.Str.{bytes_eq}
 use Rattle.blockspec.specs.BlockUnits.{begins}
 use Rattle.inlinespec.specs.LabelMap.{LinkTarget}

@@ -1,5 +1,5 @@
 -- Which lines an edit reads again, and which units give way to which, by the first lines of the units of the old text and of the new one.
-use Rattle.std.specs.Prelude.{ℕ, ◌+◌, ◌-◌, ◌&&◌, Bool, List, length, nat_lt, nat_le, nat_eq, max, not}
+use Rattle.std.specs.Prelude.{ℕ, ◌+◌, ◌-◌, ◌&&◌, Bool, List, length, nat_lt, nat_le, nat_eq, max}
 use Rattle.std.specs.List.{fold, filter, find, list_any}
 use Rattle.std.specs.Option.{unwrap_or}
 

@@ -3,6 +3,7 @@
 //! behind the edit that begins in both texts, and not the rest of their list. `laws` has what holds of these definitions, whatever holds a text.
 #![tactic(auto)]
 
+mod added_lines;
 mod clean;
 mod defining;
 mod fault;
@@ -12,7 +13,7 @@ mod limits;
 mod preludes;
 mod reading_faults;
 
-pub use clean::clean_lines;
+pub use added_lines::AddedLines;
 pub use fault::EditFault;
 pub use laws::edits::{edits_splice, stretches_tell_the_first_too_deep};
 pub use laws::html::events_are_written_as_their_tree;
@@ -39,6 +40,6 @@ pub use laws::unit_items::{
     own_lines_tell_joins,
 };
 pub use lent_lines::Lines;
-pub use limits::{MAX_LINES, MAX_SIZE, are_plain, clean_size, first_line_break};
+pub use limits::{MAX_LINES, MAX_SIZE};
 pub use preludes::{Prelude, or_beside};
 pub use reading_faults::{fault_in_line, fault_in_unit};

@@ -12,8 +12,8 @@ pub const MAX_LINES: usize = 1_000_000;
 /// How many bytes, with one counted for each line's end.
 pub const MAX_SIZE: usize = 16_777_216;
 
-/// Whether no line ending and no U+0000 stands in any of the lines. So it is in most texts, and then no line is searched again.
-pub fn are_plain(lines: &[&str]) -> bool
+/// Whether no line ending and no U+0000 stands in any of the lines.
+pub(crate) fn are_plain(lines: &[&str]) -> bool
     ensures { result ≡ true → list_any has_special (map (λ line. line.now) lines.now) ≡ false }
 {
     for line in lines {
@@ -53,14 +53,10 @@ fn has_line_break(line: &str) -> bool
     first_special(bytes, &Class::of(b"\n\r")) < bytes.len()
 }
 
-/// The first line that holds a line ending; all are known to be plain, or nothing is known of them.
-pub fn first_line_break(lines: &[&str], are_plain: bool) -> Option<usize>
-    requires { are_plain ≡ true → list_any has_special (map (λ line. line.now) lines.now) ≡ false }
+/// The first line that holds a line ending.
+pub(crate) fn first_line_break(lines: &[&str]) -> Option<usize>
     ensures { result ≡ first_with_ending 0 (map (λ line. line.now) lines.now) }
 {
-    if are_plain {
-        return None;
-    }
     for i in 0..lines.len() {
         if has_line_break(lines[i]) {
             return Some(i);
@@ -69,14 +65,10 @@ pub fn first_line_break(lines: &[&str], are_plain: bool) -> Option<usize>
     None
 }
 
-/// The size of lines after NUL is replaced, up to the greatest number; all are known to be plain, or nothing is known of them.
-pub fn clean_size(lines: &[&str], are_plain: bool) -> usize
-    requires { are_plain ≡ true → list_any has_special (map (λ line. line.now) lines.now) ≡ false }
+/// The size of lines after NUL is replaced, up to the greatest number.
+pub(crate) fn clean_size(lines: &[&str]) -> usize
     ensures { result ≡ min (size_of (map without_nul (map (λ line. line.now) lines.now))) (2 ^ 64 - 1) }
 {
-    if are_plain {
-        return plain_size(lines);
-    }
     let mut size: usize = 0;
     for line in lines {
         size = size.saturating_add(clean_len(line)).saturating_add(1);
@@ -85,7 +77,7 @@ pub fn clean_size(lines: &[&str], are_plain: bool) -> usize
 }
 
 /// The size of lines as they are, up to the greatest number.
-fn plain_size(lines: &[&str]) -> usize
+pub(crate) fn plain_size(lines: &[&str]) -> usize
     ensures { result ≡ min (size_of (map (λ line. line.now) lines.now)) (2 ^ 64 - 1) }
 {
     let mut size: usize = 0;

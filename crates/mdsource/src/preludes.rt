@@ -11,11 +11,11 @@ ghost use Rattle.mdsource.specs.SourceLimits.{due_of_prelude, has_special, size_
 ghost use Rattle.mdsource.specs.Preludes.{IsDefinedBy, IsUndefiningAt, RefusesPrelude, target_beside};
 ghost use Rattle.mdsource.specs.Refusals.{undefining_line};
 
-use crate::clean::clean_lines;
+use crate::added_lines::AddedLines;
 use crate::defining::read_definitions;
 use crate::fault::EditFault;
 use crate::lent_lines::Lines;
-use crate::limits::{MAX_LINES, MAX_SIZE, are_plain, clean_size, first_line_break};
+use crate::limits::{MAX_LINES, MAX_SIZE};
 use mdchunks::Iter;
 use mdhtml::Options;
 use mdinline::Labels;
@@ -82,9 +82,9 @@ impl Prelude {
         ensures lines { C.lines count.new ≤ C.lines count.old + length lines.now }
         ensures inlines { C.inlines count.new ≡ C.inlines count.old }
     {
-        let are_plain = are_plain(lines);
-        accept(lines, are_plain)?;
-        let lines = clean_lines(alloc, lines, are_plain, 0)?;
+        let added = AddedLines::new(lines);
+        accept(&added)?;
+        let lines = added.cleaned(alloc, 0)?;
         let targets = read_definitions(alloc, &lines, entities, options, count)?;
         Ok(Prelude { lines, targets })
     }
@@ -113,22 +113,21 @@ impl Labels for Prelude {
     }
 }
 
-/// Why the lines are refused as a prelude, whatever the memory. Takes none. All are known to be plain, or nothing is known of them.
-fn accept(lines: &[&str], are_plain: bool) -> Result<(), EditFault>
-    requires { are_plain ≡ true → list_any has_special (map (λ line. line.now) lines.now) ≡ false }
-    ensures ok { OnOk result (due_of_prelude (map (λ line. line.now) lines.now) ≡ None) }
-    ensures err { IfErr result (λ fault. RefusesPrelude fault (map (λ line. line.now) lines.now)) }
-    ensures due { IfErr result (λ fault. due_of_prelude (map (λ line. line.now) lines.now) ≡ Some fault) }
+/// Why the lines are refused as a prelude, whatever the memory. Takes none.
+fn accept(lines: &AddedLines) -> Result<(), EditFault>
+    ensures ok { OnOk result (due_of_prelude lines.now ≡ None) }
+    ensures err { IfErr result (λ fault. RefusesPrelude fault lines.now) }
+    ensures due { IfErr result (λ fault. due_of_prelude lines.now ≡ Some fault) }
     ensures few { OnOk result (length lines.now ≤ 1000000) }
-    ensures small { OnOk result (size_of (map without_nul (map (λ line. line.now) lines.now)) ≤ 16777216) }
+    ensures small { OnOk result (size_of (map without_nul lines.now) ≤ 16777216) }
 {
-    if let Some(index) = first_line_break(lines, are_plain) {
+    if let Some(index) = lines.first_line_break() {
         return Err(EditFault::BreakInLine { index });
     }
     if lines.len() > MAX_LINES {
         return Err(EditFault::TooManyLines);
     }
-    if clean_size(lines, are_plain) > MAX_SIZE {
+    if lines.size() > MAX_SIZE {
         return Err(EditFault::TooLarge);
     }
     Ok(())

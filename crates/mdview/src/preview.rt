@@ -1,7 +1,6 @@
 //! `Preview`: a text that is edited by lines, and its HTML in pieces.
 
 ghost use Rattle.std.specs.Prelude.{◌≡◌, ◌≤◌, ◌+◌, List, None, Some, IfErr, IfOk, IsSome, OnOk, false, length, map, option_map, slice_get, true};
-ghost use Rattle.std.specs.List.{list_any};
 ghost use Rattle.mdhtml.specs.Limits.{HasLimits};
 ghost use Rattle.blockspec.specs.BlockUnits.{begins, units};
 ghost use Rattle.blockspec.specs.UnitTree.{UnitTree};
@@ -31,10 +30,7 @@ use mdblock::Unit;
 use mdchunks::Chunks;
 use mdhtml::Options;
 use mdinline::Parsed;
-use mdsource::{
-    EditFault, Lines, MAX_LINES, MAX_SIZE, Prelude, are_plain, clean_lines, clean_size,
-    first_line_break,
-};
+use mdsource::{AddedLines, EditFault, Lines, MAX_LINES, MAX_SIZE, Prelude};
 use mdtext::{Count, Entities};
 use mdwalk::Walk;
 use std::alloc::{AllocError, Global};
@@ -236,28 +232,20 @@ impl Preview {
 }
 
 impl Preview {
-    /// The size of the text after the edit, or why it is refused, whatever the memory. Takes none. All lines that come are known to be plain, or nothing
-    /// is known of them.
-    fn accept(
-        &self,
-        at: usize,
-        del: usize,
-        add: &[&str],
-        are_plain: bool,
-    ) -> Result<usize, EditFault>
-        requires { are_plain ≡ true → list_any has_special (map (λ line. line.now) add.now) ≡ false }
-        ensures ok { IfOk result (λ size. (due self.now.lines (call_of at del (map (λ line. line.now) add.now)) ≡ None)
-            × (size ≡ size_of (put (source_of self.now) (call_of at del (map (λ line. line.now) add.now))).lines)) }
-        ensures err { IfErr result (λ fault. due self.now.lines (call_of at del (map (λ line. line.now) add.now)) ≡ Some fault) }
+    /// The size of the text after the edit, or why it is refused, whatever the memory. Takes none.
+    fn accept(&self, at: usize, del: usize, add: &AddedLines) -> Result<usize, EditFault>
+        ensures ok { IfOk result (λ size. (due self.now.lines (call_of at del add.now) ≡ None)
+            × (size ≡ size_of (put (source_of self.now) (call_of at del add.now)).lines)) }
+        ensures err { IfErr result (λ fault. due self.now.lines (call_of at del add.now) ≡ Some fault) }
         ensures within { OnOk result (at + del ≤ length self.now.lines) }
-        ensures small { OnOk result ((length (put (source_of self.now) (call_of at del (map (λ line. line.now) add.now))).lines ≤ 1000000)
-            × (size_of (put (source_of self.now) (call_of at del (map (λ line. line.now) add.now))).lines ≤ 16777216)) }
+        ensures small { OnOk result ((length (put (source_of self.now) (call_of at del add.now)).lines ≤ 1000000)
+            × (size_of (put (source_of self.now) (call_of at del add.now)).lines ≤ 16777216)) }
     {
         let lines = self.lines.len();
         if at > lines || del > lines - at {
             return Err(EditFault::OutOfRange { lines });
         }
-        if let Some(index) = first_line_break(add, are_plain) {
+        if let Some(index) = add.first_line_break() {
             return Err(EditFault::BreakInLine { index });
         }
         if add.len() > MAX_LINES - (lines - del) {
@@ -265,7 +253,7 @@ impl Preview {
         }
         let gone = self.lines.weight_between(at, del);
         let kept = self.size - gone;
-        let added = clean_size(add, are_plain);
+        let added = add.size();
         if added > MAX_SIZE - kept {
             return Err(EditFault::TooLarge);
         }
@@ -300,9 +288,27 @@ impl Preview {
         ensures inlines { C.inlines count.new ≤ C.inlines count.old + texts_soon (setting_of self.old) (source_of self.old) (call_of at del (map (λ line. line.now) add.now)) }
         ensures uncounted { IsSome (due_at_once (source_of self.old) (call_of at del (map (λ line. line.now) add.now))) → count.new ≡ count.old }
     {
-        let are_plain = are_plain(add);
-        let size = self.accept(at, del, add, are_plain)?;
-        let mut new_lines = clean_lines(self.alloc, add, are_plain, SPLICE_ROOM)?;
+        self.edit_lines(at, del, &AddedLines::new(add), count)
+    }
+
+    /// The edit, of lines that were looked at.
+    fn edit_lines<C: Count>(
+        &mut self,
+        at: usize,
+        del: usize,
+        add: &AddedLines,
+        count: &mut C,
+    ) -> Result<Patch, EditFault>
+        ensures outcome { (answer_of result, self.new) ≡ outcome_of (is_starved result) self.old (call_of at del add.now) }
+        ensures patch { IfOk result (λ patch. Brings patch (pieces_of self.old) (pieces_of self.new)) }
+        ensures units { IfOk result (λ patch. Brings patch (readings_of self.old) (readings_of self.new)) }
+        ensures stretch { C.lines count.new ≤ C.lines count.old + lines_soon (setting_of self.old) (source_of self.old) (call_of at del add.now) }
+        ensures lines { C.lines count.new ≤ C.lines count.old + length (put (source_of self.old) (call_of at del add.now)).lines }
+        ensures inlines { C.inlines count.new ≤ C.inlines count.old + texts_soon (setting_of self.old) (source_of self.old) (call_of at del add.now) }
+        ensures uncounted { IsSome (due_at_once (source_of self.old) (call_of at del add.now)) → count.new ≡ count.old }
+    {
+        let size = self.accept(at, del, add)?;
+        let mut new_lines = add.cleaned(self.alloc, SPLICE_ROOM)?;
         let held = HeldText {
             alloc: self.alloc,
             entities: &self.entities,

@@ -19,8 +19,7 @@ pub returns-then-added-kept-clause-err : goal.returns-then-added-kept-clause-err
 returns-then-added-kept-clause-err c =
     let ls : List (List ℕ) = map string_bytes c.self.inside.lines.items in
     let long : length ls ≡ length c.self.inside.lines.items = length-map c.self.inside.lines.items string_bytes in
-    let add : List (List ℕ) = map (λ line. line.now) c.args.add.now in
-    let added : length add ≡ length c.args.add.now = length-map c.args.add.now (λ line. line.now) in
+    let add : List (List ℕ) = c.args.add.now in
     let gone_size : ℕ = c.weight_between-gone.result in
     let gone = gone_is c.self.inside.lines.items c.args.at c.args.del c.weight_between-gone.result (omega arith) c.weight_between-gone.ensures in
     let is = due_of_parts ls c.args.at c.args.del add gone_size (omega arith) (sym c.first_line_break.ensures ∙ c.in_default.is) gone (omega arith) (omega arith) in
@@ -31,23 +30,21 @@ pub returns-clause-ok : goal.returns-clause-ok
 returns-clause-ok c =
     let ls : List (List ℕ) = map string_bytes c.self.inside.lines.items in
     let long : length ls ≡ length c.self.inside.lines.items = length-map c.self.inside.lines.items string_bytes in
-    let add : List (List ℕ) = map (λ line. line.now) c.args.add.now in
-    let added : length add ≡ length c.args.add.now = length-map c.args.add.now (λ line. line.now) in
+    let add : List (List ℕ) = c.args.add.now in
     let gone_size : ℕ = c.weight_between-gone.result in
     let gone = gone_is c.self.inside.lines.items c.args.at c.args.del c.weight_between-gone.result (omega arith) c.weight_between-gone.ensures in
     let is = due_of_parts ls c.args.at c.args.del add gone_size (omega arith) (sym c.first_line_break.ensures ∙ c.in_default.is) gone (omega arith) (omega arith) in
     let after = put_of_parts ls c.args.at c.args.del add gone_size (omega arith) gone (omega arith) (omega arith) in
     let small : nat_lt 16777216 (size_of ls - gone_size + size_of (map without_nul add)) ≡ false = grind (arith, nat_tests) in
     let none : due ls (call_of c.args.at c.args.del add) ≡ None = is ∙ (rw small refl) in
-    let size : c.self.inside.size - gone_size + c.clean_size-added.result ≡ size_of (put ls (call_of c.args.at c.args.del add)) = omega arith in
+    let size : c.self.inside.size - gone_size + c.size-added.result ≡ size_of (put ls (call_of c.args.at c.args.del add)) = omega arith in
     rw (← c.self.view_is) (none, size)
 
 pub returns-clause-small : goal.returns-clause-small
 returns-clause-small c =
     let ls : List (List ℕ) = map string_bytes c.self.inside.lines.items in
     let long : length ls ≡ length c.self.inside.lines.items = length-map c.self.inside.lines.items string_bytes in
-    let add : List (List ℕ) = map (λ line. line.now) c.args.add.now in
-    let added : length add ≡ length c.args.add.now = length-map c.args.add.now (λ line. line.now) in
+    let add : List (List ℕ) = c.args.add.now in
     let gone_size : ℕ = c.weight_between-gone.result in
     let gone = gone_is c.self.inside.lines.items c.args.at c.args.del c.weight_between-gone.result (omega arith) c.weight_between-gone.ensures in
     let after = put_of_parts ls c.args.at c.args.del add gone_size (omega arith) gone (omega arith) (omega arith) in
