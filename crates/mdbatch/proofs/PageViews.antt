@@ -1,5 +1,5 @@
 -- A page beside a prelude is the view of its text with that prelude, where these entities define the prelude.
-use Rattle.std.proofs.Common.{◌≡◌, ℕ, Bool, true, false, List, [], Option, Some, None, Result, Ok, Err, String, map, find, cond, option_map, nat_lt, length, refl, ap, sym, ◌∙◌}
+use Rattle.std.proofs.Common.{◌≡◌, ℕ, List, [], Option, Some, None, Result, Ok, Err, String, map, find, option_map, refl, ap, sym, ◌∙◌}
 use Rattle.std.specs.Global.{Global}
 use Rattle.std.specs.List.{concat}
 use Rattle.std.specs.Option.{option_or}
@@ -11,7 +11,7 @@ use Rattle.blockspec.specs.Nesting.{first_too_deep}
 use Rattle.blockspec.proofs.DocumentLaws.{first_of_both}
 use Rattle.inlinespec.specs.LabelMap.{target_in}
 use Rattle.mdsource.specs.LabelTable.{table, table_of, target_defined}
-use Rattle.mdsource.specs.Refusals.{Refusal, nested_too_deep, inline_too_deep, inline_refusal, is_too_deep, nesting_refusal}
+use Rattle.mdsource.specs.Refusals.{nested_too_deep, inline_too_deep, inline_refusal, is_too_deep, nesting_refusal}
 use Rattle.mdsource.specs.Refusals.{refusal as due_refusal}
 use Rattle.mdsource.specs.Setting.{Setting}
 use Rattle.mdsource.specs.View.{ViewedUnit, view, viewed}

@@ -1,5 +1,5 @@
 -- The lines of a text that were fed to a reader, and its fault.
-use Rattle.std.proofs.Common.{◌≡◌, ℕ, List, [], ◌∷◌, ◌++◌, Some, None, length, refl, ap, sym, ◌∙◌, append_assoc, append-nil}
+use Rattle.std.proofs.Common.{◌≡◌, ℕ, List, [], ◌∷◌, ◌++◌, Some, length, refl, ap, sym, ◌∙◌, append_assoc, append-nil}
 use Rattle.mdtext.specs.Lines.{split_lines}
 use Rattle.blockspec.specs.Nesting.{first_too_deep}
 use Rattle.blockspec.proofs.NestingLaws.{too_deep_stays}

@@ -6,7 +6,7 @@ use Rattle.std.specs.Option.{option_or}
 use Rattle.std.proofs.lemmas.Grind.{flat_map-append}
 use Rattle.blockspec.specs.BlockUnits.{definitions_of}
 use Rattle.blockspec.specs.UnitTree.{FoundUnit}
-use Rattle.inlinespec.specs.LabelMap.{LabelMap, target_in}
+use Rattle.inlinespec.specs.LabelMap.{LabelMap}
 use Rattle.inlinespec.specs.LinkTails.{Table}
 use Rattle.mdsource.specs.LabelTable.{table_of}
 use Rattle.mdsource.specs.Setting.{Setting}

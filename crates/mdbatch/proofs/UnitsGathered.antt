@@ -1,6 +1,6 @@
 -- Units that are written as they are found, and those that wait.
-use Rattle.std.proofs.Common.{◌≡◌, ◌<◌, ◌||◌, ℕ, suc, Bool, List, [], ◌∷◌, ◌++◌, Option, None, Some, false, true, string_bytes, refl, ap, sym, ◌∙◌, append_assoc, append-nil, arith, subst, length-append}
-use Rattle.std.specs.Prelude.{is_some, length, slice_index}
+use Rattle.std.proofs.Common.{◌≡◌, ℕ, List, [], ◌∷◌, ◌++◌, Option, None, Some, false, true, string_bytes, refl, ap, sym, ◌∙◌, append_assoc, append-nil, arith, subst, length-append}
+use Rattle.std.specs.Prelude.{is_some}
 use Rattle.std.proofs.lemmas.Grind.{common_steps}
 use Rattle.mdhtml.specs.BlockHtml.{ends_line}
 use Rattle.blockspec.specs.UnitTree.{FoundUnit}
@@ -20,7 +20,7 @@ use Rattle.mdsource.specs.Preludes.{HeldPrelude}
 use Rattle.mdbatch.specs.TextLabels.{page_table, target_by}
 use Rattle.mdbatch.specs.BatchHtml.{WritesUnits, deep_line}
 use Rattle.mdsource.specs.TextFaults.{IsTextFault, text_fault_in}
-use Rattle.mdbatch.specs.GatheredUnits.{Gathers, IsCut, IsWoven, IsWrittenTo, closes_bracket}
+use Rattle.mdbatch.specs.GatheredUnits.{Gathers, IsCut, IsWoven, IsWrittenTo}
 use Rattle.mdbatch.proofs.PageTargets.{leads_on_page}
 use Rattle.mdbatch.proofs.UnitsWritten.{deep_behind, deep_in_front, deep_under, moved_behind, none_written, one_deep, written_behind, written_under}
 

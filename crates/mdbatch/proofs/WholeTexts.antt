@@ -1,5 +1,5 @@
 -- What a whole text gives, whether U+0000 stands in it or not.
-use Rattle.std.proofs.Common.{◌≡◌, ℕ, List, Option, Result, Ok, Err, None, Some, String}
+use Rattle.std.proofs.Common.{◌≡◌, ℕ, List, Option, Result, Ok, Err, None, String}
 use Rattle.std.specs.Global.{Global}
 use Rattle.std.specs.Prelude.{IfErr, IfOk, OnOk, string_bytes}
 use Rattle.blockspec.specs.Nesting.{first_too_deep}

@@ -3,3 +3,4 @@ pub mod GatheredUnits
 pub mod TextLabels
 pub mod ViewHtml
 pub mod UnitsAtOnce
+pub mod UnitsTaken

@@ -2,7 +2,7 @@
 use Rattle.std.specs.Prelude.{◌≡◌, ℕ, List, Some, None, Result, Ok, Err, map, string_bytes, String}
 use Rattle.std.specs.Global.{Global}
 use Rattle.std.specs.List.{concat}
-use Rattle.mdsource.specs.Refusals.{out_of_range, break_in_line, too_many_lines, too_large, nested_too_deep, inline_too_deep, not_definitions, refusal, size_refusal}
+use Rattle.mdsource.specs.Refusals.{too_many_lines, too_large, nested_too_deep, inline_too_deep, refusal, size_refusal}
 use Rattle.mdsource.specs.Setting.{Setting, Source}
 use Rattle.mdsource.specs.View.{view}
 use Rattle.mdsource.specs.declared.fault.EditFault.{EditFault}

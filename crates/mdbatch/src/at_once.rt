@@ -1,6 +1,5 @@
 //! The HTML of a text that defines no label: each unit is written as it is found.
 ghost use Rattle.std.specs.Prelude.{◌≡◌, ◌≤◌, ◌∷◌, [], IfErr, IfOk, IfSome, None, length, string_bytes, true};
-ghost use Rattle.std.specs.Option.{option_map, option_to_list};
 ghost use Rattle.mdtext.specs.Lines.{split_lines};
 ghost use Rattle.blockspec.specs.BlockUnits.{units};
 ghost use Rattle.blockspec.specs.Nesting.{first_too_deep};
@@ -14,12 +13,12 @@ ghost use Rattle.mdbatch.specs.TextLabels.{target_on_page};
 ghost use Rattle.mdbatch.specs.UnitsAtOnce.{AddsUnits};
 
 use crate::page_labels::PageLabels;
-use crate::units::next_line;
-use mdblock::{Found, Reader};
+use crate::units::{UnitSink, read_units};
+use mdblock::Found;
 use mdhtml::{Options, UnitWriter};
 use mdinline::{InlineFault, LabelTable};
-use mdsource::{EditFault, Prelude, fault_in_line};
-use mdtext::{Entities, NoMemory, Tally};
+use mdsource::{EditFault, Prelude};
+use mdtext::{Entities, NoMemory};
 use std::alloc::{AllocError, Global};
 
 /// The HTML of a text in which no U+0000 stands and which defines no label: so where labels lead is known before its first line. Nothing where a unit
@@ -63,55 +62,45 @@ fn written_units<'a>(
     ensures nesting { IfOk result (λ html. IfSome html (λ _. first_too_deep options.now.max_containers (split_lines text.now) ≡ None)) }
     ensures fault { IfErr result (IsReadFault (first_too_deep options.now.max_containers (split_lines text.now))) }
 {
-    let mut writer = UnitWriter::new(alloc, entities, options);
-    let mut html = String::with_capacity(alloc, text.len())?;
-    let mut reader = Reader::new(alloc, entities, options.max_containers);
-    let mut count = Tally::new();
-    let mut rest = text;
-    while !rest.is_empty() {
-        let (line, after) = next_line(rest);
-        match reader.line(line, &mut count) {
-            Ok(found) => {
-                if !write_found(found, &mut writer, labels, &mut html)? {
-                    return Ok(None);
-                }
-            }
-            Err(fault) => return Err(fault_in_line(fault, reader.fed())),
-        }
-        rest = after;
-    }
-    // Behind the last line no container begins any more.
-    match reader.finish() {
-        Ok(last) => {
-            if !write_found(last, &mut writer, labels, &mut html)? {
-                return Ok(None);
-            }
-            Ok(Some(html))
-        }
-        Err(_) => Err(EditFault::NoMemory),
+    let mut written = UnitsAtOnce {
+        writer: UnitWriter::new(alloc, entities, options),
+        labels,
+        html: String::with_capacity(alloc, text.len())?,
+    };
+    if read_units(alloc, text, entities, options, &mut written)? {
+        Ok(Some(written.html))
+    } else {
+        Ok(None)
     }
 }
 
-/// Writes the next unit, if there is one. The answer is false where it defines a label or spans lie too deep in it.
-/// It is inlined, since it is called behind each line, and most lines end no unit.
-#[inline(always)]
-fn write_found<'a>(
-    found: Option<Found>,
-    writer: &mut UnitWriter<'a>,
+/// Writes each unit of a text that defines no label; where one does, or spans lie too deep in it, it needs no more.
+#[derive(Drop)]
+struct UnitsAtOnce<'a> {
+    writer: UnitWriter<'a>,
     labels: &'a PageLabels<'a>,
-    html: &mut String,
-) -> Result<bool, NoMemory>
-    requires { ends_line (string_bytes html.old) ≡ true }
-    ensures adds { IfOk result (λ written. written ≡ true → AddsUnits (setting_of writer.old) (target_on_page labels.now)
-        (option_to_list (option_map found_unit found)) (string_bytes html.old) (string_bytes html.new)) }
-    ensures setting { setting_of writer.new ≡ setting_of writer.old }
-{
-    match found {
-        Some(found) => write_unit(&found, writer, labels, html),
-        None => Ok(true),
-    }
+    html: String,
 }
 
+impl<'a> UnitSink for UnitsAtOnce<'a> {
+    ghost use Rattle.mdbatch.specs.UnitsTaken.{AreWritten, WriteAlike, write_alike, write_all_alike};
+
+    ghost took = { AreWritten };
+
+    ghost alike = { WriteAlike };
+
+    ghost may_stop = { λ _. Unit {0} };
+
+    fn take(&mut self, found: Found) -> Result<bool, EditFault> {
+        Ok(write_unit(&found, &mut self.writer, self.labels, &mut self.html)?)
+    }
+
+    ghost alike_itself = { write_alike };
+
+    ghost alike_both = { write_all_alike };
+}
+
+/// Writes a unit. The answer is false where it defines a label or spans lie too deep in it.
 fn write_unit<'a>(
     found: &Found,
     writer: &mut UnitWriter<'a>,

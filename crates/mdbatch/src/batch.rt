@@ -15,11 +15,10 @@ ghost use Rattle.mdbatch.specs.TextLabels.{page_table, target_on_page};
 ghost use Rattle.mdbatch.specs.ViewHtml.{ViewHtml};
 
 use crate::at_once::html_at_once;
-use crate::gathered::{Gathered, Waiting};
+use crate::gathered::{Gathered, Waiting, gathered_units};
 use crate::guesses::is_written_at_once;
 use crate::limits::within_limits;
 use crate::page_labels::PageLabels;
-use crate::units::gathered_units;
 use mdhtml::{Options, UnitWriter};
 use mdsource::{EditFault, Prelude, fault_in_unit};
 use mdtext::{Entities, NoMemory, after_mark, clean_line, is_clean};

@@ -1,20 +1,26 @@
 //! What is read of a whole text before all its labels are known.
-ghost use Rattle.std.specs.Prelude.{List, ◌≡◌, ◌++◌, ◌∷◌, [], IfErr, IfOk, OnOk, false, string_bytes};
+ghost use Rattle.std.specs.Prelude.{List, ◌≡◌, ◌≤◌, ◌++◌, ◌∷◌, [], IfErr, IfOk, None, OnOk, false, length, string_bytes};
 ghost use Rattle.std.specs.List.{list_any};
-ghost use Rattle.std.specs.Option.{option_map, option_to_list};
+ghost use Rattle.mdtext.specs.Lines.{split_lines};
+ghost use Rattle.blockspec.specs.BlockUnits.{units};
+ghost use Rattle.blockspec.specs.Nesting.{first_too_deep};
 ghost use Rattle.blockspec.specs.UnitTree.{FoundUnit};
 ghost use Rattle.mdblock.specs.FoundLists.{found_unit};
+ghost use Rattle.mdhtml.specs.Limits.{HasLimits};
 ghost use Rattle.mdsource.specs.Setting.{Setting};
+ghost use Rattle.mdsource.specs.SourceLimits.{size_of};
+ghost use Rattle.mdbatch.specs.BatchHtml.{IsReadFault};
 ghost use Rattle.mdsource.specs.declared.fault.EditFault.TheVariants.{NoMemory};
 ghost use Rattle.mdbatch.specs.GatheredUnits.{Gathers, HasGathered, closes_bracket, setting_of};
 ghost use Rattle.mdbatch.specs.declared.gathered.Waiting.{Waiting};
 
 use crate::labels::add_definitions;
+use crate::units::{UnitSink, read_units};
 use mdblock::{Found, Unit};
-use mdhtml::UnitWriter;
+use mdhtml::{Options, UnitWriter};
 use mdinline::{InlineFault, LabelTable};
 use mdsource::EditFault;
-use mdtext::NoMemory;
+use mdtext::{Entities, NoMemory};
 use memchr::memchr;
 use std::alloc::Global;
 use std::mem::replace;
@@ -52,27 +58,6 @@ impl Gathered {
             labels: LabelTable::new(alloc),
             too_deep: None,
         })
-    }
-
-    /// Takes the next unit, if there is one. It is inlined, since it is called behind each line, and most lines end no unit.
-    #[inline(always)]
-    pub(crate) fn take<'a>(
-        &mut self,
-        alloc: Global,
-        found: Option<Found>,
-        writer: &mut UnitWriter<'a>,
-        no_labels: &'a LabelTable,
-    ) -> Result<(), EditFault>
-        requires { HasGathered (setting_of writer.old) self.old }
-        ensures gathers { (all : List FoundUnit) → Gathers (setting_of writer.old) all self.old
-            → OnOk result (Gathers (setting_of writer.old) (all ++ option_to_list (option_map found_unit found)) self.new) }
-        ensures setting { setting_of writer.new ≡ setting_of writer.old }
-        ensures fault { IfErr result (λ fault. fault ≡ NoMemory) }
-    {
-        match found {
-            Some(found) => self.take_unit(alloc, found, writer, no_labels),
-            None => Ok(()),
-        }
     }
 
     /// Writes a unit, or has it wait.
@@ -135,6 +120,62 @@ impl Gathered {
         self.html.clear();
         Ok(html)
     }
+}
+
+/// Gathers the units of a text, whose labels are not known yet.
+#[derive(Drop)]
+struct UnitGatherer<'a> {
+    alloc: Global,
+    gathered: Gathered,
+    writer: UnitWriter<'a>,
+    no_labels: &'a LabelTable,
+}
+
+impl<'a> UnitSink for UnitGatherer<'a> {
+    ghost use Rattle.mdbatch.specs.UnitsTaken.{AreGathered, GatherAlike, gather_alike, gather_all_alike};
+
+    ghost took = { AreGathered };
+
+    ghost alike = { GatherAlike };
+
+    ghost may_stop = { λ _. ⊥ };
+
+    fn take(&mut self, found: Found) -> Result<bool, EditFault> {
+        self.gathered
+            .take_unit(self.alloc, found, &mut self.writer, self.no_labels)?;
+        Ok(true)
+    }
+
+    ghost alike_itself = { gather_alike };
+
+    ghost alike_both = { gather_all_alike };
+}
+
+/// Reads a text in which no U+0000 stands: most of its units are written as they are found.
+pub(crate) fn gathered_units(
+    alloc: Global,
+    text: &str,
+    entities: &Entities,
+    options: &Options,
+) -> Result<Gathered, EditFault>
+    requires limits { HasLimits options.now }
+    requires few { length (split_lines text.now) ≤ 1000000 }
+    requires small { size_of (split_lines text.now) ≤ 16777216 }
+    ensures gathers { IfOk result (Gathers (record { entities = entities.now; options = options.now }) (units entities.now (split_lines text.now))) }
+    ensures nesting { OnOk result (first_too_deep options.now.max_containers (split_lines text.now) ≡ None) }
+    ensures fault { IfErr result (IsReadFault (first_too_deep options.now.max_containers (split_lines text.now))) }
+{
+    let no_labels = LabelTable::new(alloc);
+    let mut gatherer = UnitGatherer {
+        alloc,
+        gathered: Gathered::new(alloc, text.len())?,
+        writer: UnitWriter::new(alloc, entities, options),
+        no_labels: &no_labels,
+    };
+    if !read_units(alloc, text, entities, options, &mut gatherer)? {
+        unreachable!();
+    }
+    Ok(gatherer.gathered)
 }
 
 /// Whether a label may be looked up for a text of the unit: one is looked up only where a bracket closes (CommonMark 6.3).

@@ -1,61 +1,112 @@
-//! The units of a whole text.
-ghost use Rattle.std.specs.Prelude.{◌≡◌, ◌<◌, ◌≤◌, ◌∷◌, IfErr, IfOk, None, OnOk, length};
+//! The units of a whole text, each handed to what takes it as soon as it is found.
+ghost use Rattle.std.specs.Prelude.{List, [], ◌≡◌, ◌<◌, ◌≤◌, ◌∷◌, ◌++◌, IfErr, IfOk, None, false, length, true};
+ghost use Rattle.std.specs.Option.{option_map, option_to_list};
 ghost use Rattle.std.specs.Str.{IsUtf8};
 ghost use Rattle.mdtext.specs.Lines.{split_lines};
 ghost use Rattle.blockspec.specs.BlockUnits.{units};
 ghost use Rattle.blockspec.specs.Nesting.{first_too_deep};
+ghost use Rattle.blockspec.specs.UnitTree.{FoundUnit};
+ghost use Rattle.mdblock.specs.FoundLists.{found_unit};
 ghost use Rattle.mdhtml.specs.Limits.{HasLimits};
 ghost use Rattle.mdsource.specs.SourceLimits.{size_of};
+ghost use Rattle.mdsource.specs.declared.fault.EditFault.TheVariants.{NoMemory};
 ghost use Rattle.mdbatch.specs.BatchHtml.{IsReadFault};
-ghost use Rattle.mdbatch.specs.GatheredUnits.{Gathers};
 
-use crate::gathered::Gathered;
-use mdblock::Reader;
-use mdhtml::{Options, UnitWriter};
-use mdinline::LabelTable;
+use mdblock::{Found, Reader};
+use mdhtml::Options;
 use mdsource::{EditFault, fault_in_line};
 use mdtext::{Entities, Tally, split_line};
 use std::alloc::Global;
 
-/// Reads the lines of a text in which no U+0000 stands, each where it lies in the text.
-pub(crate) fn gathered_units(
+/// Takes the units of a text in order. After a fault, and where it needs no more, it is of no use.
+pub(crate) trait UnitSink {
+    ghost use Rattle.std.specs.Prelude.{◌≡◌, List, [], ◌∷◌, ◌++◌, IfErr, IfOk, false, true};
+    ghost use Rattle.blockspec.specs.UnitTree.{FoundUnit};
+    ghost use Rattle.mdblock.specs.FoundLists.{found_unit};
+    ghost use Rattle.mdsource.specs.declared.fault.EditFault.TheVariants.{NoMemory};
+
+    /// It has taken these units.
+    ghost took: { Self → List FoundUnit → Type 0 };
+
+    /// Both read texts in the same setting.
+    ghost alike: { Self → Self → Type 0 };
+
+    /// It may need no more units.
+    ghost may_stop: { Self → Type 0 };
+
+    /// Takes the next unit. The answer is false where it needs no more.
+    fn take(&mut self, found: Found) -> Result<bool, EditFault>
+        requires { (all : List FoundUnit) × took self.old all }
+        ensures took { (all : List FoundUnit) → took self.old all → IfOk result (λ goes_on. goes_on ≡ true → took self.new (all ++ found_unit found ∷ [])) }
+        ensures alike { alike self.old self.new }
+        ensures stops { IfOk result (λ goes_on. goes_on ≡ false → may_stop self.new) }
+        ensures fault { IfErr result (λ fault. fault ≡ NoMemory) };
+
+    ghost alike_itself: { (a : Self) → alike a a };
+
+    ghost alike_both: { (a b c : Self) → alike a b → alike b c → alike a c };
+}
+
+/// Hands the units of a text in which no U+0000 stands to a sink, in order; each line is read where it lies in the text. The answer is false where the sink
+/// needs no more: no line is read from there on.
+pub(crate) fn read_units<S: UnitSink>(
     alloc: Global,
     text: &str,
     entities: &Entities,
     options: &Options,
-) -> Result<Gathered, EditFault>
+    sink: &mut S,
+) -> Result<bool, EditFault>
     requires limits { HasLimits options.now }
     requires few { length (split_lines text.now) ≤ 1000000 }
     requires small { size_of (split_lines text.now) ≤ 16777216 }
-    ensures gathers { IfOk result (Gathers (record { entities = entities.now; options = options.now }) (units entities.now (split_lines text.now))) }
-    ensures nesting { OnOk result (first_too_deep options.now.max_containers (split_lines text.now) ≡ None) }
+    requires none { S.took sink.old [] }
+    ensures took { IfOk result (λ goes_on. goes_on ≡ true → S.took sink.new (units entities.now (split_lines text.now))) }
+    ensures alike { S.alike sink.old sink.new }
+    ensures nesting { IfOk result (λ goes_on. goes_on ≡ true → first_too_deep options.now.max_containers (split_lines text.now) ≡ None) }
+    ensures stops { IfOk result (λ goes_on. goes_on ≡ false → S.may_stop sink.new) }
     ensures fault { IfErr result (IsReadFault (first_too_deep options.now.max_containers (split_lines text.now))) }
 {
-    let no_labels = LabelTable::new(alloc);
-    let mut writer = UnitWriter::new(alloc, entities, options);
-    let mut gathered = Gathered::new(alloc, text.len())?;
     let mut reader = Reader::new(alloc, entities, options.max_containers);
     let mut count = Tally::new();
     let mut rest = text;
     while !rest.is_empty() {
         let (line, after) = next_line(rest);
         match reader.line(line, &mut count) {
-            Ok(found) => gathered.take(alloc, found, &mut writer, &no_labels)?,
+            Ok(found) => {
+                if !hand(sink, found)? {
+                    return Ok(false);
+                }
+            }
             Err(fault) => return Err(fault_in_line(fault, reader.fed())),
         }
         rest = after;
     }
     // Behind the last line no container begins any more.
     match reader.finish() {
-        Ok(last) => gathered.take(alloc, last, &mut writer, &no_labels)?,
-        Err(_) => return Err(EditFault::NoMemory),
+        Ok(last) => hand(sink, last),
+        Err(_) => Err(EditFault::NoMemory),
     }
-    Ok(gathered)
+}
+
+/// Hands the next unit to a sink, if there is one. It is inlined, since it is called behind each line, and most lines end no unit.
+#[inline(always)]
+fn hand<S: UnitSink>(sink: &mut S, found: Option<Found>) -> Result<bool, EditFault>
+    requires { (all : List FoundUnit) × S.took sink.old all }
+    ensures took { (all : List FoundUnit) → S.took sink.old all
+        → IfOk result (λ goes_on. goes_on ≡ true → S.took sink.new (all ++ option_to_list (option_map found_unit found))) }
+    ensures alike { S.alike sink.old sink.new }
+    ensures stops { IfOk result (λ goes_on. goes_on ≡ false → S.may_stop sink.new) }
+    ensures fault { IfErr result (λ fault. fault ≡ NoMemory) }
+{
+    match found {
+        Some(found) => sink.take(found),
+        None => Ok(true),
+    }
 }
 
 /// The first line of a text that is not empty, and the text after its ending: an empty line at once. It is inlined, so that an empty line takes no call.
 #[inline(always)]
-pub(crate) fn next_line(text: &str) -> (&str, &str)
+fn next_line(text: &str) -> (&str, &str)
     requires { 0 < length text.now }
     ensures lines { split_lines text.now ≡ result.0.now ∷ split_lines result.1.now }
     ensures shorter { length result.1.now < length text.now }

@@ -1,4 +1,4 @@
-use Rattle.std.proofs.Common.{◌≡◌, ◌++◌, ◌∙◌, [], ◌∷◌, ap, eqb-true, string_bytes, sym, append-nil}
+use Rattle.std.proofs.Common.{◌++◌, ◌∙◌, ap, eqb-true, string_bytes, sym, append-nil}
 use Rattle.std.proofs.lemmas.List.{nil_from_length}
 use Rattle.std.specs.Prelude.{map}
 use Rattle.mdhtml.specs.WrittenUnits.{is_deep_unit, written_unit}

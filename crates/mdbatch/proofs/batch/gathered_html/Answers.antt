@@ -1,4 +1,4 @@
-use Rattle.std.proofs.Common.{[], ap, ◌∙◌, string_bytes, subst, sym}
+use Rattle.std.proofs.Common.{ap, ◌∙◌, string_bytes, subst, sym}
 use Rattle.std.proofs.lemmas.Result.{err_from_is_err_and}
 use Rattle.mdsource.specs.Setting.{Setting}
 use Rattle.mdbatch.specs.GatheredUnits.{IsWoven, setting_of}
