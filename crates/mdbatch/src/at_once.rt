@@ -74,7 +74,7 @@ fn written_units<'a>(
     }
 }
 
-/// Writes each unit of a text that defines no label; where one does, or spans lie too deep in it, it needs no more.
+/// Writes each unit; where one defines a label, or spans lie too deep in it, it needs no more.
 #[derive(Drop)]
 struct UnitsAtOnce<'a> {
     writer: UnitWriter<'a>,
@@ -91,6 +91,8 @@ impl<'a> UnitSink for UnitsAtOnce<'a> {
 
     ghost may_stop = { λ _. Unit {0} };
 
+    // It is inlined, so that the unit is not moved again.
+    #[inline(always)]
     fn take(&mut self, found: Found) -> Result<bool, EditFault> {
         Ok(write_unit(&found, &mut self.writer, self.labels, &mut self.html)?)
     }

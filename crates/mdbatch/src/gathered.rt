@@ -49,7 +49,7 @@ pub(crate) struct Gathered {
 
 impl Gathered {
     /// Nothing read yet, and room for so many bytes of HTML.
-    pub(crate) fn new(alloc: Global, room: usize) -> Result<Gathered, NoMemory>
+    fn new(alloc: Global, room: usize) -> Result<Gathered, NoMemory>
         ensures { IfOk result (λ gathered. (setting : Setting) → Gathers setting [] gathered) }
     {
         Ok(Gathered {
@@ -140,6 +140,8 @@ impl<'a> UnitSink for UnitGatherer<'a> {
 
     ghost may_stop = { λ _. ⊥ };
 
+    // It is inlined, so that the unit is not moved again.
+    #[inline(always)]
     fn take(&mut self, found: Found) -> Result<bool, EditFault> {
         self.gathered
             .take_unit(self.alloc, found, &mut self.writer, self.no_labels)?;
@@ -173,6 +175,7 @@ pub(crate) fn gathered_units(
         no_labels: &no_labels,
     };
     if !read_units(alloc, text, entities, options, &mut gatherer)? {
+        // It takes all units (`may_stop`).
         unreachable!();
     }
     Ok(gatherer.gathered)

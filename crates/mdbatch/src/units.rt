@@ -31,7 +31,7 @@ pub(crate) trait UnitSink {
     /// Both read texts in the same setting.
     ghost alike: { Self → Self → Type 0 };
 
-    /// It may need no more units.
+    /// It may answer that it needs no more.
     ghost may_stop: { Self → Type 0 };
 
     /// Takes the next unit. The answer is false where it needs no more.

@@ -29,7 +29,7 @@ impl<'a> Model for AddedLines<'a> {
 }
 
 impl<'a> AddedLines<'a> {
-    /// These lines, none of which should hold a line ending. Takes no memory.
+    /// These lines, each looked at once for a line ending and for U+0000. Takes no memory.
     pub fn new(lines: &'a [&'a str]) -> AddedLines<'a>
         ensures { result ≡ map (λ line. line.now) lines.now }
     {
@@ -67,7 +67,7 @@ impl<'a> AddedLines<'a> {
         clean_size(self.lines)
     }
 
-    /// The lines with U+FFFD for each U+0000 (CommonMark 2.3), in a list with room for so many more. Refused for want of memory alone.
+    /// The lines with U+FFFD for each U+0000 (CommonMark 2.3), in a list with room for so many more lines. Refused for want of memory alone.
     pub fn cleaned(&self, alloc: Global, room: usize) -> Result<Vec<String>, AllocError>
         ensures { IfOk result (λ clean. map string_bytes clean.items ≡ map without_nul self.now) }
     {

@@ -291,7 +291,7 @@ impl Preview {
         self.edit_lines(at, del, &AddedLines::new(add), count)
     }
 
-    /// The edit, of lines that were looked at.
+    /// What `edit` does, with the lines as `AddedLines` holds them.
     fn edit_lines<C: Count>(
         &mut self,
         at: usize,
