@@ -17,7 +17,7 @@ use Rattle.blockspec.specs.UnitBegin.{list_mark, same_mark}
 use Rattle.mdblock.specs.held.HeldLevel.{is_list, CellsStand, StandsForList, behind_over, StandsFor, StandsForLast, HasGathered, IsLazyRight}
 use Rattle.mdblock.specs.held.HeldNodes.{handed_nodes, closed_nodes}
 use Rattle.mdblock.specs.held.LevelSteps.{MarksBlank, IsAllOver, HasRestOf, IsQuoteOf, IsListOf, IsInside, is_content, IsVerbatim, WasBlank, gap_behind, AddsButBlank, GrowsLeaf, EndsAll, BeginsApart, BeginsBehind, BeginsItem, EntersItem}
-use Rattle.mdblock.specs.held.LinesAdded.{InOpen, IsTakenOff, ContinuesLast, ContinuesLevel, IsAdded, AddsLine, FollowsLine, SinksLine}
+use Rattle.mdblock.specs.held.LinesAdded.{InOpen, IsTakenOff, ContinuesLast, ContinuesLevel, IsAdded, IsFollowed, AddsLine, SinksLine}
 use Rattle.mdblock.specs.held.OpenLeaves.{IsLeafOf}
 use Rattle.mdblock.specs.declared.container.list_items.Entry.{Entry}
 use Rattle.mdblock.specs.declared.container.list_items.Entry.TheVariants as entry
@@ -128,17 +128,18 @@ full_gap e room s l h = no_gap (line_added e (suc room) s l) (added_blank e room
 -- ---- a line with the marker or the columns of the open container
 
 pub quote_follows : (room less : ℕ) (level new : Level) (inner : Box Level Global) (inner_new : Level) (before after : Gathering) (l il : BlockLine) → less + 1 ≡ room → level.last ≡ open_block.Quote inner → matches Quote l ≡ true → il ≡ opened Quote l →
-    AddsLine less inner.value before il inner_new after → new.over ≡ level.over → HasRestOf level new → new.blank ≡ false → IsQuoteOf inner_new new.last → FollowsLine room level before l new after
+    AddsLine less inner.value before il inner_new after → new.over ≡ level.over → HasRestOf level new → new.blank ≡ false → IsQuoteOf inner_new new.last → AddsLine room level before l new after
 unfolding opened
 quote_follows room less level new inner inner_new before after l il n is m opens adds over marks blank held =
     let same : suc less ≡ room = omega (arith, n) in
-    let all : FollowsLine (suc less) level before l new after = λ in_item s texts definitions r.
-    let g = quote_matched level inner l is m before.entities.now (length texts) in_item s r.1 in (
-      g.0,
-      with_blank (λ z. IsAdded before.entities.now (suc less) in_item s texts definitions l z after) new false blank
-          (quote_added less level new inner inner_new before after l il is adds over marks held in_item s texts definitions r (subst (GoesInside s l) (sym opens) g) false (full_gap before.entities.now (suc less) s l (quoted_full l m))),
-    ) in
-    subst (λ z. FollowsLine z level before l new after) same all
+    let all : AddsLine (suc less) level before l new after = λ in_item s texts definitions r.
+    let g = quote_matched level inner l is m before.entities.now (length texts) in_item s r.1 in
+    with_blank (λ z. IsAdded before.entities.now (suc less) in_item s texts definitions l z after) new false blank
+        (quote_added less level new inner inner_new before after l il is adds over marks held in_item s texts definitions r (subst (GoesInside s l) (sym opens) g) false (full_gap before.entities.now (suc less) s l (quoted_full l m))) in
+    subst (λ z. AddsLine z level before l new after) same all
+
+pub quote_is_followed : (level : Level) (inner : Box Level Global) (l : BlockLine) → level.last ≡ open_block.Quote inner → matches Quote l ≡ true → IsFollowed level l
+quote_is_followed level inner l is m entities at in_item s st = (quote_matched level inner l is m entities at in_item s st).0
 
 pub quote_sinks : (room less : ℕ) (level : Level) (inner : Box Level Global) (before : Gathering) (l il : BlockLine) → less + 1 ≡ room → level.last ≡ open_block.Quote inner → matches Quote l ≡ true → il ≡ opened Quote l →
     SinksLine less inner.value before il → SinksLine room level before l
@@ -155,16 +156,17 @@ columns_full list l m =
     not_off (is_blank_line l) (and_right (list.item_open && not l.lazy) (not (is_blank_line l)) (and_left (list.item_open && not l.lazy && not (is_blank_line l)) (nat_le list.needed (indentation l)) m))
 
 pub item_follows : (room less : ℕ) (level new : Level) (inner : Box Level Global) (list : OpenList) (inner_new : Level) (before after : Gathering) (l il : BlockLine) → less + 1 ≡ room → level.last ≡ open_block.List inner list → has_columns list l ≡ true → il ≡ without_columns l list.needed →
-    AddsLine less inner.value before il inner_new after → new.over ≡ level.over → HasRestOf level new → new.blank ≡ false → IsListOf inner_new list new.last → FollowsLine room level before l new after
+    AddsLine less inner.value before il inner_new after → new.over ≡ level.over → HasRestOf level new → new.blank ≡ false → IsListOf inner_new list new.last → AddsLine room level before l new after
 item_follows room less level new inner list inner_new before after l il n is m opens adds over marks blank held =
     let same : suc less ≡ room = omega (arith, n) in
-    let all : FollowsLine (suc less) level before l new after = λ in_item s texts definitions r.
-    let g = item_matched level inner list l is m before.entities.now (length texts) in_item s r.1 in (
-      g.0,
-      with_blank (λ z. IsAdded before.entities.now (suc less) in_item s texts definitions l z after) new false blank
-          (item_added less level new inner list inner_new before after l il is adds over marks held in_item s texts definitions r (subst (GoesInside s l) (sym opens) g) false (full_gap before.entities.now (suc less) s l (columns_full list l m))),
-    ) in
-    subst (λ z. FollowsLine z level before l new after) same all
+    let all : AddsLine (suc less) level before l new after = λ in_item s texts definitions r.
+    let g = item_matched level inner list l is m before.entities.now (length texts) in_item s r.1 in
+    with_blank (λ z. IsAdded before.entities.now (suc less) in_item s texts definitions l z after) new false blank
+        (item_added less level new inner list inner_new before after l il is adds over marks held in_item s texts definitions r (subst (GoesInside s l) (sym opens) g) false (full_gap before.entities.now (suc less) s l (columns_full list l m))) in
+    subst (λ z. AddsLine z level before l new after) same all
+
+pub item_is_followed : (level : Level) (inner : Box Level Global) (list : OpenList) (l : BlockLine) → level.last ≡ open_block.List inner list → has_columns list l ≡ true → IsFollowed level l
+item_is_followed level inner list l is m entities at in_item s st = (item_matched level inner list l is m entities at in_item s st).0
 
 pub item_sinks : (room less : ℕ) (level : Level) (inner : Box Level Global) (list : OpenList) (before : Gathering) (l il : BlockLine) → less + 1 ≡ room → level.last ≡ open_block.List inner list → has_columns list l ≡ true → il ≡ without_columns l list.needed →
     SinksLine less inner.value before il → SinksLine room level before l
@@ -502,7 +504,7 @@ quote_read_sinks room less level inner got before l il c n is w continues same l
     quote_lazy_sinks room less level inner before l c n is w continues (subst (λ z. SinksLine less z before (as_lazy l)) same (subst (λ z. SinksLine less got before z) lazy deep))
 
 pub quote_followed : (room less : ℕ) (level : Level) (inner : Box Level Global) (got inner_new : Level) (before after : Gathering) (l il : BlockLine) → less + 1 ≡ room → level.last ≡ open_block.Quote inner → matches Quote l ≡ true → got ≡ inner.value → il ≡ opened Quote l →
-    AddsLine less got before il inner_new after → FollowsLine room level before l (record (holding_quote level inner inner_new) { blank = false }) after
+    AddsLine less got before il inner_new after → AddsLine room level before l (record (holding_quote level inner inner_new) { blank = false }) after
 quote_followed room less level inner got inner_new before after l il n is m same opens adds =
     quote_follows room less level (record (holding_quote level inner inner_new) { blank = false }) inner inner_new before after l il n is m opens (subst (λ z. AddsLine less z before il inner_new after) same adds) refl (refl, refl, refl) refl refl
 
@@ -511,7 +513,7 @@ pub quote_followed_sinks : (room less : ℕ) (level : Level) (inner : Box Level 
 quote_followed_sinks room less level inner got before l il n is m same opens deep = quote_sinks room less level inner before l il n is m opens (subst (λ z. SinksLine less z before il) same deep)
 
 pub item_followed : (room less : ℕ) (level : Level) (inner : Box Level Global) (list : OpenList) (got inner_new : Level) (before after : Gathering) (l il : BlockLine) → less + 1 ≡ room → level.last ≡ open_block.List inner list → has_columns list l ≡ true → got ≡ inner.value →
-    il ≡ without_columns l list.needed → AddsLine less got before il inner_new after → FollowsLine room level before l (record (holding_list level inner inner_new list) { blank = false }) after
+    il ≡ without_columns l list.needed → AddsLine less got before il inner_new after → AddsLine room level before l (record (holding_list level inner inner_new list) { blank = false }) after
 item_followed room less level inner list got inner_new before after l il n is m same opens adds =
     item_follows room less level (record (holding_list level inner inner_new list) { blank = false }) inner list inner_new before after l il n is m opens (subst (λ z. AddsLine less z before il inner_new after) same adds) refl (refl, refl, refl) refl (refl, refl)
 
@@ -558,24 +560,9 @@ pub list_begun_sinks : (room less : ℕ) (level : Level) (inner : Box Level Glob
 list_begun_sinks room less level inner list was mid_inner mid_list before mid l il made c n w continues same enters goes deep =
     list_next_sinks room less level inner list mid_inner mid_list before mid l il n (begins_of level inner list was mid_inner mid_list before mid l il made c w continues same enters goes) deep
 
--- a line that was followed, and one that was not
-pub followed_adds : (room : ℕ) (level new : Level) (before after : Gathering) (l : BlockLine) → FollowsLine room level before l new after → AddsLine room level before l new after
-followed_adds room level new before after l follows in_item s texts definitions r = (follows in_item s texts definitions r).1
-
 pub passed_adds : (room : ℕ) (level mid new : Level) (before between after : Gathering) (l il : BlockLine) → mid ≡ level → il ≡ l → between ≡ before → AddsLine room mid between il new after → AddsLine room level before l new after
 passed_adds room level mid new before between after l il a b c adds =
     subst (λ z. AddsLine room z before l new after) a (subst (λ z. AddsLine room mid z l new after) c (subst (λ z. AddsLine room mid between z new after) b adds))
-
--- the same of a line that is read on inside the open container
-pub bl_quote_read_on : (room less : ℕ) (level : Level) (inner : Box Level Global) (got inner_new : Level) (before after : Gathering) (l il : BlockLine) → less + 1 ≡ room → level.last ≡ open_block.Quote inner → matches Quote l ≡ true → got ≡ inner.value → il ≡ opened Quote l →
-    AddsLine less got before il inner_new after → AddsLine room level before l (record (holding_quote level inner inner_new) { blank = false }) after
-bl_quote_read_on room less level inner got inner_new before after l il n is m same opens adds =
-    followed_adds room level (record (holding_quote level inner inner_new) { blank = false }) before after l (quote_followed room less level inner got inner_new before after l il n is m same opens adds)
-
-pub bl_item_read_on : (room less : ℕ) (level : Level) (inner : Box Level Global) (list : OpenList) (got inner_new : Level) (before after : Gathering) (l il : BlockLine) → less + 1 ≡ room → level.last ≡ open_block.List inner list → has_columns list l ≡ true → got ≡ inner.value →
-    il ≡ without_columns l list.needed → AddsLine less got before il inner_new after → AddsLine room level before l (record (holding_list level inner inner_new list) { blank = false }) after
-bl_item_read_on room less level inner list got inner_new before after l il n is m same opens adds =
-    followed_adds room level (record (holding_list level inner inner_new list) { blank = false }) before after l (item_followed room less level inner list got inner_new before after l il n is m same opens adds)
 
 -- The level is taken apart and put together again.
 bl_put_back : (level : Level) (last : OpenBlock) → level.last ≡ last → (let put : Level = record level { last = last } in put) ≡ level

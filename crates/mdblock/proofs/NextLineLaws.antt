@@ -32,7 +32,7 @@ use Rattle.mdblock.specs.held.Continuations.{begins_block, begins_item}
 use Rattle.mdblock.specs.held.LevelSteps.{BeginsBehind}
 use Rattle.mdblock.specs.held.HeldLevel.{IsShut, HoldsSummary, StandsFor, StandsForLast, HasGathered, GivesUnit, Fits, IsLazyRight, behind_over, found_between, list_between, is_shut}
 use Rattle.mdblock.specs.held.HeldNodes.{handed_groups, handed_last, handed_nodes, closed_nodes}
-use Rattle.mdblock.specs.held.LinesAdded.{ContinuesLast, ContinuesLevel, IsAdded, AddsLine, FollowsLine, SinksLine}
+use Rattle.mdblock.specs.held.LinesAdded.{ContinuesLast, ContinuesLevel, IsAdded, IsFollowed, AddsLine, SinksLine}
 use Rattle.mdblock.specs.held.ReaderState.{ReaderState, unit_so_far}
 use Rattle.mdblock.specs.held.Reads.{Reads, BeginsUnit, HandsOn, SinksBehind, handed, held_marks, mark_after, open_begin}
 use Rattle.mdblock.specs.held.Reads.{last_of}
@@ -342,10 +342,10 @@ no_item_on limit fed old new l same begin apart joins f =
     ))
 
 pub follows_on : (limit fed : ℕ) (old new : OpenUnit) (l : BlockLine) → new.gathering.entities.now ≡ old.gathering.entities.now → new.begin ≡ old.begin → new.joined ≡ false → new.joins ≡ old.joins → l.lazy ≡ false →
-    FollowsLine limit old.level old.gathering l new.level new.gathering → HandsOn limit fed old l None new
-follows_on limit fed old new l same begin apart joins z f =
+    IsFollowed old.level l → AddsLine limit old.level old.gathering l new.level new.gathering → HandsOn limit fed old l None new
+follows_on limit fed old new l same begin apart joins z followed adds =
     no_item_on limit fed old new l same begin apart joins
-    (λ s h fits. let w = f false s [] [] (h.0, h.1, no_lazy s l z, fits) in (stays_in s l w.0, w.1, inside_apart s l w.0))
+    (λ s h fits. let inside = followed old.gathering.entities.now 0 false s h.1 in (stays_in s l inside, adds false s [] [] (h.0, h.1, no_lazy s l z, fits), inside_apart s l inside))
 
 -- a line that begins no block outside of what is open begins no unit
 no_unit : (s : Summary) (l : BlockLine) (c : Continuation) → ContinuesLast (last_in s) l c → begins_block c l ≡ false → begins_after s l ≡ false
@@ -471,9 +471,6 @@ begins_fresh limit fed old held new l found given h begin apart none same still 
     (given, begin, floats, subst (λ e. HoldsSummary new (line_added e (suc limit) no_summary l)) same kept, apart, none)
 
 -- what a line that follows nothing leaves as it was
-pub same_held : (old : OpenUnit) (level : Level) (gathering : Gathering) → level ≡ old.level → gathering ≡ old.gathering → record old { level = level; gathering = gathering } ≡ old
-same_held old level gathering a b = ap (λ z. record old { level = z; gathering = gathering }) a ∙ ap (λ z. record old { gathering = z }) b
-
 -- ---- the reader
 
 abbrev state_of : EntityTable → (limit fed : ℕ) → OpenUnit → ReaderState

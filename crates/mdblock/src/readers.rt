@@ -298,7 +298,8 @@ impl<'e> OpenUnit<'e> {
             let opening = beginning(&line);
             return self.begin_unit(&mut line, opening, fed, limit);
         }
-        if self.level.follow(&mut line, limit, &mut self.gathering)? {
+        if self.level.is_followed_by(&line) {
+            self.level.read(&mut line, limit, &mut self.gathering)?;
             self.joined = false;
             return Ok(None);
         }

@@ -51,6 +51,10 @@ IsUnfollowed (open_block.Quote' p over last in_item begun blank spaced) l = matc
 IsUnfollowed (open_block.List' p over last in_item begun blank spaced list) l =
     (list.item_open && not l.lazy && not (is_blank_line l) && nat_le list.needed (indentation l)) ≡ false
 
+-- The line has the marker or the indentation of the open container, so it stands apart from no summary that the level stands for.
+abbrev pub IsFollowed : Level → BlockLine → Type 0
+IsFollowed level l = (entities : EntityTable) (at : ℕ) (in_item : Bool) (s : Summary) → StandsFor entities at in_item level s → is_apart_after (last_in s) l ≡ false
+
 -- of a level that stands for any summary
 abbrev pub ContinuesLevel : Level → BlockLine → Continuation → Type 0
 ContinuesLevel level l c =
@@ -78,13 +82,6 @@ AddsLine room level before l new after =
     (in_item : Bool) (s : Summary) (texts : List (List ℕ)) (definitions : List LinkDefinition)
     → IsReadBehind room level before in_item s texts definitions l
     → IsAdded before.entities.now room in_item s texts definitions l new after
-
--- of a line that has the marker or the indentation of the open container
-abbrev pub FollowsLine : (room : ℕ) → (level : Level) → Gathering → BlockLine → (new : Level) → Gathering → Type 0
-FollowsLine room level before l new after =
-    (in_item : Bool) (s : Summary) (texts : List (List ℕ)) (definitions : List LinkDefinition)
-    → IsReadBehind room level before in_item s texts definitions l
-    → (is_apart_after (last_in s) l ≡ false) × IsAdded before.entities.now room in_item s texts definitions l new after
 
 -- The line begins a container too deep.
 abbrev pub SinksLine : (room : ℕ) → (level : Level) → Gathering → BlockLine → Type 0

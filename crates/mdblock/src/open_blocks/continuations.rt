@@ -4,9 +4,10 @@ ghost use Rattle.std.specs.Prelude.{◌≡◌, false, true};
 ghost use Rattle.mdblock.specs.held.Continuations.{IsContinuationOf, ContinuesList, ContinuesOpen, begins_block, begins_item, opening_of};
 ghost use Rattle.mdblock.specs.held.ContainerContinuations.{ContinuesBetween, ContinuesInItem, ContinuesInQuote, ContinuesShut};
 ghost use Rattle.mdblock.specs.held.EndedItems.{IsNextIn, IsNextOf};
-ghost use Rattle.mdblock.specs.held.LinesAdded.{ContinuesLevel, IsUnfollowed};
+ghost use Rattle.mdblock.specs.held.LinesAdded.{ContinuesLevel, IsFollowed, IsUnfollowed};
 
 use crate::block_starts::{BlockStart, beginning, continues_lazily};
+use crate::container::block_quotes;
 use crate::container::lists::OpenList;
 use crate::lines::Line;
 use crate::open_blocks::{Continuation, Level, OpenBlock};
@@ -75,6 +76,18 @@ impl Continuation {
 }
 
 impl Level {
+    /// Whether a line has the marker or the indentation of the open container.
+    pub(crate) fn is_followed_by(&self, line: &Line) -> bool
+        ensures yes { result ≡ true → IsFollowed self.now line.now }
+        ensures no { result ≡ false → IsUnfollowed self.now.last line.now }
+    {
+        match &self.last {
+            OpenBlock::Shut | OpenBlock::Leaf(_) => false,
+            OpenBlock::Quote(_) => block_quotes::matches(line),
+            OpenBlock::List(_, list) => list.matches(line),
+        }
+    }
+
     /// How a line continues the open block, which is no container that it matches.
     pub(crate) fn continuation(&self, line: &Line) -> Continuation
         ensures continuation { IsContinuationOf line.now result }

@@ -4,7 +4,7 @@ ghost use Rattle.std.specs.Prelude.{◌≡◌, ◌≤◌, IfErr, IfOk, IsErrOf, 
 ghost use Rattle.mdblock.specs.declared.faults.BlockFault.TheVariants.{Failed, NestedTooDeep};
 ghost use Rattle.mdblock.specs.held.Continuations.{ContinuesOpen, IsContinuationOf};
 ghost use Rattle.mdblock.specs.held.LevelSteps.{AddsButBlank, IsInside};
-ghost use Rattle.mdblock.specs.held.LinesAdded.{AddsLine, ContinuesLevel, FollowsLine, IsUnfollowed, SinksLine};
+ghost use Rattle.mdblock.specs.held.LinesAdded.{AddsLine, ContinuesLevel, IsUnfollowed, SinksLine};
 ghost use Rattle.mdblock.specs.held.OpenPositions.{LevelIn};
 
 use crate::block_starts::beginning;
@@ -26,7 +26,7 @@ enum LineRead {
 
 impl Level {
     /// Reads one line more, where at most `room` containers may be open inside one another.
-    fn read(
+    pub(crate) fn read(
         &mut self,
         line: &mut Line,
         room: usize,
@@ -107,47 +107,6 @@ impl Level {
             Err(BlockFault::NestedTooDeep) => LineRead::TooDeep,
             Err(BlockFault::NoMemory) => LineRead::NoMemory,
             Err(BlockFault::Failed) => unreachable!(),
-        }
-    }
-
-    /// Reads a line with the marker or the indentation of the open container, and answers whether it has it. Else it changes nothing.
-    #[tactic(auto, using(crate::proofs::Within::growing))]
-    pub(crate) fn follow(
-        &mut self,
-        line: &mut Line,
-        room: usize,
-        gathering: &mut Gathering,
-    ) -> Result<bool, BlockFault>
-        requires { LevelIn (length gathering.old.texts.items) self.old }
-        ensures within { OnOk result (LevelIn (length gathering.new.texts.items) self.new) }
-        ensures grows { length gathering.old.texts.items ≤ length gathering.new.texts.items }
-        ensures entities { gathering.new.entities.now ≡ gathering.old.entities.now }
-        ensures fault { IfErr result (λ fault. fault ≡ Failed → ⊥) }
-        ensures adds { IfOk result (λ followed. followed ≡ true → FollowsLine room self.old gathering.old line.old self.new gathering.new) }
-        ensures passes { IfOk result (λ followed. followed ≡ false
-            → (self.new ≡ self.old) × (line.new ≡ line.old) × (gathering.new ≡ gathering.old) × IsUnfollowed self.old.last line.old) }
-        ensures deep { IsErrOf result NestedTooDeep → SinksLine room self.old gathering.old line.old }
-    {
-        match &mut self.last {
-            OpenBlock::Shut | OpenBlock::Leaf(_) => Ok(false),
-            OpenBlock::Quote(inner) => {
-                if !block_quotes::matches(line) {
-                    return Ok(false);
-                }
-                block_quotes::take_marker(line);
-                inner.read(line, deeper(room)?, gathering)?;
-                self.blank = false;
-                Ok(true)
-            }
-            OpenBlock::List(inner, list) => {
-                if !list.matches(line) {
-                    return Ok(false);
-                }
-                list.enter(line);
-                inner.read(line, deeper(room)?, gathering)?;
-                self.blank = false;
-                Ok(true)
-            }
         }
     }
 

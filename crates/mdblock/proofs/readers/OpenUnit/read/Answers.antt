@@ -2,10 +2,9 @@ use Rattle.std.proofs.Common.{Err, IfOk, None, false, refl, sym, ap, subst, ◌�
 use Rattle.blockspec.specs.BlockLine.{BlockLine, document_line}
 use Rattle.mdblock.specs.declared.faults.BlockFault.TheVariants.{NestedTooDeep}
 use Rattle.mdblock.specs.declared.open_blocks.Level.{Level}
-use Rattle.mdblock.specs.held.LinesAdded.{IsUnfollowed}
 use Rattle.mdblock.specs.held.Reads.{HandsOn, SinksBehind}
 use Rattle.mdblock.proofs.CloseLaws.{if_ok}
-use Rattle.mdblock.proofs.NextLineLaws.{hands_new, sinks_new, begins_shut, begins_outside, follows_on, adds_on, sinks_on, blank_on, same_held}
+use Rattle.mdblock.proofs.NextLineLaws.{hands_new, sinks_new, begins_shut, begins_outside, follows_on, adds_on, sinks_on, blank_on}
 use Rattle.mdblock.proofs.LevelBegins.{err_is}
 use Rattle.mdblock.proofs.readers.OpenUnit.read.Goals as goal
 
@@ -36,77 +35,55 @@ returns-then-is_shut-clause-deep c = λ err.
     subst (SinksBehind c.args.limit old) c.new-line.ensures
     (sinks_new c.args.limit old l (c.begin_unit.ensures.deep err) (begins_shut old l lazy (sym c.is_shut.ensures ∙ c.if-is_shut.true) (sym c.is_blank.ensures ∙ c.if-is_blank.false)))
 
-pub returns-in_err-follow-clause-deep : goal.returns-in_err-follow-clause-deep
-returns-in_err-follow-clause-deep c = λ err.
+pub returns-in_err-read-clause-deep : goal.returns-in_err-read-clause-deep
+returns-in_err-read-clause-deep c = λ err.
     let l = c.new-line.result in
     let lazy = ap (λ (z : BlockLine). z.lazy) c.new-line.ensures in
-    subst (SinksBehind c.args.limit c.args.self.now) c.new-line.ensures (sinks_on c.args.limit c.args.self.now l lazy (c.in_err-follow.ensures.deep (ap Err (sym (err_is c.from_residual.result _ NestedTooDeep c.from_residual.ensures.1 err)))))
+    subst (SinksBehind c.args.limit c.args.self.now) c.new-line.ensures (sinks_on c.args.limit c.args.self.now l lazy (c.in_err-read.ensures.deep (ap Err (sym (err_is c.from_residual.result _ NestedTooDeep c.from_residual.ensures.1 err)))))
 
-pub returns-then-branch-clause-next : goal.returns-then-branch-clause-next
-returns-then-branch-clause-next c =
+pub returns-then-is_followed_by-clause-next : goal.returns-then-is_followed_by-clause-next
+returns-then-is_followed_by-clause-next c =
     let l = c.new-line.result in
     let old = c.args.self.now in
-    let new = record old { level = c.follow.new.self; gathering = c.follow.new.gathering; joined = false } in
+    let new = record old { level = c.read.new.self; gathering = c.read.new.gathering; joined = false } in
     subst (λ z. HandsOn c.args.limit c.args.fed old z None new) c.new-line.ensures
-    (follows_on c.args.limit c.args.fed old new l c.in_ok-follow.ensures.entities refl refl refl (ap (λ (z : BlockLine). z.lazy) c.new-line.ensures) (c.in_ok-follow.ensures.adds c.if-branch.true))
+    (follows_on c.args.limit c.args.fed old new l c.in_ok-read.ensures.entities refl refl refl (ap (λ (z : BlockLine). z.lazy) c.new-line.ensures)
+    (c.is_followed_by.ensures.yes c.if-is_followed_by.true) c.in_ok-read.ensures.adds)
 
 pub returns-then-begins_block-clause-next : goal.returns-then-begins_block-clause-next
 returns-then-begins_block-clause-next c =
+    let l = c.new-line.result in
     let old = c.args.self.now in
-    let line = c.follow.new.line in
-    let passes = c.in_ok-follow.ensures.passes c.if-branch.false in
-    let held = record old { level = c.follow.new.self; gathering = c.follow.new.gathering } in
-    let held_is = same_held old c.follow.new.self c.follow.new.gathering passes.0 passes.2 in
-    let line_is = passes.1 ∙ c.new-line.ensures in
-    let lazy = ap (λ (z : BlockLine). z.lazy) line_is in
-    let continues = c.continuation-continuation.ensures.last
-    (subst (λ (z : Level). IsUnfollowed z.last line) (sym passes.0) (subst (IsUnfollowed old.level.last) (sym passes.1) passes.3)) in
-    let begins = begins_outside held line c.continuation-continuation.result lazy continues (sym c.begins_block.ensures ∙ c.if-begins_block.true) in
+    let lazy = ap (λ (z : BlockLine). z.lazy) c.new-line.ensures in
+    let continues = c.continuation-continuation.ensures.last (c.is_followed_by.ensures.no c.if-is_followed_by.false) in
+    let begins = begins_outside old l c.continuation-continuation.result lazy continues (sym c.begins_block.ensures ∙ c.if-begins_block.true) in
     let unit = c.begin_unit-then-begins_block in
-    subst (λ z. IfOk unit.result (λ found. HandsOn c.args.limit c.args.fed z (document_line c.args.text.now) found unit.new.self)) held_is
-    (subst (λ z. IfOk unit.result (λ found. HandsOn c.args.limit c.args.fed held z found unit.new.self)) line_is
-    (if_ok unit.result _ _ (λ found b. hands_new c.args.limit c.args.fed held unit.new.self line found b begins) unit.ensures.begins))
+    subst (λ z. IfOk unit.result (λ found. HandsOn c.args.limit c.args.fed old z found unit.new.self)) c.new-line.ensures
+    (if_ok unit.result _ _ (λ found b. hands_new c.args.limit c.args.fed old unit.new.self l found b begins) unit.ensures.begins)
 
 pub returns-then-begins_block-clause-deep : goal.returns-then-begins_block-clause-deep
 returns-then-begins_block-clause-deep c = λ err.
+    let l = c.new-line.result in
     let old = c.args.self.now in
-    let line = c.follow.new.line in
-    let passes = c.in_ok-follow.ensures.passes c.if-branch.false in
-    let held = record old { level = c.follow.new.self; gathering = c.follow.new.gathering } in
-    let held_is = same_held old c.follow.new.self c.follow.new.gathering passes.0 passes.2 in
-    let line_is = passes.1 ∙ c.new-line.ensures in
-    let lazy = ap (λ (z : BlockLine). z.lazy) line_is in
-    let continues = c.continuation-continuation.ensures.last
-    (subst (λ (z : Level). IsUnfollowed z.last line) (sym passes.0) (subst (IsUnfollowed old.level.last) (sym passes.1) passes.3)) in
-    let begins = begins_outside held line c.continuation-continuation.result lazy continues (sym c.begins_block.ensures ∙ c.if-begins_block.true) in
-    subst (λ z. SinksBehind c.args.limit z (document_line c.args.text.now)) held_is
-    (subst (SinksBehind c.args.limit held) line_is (sinks_new c.args.limit held line (c.begin_unit-then-begins_block.ensures.deep err) begins))
+    let lazy = ap (λ (z : BlockLine). z.lazy) c.new-line.ensures in
+    let continues = c.continuation-continuation.ensures.last (c.is_followed_by.ensures.no c.if-is_followed_by.false) in
+    let begins = begins_outside old l c.continuation-continuation.result lazy continues (sym c.begins_block.ensures ∙ c.if-begins_block.true) in
+    subst (SinksBehind c.args.limit old) c.new-line.ensures (sinks_new c.args.limit old l (c.begin_unit-then-begins_block.ensures.deep err) begins)
 
 pub returns-in_err-add-clause-deep : goal.returns-in_err-add-clause-deep
 returns-in_err-add-clause-deep c = λ err.
-    let old = c.args.self.now in
-    let line = c.follow.new.line in
-    let passes = c.in_ok-follow.ensures.passes c.if-branch.false in
-    let held = record old { level = c.follow.new.self; gathering = c.follow.new.gathering } in
-    let held_is = same_held old c.follow.new.self c.follow.new.gathering passes.0 passes.2 in
-    let line_is = passes.1 ∙ c.new-line.ensures in
-    let lazy = ap (λ (z : BlockLine). z.lazy) line_is in
-    subst (λ z. SinksBehind c.args.limit z (document_line c.args.text.now)) held_is
-    (subst (SinksBehind c.args.limit held) line_is (sinks_on c.args.limit held line lazy (c.in_err-add.ensures.deep (ap Err (sym (err_is c.from_residual-in_err-add.result _ NestedTooDeep c.from_residual-in_err-add.ensures.1 err))))))
+    let l = c.new-line.result in
+    let lazy = ap (λ (z : BlockLine). z.lazy) c.new-line.ensures in
+    subst (SinksBehind c.args.limit c.args.self.now) c.new-line.ensures
+    (sinks_on c.args.limit c.args.self.now l lazy (c.in_err-add.ensures.deep (ap Err (sym (err_is c.from_residual-in_err-add.result _ NestedTooDeep c.from_residual-in_err-add.ensures.1 err)))))
 
 pub returns-clause-next : goal.returns-clause-next
 returns-clause-next c =
+    let l = c.new-line.result in
     let old = c.args.self.now in
-    let line = c.follow.new.line in
-    let passes = c.in_ok-follow.ensures.passes c.if-branch.false in
-    let held = record old { level = c.follow.new.self; gathering = c.follow.new.gathering } in
-    let held_is = same_held old c.follow.new.self c.follow.new.gathering passes.0 passes.2 in
-    let line_is = passes.1 ∙ c.new-line.ensures in
-    let lazy = ap (λ (z : BlockLine). z.lazy) line_is in
-    let continues = c.continuation-continuation.ensures.last
-    (subst (λ (z : Level). IsUnfollowed z.last line) (sym passes.0) (subst (IsUnfollowed old.level.last) (sym passes.1) passes.3)) in
+    let lazy = ap (λ (z : BlockLine). z.lazy) c.new-line.ensures in
+    let continues = c.continuation-continuation.ensures.last (c.is_followed_by.ensures.no c.if-is_followed_by.false) in
     let new = record old { level = c.add.new.self; gathering = c.add.new.gathering; joined = false } in
-    subst (λ z. HandsOn c.args.limit c.args.fed z (document_line c.args.text.now) None new) held_is
-    (subst (λ z. HandsOn c.args.limit c.args.fed held z None new) line_is
-    (adds_on c.args.limit c.args.fed held new line c.continuation-continuation.result c.in_ok-add.ensures.entities refl refl refl lazy continues
-    (sym c.begins_block.ensures ∙ c.if-begins_block.false) (sym c.begins_item.ensures ∙ c.if-begins_item.false) c.in_ok-add.ensures.adds))
+    subst (λ z. HandsOn c.args.limit c.args.fed old z None new) c.new-line.ensures
+    (adds_on c.args.limit c.args.fed old new l c.continuation-continuation.result c.in_ok-add.ensures.entities refl refl refl lazy continues
+    (sym c.begins_block.ensures ∙ c.if-begins_block.false) (sym c.begins_item.ensures ∙ c.if-begins_item.false) c.in_ok-add.ensures.adds)
