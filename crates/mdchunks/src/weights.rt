@@ -10,11 +10,11 @@ pub trait Weighed {
 
     ghost marks: { Self → ℕ };
 
-    /// The weight.
+    /// How much it weighs: any number, as of bytes or lines. Sums of weights stop at the greatest number.
     fn weight(&self) -> usize
         ensures { result ≡ weight self.now };
 
-    /// The marks, as bits.
+    /// Its marks, a bit each. A list of members has those of all of them.
     fn marks(&self) -> u64
         ensures { result ≡ marks self.now };
 }
@@ -51,7 +51,7 @@ pub trait Change<T> {
 pub struct WeightPlace {
     /// The number of the member, from 0.
     pub member: usize,
-    /// The sum of the weights of all members before it.
+    /// The sum of the weights of all members before it, up to the greatest number.
     pub front: usize,
 }
 

@@ -91,7 +91,7 @@ pub trait AsksLabels {
     /// The value after these labels were looked up.
     ghost asks: { Self → List (List ℕ) → Self → Type 0 };
 
-    /// Takes a label that is looked up.
+    /// Takes a label that is looked up. Refused for want of memory alone; the reading ends then, with `NoMemory`.
     fn ask(&mut self, label: &Label) -> Result<(), NoMemory>
         ensures { OnOk result (asks self.old (label.now ∷ []) self.new) };
 

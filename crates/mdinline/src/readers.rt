@@ -66,7 +66,8 @@ impl<'a> TextReader<'a> {
     }
 
     /// Hands the inlines of a text to a sink (CommonMark 6), answers the sink, and tells the labels that are looked up: the events and the labels of the
-    /// definition's reading. `TooDeep` where more than `limit` spans lie in one another.
+    /// definition's reading. `TooDeep` where more than `limit` spans lie in one another, `NoMemory` where a growth is refused,
+    /// by the sink or by what is asked too. After a fault the sink is gone, and what was told is of no use; the reader reads the next text as a new one does.
     pub fn read_into<L: Labels, A: AsksLabels, S: InlineSink + Drop>(
         &mut self,
         text: &str,

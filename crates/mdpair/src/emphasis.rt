@@ -17,8 +17,11 @@ use std::alloc::{AllocError, Global};
 /// Of asterisks and underscores one makes emphasis and two make strong emphasis; a run of tildes is taken whole and makes a strikethrough.
 #[derive(Clone, Copy, Debug, Drop)]
 pub struct Match {
+    /// The place of the opener in the list of runs, from 0.
     pub opener: usize,
+    /// The place of the closer, behind the opener's.
     pub closer: usize,
+    /// How many characters are taken of each.
     pub width: usize,
 }
 
@@ -60,7 +63,7 @@ pub struct Pairing {
 impl Pairing {
     ghost use Rattle.mdpair.specs.Pairings.{KeepsLittle, matches_of, room_of};
 
-    /// Takes no memory.
+    /// No matches. Takes no memory.
     pub fn new(alloc: Global) -> Pairing
         ensures { matches_of result ≡ [] }
     {

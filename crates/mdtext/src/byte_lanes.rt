@@ -62,7 +62,8 @@ fn equal(block: u8x32, byte: u8) -> u64
     block.simd_eq(u8x32::splat(byte)).to_bitmask()
 }
 
-/// The first position of one of these bytes among at most 32, or their number. The first 16 and the last 16 are looked at, or byte by byte where there are fewer.
+/// The first position of a byte of the class among at most 32, or their number. The first 16 are looked at together, then the last 16; where there are fewer than 16,
+/// one after the other.
 #[inline(always)]
 fn first_of_few(bytes: &[u8], class: &[u8]) -> usize
     requires { length bytes.now ≤ 32 }

@@ -78,8 +78,8 @@ impl Entities {
         }
     }
 
-    /// HTML's 2,125 names that end with `;`, as `from_json` reads them of HTML's file (CommonMark 2.5). `NoMemory` where a growth is refused; no other
-    /// fault, since the file has none.
+    /// HTML's 2,125 names that end with `;`, as `from_json` reads them of HTML's file (CommonMark 2.5). `NoMemory` where a growth is refused. The clauses
+    /// leave another fault open, if the file had one; a test reads it whole.
     pub fn html(alloc: Global) -> Result<Entities, TableFault>
         ensures ok { IfOk result (λ entities. file_table HTML_NAMES.now ≡ Ok entities) }
         ensures err { IfErr result (λ fault. fault ≢ TableFault.NoMemory → file_table HTML_NAMES.now ≡ Err fault) }
