@@ -3,6 +3,7 @@ pub mod ClosedViews
 pub mod ContainerContinuations
 pub mod Continuations
 pub mod EndedItems
+pub mod Growing
 pub mod HandedIn
 pub mod HeldLevel
 pub mod HeldNodes

@@ -3,6 +3,7 @@
 ghost use Rattle.std.specs.Prelude.{◌≡◌, ◌-◌, ◌<◌, ◌≤◌, [], ◌∷◌, ◌++◌, IfOk, OnOk, length, map};
 ghost use Rattle.std.specs.List.{range_with_len};
 ghost use Rattle.mdleaf.specs.LinkDefinition.{definition_of};
+ghost use Rattle.mdblock.specs.held.Growing.{Grows};
 ghost use Rattle.mdblock.specs.held.HandedIn.{gathered_definitions};
 ghost use Rattle.mdblock.specs.Positions.{CellsIn};
 
@@ -66,11 +67,10 @@ impl<'e> Gathering<'e> {
     /// Takes a text in, and answers its position.
     pub(crate) fn text(&mut self, text: String) -> Result<usize, AllocError>
         ensures within { IfOk result (λ position. position < length self.new.texts.items) }
-        ensures grows { length self.old.texts.items ≤ length self.new.texts.items }
+        ensures grows { Grows self.old self.new }
         ensures position { IfOk result (λ position. position ≡ length self.old.texts.items) }
         ensures texts { OnOk result (self.new.texts.items ≡ self.old.texts.items ++ text ∷ []) }
         ensures definitions { self.new.definitions ≡ self.old.definitions }
-        ensures entities { self.new.entities.now ≡ self.old.entities.now }
     {
         let position = self.texts.len();
         self.texts.push(text)?;
@@ -80,11 +80,10 @@ impl<'e> Gathering<'e> {
     /// Takes the cells of a row in, and answers their positions.
     pub(crate) fn row(&mut self, mut cells: Vec<String>) -> Result<Vec<usize>, AllocError>
         ensures within { IfOk result (λ positions. CellsIn (length self.new.texts.items) positions.items) }
-        ensures grows { length self.old.texts.items ≤ length self.new.texts.items }
+        ensures grows { Grows self.old self.new }
         ensures positions { IfOk result (λ positions. positions.items ≡ range_with_len (length self.old.texts.items) (length cells.items)) }
         ensures texts { OnOk result (self.new.texts.items ≡ self.old.texts.items ++ cells.items) }
         ensures definitions { self.new.definitions ≡ self.old.definitions }
-        ensures entities { self.new.entities.now ≡ self.old.entities.now }
     {
         let start = self.texts.len();
         self.texts.append(&mut cells)?;

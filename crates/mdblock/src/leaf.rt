@@ -6,6 +6,7 @@ ghost use Rattle.blockspec.specs.BlockLine.{BlockLine, rest};
 ghost use Rattle.blockspec.specs.BlockStart.{Kind};
 ghost use Rattle.mdblock.specs.BlockView.{block_view};
 ghost use Rattle.mdblock.specs.held.Continuations.{IsContinuationOf, ContinuesLeaf, IsOfLeaf, IsPlain, goes_on};
+ghost use Rattle.mdblock.specs.held.Growing.{Grows};
 ghost use Rattle.mdblock.specs.held.HandedIn.{gathered_texts, gathered_definitions};
 ghost use Rattle.blockspec.specs.Laziness.{Tip};
 ghost use Rattle.mdblock.specs.held.LeafEnds.{IsEndOf, IsTableEnd, is_paragraph, end_definitions};
@@ -127,8 +128,7 @@ impl Leaf {
     ) -> Result<Option<Block>, AllocError>
         requires { LeafIn (length gathering.old.texts.items) self }
         ensures within { IfOk result (λ found. IfSome found (λ block. BlockIn (length gathering.new.texts.items) (block_view block))) }
-        ensures grows { length gathering.old.texts.items ≤ length gathering.new.texts.items }
-        ensures entities { gathering.new.entities.now ≡ gathering.old.entities.now }
+        ensures grows { Grows gathering.old gathering.new }
         ensures left { (kind : Kind) (begin : BlockLine) (later : List BlockLine) → IsLeafOf gathering.old.entities.now self kind begin later
             → IfOk result (IsEndOf gathering.old.entities.now first kind begin later (gathered_texts gathering.old) (gathered_texts gathering.new)) }
         ensures rows { IfOk result (IsTableEnd self (gathered_texts gathering.old) (gathered_texts gathering.new)

@@ -4,6 +4,7 @@ ghost use Rattle.std.specs.Prelude.{◌≡◌, ◌≤◌, IfOk, OnOk, false, len
 ghost use Rattle.mdblock.specs.BlockView.{items_view};
 ghost use Rattle.mdblock.specs.Positions.{ItemsIn};
 ghost use Rattle.mdblock.specs.held.Continuations.{IsContinuationOf};
+ghost use Rattle.mdblock.specs.held.Growing.{Grows};
 ghost use Rattle.mdblock.specs.held.LevelSteps.{EndsItem, EntersItem};
 ghost use Rattle.mdblock.specs.held.OpenPositions.{LevelIn};
 
@@ -38,8 +39,7 @@ pub(crate) fn enter_item(
     requires continuation { IsContinuationOf line.old continuation }
     ensures inner { IfOk result (λ _. LevelIn (length gathering.new.texts.items) inner.new) }
     ensures list { IfOk result (λ _. ItemsIn (length gathering.new.texts.items) (items_view list.new.items.items)) }
-    ensures grows { length gathering.old.texts.items ≤ length gathering.new.texts.items }
-    ensures entities { gathering.new.entities.now ≡ gathering.old.entities.now }
+    ensures grows { Grows gathering.old gathering.new }
     ensures enters { IfOk result (EntersItem continuation inner.old list.old gap gathering.old line.old inner.new list.new gathering.new line.new) }
 {
     match continuation {
@@ -75,8 +75,7 @@ pub(crate) fn end_item(
     requires list { ItemsIn (length gathering.old.texts.items) (items_view list.old.items.items) }
     ensures inner { OnOk result (LevelIn (length gathering.new.texts.items) inner.new) }
     ensures list { OnOk result (ItemsIn (length gathering.new.texts.items) (items_view list.new.items.items)) }
-    ensures grows { length gathering.old.texts.items ≤ length gathering.new.texts.items }
-    ensures entities { gathering.new.entities.now ≡ gathering.old.entities.now }
+    ensures grows { Grows gathering.old gathering.new }
     ensures ends { OnOk result (EndsItem inner.old list.old gathering.old inner.new list.new gathering.new) }
     ensures shut { OnOk result (list.new.item_open ≡ false) }
     ensures kind { OnOk result (list.new.kind ≡ list.old.kind) }

@@ -6,6 +6,7 @@ ghost use Rattle.blockspec.specs.BlockLine.{rest};
 ghost use Rattle.blockspec.specs.BlockTree.{heading as heading_block};
 ghost use Rattle.mdblock.specs.BlockView.{block_view};
 ghost use Rattle.mdblock.specs.Positions.{BlockIn};
+ghost use Rattle.mdblock.specs.held.Growing.{Grows};
 ghost use Rattle.mdblock.specs.held.HandedIn.{gathered_texts};
 
 use crate::blocks::Block;
@@ -22,8 +23,7 @@ pub(crate) fn atx_heading(
 ) -> Result<Block, AllocError>
     requires { IsSpanOf (rest line.now) heading.content }
     ensures within { IfOk result (λ block. BlockIn (length gathering.new.texts.items) (block_view block)) }
-    ensures grows { length gathering.old.texts.items ≤ length gathering.new.texts.items }
-    ensures entities { gathering.new.entities.now ≡ gathering.old.entities.now }
+    ensures grows { Grows gathering.old gathering.new }
     ensures block { IfOk result (λ block. block_view block ≡ heading_block heading.level (length gathering.old.texts.items)) }
     ensures texts { OnOk result (gathered_texts gathering.new ≡ gathered_texts gathering.old ++ part (rest line.now) heading.content ∷ []) }
     ensures definitions { gathering.new.definitions ≡ gathering.old.definitions }

@@ -11,6 +11,7 @@ ghost use Rattle.blockspec.specs.BlockStart.{Table as TableKind, Inside, SetextH
 ghost use Rattle.blockspec.specs.BlockStart.{begins_underline, last_text, start, start_near};
 ghost use Rattle.blockspec.specs.BlockTree.{heading as heading_block};
 ghost use Rattle.mdblock.specs.BlockView.{block_view};
+ghost use Rattle.mdblock.specs.held.Growing.{Grows};
 ghost use Rattle.mdblock.specs.held.HandedIn.{gathered_definitions, gathered_texts, left_behind, IsHandedIn};
 ghost use Rattle.mdblock.specs.Positions.{BlockIn};
 ghost use Rattle.mdblock.specs.held.HeldTables.{IsTableBehind, first_rows};
@@ -153,8 +154,7 @@ impl Paragraph {
         gathering: &mut Gathering,
     ) -> Result<LeafAfter, AllocError>
         ensures within { IfOk result (λ step. LeafAfterIn (length gathering.new.texts.items) step) }
-        ensures grows { length gathering.old.texts.items ≤ length gathering.new.texts.items }
-        ensures entities { gathering.new.entities.now ≡ gathering.old.entities.now }
+        ensures grows { Grows gathering.old gathering.new }
         ensures step { IfOk result (λ step. IsOver (heading_block level (length gathering.old.texts.items)) step) }
         ensures texts { OnOk result (gathered_texts gathering.new ≡ gathered_texts gathering.old ++ behind_definitions (without_end_blanks self.text) ∷ []) }
         ensures found { OnOk result (gathered_definitions gathering.new
@@ -177,8 +177,7 @@ impl Paragraph {
             → step_view (length lines) continuation ≡ paragraph_step line.now.lazy (is_blank_line line.now) (start Inside lines line.now) }
         requires row { continuation ≡ Continuation.Delimits → begins_table (drop self.last self.text) (rest line.now) ≡ true }
         ensures within { IfOk result (λ step. LeafAfterIn (length gathering.new.texts.items) step) }
-        ensures grows { length gathering.old.texts.items ≤ length gathering.new.texts.items }
-        ensures entities { gathering.new.entities.now ≡ gathering.old.entities.now }
+        ensures grows { Grows gathering.old gathering.new }
         ensures underlined { (lines : List BlockLine) (level : ℕ) → HoldsLines lines self
             → paragraph_step line.now.lazy (is_blank_line line.now) (start Inside lines line.now) ≡ IsLastLine (SetextHeading level)
             → IfOk result (λ step. IsOver (heading_block level (length gathering.old.texts.items)) step) }
@@ -223,8 +222,7 @@ impl Paragraph {
     ) -> Result<LeafAfter, AllocError>
         requires { begins_table (drop self.last self.text) delimiters.now ≡ true }
         ensures within { IfOk result (λ step. LeafAfterIn (length gathering.new.texts.items) step) }
-        ensures grows { length gathering.old.texts.items ≤ length gathering.new.texts.items }
-        ensures entities { gathering.new.entities.now ≡ gathering.old.entities.now }
+        ensures grows { Grows gathering.old gathering.new }
         ensures table { IfOk result (IsTableBehind first (take (self.last - 1) self.text) (first_rows (drop self.last self.text) delimiters.now)
             (gathered_texts gathering.old) (gathered_texts gathering.new)) }
         ensures found { OnOk result (gathered_definitions gathering.new ≡ gathered_definitions gathering.old
@@ -254,8 +252,7 @@ impl Paragraph {
         gathering: &mut Gathering,
     ) -> Result<Option<Block>, AllocError>
         ensures within { IfOk result (λ found. IfSome found (λ block. BlockIn (length gathering.new.texts.items) (block_view block))) }
-        ensures grows { length gathering.old.texts.items ≤ length gathering.new.texts.items }
-        ensures entities { gathering.new.entities.now ≡ gathering.old.entities.now }
+        ensures grows { Grows gathering.old gathering.new }
         ensures left { IfOk result (λ found. IsHandedIn (left_behind first (behind_definitions (without_end_blanks self.text)))
             (gathered_texts gathering.old) (gathered_texts gathering.new) found) }
         ensures found { OnOk result (gathered_definitions gathering.new

@@ -2,6 +2,7 @@
 
 ghost use Rattle.std.specs.Prelude.{◌≡◌, ◌≤◌, [], ◌∷◌, ◌++◌, IfOk, OnOk, length, string_bytes};
 ghost use Rattle.blockspec.specs.BlockTree.{heading as heading_block};
+ghost use Rattle.mdblock.specs.held.Growing.{Grows};
 ghost use Rattle.mdblock.specs.held.HandedIn.{gathered_texts};
 ghost use Rattle.mdblock.specs.held.OpenLeaves.{IsOver};
 ghost use Rattle.mdblock.specs.held.OpenPositions.{LeafAfterIn};
@@ -18,8 +19,7 @@ pub(crate) fn setext_heading(
     gathering: &mut Gathering,
 ) -> Result<LeafAfter, AllocError>
     ensures within { IfOk result (λ step. LeafAfterIn (length gathering.new.texts.items) step) }
-    ensures grows { length gathering.old.texts.items ≤ length gathering.new.texts.items }
-    ensures entities { gathering.new.entities.now ≡ gathering.old.entities.now }
+    ensures grows { Grows gathering.old gathering.new }
     ensures step { IfOk result (λ step. IsOver (heading_block level (length gathering.old.texts.items)) step) }
     ensures texts { OnOk result (gathered_texts gathering.new ≡ gathered_texts gathering.old ++ string_bytes text ∷ []) }
     ensures definitions { gathering.new.definitions ≡ gathering.old.definitions }

@@ -6,6 +6,7 @@ ghost use Rattle.blockspec.specs.BlockTree.{table};
 ghost use Rattle.blockspec.specs.OpenLeaf.{row_of};
 ghost use Rattle.mdleaf.specs.TableRows.{header_of};
 ghost use Rattle.mdblock.specs.BlockView.{block_view};
+ghost use Rattle.mdblock.specs.held.Growing.{Grows};
 ghost use Rattle.mdblock.specs.held.HandedIn.{gathered_texts};
 ghost use Rattle.mdblock.specs.held.HeldTables.{IsHeaderRow, IsRowMore, held_rows};
 ghost use Rattle.mdblock.specs.held.OpenPositions.{LeafAfterIn, TableIn};
@@ -41,8 +42,7 @@ impl Table {
     /// The table with this header row, which is handed in.
     pub(crate) fn new(header: Header, gathering: &mut Gathering) -> Result<Table, AllocError>
         ensures within { IfOk result (λ table. TableIn (length gathering.new.texts.items) table) }
-        ensures grows { length gathering.old.texts.items ≤ length gathering.new.texts.items }
-        ensures entities { gathering.new.entities.now ≡ gathering.old.entities.now }
+        ensures grows { Grows gathering.old gathering.new }
         ensures header { IfOk result (IsHeaderRow (length gathering.old.texts.items) (header_of header)) }
         ensures texts { OnOk result (gathered_texts gathering.new ≡ gathered_texts gathering.old ++ (header_of header).cells) }
         ensures definitions { gathering.new.definitions ≡ gathering.old.definitions }
@@ -62,8 +62,7 @@ impl Table {
     ) -> Result<(), AllocError>
         requires { TableIn (length gathering.old.texts.items) self.old }
         ensures within { OnOk result (TableIn (length gathering.new.texts.items) self.new) }
-        ensures grows { length gathering.old.texts.items ≤ length gathering.new.texts.items }
-        ensures entities { gathering.new.entities.now ≡ gathering.old.entities.now }
+        ensures grows { Grows gathering.old gathering.new }
         ensures row { OnOk result (IsRowMore (length gathering.old.texts.items) self.old (Leaf.Table self.new)) }
         ensures texts { OnOk result (gathered_texts gathering.new
             ≡ gathered_texts gathering.old ++ row_of self.old.aligns.items (rest line.now)) }

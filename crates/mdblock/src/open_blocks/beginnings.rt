@@ -9,6 +9,7 @@ ghost use Rattle.mdblock.specs.Positions.{BlocksIn, ItemsIn};
 ghost use Rattle.mdblock.specs.declared.faults.BlockFault.TheVariants.{Failed, NestedTooDeep};
 ghost use Rattle.mdblock.specs.held.ClosedViews.{found_view};
 ghost use Rattle.mdblock.specs.held.Continuations.{IsBeginningOf};
+ghost use Rattle.mdblock.specs.held.Growing.{Grows};
 ghost use Rattle.mdblock.specs.held.LevelSteps.{BeginsBehind, BeginsBlock, HasMarksOf, IsListOf, IsQuoteOf, OpensLeaf, open_leaf_of};
 ghost use Rattle.mdblock.specs.held.OpenPositions.{LeafAfterIn, LevelIn};
 ghost use Rattle.mdblock.specs.held.TreesBehind.{blocks_before};
@@ -53,8 +54,7 @@ impl Level {
         requires level { LevelIn (length gathering.old.texts.items) self.old }
         requires opening { IsBeginningOf line.old opening }
         ensures within { OnOk result (LevelIn (length gathering.new.texts.items) self.new) }
-        ensures grows { length gathering.old.texts.items ≤ length gathering.new.texts.items }
-        ensures entities { gathering.new.entities.now ≡ gathering.old.entities.now }
+        ensures grows { Grows gathering.old gathering.new }
         ensures fault { IfErr result (λ fault. fault ≡ Failed → ⊥) }
         ensures behind { OnOk result (BeginsBehind room self.old gathering.old line.old self.new gathering.new) }
         ensures fits { OnOk result (sinks room no_summary line.old ≡ false) }
@@ -91,8 +91,7 @@ impl Level {
         requires opening { IsBeginningOf line.old opening }
         requires full { is_blank_line line.old ≡ false }
         ensures within { OnOk result (LevelIn (length gathering.new.texts.items) self.new) }
-        ensures grows { length gathering.old.texts.items ≤ length gathering.new.texts.items }
-        ensures entities { gathering.new.entities.now ≡ gathering.old.entities.now }
+        ensures grows { Grows gathering.old gathering.new }
         ensures fault { IfErr result (λ fault. fault ≡ Failed → ⊥) }
         ensures begins { OnOk result (BeginsBlock room self.old gathering.old line.old self.new gathering.new) }
         ensures fits { OnOk result (sinks room no_summary line.old ≡ false) }
@@ -145,8 +144,7 @@ impl Level {
         requires opening { IsBeginningOf line.now (Some (BlockStart.Heading heading)) }
         requires full { is_blank_line line.now ≡ false }
         ensures within { OnOk result (LevelIn (length gathering.new.texts.items) self.new) }
-        ensures grows { length gathering.old.texts.items ≤ length gathering.new.texts.items }
-        ensures entities { gathering.new.entities.now ≡ gathering.old.entities.now }
+        ensures grows { Grows gathering.old gathering.new }
         ensures begins { OnOk result ((room : ℕ) → BeginsBlock room self.old gathering.old line.now self.new gathering.new) }
     {
         let block = atx_headings::atx_heading(heading, line, gathering)?;

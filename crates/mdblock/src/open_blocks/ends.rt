@@ -4,6 +4,7 @@ ghost use Rattle.std.specs.Prelude.{◌≡◌, ◌≤◌, ℕ, IfOk, OnOk, lengt
 ghost use Rattle.mdblock.specs.BlockView.{blocks_view};
 ghost use Rattle.mdblock.specs.Positions.{BlocksIn};
 ghost use Rattle.mdblock.specs.held.EndedItems.{EndsLastItem, KeepsNext};
+ghost use Rattle.mdblock.specs.held.Growing.{Grows};
 ghost use Rattle.mdblock.specs.held.HeldLevel.{ClosesAll, is_shut};
 ghost use Rattle.mdblock.specs.held.LevelSteps.{EndsAll, HasMarksOf, IsClosedBehind, IsEmpty, IsOpenContainer, IsOpenLeaf};
 ghost use Rattle.mdblock.specs.held.OpenPositions.{LevelIn};
@@ -22,8 +23,7 @@ impl Level {
     fn close(&mut self, gathering: &mut Gathering) -> Result<(), AllocError>
         requires { LevelIn (length gathering.old.texts.items) self.old }
         ensures within { OnOk result (LevelIn (length gathering.new.texts.items) self.new) }
-        ensures grows { length gathering.old.texts.items ≤ length gathering.new.texts.items }
-        ensures entities { gathering.new.entities.now ≡ gathering.old.entities.now }
+        ensures grows { Grows gathering.old gathering.new }
         ensures closes { OnOk result (ClosesAll self.old gathering.old self.new.over.items gathering.new) }
         ensures shut { OnOk result (is_shut self.new.last ≡ true) }
         ensures marks { OnOk result (HasMarksOf self.old self.new) }
@@ -49,8 +49,7 @@ impl Level {
     pub(super) fn shut(&mut self, more: bool, gathering: &mut Gathering) -> Result<(), AllocError>
         requires { LevelIn (length gathering.old.texts.items) self.old }
         ensures within { OnOk result (LevelIn (length gathering.new.texts.items) self.new) }
-        ensures grows { length gathering.old.texts.items ≤ length gathering.new.texts.items }
-        ensures entities { gathering.new.entities.now ≡ gathering.old.entities.now }
+        ensures grows { Grows gathering.old gathering.new }
         ensures closes { OnOk result (ClosesAll self.old gathering.old self.new.over.items gathering.new) }
         ensures shut { OnOk result (is_shut self.new.last ≡ true) }
         ensures ends { OnOk result (EndsAll self.old gathering.old self.new gathering.new) }
@@ -79,8 +78,7 @@ impl Level {
         requires level { LevelIn (length gathering.old.texts.items) self.old }
         requires leaf { IsOpenLeaf self.old.last }
         ensures within { OnOk result (LevelIn (length gathering.new.texts.items) self.new) }
-        ensures grows { length gathering.old.texts.items ≤ length gathering.new.texts.items }
-        ensures entities { gathering.new.entities.now ≡ gathering.old.entities.now }
+        ensures grows { Grows gathering.old gathering.new }
         ensures closes { OnOk result (ClosesAll self.old gathering.old self.new.over.items gathering.new) }
         ensures shut { OnOk result (is_shut self.new.last ≡ true) }
         ensures marks { OnOk result (HasMarksOf self.old self.new) }
@@ -132,8 +130,7 @@ impl Level {
     ) -> Result<Vec<Block>, AllocError>
         requires { LevelIn (length gathering.old.texts.items) self.old }
         ensures within { IfOk result (λ blocks. BlocksIn (length gathering.new.texts.items) (blocks_view blocks.items)) }
-        ensures grows { length gathering.old.texts.items ≤ length gathering.new.texts.items }
-        ensures entities { gathering.new.entities.now ≡ gathering.old.entities.now }
+        ensures grows { Grows gathering.old gathering.new }
         ensures closes { IfOk result (λ blocks. ClosesAll self.old gathering.old blocks.items gathering.new) }
         ensures empty { OnOk result (IsEmpty in_item self.new) }
     {

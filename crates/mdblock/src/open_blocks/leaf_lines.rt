@@ -2,6 +2,7 @@
 
 ghost use Rattle.std.specs.Prelude.{◌≡◌, ◌≤◌, ℕ, OnOk, false, length, true};
 ghost use Rattle.mdblock.specs.held.Continuations.{ContinuesOpen};
+ghost use Rattle.mdblock.specs.held.Growing.{Grows};
 ghost use Rattle.mdblock.specs.held.LevelSteps.{EndsLeaf, GrowsLeaf, IsInside, IsOpenLeaf, KeepsLeaf};
 ghost use Rattle.mdblock.specs.held.OpenPositions.{LevelIn};
 
@@ -27,8 +28,7 @@ impl Level {
         requires leaf { IsOpenLeaf self.old.last }
         requires inside { IsInside continuation }
         ensures within { OnOk result (LevelIn (length gathering.new.texts.items) self.new) }
-        ensures grows { length gathering.old.texts.items ≤ length gathering.new.texts.items }
-        ensures entities { gathering.new.entities.now ≡ gathering.old.entities.now }
+        ensures grows { Grows gathering.old gathering.new }
         ensures adds { OnOk result (GrowsLeaf self.old gathering.old line.old self.new gathering.new) }
     {
         if !continuation.is_matched() {
@@ -76,8 +76,7 @@ impl Level {
         requires inside { IsInside continuation }
         requires turns { continuation ≡ Continuation.Matched → ⊥ }
         ensures within { OnOk result (LevelIn (length gathering.new.texts.items) self.new) }
-        ensures grows { length gathering.old.texts.items ≤ length gathering.new.texts.items }
-        ensures entities { gathering.new.entities.now ≡ gathering.old.entities.now }
+        ensures grows { Grows gathering.old gathering.new }
         ensures adds { OnOk result (GrowsLeaf self.old gathering.old line.now self.new gathering.new) }
     {
         let first = self.is_at_front();

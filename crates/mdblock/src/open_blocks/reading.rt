@@ -3,6 +3,7 @@
 ghost use Rattle.std.specs.Prelude.{◌≡◌, ◌≤◌, IfErr, IfOk, IsErrOf, OnOk, false, length, true};
 ghost use Rattle.mdblock.specs.declared.faults.BlockFault.TheVariants.{Failed, NestedTooDeep};
 ghost use Rattle.mdblock.specs.held.Continuations.{ContinuesOpen, IsContinuationOf};
+ghost use Rattle.mdblock.specs.held.Growing.{Grows};
 ghost use Rattle.mdblock.specs.held.LevelSteps.{AddsButBlank, IsInside};
 ghost use Rattle.mdblock.specs.held.LinesAdded.{AddsLine, ContinuesLevel, IsUnfollowed, SinksLine};
 ghost use Rattle.mdblock.specs.held.OpenPositions.{LevelIn};
@@ -34,8 +35,7 @@ impl Level {
     ) -> Result<(), BlockFault>
         requires { LevelIn (length gathering.old.texts.items) self.old }
         ensures within { OnOk result (LevelIn (length gathering.new.texts.items) self.new) }
-        ensures grows { length gathering.old.texts.items ≤ length gathering.new.texts.items }
-        ensures entities { gathering.new.entities.now ≡ gathering.old.entities.now }
+        ensures grows { Grows gathering.old gathering.new }
         ensures fault { IfErr result (λ fault. fault ≡ Failed → ⊥) }
         ensures adds { OnOk result (AddsLine room self.old gathering.old line.old self.new gathering.new) }
         ensures deep { IsErrOf result NestedTooDeep → SinksLine room self.old gathering.old line.old }
@@ -52,8 +52,7 @@ impl Level {
     fn read_inside(&mut self, line: &mut Line, room: usize, gathering: &mut Gathering) -> LineRead
         requires { LevelIn (length gathering.old.texts.items) self.old }
         ensures within { result ≡ LineRead.Done → LevelIn (length gathering.new.texts.items) self.new }
-        ensures grows { length gathering.old.texts.items ≤ length gathering.new.texts.items }
-        ensures entities { gathering.new.entities.now ≡ gathering.old.entities.now }
+        ensures grows { Grows gathering.old gathering.new }
         ensures adds { result ≡ LineRead.Done → AddsLine room self.old gathering.old line.old self.new gathering.new }
         ensures deep { result ≡ LineRead.TooDeep → SinksLine room self.old gathering.old line.old }
     {
@@ -96,8 +95,7 @@ impl Level {
         requires level { LevelIn (length gathering.old.texts.items) self.old }
         requires unfollowed { IsUnfollowed self.old.last line.old }
         ensures within { result ≡ LineRead.Done → LevelIn (length gathering.new.texts.items) self.new }
-        ensures grows { length gathering.old.texts.items ≤ length gathering.new.texts.items }
-        ensures entities { gathering.new.entities.now ≡ gathering.old.entities.now }
+        ensures grows { Grows gathering.old gathering.new }
         ensures adds { result ≡ LineRead.Done → AddsLine room self.old gathering.old line.old self.new gathering.new }
         ensures deep { result ≡ LineRead.TooDeep → SinksLine room self.old gathering.old line.old }
     {
@@ -124,8 +122,7 @@ impl Level {
         requires step { ContinuesOpen self.old.last line.old continuation }
         requires last { ContinuesLevel self.old line.old continuation }
         ensures within { OnOk result (LevelIn (length gathering.new.texts.items) self.new) }
-        ensures grows { length gathering.old.texts.items ≤ length gathering.new.texts.items }
-        ensures entities { gathering.new.entities.now ≡ gathering.old.entities.now }
+        ensures grows { Grows gathering.old gathering.new }
         ensures fault { IfErr result (λ fault. fault ≡ Failed → ⊥) }
         ensures adds { OnOk result (AddsLine room self.old gathering.old line.old self.new gathering.new) }
         ensures deep { IsErrOf result NestedTooDeep → SinksLine room self.old gathering.old line.old }
@@ -156,8 +153,7 @@ impl Level {
         requires last { ContinuesLevel self.old line.old continuation }
         requires inside { IsInside continuation }
         ensures within { OnOk result (LevelIn (length gathering.new.texts.items) self.new) }
-        ensures grows { length gathering.old.texts.items ≤ length gathering.new.texts.items }
-        ensures entities { gathering.new.entities.now ≡ gathering.old.entities.now }
+        ensures grows { Grows gathering.old gathering.new }
         ensures fault { IfErr result (λ fault. fault ≡ Failed → ⊥) }
         ensures adds { OnOk result (AddsButBlank room self.old gathering.old line.old self.new gathering.new) }
         ensures deep { IsErrOf result NestedTooDeep → SinksLine room self.old gathering.old line.old }

@@ -118,8 +118,7 @@ begin_block-returns-in_ok-begin_leaf-in_default-start t c =
     let h = c.in_ok-begin_leaf-in_default-start.ensures in
     record {
       within = h.within _ c.requires.level;
-      grows = omega arith;
-      entities = refl;
+      grows = (omega arith, refl);
       fault = tt;
       begins = h.begins c.args.room;
       fits = found_fits c.args.room c.args.line.now c.args.opening c.in-Some.start c.in-Some.is c.requires.opening.1

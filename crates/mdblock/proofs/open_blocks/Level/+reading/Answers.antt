@@ -13,7 +13,7 @@ use Rattle.mdblock.proofs.open_blocks.Level.+reading.Goals as goal
 
 pub add-returns-in-Outside-clause-adds : goal.add-returns-in-Outside-clause-adds
 add-returns-in-Outside-clause-adds t c =
-    on_both c.begin.result (outside_adds c.args.room c.args.self.now c.shut.new.self c.begin.new.self c.args.gathering.now c.shut.new.gathering c.begin.new.gathering c.args.line.now c.in-Outside.opening c.in_ok-shut.ensures.ends c.in_ok-shut.ensures.entities
+    on_both c.begin.result (outside_adds c.args.room c.args.self.now c.shut.new.self c.begin.new.self c.args.gathering.now c.shut.new.gathering c.begin.new.gathering c.args.line.now c.in-Outside.opening c.in_ok-shut.ensures.ends c.in_ok-shut.ensures.grows.1
     (subst (ContinuesLevel c.args.self.now c.args.line.now) c.in-Outside.is c.requires.last))
     c.begin.ensures.behind c.begin.ensures.fits
 
@@ -68,7 +68,7 @@ go_on-returns-in-Begins-clause-adds t c =
     on_both c.begin.result
     (list_begun c.args.room c.in_ok-room-in-List.room c.args.self.now c.in-List.inner c.in-List.list c.deref_mut-in-List.result.now n.inner c.deref_mut-in-Begins.result.now c.begin.new.self n.list c.args.gathering.now n.gathering c.begin.new.gathering
     c.args.line.now n.line c.in_ok-enter_item-in-List.field-0 c.args.continuation c.in_ok-room-in-List.ensures.less c.in-List.is c.requires.inside c.requires.last c.deref_mut-in-List.ensures.value c.in_ok-enter_item-in-List.ensures.enters c.in-Begins.is
-    c.in_ok-enter_item-in-List.ensures.entities c.deref_mut-in-Begins.ensures.value)
+    c.in_ok-enter_item-in-List.ensures.grows.1 c.deref_mut-in-Begins.ensures.value)
     c.begin.ensures.behind c.begin.ensures.fits
 
 pub go_on-returns-in-Begins-clause-deep : goal.go_on-returns-in-Begins-clause-deep

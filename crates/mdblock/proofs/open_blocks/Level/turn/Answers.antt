@@ -15,7 +15,7 @@ use Rattle.mdblock.proofs.open_blocks.Level.turn.Goals as goal
 pub returns-clause-within : goal.returns-clause-within
 returns-clause-within c =
     let e = c.in_ok-step-in-Leaf-Paragraph.ensures in
-    c.in_ok-put-in-Leaf-Paragraph.ensures.within (length c.turn.new.gathering.texts.items) (blocks_grow _ _ _ e.grows c.requires.level.0) e.within
+    c.in_ok-put-in-Leaf-Paragraph.ensures.within (length c.turn.new.gathering.texts.items) (blocks_grow _ _ _ e.grows.0 c.requires.level.0) e.within
 
 pub returns-clause-adds : goal.returns-clause-adds
 returns-clause-adds c =

@@ -12,4 +12,4 @@ returns-clause-begins c =
     let held = c.take_unit.new.self in
     let new = record held { level = c.begin.new.self; gathering = c.begin.new.gathering } in
     begins_fresh c.args.limit c.args.fed c.args.self.now held new c.args.line.now c.in_ok-found.found c.in_ok-found.ensures.given c.in_ok-found.ensures.empty
-    c.in_ok-found.ensures.begin c.in_ok-found.ensures.joined c.in_ok-found.ensures.joins c.in_ok-found.ensures.entities c.in_ok-begin.ensures.entities c.in_ok-begin.ensures.behind c.in_ok-begin.ensures.fits
+    c.in_ok-found.ensures.begin c.in_ok-found.ensures.joined c.in_ok-found.ensures.joins c.in_ok-found.ensures.entities c.in_ok-begin.ensures.grows.1 c.in_ok-begin.ensures.behind c.in_ok-begin.ensures.fits

@@ -15,4 +15,4 @@ returns-clause-next c =
     let old = c.args.self.now in
     let new = record old { level = c.add.new.self; gathering = c.add.new.gathering; joins = c.push.new.self; joined = true } in
     next_on c.args.limit c.args.fed old new c.end_item.new.self c.end_item.new.gathering c.args.line.now c.args.continuation c.join_after-join.result c.requires.whole c.requires.item c.requires.last
-    c.in_ok-end_item.ensures.ends c.in_ok-end_item.ensures.entities c.in_ok-add.ensures.entities c.in_ok-add.ensures.adds c.join_after-join.ensures c.in_ok-push.ensures.items refl refl
+    c.in_ok-end_item.ensures.ends c.in_ok-end_item.ensures.entities c.in_ok-add.ensures.grows.1 c.in_ok-add.ensures.adds c.join_after-join.ensures c.in_ok-push.ensures.items refl refl

@@ -47,7 +47,7 @@ returns-then-is_followed_by-clause-next c =
     let old = c.args.self.now in
     let new = record old { level = c.read.new.self; gathering = c.read.new.gathering; joined = false } in
     subst (λ z. HandsOn c.args.limit c.args.fed old z None new) c.new-line.ensures
-    (follows_on c.args.limit c.args.fed old new l c.in_ok-read.ensures.entities refl refl refl (ap (λ (z : BlockLine). z.lazy) c.new-line.ensures)
+    (follows_on c.args.limit c.args.fed old new l c.in_ok-read.ensures.grows.1 refl refl refl (ap (λ (z : BlockLine). z.lazy) c.new-line.ensures)
     (c.is_followed_by.ensures.yes c.if-is_followed_by.true) c.in_ok-read.ensures.adds)
 
 pub returns-then-begins_block-clause-next : goal.returns-then-begins_block-clause-next
@@ -85,5 +85,5 @@ returns-clause-next c =
     let continues = c.continuation-continuation.ensures.last (c.is_followed_by.ensures.no c.if-is_followed_by.false) in
     let new = record old { level = c.add.new.self; gathering = c.add.new.gathering; joined = false } in
     subst (λ z. HandsOn c.args.limit c.args.fed old z None new) c.new-line.ensures
-    (adds_on c.args.limit c.args.fed old new l c.continuation-continuation.result c.in_ok-add.ensures.entities refl refl refl lazy continues
+    (adds_on c.args.limit c.args.fed old new l c.continuation-continuation.result c.in_ok-add.ensures.grows.1 refl refl refl lazy continues
     (sym c.begins_block.ensures ∙ c.if-begins_block.false) (sym c.begins_item.ensures ∙ c.if-begins_item.false) c.in_ok-add.ensures.adds)

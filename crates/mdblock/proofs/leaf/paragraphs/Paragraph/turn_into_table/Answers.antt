@@ -9,7 +9,7 @@ use Rattle.mdblock.proofs.Within.{found_grows}
 use Rattle.mdblock.proofs.leaf.paragraphs.Paragraph.turn_into_table.Goals as goal
 
 pub returns-clause-within : goal.returns-clause-within
-returns-clause-within c = c.behind.ensures.within _ (found_grows _ _ c.in_ok-over.over c.new.ensures.grows c.in_ok-over.ensures.within) c.in_ok-table.ensures.within
+returns-clause-within c = c.behind.ensures.within _ (found_grows _ _ c.in_ok-over.over c.new.ensures.grows.0 c.in_ok-over.ensures.within) c.in_ok-table.ensures.within
 
 pub unreachable-requires : goal.unreachable-requires
 unreachable-requires c = header_there c.in_ok-header.field-0 _ _ c.args.delimiters.now c.in_default.is c.in_ok-header.ensures.header c.last_line.ensures c.requires

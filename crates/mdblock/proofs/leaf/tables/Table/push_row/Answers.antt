@@ -6,7 +6,7 @@ use Rattle.mdblock.proofs.Within.{table_grows}
 use Rattle.mdblock.proofs.leaf.tables.Table.push_row.Goals as goal
 
 pub returns-clause-within : goal.returns-clause-within
-returns-clause-within c = c.in_ok-push.ensures.within _ (table_grows _ _ c.args.self.now c.row.ensures.grows c.requires) c.in_ok-row.ensures.within
+returns-clause-within c = c.in_ok-push.ensures.within _ (table_grows _ _ c.args.self.now c.row.ensures.grows.0 c.requires) c.in_ok-row.ensures.within
 
 pub returns-clause-row : goal.returns-clause-row
 returns-clause-row c =
