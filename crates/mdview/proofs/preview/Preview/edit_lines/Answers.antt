@@ -6,13 +6,13 @@ use Rattle.mdsource.specs.Stops.{lines_soon}
 use Rattle.mdsource.specs.Outcome.{accepted}
 use Rattle.mdsource.specs.Patch.{Brings}
 use Rattle.mdsource.specs.Refusals.{nesting_refusal}
-use Rattle.mdsource.specs.Setting.{Setting}
 use Rattle.mdview.specs.Document.{Document, pieces_of, readings_of, setting_of, source_of}
 use Rattle.mdsource.specs.SourceLimits.{size_of}
 use Rattle.mdview.specs.Edit.{call_of, due}
 use Rattle.mdview.specs.HeldBlocks.{old_lines}
 use Rattle.mdview.specs.HeldTexts.{IsRefusedBy}
 use Rattle.mdview.specs.HeldUnit.{HeldUnit}
+use Rattle.mdview.specs.declared.preview.Preview.TheInside.{Inside}
 use Rattle.mdview.specs.Lists.{replaced}
 use Rattle.mdview.specs.NewText.{lines_of}
 use Rattle.mdview.specs.Outcome.{answer_of, is_starved, outcome_of}
@@ -21,6 +21,8 @@ use Rattle.mdview.proofs.EditOutcomes.{IsTextOf, IsUpdateOf, lines_of_call, next
 use Rattle.mdview.proofs.HeldReadings.{holds_relabelled}
 use Rattle.mdview.proofs.Outcomes.{accepts, refused_by_reading, returns_refusal}
 use Rattle.mdview.proofs.Sizes.{map_replaced}
+use Rattle.mdview.proofs.preview.Preview.edit_lines.Given.{Over}
+use Rattle.mdview.proofs.preview.Preview.edit_lines.Goals.{After-of, After-commit}
 use Rattle.mdview.proofs.preview.Preview.edit_lines.Goals as goal
 
 pub invariant_of-self-in_err-make_room : goal.invariant_of-self-in_err-make_room
@@ -37,169 +39,101 @@ invariant_of-self-in_err-make_room g c =
       holds_relabelled (record { entities = p.entities; options = p.options }) (map string_bytes p.lines.items) p.prelude p.labels c.make_room.new.self p.units.items c.make_room.ensures.same c.self.invariant.7,
     )
 
-pub returns-in_err-update-clause-outcome : goal.returns-in_err-update-clause-outcome
-returns-in_err-update-clause-outcome g c =
-    let p = c.self.inside in
-    let add : List (List ℕ) = c.args.add.now in
-    let held : Document = record { entities = p.entities; options = p.options; lines = map string_bytes p.lines.items; prelude = p.prelude.lines } in
-    let is : IsTextOf held c.args.at c.args.del add c.new-text.result =
-    text_of_edit held c.args.at c.args.del add c.new-text.result p.lines.items p.lines.items c.in_ok-new_lines.new_lines.items c.deref.result.now refl refl c.deref.ensures.value
-    c.in_ok-new_lines.ensures c.new-text.ensures.new c.new-text.ensures.old c.new-text.ensures.at c.new-text.ensures.gone c.new-text.ensures.come in
-    let call : Call = call_of c.args.at c.args.del add in
-    let fault = c.in_err-update.field-0.0 in
-    let result = c.from_residual-in_err-update.result in
-    let once = ap (λ (d : Document). due d.lines call) c.self.view_is ∙ c.in_ok-size.ensures.ok.0 in
-    let why = subst (λ ls. IsRefusedBy (nesting_refusal (setting_of held) (record { lines = ls; prelude = p.prelude.lines })) fault) is.behind c.in_err-update.ensures.refused in
-    subst (λ (d : Document). (answer_of result, d) ≡ outcome_of (is_starved result) d call) c.self.view_is
-    (returns_refusal result fault held call c.from_residual-in_err-update.ensures.1 (refused_by_reading held call fault once why))
+-- the document that a preview of these fields is
+abbrev document_in : Inside → Document
+document_in p = record { entities = p.entities; options = p.options; lines = map string_bytes p.lines.items; prelude = p.prelude.lines }
 
-pub returns-in_err-update-clause-inlines : goal.returns-in_err-update-clause-inlines
-returns-in_err-update-clause-inlines g c =
-    let p = c.self.inside in
-    let add : List (List ℕ) = c.args.add.now in
-    let held : Document = record { entities = p.entities; options = p.options; lines = map string_bytes p.lines.items; prelude = p.prelude.lines } in
-    let is : IsTextOf held c.args.at c.args.del add c.new-text.result =
-    text_of_edit held c.args.at c.args.del add c.new-text.result p.lines.items p.lines.items c.in_ok-new_lines.new_lines.items c.deref.result.now refl refl c.deref.ensures.value
-    c.in_ok-new_lines.ensures c.new-text.ensures.new c.new-text.ensures.old c.new-text.ensures.at c.new-text.ensures.gone c.new-text.ensures.come in
-    let due = texts_of_call held c.args.at c.args.del add c.new-text.result is ∙ ap (λ (d : Document). texts_soon (setting_of d) (source_of d) (call_of c.args.at c.args.del add)) c.self.view_is in
+abbrev lines_left : Inside → Call → List (List ℕ)
+lines_left p call = (put (source_of (document_in p)) call).lines
+
+text_is : (g : Over) (c : After-of g) → IsTextOf (document_in c.self.inside) c.args.at c.args.del c.args.add.now c.new-text.result
+text_is g c =
+    let lines = c.self.inside.lines.items in
+    text_of_edit (document_in c.self.inside) c.args.at c.args.del c.args.add.now c.new-text.result lines lines c.in_ok-new_lines.new_lines.items c.deref.result.now refl refl c.deref.ensures.value
+    c.in_ok-new_lines.ensures c.new-text.ensures.new c.new-text.ensures.old c.new-text.ensures.at c.new-text.ensures.gone c.new-text.ensures.come
+
+-- ---- what is counted, once the text was read
+
+stretch_of : (g : Over) (c : After-of g) → g.C.Count.lines c.of.new.count ≤ g.C.Count.lines c.args.count.now + lines_soon (setting_of c.args.self.now) (source_of c.args.self.now) (call_of c.args.at c.args.del c.args.add.now)
+stretch_of g c =
+    let call = call_of c.args.at c.args.del c.args.add.now in
+    let due = lines_of_call (document_in c.self.inside) c.args.at c.args.del c.args.add.now c.new-text.result (text_is g c) ∙ ap (λ (d : Document). lines_soon (setting_of d) (source_of d) call) c.self.view_is in
+    omega (arith, c.of.ensures.stretch, due)
+
+inlines_of : (g : Over) (c : After-of g) → g.C.Count.inlines c.of.new.count ≤ g.C.Count.inlines c.args.count.now + texts_soon (setting_of c.args.self.now) (source_of c.args.self.now) (call_of c.args.at c.args.del c.args.add.now)
+inlines_of g c =
+    let call = call_of c.args.at c.args.del c.args.add.now in
+    let due = texts_of_call (document_in c.self.inside) c.args.at c.args.del c.args.add.now c.new-text.result (text_is g c) ∙ ap (λ (d : Document). texts_soon (setting_of d) (source_of d) call) c.self.view_is in
     omega (arith, c.of.ensures.texts, due)
 
 pub returns-in_err-update-clause-stretch : goal.returns-in_err-update-clause-stretch
-returns-in_err-update-clause-stretch g c =
-    let p = c.self.inside in
-    let add : List (List ℕ) = c.args.add.now in
-    let held : Document = record { entities = p.entities; options = p.options; lines = map string_bytes p.lines.items; prelude = p.prelude.lines } in
-    let is : IsTextOf held c.args.at c.args.del add c.new-text.result =
-    text_of_edit held c.args.at c.args.del add c.new-text.result p.lines.items p.lines.items c.in_ok-new_lines.new_lines.items c.deref.result.now refl refl c.deref.ensures.value
-    c.in_ok-new_lines.ensures c.new-text.ensures.new c.new-text.ensures.old c.new-text.ensures.at c.new-text.ensures.gone c.new-text.ensures.come in
-    let due = lines_of_call held c.args.at c.args.del add c.new-text.result is ∙ ap (λ (d : Document). lines_soon (setting_of d) (source_of d) (call_of c.args.at c.args.del add)) c.self.view_is in
-    omega (arith, c.of.ensures.stretch, due)
+returns-in_err-update-clause-stretch g c = stretch_of g (goal.at.returns-in_err-update-clause-stretch g c).After-of
+
+pub returns-in_err-update-clause-inlines : goal.returns-in_err-update-clause-inlines
+returns-in_err-update-clause-inlines g c = inlines_of g (goal.at.returns-in_err-update-clause-inlines g c).After-of
 
 pub returns-in_err-patch-clause-stretch : goal.returns-in_err-patch-clause-stretch
-returns-in_err-patch-clause-stretch g c =
-    let p = c.self.inside in
-    let add : List (List ℕ) = c.args.add.now in
-    let held : Document = record { entities = p.entities; options = p.options; lines = map string_bytes p.lines.items; prelude = p.prelude.lines } in
-    let is : IsTextOf held c.args.at c.args.del add c.new-text.result =
-    text_of_edit held c.args.at c.args.del add c.new-text.result p.lines.items p.lines.items c.in_ok-new_lines.new_lines.items c.deref.result.now refl refl c.deref.ensures.value
-    c.in_ok-new_lines.ensures c.new-text.ensures.new c.new-text.ensures.old c.new-text.ensures.at c.new-text.ensures.gone c.new-text.ensures.come in
-    let due = lines_of_call held c.args.at c.args.del add c.new-text.result is ∙ ap (λ (d : Document). lines_soon (setting_of d) (source_of d) (call_of c.args.at c.args.del add)) c.self.view_is in
-    omega (arith, c.of.ensures.stretch, due)
+returns-in_err-patch-clause-stretch g c = stretch_of g (goal.at.returns-in_err-patch-clause-stretch g c).After-of
 
 pub returns-in_err-patch-clause-inlines : goal.returns-in_err-patch-clause-inlines
-returns-in_err-patch-clause-inlines g c =
-    let p = c.self.inside in
-    let add : List (List ℕ) = c.args.add.now in
-    let held : Document = record { entities = p.entities; options = p.options; lines = map string_bytes p.lines.items; prelude = p.prelude.lines } in
-    let is : IsTextOf held c.args.at c.args.del add c.new-text.result =
-    text_of_edit held c.args.at c.args.del add c.new-text.result p.lines.items p.lines.items c.in_ok-new_lines.new_lines.items c.deref.result.now refl refl c.deref.ensures.value
-    c.in_ok-new_lines.ensures c.new-text.ensures.new c.new-text.ensures.old c.new-text.ensures.at c.new-text.ensures.gone c.new-text.ensures.come in
-    let due = texts_of_call held c.args.at c.args.del add c.new-text.result is ∙ ap (λ (d : Document). texts_soon (setting_of d) (source_of d) (call_of c.args.at c.args.del add)) c.self.view_is in
-    omega (arith, c.of.ensures.texts, due)
+returns-in_err-patch-clause-inlines g c = inlines_of g (goal.at.returns-in_err-patch-clause-inlines g c).After-of
 
 pub returns-in_err-reserve_splice-clause-stretch : goal.returns-in_err-reserve_splice-clause-stretch
-returns-in_err-reserve_splice-clause-stretch g c =
-    let p = c.self.inside in
-    let add : List (List ℕ) = c.args.add.now in
-    let held : Document = record { entities = p.entities; options = p.options; lines = map string_bytes p.lines.items; prelude = p.prelude.lines } in
-    let is : IsTextOf held c.args.at c.args.del add c.new-text.result =
-    text_of_edit held c.args.at c.args.del add c.new-text.result p.lines.items p.lines.items c.in_ok-new_lines.new_lines.items c.deref.result.now refl refl c.deref.ensures.value
-    c.in_ok-new_lines.ensures c.new-text.ensures.new c.new-text.ensures.old c.new-text.ensures.at c.new-text.ensures.gone c.new-text.ensures.come in
-    let due = lines_of_call held c.args.at c.args.del add c.new-text.result is ∙ ap (λ (d : Document). lines_soon (setting_of d) (source_of d) (call_of c.args.at c.args.del add)) c.self.view_is in
-    omega (arith, c.of.ensures.stretch, due)
+returns-in_err-reserve_splice-clause-stretch g c = stretch_of g (goal.at.returns-in_err-reserve_splice-clause-stretch g c).After-of
 
 pub returns-in_err-reserve_splice-clause-inlines : goal.returns-in_err-reserve_splice-clause-inlines
-returns-in_err-reserve_splice-clause-inlines g c =
-    let p = c.self.inside in
-    let add : List (List ℕ) = c.args.add.now in
-    let held : Document = record { entities = p.entities; options = p.options; lines = map string_bytes p.lines.items; prelude = p.prelude.lines } in
-    let is : IsTextOf held c.args.at c.args.del add c.new-text.result =
-    text_of_edit held c.args.at c.args.del add c.new-text.result p.lines.items p.lines.items c.in_ok-new_lines.new_lines.items c.deref.result.now refl refl c.deref.ensures.value
-    c.in_ok-new_lines.ensures c.new-text.ensures.new c.new-text.ensures.old c.new-text.ensures.at c.new-text.ensures.gone c.new-text.ensures.come in
-    let due = texts_of_call held c.args.at c.args.del add c.new-text.result is ∙ ap (λ (d : Document). texts_soon (setting_of d) (source_of d) (call_of c.args.at c.args.del add)) c.self.view_is in
-    omega (arith, c.of.ensures.texts, due)
+returns-in_err-reserve_splice-clause-inlines g c = inlines_of g (goal.at.returns-in_err-reserve_splice-clause-inlines g c).After-of
 
 pub returns-in_err-reserve_splice-2-clause-stretch : goal.returns-in_err-reserve_splice-2-clause-stretch
-returns-in_err-reserve_splice-2-clause-stretch g c =
-    let p = c.self.inside in
-    let add : List (List ℕ) = c.args.add.now in
-    let held : Document = record { entities = p.entities; options = p.options; lines = map string_bytes p.lines.items; prelude = p.prelude.lines } in
-    let is : IsTextOf held c.args.at c.args.del add c.new-text.result =
-    text_of_edit held c.args.at c.args.del add c.new-text.result p.lines.items p.lines.items c.in_ok-new_lines.new_lines.items c.deref.result.now refl refl c.deref.ensures.value
-    c.in_ok-new_lines.ensures c.new-text.ensures.new c.new-text.ensures.old c.new-text.ensures.at c.new-text.ensures.gone c.new-text.ensures.come in
-    let due = lines_of_call held c.args.at c.args.del add c.new-text.result is ∙ ap (λ (d : Document). lines_soon (setting_of d) (source_of d) (call_of c.args.at c.args.del add)) c.self.view_is in
-    omega (arith, c.of.ensures.stretch, due)
+returns-in_err-reserve_splice-2-clause-stretch g c = stretch_of g (goal.at.returns-in_err-reserve_splice-2-clause-stretch g c).After-of
 
 pub returns-in_err-reserve_splice-2-clause-inlines : goal.returns-in_err-reserve_splice-2-clause-inlines
-returns-in_err-reserve_splice-2-clause-inlines g c =
-    let p = c.self.inside in
-    let add : List (List ℕ) = c.args.add.now in
-    let held : Document = record { entities = p.entities; options = p.options; lines = map string_bytes p.lines.items; prelude = p.prelude.lines } in
-    let is : IsTextOf held c.args.at c.args.del add c.new-text.result =
-    text_of_edit held c.args.at c.args.del add c.new-text.result p.lines.items p.lines.items c.in_ok-new_lines.new_lines.items c.deref.result.now refl refl c.deref.ensures.value
-    c.in_ok-new_lines.ensures c.new-text.ensures.new c.new-text.ensures.old c.new-text.ensures.at c.new-text.ensures.gone c.new-text.ensures.come in
-    let due = texts_of_call held c.args.at c.args.del add c.new-text.result is ∙ ap (λ (d : Document). texts_soon (setting_of d) (source_of d) (call_of c.args.at c.args.del add)) c.self.view_is in
-    omega (arith, c.of.ensures.texts, due)
+returns-in_err-reserve_splice-2-clause-inlines g c = inlines_of g (goal.at.returns-in_err-reserve_splice-2-clause-inlines g c).After-of
 
 pub returns-in_err-make_room-clause-stretch : goal.returns-in_err-make_room-clause-stretch
-returns-in_err-make_room-clause-stretch g c =
-    let p = c.self.inside in
-    let add : List (List ℕ) = c.args.add.now in
-    let held : Document = record { entities = p.entities; options = p.options; lines = map string_bytes p.lines.items; prelude = p.prelude.lines } in
-    let is : IsTextOf held c.args.at c.args.del add c.new-text.result =
-    text_of_edit held c.args.at c.args.del add c.new-text.result p.lines.items p.lines.items c.in_ok-new_lines.new_lines.items c.deref.result.now refl refl c.deref.ensures.value
-    c.in_ok-new_lines.ensures c.new-text.ensures.new c.new-text.ensures.old c.new-text.ensures.at c.new-text.ensures.gone c.new-text.ensures.come in
-    let due = lines_of_call held c.args.at c.args.del add c.new-text.result is ∙ ap (λ (d : Document). lines_soon (setting_of d) (source_of d) (call_of c.args.at c.args.del add)) c.self.view_is in
-    omega (arith, c.of.ensures.stretch, due)
+returns-in_err-make_room-clause-stretch g c = stretch_of g (goal.at.returns-in_err-make_room-clause-stretch g c).After-of
 
 pub returns-in_err-make_room-clause-inlines : goal.returns-in_err-make_room-clause-inlines
-returns-in_err-make_room-clause-inlines g c =
-    let p = c.self.inside in
-    let add : List (List ℕ) = c.args.add.now in
-    let held : Document = record { entities = p.entities; options = p.options; lines = map string_bytes p.lines.items; prelude = p.prelude.lines } in
-    let is : IsTextOf held c.args.at c.args.del add c.new-text.result =
-    text_of_edit held c.args.at c.args.del add c.new-text.result p.lines.items p.lines.items c.in_ok-new_lines.new_lines.items c.deref.result.now refl refl c.deref.ensures.value
-    c.in_ok-new_lines.ensures c.new-text.ensures.new c.new-text.ensures.old c.new-text.ensures.at c.new-text.ensures.gone c.new-text.ensures.come in
-    let due = texts_of_call held c.args.at c.args.del add c.new-text.result is ∙ ap (λ (d : Document). texts_soon (setting_of d) (source_of d) (call_of c.args.at c.args.del add)) c.self.view_is in
-    omega (arith, c.of.ensures.texts, due)
+returns-in_err-make_room-clause-inlines g c = inlines_of g (goal.at.returns-in_err-make_room-clause-inlines g c).After-of
 
 pub returns-clause-stretch : goal.returns-clause-stretch
-returns-clause-stretch g c =
-    let p = c.self.inside in
-    let add : List (List ℕ) = c.args.add.now in
-    let held : Document = record { entities = p.entities; options = p.options; lines = map string_bytes p.lines.items; prelude = p.prelude.lines } in
-    let is : IsTextOf held c.args.at c.args.del add c.new-text.result =
-    text_of_edit held c.args.at c.args.del add c.new-text.result p.lines.items p.lines.items c.in_ok-new_lines.new_lines.items c.deref.result.now refl refl c.deref.ensures.value
-    c.in_ok-new_lines.ensures c.new-text.ensures.new c.new-text.ensures.old c.new-text.ensures.at c.new-text.ensures.gone c.new-text.ensures.come in
-    let due = lines_of_call held c.args.at c.args.del add c.new-text.result is ∙ ap (λ (d : Document). lines_soon (setting_of d) (source_of d) (call_of c.args.at c.args.del add)) c.self.view_is in
-    omega (arith, c.of.ensures.stretch, due)
+returns-clause-stretch g c = stretch_of g (goal.at.returns-clause-stretch g c).After-of
 
 pub returns-clause-inlines : goal.returns-clause-inlines
-returns-clause-inlines g c =
-    let p = c.self.inside in
-    let add : List (List ℕ) = c.args.add.now in
-    let held : Document = record { entities = p.entities; options = p.options; lines = map string_bytes p.lines.items; prelude = p.prelude.lines } in
-    let is : IsTextOf held c.args.at c.args.del add c.new-text.result =
-    text_of_edit held c.args.at c.args.del add c.new-text.result p.lines.items p.lines.items c.in_ok-new_lines.new_lines.items c.deref.result.now refl refl c.deref.ensures.value
-    c.in_ok-new_lines.ensures c.new-text.ensures.new c.new-text.ensures.old c.new-text.ensures.at c.new-text.ensures.gone c.new-text.ensures.come in
-    let due = texts_of_call held c.args.at c.args.del add c.new-text.result is ∙ ap (λ (d : Document). texts_soon (setting_of d) (source_of d) (call_of c.args.at c.args.del add)) c.self.view_is in
-    omega (arith, c.of.ensures.texts, due)
+returns-clause-inlines g c = inlines_of g (goal.at.returns-clause-inlines g c).After-of
 
-pub invariant_of-self-2 : goal.invariant_of-self-2
-invariant_of-self-2 g c =
+-- ---- the answers
+
+pub returns-in_err-update-clause-outcome : goal.returns-in_err-update-clause-outcome
+returns-in_err-update-clause-outcome g c =
+    let held = document_in c.self.inside in
+    let call : Call = call_of c.args.at c.args.del c.args.add.now in
+    let fault = c.in_err-update.field-0.0 in
+    let result = c.from_residual-in_err-update.result in
+    let is = text_is g (goal.at.returns-in_err-update-clause-outcome g c).After-of in
+    let once = ap (λ (d : Document). due d.lines call) c.self.view_is ∙ c.in_ok-size.ensures.ok.0 in
+    let why = subst (λ ls. IsRefusedBy (nesting_refusal (setting_of held) (record { lines = ls; prelude = held.prelude })) fault) is.behind c.in_err-update.ensures.refused in
+    subst (λ (d : Document). (answer_of result, d) ≡ outcome_of (is_starved result) d call) c.self.view_is
+    (returns_refusal result fault held call c.from_residual-in_err-update.ensures.1 (refused_by_reading held call fault once why))
+
+-- What is known once the update is taken in.
+record Taken (g : Over) (c : After-commit g) : Type 0 where
+  read : IsUpdateOf (setting_of (document_in c.self.inside)) c.self.inside.prelude.lines c.self.inside.labels c.self.inside.units.items (map string_bytes c.self.inside.lines.items)
+      (lines_left c.self.inside (call_of c.args.at c.args.del c.args.add.now)) c.new-text.result c.in_ok-update.update
+  lines : map string_bytes c.splice.new.self.items ≡ lines_left c.self.inside (call_of c.args.at c.args.del c.args.add.now)
+  next : c.commit.new.held.items
+      ≡ replaced (all_renewed c.self.inside.units.items c.in_ok-update.update.again.items) c.in_ok-update.update.first (c.in_ok-update.update.next - c.in_ok-update.update.first) c.in_ok-update.update.units.items
+  small : length c.self.inside.units.items + length c.in_ok-update.update.units.items < 2 ^ 64
+
+taken : (g : Over) (c : After-commit g) → IsTextOf (document_in c.self.inside) c.args.at c.args.del c.args.add.now c.new-text.result → Taken g c
+taken g c is =
     let p = c.self.inside in
-    let add : List (List ℕ) = c.args.add.now in
-    let held : Document = record { entities = p.entities; options = p.options; lines = map string_bytes p.lines.items; prelude = p.prelude.lines } in
-    let is : IsTextOf held c.args.at c.args.del add c.new-text.result =
-    text_of_edit held c.args.at c.args.del add c.new-text.result p.lines.items p.lines.items c.in_ok-new_lines.new_lines.items c.deref.result.now refl refl c.deref.ensures.value
-    c.in_ok-new_lines.ensures c.new-text.ensures.new c.new-text.ensures.old c.new-text.ensures.at c.new-text.ensures.gone c.new-text.ensures.come in
-    let call : Call = call_of c.args.at c.args.del add in
+    let at = c.args.at in
+    let del = c.args.del in
     let r = c.in_ok-update.update in
     let units : List HeldUnit = p.units.items in
-    let setting : Setting = record { entities = p.entities; options = p.options } in
-    let source = source_of held in
-    let new : List (List ℕ) = (put source call).lines in
-    let read : IsUpdateOf setting p.prelude.lines p.labels units (old_lines c.new-text.result) (lines_of c.new-text.result) c.new-text.result r = record {
+    let come = c.in_ok-new_lines.new_lines.items in
+    let read : IsUpdateOf (setting_of (document_in p)) p.prelude.lines p.labels units (old_lines c.new-text.result) (lines_of c.new-text.result) c.new-text.result r = record {
       replacing = c.in_ok-update.ensures.replacing;
       led = c.in_ok-update.ensures.led;
       read = c.in_ok-update.ensures.read;
@@ -209,162 +143,89 @@ invariant_of-self-2 g c =
       fits = c.in_ok-update.ensures.fits;
       accepted = c.in_ok-update.ensures.accepted;
     } in
-    let w : IsUpdateOf setting p.prelude.lines p.labels units (map string_bytes p.lines.items) new c.new-text.result r =
-    update_of_call held c.args.at c.args.del add c.new-text.result p.labels units units r refl is read in
-    let spliced : c.splice.new.self.items ≡ replaced p.lines.items c.args.at c.args.del c.in_ok-new_lines.new_lines.items =
-    c.splice.ensures ∙ ap (λ xs. replaced xs c.args.at c.args.del c.reserve_splice.new.added.items) c.in_ok-reserve_splice.ensures.items
-    ∙ ap (λ come. replaced p.lines.items c.args.at c.args.del come) c.in_ok-reserve_splice.ensures.added in
-    let lines : map string_bytes c.splice.new.self.items ≡ new =
-    ap (map string_bytes) spliced ∙ map_replaced string_bytes p.lines.items c.in_ok-new_lines.new_lines.items c.args.at c.args.del
-    ∙ ap (λ xs. replaced (map string_bytes p.lines.items) c.args.at c.args.del xs) c.in_ok-new_lines.ensures in
-    let next : List HeldUnit = c.commit.new.held.items in
-    let next_is : next ≡ replaced (all_renewed units r.again.items) r.first (r.next - r.first) r.units.items =
-    c.commit.ensures.units ∙ ap (λ us. replaced (all_renewed us r.again.items) r.first (r.next - r.first) c.reserve_splice-2.new.added.items) c.in_ok-reserve_splice-2.ensures.items
-    ∙ ap (λ come. replaced (all_renewed units r.again.items) r.first (r.next - r.first) come) c.in_ok-reserve_splice-2.ensures.added in
+    let spliced : c.splice.new.self.items ≡ replaced p.lines.items at del come =
+    c.splice.ensures ∙ ap (λ xs. replaced xs at del c.reserve_splice.new.added.items) c.in_ok-reserve_splice.ensures.items
+    ∙ ap (λ xs. replaced p.lines.items at del xs) c.in_ok-reserve_splice.ensures.added in
+    let many : length c.reserve_splice-2.new.self.items ≡ length units = ap (λ us. length us) c.in_ok-reserve_splice-2.ensures.items in
+    let added : length c.reserve_splice-2.new.added.items ≡ length r.units.items = ap (λ us. length us) c.in_ok-reserve_splice-2.ensures.added in
+    record {
+      read = update_of_call (document_in p) at del c.args.add.now c.new-text.result p.labels units units r refl is read;
+      lines =
+          ap (map string_bytes) spliced ∙ map_replaced string_bytes p.lines.items come at del
+          ∙ ap (λ xs. replaced (map string_bytes p.lines.items) at del xs) c.in_ok-new_lines.ensures;
+      next =
+          c.commit.ensures.units ∙ ap (λ us. replaced (all_renewed us r.again.items) r.first (r.next - r.first) c.reserve_splice-2.new.added.items) c.in_ok-reserve_splice-2.ensures.items
+          ∙ ap (λ xs. replaced (all_renewed units r.again.items) r.first (r.next - r.first) xs) c.in_ok-reserve_splice-2.ensures.added;
+      small = omega (arith, many, added, c.in_ok-reserve_splice-2.ensures.room.1, c.reserve_splice-2.new.added.ok.0);
+    }
+
+pub invariant_of-self-2 : goal.invariant_of-self-2
+invariant_of-self-2 g c =
+    let s = goal.at.invariant_of-self-2 g c in
+    let is = text_is g s.After-of in
+    let t = taken g s.After-commit is in
+    let p = c.self.inside in
+    let r = c.in_ok-update.update in
+    let call : Call = call_of c.args.at c.args.del c.args.add.now in
+    let new = lines_left p call in
+    let next = c.commit.new.held.items in
     let size = c.in_ok-size.ensures.ok.1 ∙ ap (λ (d : Document). size_of (put (source_of d) call).lines) (sym c.self.view_is) in
     let few : length new ≤ 1000000 = subst (λ (d : Document). length (put (source_of d) call).lines ≤ 1000000) (sym c.self.view_is) c.in_ok-size.ensures.small.0 in
     let low : size_of new ≤ 16777216 = subst (λ (d : Document). size_of (put (source_of d) call).lines ≤ 16777216) (sym c.self.view_is) c.in_ok-size.ensures.small.1 in
     let many = length-map c.splice.new.self.items string_bytes in
-    let long = ap (λ ls. length ls) lines in
-    rw lines (
+    let long = ap (λ ls. length ls) t.lines in
+    rw t.lines (
       size,
       omega (arith, size, low),
       omega (arith, few, many, long),
-      next_rendered p.entities p.options (map string_bytes p.lines.items) p.prelude p.head p.labels units c.args.at c.args.del add c.new-text.result r c.self.invariant.5 c.self.invariant.7 c.self.invariant.3 is w next next_is,
+      next_rendered p.entities p.options (map string_bytes p.lines.items) p.prelude p.head p.labels p.units.items c.args.at c.args.del c.args.add.now c.new-text.result r c.self.invariant.5 c.self.invariant.7 c.self.invariant.3 is t.read next t.next,
       c.self.invariant.4,
-      next_blocks p.entities p.options (map string_bytes p.lines.items) p.prelude p.head p.labels units c.args.at c.args.del add c.new-text.result r c.self.invariant.5 c.self.invariant.7 c.self.invariant.3 is w next next_is,
-      w.fits,
-      next_texts p.entities p.options (map string_bytes p.lines.items) p.prelude p.head p.labels units c.args.at c.args.del add c.new-text.result r c.self.invariant.5 c.self.invariant.7 c.self.invariant.3 is w next next_is c.make_room.new.self c.commit.new.labels c.make_room.ensures.same c.commit.ensures.led,
+      next_blocks p.entities p.options (map string_bytes p.lines.items) p.prelude p.head p.labels p.units.items c.args.at c.args.del c.args.add.now c.new-text.result r c.self.invariant.5 c.self.invariant.7 c.self.invariant.3 is t.read next t.next,
+      t.read.fits,
+      next_texts p.entities p.options (map string_bytes p.lines.items) p.prelude p.head p.labels p.units.items c.args.at c.args.del c.args.add.now c.new-text.result r c.self.invariant.5 c.self.invariant.7 c.self.invariant.3 is t.read next t.next
+          c.make_room.new.self c.commit.new.labels c.make_room.ensures.same c.commit.ensures.led,
     )
 
 pub returns-clause-outcome : goal.returns-clause-outcome
 returns-clause-outcome g c =
+    let s = goal.at.returns-clause-outcome g c in
+    let is = text_is g s.After-of in
+    let t = taken g s.After-commit is in
     let p = c.self.inside in
-    let add : List (List ℕ) = c.args.add.now in
-    let held : Document = record { entities = p.entities; options = p.options; lines = map string_bytes p.lines.items; prelude = p.prelude.lines } in
-    let is : IsTextOf held c.args.at c.args.del add c.new-text.result =
-    text_of_edit held c.args.at c.args.del add c.new-text.result p.lines.items p.lines.items c.in_ok-new_lines.new_lines.items c.deref.result.now refl refl c.deref.ensures.value
-    c.in_ok-new_lines.ensures c.new-text.ensures.new c.new-text.ensures.old c.new-text.ensures.at c.new-text.ensures.gone c.new-text.ensures.come in
-    let call : Call = call_of c.args.at c.args.del add in
     let r = c.in_ok-update.update in
-    let units : List HeldUnit = p.units.items in
-    let setting : Setting = record { entities = p.entities; options = p.options } in
-    let source = source_of held in
-    let new : List (List ℕ) = (put source call).lines in
-    let read : IsUpdateOf setting p.prelude.lines p.labels units (old_lines c.new-text.result) (lines_of c.new-text.result) c.new-text.result r = record {
-      replacing = c.in_ok-update.ensures.replacing;
-      led = c.in_ok-update.ensures.led;
-      read = c.in_ok-update.ensures.read;
-      reread = c.in_ok-update.ensures.reread;
-      numbers = c.in_ok-update.ensures.numbers;
-      fit = c.in_ok-update.ensures.fit;
-      fits = c.in_ok-update.ensures.fits;
-      accepted = c.in_ok-update.ensures.accepted;
-    } in
-    let w : IsUpdateOf setting p.prelude.lines p.labels units (map string_bytes p.lines.items) new c.new-text.result r =
-    update_of_call held c.args.at c.args.del add c.new-text.result p.labels units units r refl is read in
-    let spliced : c.splice.new.self.items ≡ replaced p.lines.items c.args.at c.args.del c.in_ok-new_lines.new_lines.items =
-    c.splice.ensures ∙ ap (λ xs. replaced xs c.args.at c.args.del c.reserve_splice.new.added.items) c.in_ok-reserve_splice.ensures.items
-    ∙ ap (λ come. replaced p.lines.items c.args.at c.args.del come) c.in_ok-reserve_splice.ensures.added in
-    let lines : map string_bytes c.splice.new.self.items ≡ new =
-    ap (map string_bytes) spliced ∙ map_replaced string_bytes p.lines.items c.in_ok-new_lines.new_lines.items c.args.at c.args.del
-    ∙ ap (λ xs. replaced (map string_bytes p.lines.items) c.args.at c.args.del xs) c.in_ok-new_lines.ensures in
-    let many : length c.reserve_splice-2.new.self.items ≡ length units = ap (λ us. length us) c.in_ok-reserve_splice-2.ensures.items in
-    let come : length c.reserve_splice-2.new.added.items ≡ length r.units.items = ap (λ us. length us) c.in_ok-reserve_splice-2.ensures.added in
-    let small : length units + length r.units.items < 2 ^ 64 = omega (arith, many, come, c.in_ok-reserve_splice-2.ensures.room.1, c.reserve_splice-2.new.added.ok.0) in
+    let call : Call = call_of c.args.at c.args.del c.args.add.now in
     let once = ap (λ (d : Document). due d.lines call) c.self.view_is ∙ c.in_ok-size.ensures.ok.0 in
     let patch = c.in_ok-patch.patch in
-    let left : List (List ℕ) → Document = λ ls. record { entities = p.entities; options = p.options; lines = ls; prelude = p.prelude.lines } in
+    let left : List (List ℕ) → Document = λ ls. record (document_in p) { lines = ls } in
     subst (λ (d : Document). (accepted patch, left (map string_bytes c.splice.new.self.items)) ≡ outcome_of false d call) c.self.view_is
-    (accepts held call (left (map string_bytes c.splice.new.self.items)) patch once w.accepted
-    (patch_is p.entities p.options (map string_bytes p.lines.items) p.prelude p.head p.labels units c.args.at c.args.del add c.new-text.result r c.self.invariant.5 c.self.invariant.7 c.self.invariant.3 is w patch c.in_ok-patch.ensures small) (ap left lines))
+    (accepts (document_in p) call (left (map string_bytes c.splice.new.self.items)) patch once t.read.accepted
+    (patch_is p.entities p.options (map string_bytes p.lines.items) p.prelude p.head p.labels p.units.items c.args.at c.args.del c.args.add.now c.new-text.result r c.self.invariant.5 c.self.invariant.7 c.self.invariant.3 is t.read
+    patch c.in_ok-patch.ensures t.small) (ap left t.lines))
 
 pub returns-clause-patch : goal.returns-clause-patch
 returns-clause-patch g c =
+    let s = goal.at.returns-clause-patch g c in
+    let is = text_is g s.After-of in
+    let t = taken g s.After-commit is in
     let p = c.self.inside in
-    let add : List (List ℕ) = c.args.add.now in
-    let held : Document = record { entities = p.entities; options = p.options; lines = map string_bytes p.lines.items; prelude = p.prelude.lines } in
-    let is : IsTextOf held c.args.at c.args.del add c.new-text.result =
-    text_of_edit held c.args.at c.args.del add c.new-text.result p.lines.items p.lines.items c.in_ok-new_lines.new_lines.items c.deref.result.now refl refl c.deref.ensures.value
-    c.in_ok-new_lines.ensures c.new-text.ensures.new c.new-text.ensures.old c.new-text.ensures.at c.new-text.ensures.gone c.new-text.ensures.come in
-    let call : Call = call_of c.args.at c.args.del add in
     let r = c.in_ok-update.update in
-    let units : List HeldUnit = p.units.items in
-    let setting : Setting = record { entities = p.entities; options = p.options } in
-    let source = source_of held in
-    let new : List (List ℕ) = (put source call).lines in
-    let read : IsUpdateOf setting p.prelude.lines p.labels units (old_lines c.new-text.result) (lines_of c.new-text.result) c.new-text.result r = record {
-      replacing = c.in_ok-update.ensures.replacing;
-      led = c.in_ok-update.ensures.led;
-      read = c.in_ok-update.ensures.read;
-      reread = c.in_ok-update.ensures.reread;
-      numbers = c.in_ok-update.ensures.numbers;
-      fit = c.in_ok-update.ensures.fit;
-      fits = c.in_ok-update.ensures.fits;
-      accepted = c.in_ok-update.ensures.accepted;
-    } in
-    let w : IsUpdateOf setting p.prelude.lines p.labels units (map string_bytes p.lines.items) new c.new-text.result r =
-    update_of_call held c.args.at c.args.del add c.new-text.result p.labels units units r refl is read in
-    let spliced : c.splice.new.self.items ≡ replaced p.lines.items c.args.at c.args.del c.in_ok-new_lines.new_lines.items =
-    c.splice.ensures ∙ ap (λ xs. replaced xs c.args.at c.args.del c.reserve_splice.new.added.items) c.in_ok-reserve_splice.ensures.items
-    ∙ ap (λ come. replaced p.lines.items c.args.at c.args.del come) c.in_ok-reserve_splice.ensures.added in
-    let lines : map string_bytes c.splice.new.self.items ≡ new =
-    ap (map string_bytes) spliced ∙ map_replaced string_bytes p.lines.items c.in_ok-new_lines.new_lines.items c.args.at c.args.del
-    ∙ ap (λ xs. replaced (map string_bytes p.lines.items) c.args.at c.args.del xs) c.in_ok-new_lines.ensures in
-    let next : List HeldUnit = c.commit.new.held.items in
-    let next_is : next ≡ replaced (all_renewed units r.again.items) r.first (r.next - r.first) r.units.items =
-    c.commit.ensures.units ∙ ap (λ us. replaced (all_renewed us r.again.items) r.first (r.next - r.first) c.reserve_splice-2.new.added.items) c.in_ok-reserve_splice-2.ensures.items
-    ∙ ap (λ come. replaced (all_renewed units r.again.items) r.first (r.next - r.first) come) c.in_ok-reserve_splice-2.ensures.added in
-    let many : length c.reserve_splice-2.new.self.items ≡ length units = ap (λ us. length us) c.in_ok-reserve_splice-2.ensures.items in
-    let come : length c.reserve_splice-2.new.added.items ≡ length r.units.items = ap (λ us. length us) c.in_ok-reserve_splice-2.ensures.added in
-    let small : length units + length r.units.items < 2 ^ 64 = omega (arith, many, come, c.in_ok-reserve_splice-2.ensures.room.1, c.reserve_splice-2.new.added.ok.0) in
     let patch = c.in_ok-patch.patch in
-    let left : List (List ℕ) → Document = λ ls. record { entities = p.entities; options = p.options; lines = ls; prelude = p.prelude.lines } in
+    let left : List (List ℕ) → Document = λ ls. record (document_in p) { lines = ls } in
     subst (λ (d : Document). Brings patch (pieces_of d) (pieces_of (left (map string_bytes c.splice.new.self.items)))) c.self.view_is
-    (subst (λ ls. Brings patch (pieces_of held) (pieces_of (left ls))) (sym lines)
-    (pieces_brought p.entities p.options (map string_bytes p.lines.items) p.prelude p.head p.labels units c.args.at c.args.del add c.new-text.result r c.self.invariant.5 c.self.invariant.7 c.self.invariant.3 is w next next_is patch c.make_room.new.self c.commit.new.labels c.make_room.ensures.same c.commit.ensures.led c.in_ok-patch.ensures small))
+    (subst (λ ls. Brings patch (pieces_of (document_in p)) (pieces_of (left ls))) (sym t.lines)
+    (pieces_brought p.entities p.options (map string_bytes p.lines.items) p.prelude p.head p.labels p.units.items c.args.at c.args.del c.args.add.now c.new-text.result r c.self.invariant.5 c.self.invariant.7 c.self.invariant.3 is t.read
+    c.commit.new.held.items t.next patch c.make_room.new.self c.commit.new.labels c.make_room.ensures.same c.commit.ensures.led c.in_ok-patch.ensures t.small))
 
 pub returns-clause-units : goal.returns-clause-units
 returns-clause-units g c =
+    let s = goal.at.returns-clause-units g c in
+    let is = text_is g s.After-of in
+    let t = taken g s.After-commit is in
     let p = c.self.inside in
-    let add : List (List ℕ) = c.args.add.now in
-    let held : Document = record { entities = p.entities; options = p.options; lines = map string_bytes p.lines.items; prelude = p.prelude.lines } in
-    let is : IsTextOf held c.args.at c.args.del add c.new-text.result =
-    text_of_edit held c.args.at c.args.del add c.new-text.result p.lines.items p.lines.items c.in_ok-new_lines.new_lines.items c.deref.result.now refl refl c.deref.ensures.value
-    c.in_ok-new_lines.ensures c.new-text.ensures.new c.new-text.ensures.old c.new-text.ensures.at c.new-text.ensures.gone c.new-text.ensures.come in
-    let call : Call = call_of c.args.at c.args.del add in
     let r = c.in_ok-update.update in
-    let units : List HeldUnit = p.units.items in
-    let setting : Setting = record { entities = p.entities; options = p.options } in
-    let source = source_of held in
-    let new : List (List ℕ) = (put source call).lines in
-    let read : IsUpdateOf setting p.prelude.lines p.labels units (old_lines c.new-text.result) (lines_of c.new-text.result) c.new-text.result r = record {
-      replacing = c.in_ok-update.ensures.replacing;
-      led = c.in_ok-update.ensures.led;
-      read = c.in_ok-update.ensures.read;
-      reread = c.in_ok-update.ensures.reread;
-      numbers = c.in_ok-update.ensures.numbers;
-      fit = c.in_ok-update.ensures.fit;
-      fits = c.in_ok-update.ensures.fits;
-      accepted = c.in_ok-update.ensures.accepted;
-    } in
-    let w : IsUpdateOf setting p.prelude.lines p.labels units (map string_bytes p.lines.items) new c.new-text.result r =
-    update_of_call held c.args.at c.args.del add c.new-text.result p.labels units units r refl is read in
-    let spliced : c.splice.new.self.items ≡ replaced p.lines.items c.args.at c.args.del c.in_ok-new_lines.new_lines.items =
-    c.splice.ensures ∙ ap (λ xs. replaced xs c.args.at c.args.del c.reserve_splice.new.added.items) c.in_ok-reserve_splice.ensures.items
-    ∙ ap (λ come. replaced p.lines.items c.args.at c.args.del come) c.in_ok-reserve_splice.ensures.added in
-    let lines : map string_bytes c.splice.new.self.items ≡ new =
-    ap (map string_bytes) spliced ∙ map_replaced string_bytes p.lines.items c.in_ok-new_lines.new_lines.items c.args.at c.args.del
-    ∙ ap (λ xs. replaced (map string_bytes p.lines.items) c.args.at c.args.del xs) c.in_ok-new_lines.ensures in
-    let next : List HeldUnit = c.commit.new.held.items in
-    let next_is : next ≡ replaced (all_renewed units r.again.items) r.first (r.next - r.first) r.units.items =
-    c.commit.ensures.units ∙ ap (λ us. replaced (all_renewed us r.again.items) r.first (r.next - r.first) c.reserve_splice-2.new.added.items) c.in_ok-reserve_splice-2.ensures.items
-    ∙ ap (λ come. replaced (all_renewed units r.again.items) r.first (r.next - r.first) come) c.in_ok-reserve_splice-2.ensures.added in
-    let many : length c.reserve_splice-2.new.self.items ≡ length units = ap (λ us. length us) c.in_ok-reserve_splice-2.ensures.items in
-    let come : length c.reserve_splice-2.new.added.items ≡ length r.units.items = ap (λ us. length us) c.in_ok-reserve_splice-2.ensures.added in
-    let small : length units + length r.units.items < 2 ^ 64 = omega (arith, many, come, c.in_ok-reserve_splice-2.ensures.room.1, c.reserve_splice-2.new.added.ok.0) in
     let patch = c.in_ok-patch.patch in
-    let left : List (List ℕ) → Document = λ ls. record { entities = p.entities; options = p.options; lines = ls; prelude = p.prelude.lines } in
+    let left : List (List ℕ) → Document = λ ls. record (document_in p) { lines = ls } in
     subst (λ (d : Document). Brings patch (readings_of d) (readings_of (left (map string_bytes c.splice.new.self.items)))) c.self.view_is
-    (subst (λ ls. Brings patch (readings_of held) (readings_of (left ls))) (sym lines)
-    (readings_brought p.entities p.options (map string_bytes p.lines.items) p.prelude p.head p.labels units c.args.at c.args.del add c.new-text.result r c.self.invariant.5 c.self.invariant.7 c.self.invariant.3 is w next next_is patch c.make_room.new.self c.commit.new.labels c.make_room.ensures.same c.commit.ensures.led c.in_ok-patch.ensures small))
+    (subst (λ ls. Brings patch (readings_of (document_in p)) (readings_of (left ls))) (sym t.lines)
+    (readings_brought p.entities p.options (map string_bytes p.lines.items) p.prelude p.head p.labels p.units.items c.args.at c.args.del c.args.add.now c.new-text.result r c.self.invariant.5 c.self.invariant.7 c.self.invariant.3 is t.read
+    c.commit.new.held.items t.next patch c.make_room.new.self c.commit.new.labels c.make_room.ensures.same c.commit.ensures.led c.in_ok-patch.ensures t.small))

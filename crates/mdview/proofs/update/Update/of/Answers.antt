@@ -18,93 +18,91 @@ use Rattle.mdview.specs.declared.update.Update.{Update}
 use Rattle.mdview.proofs.EditTexts.{all_read_under, all_reread_under, all_shallow, both_ok, deep_is, head_small, held_small, led_by_text, meet_small, nested_in_none, new_trees, none_deep_before, numbers_are, texts_refused, trees_are, when_ok}
 use Rattle.mdview.proofs.Replacing.{replacing}
 use Rattle.mdview.proofs.SoonTexts.{texts_soon_are}
+use Rattle.mdview.proofs.update.Update.of.Given.{Over}
+use Rattle.mdview.proofs.update.Update.of.Goals.{In_ok-reparsed, In_ok-changes}
 use Rattle.mdview.proofs.update.Update.of.Goals as goal
 
-pub behind-requires-clause-shallow : goal.behind-requires-clause-shallow
-behind-requires-clause-shallow g c =
+-- ---- where labels lead before the edit and behind it
+
+led_before : (g : Over) (c : In_ok-reparsed g) → (label : List ℕ) → target_held c.args.held.now.labels.now label ≡ table c.args.held.now.entities.now (source_before c.args.held.now c.args.text) label
+led_before g c label =
+    let held = c.args.held.now in
+    let old = old_lines c.args.text in
+    c.requires.led label ∙ ap (λ us. led_by us held.prelude.now label) (trees_are held.entities.now old held.head held.units.now.items c.requires.held)
+    ∙ led_by_text held.entities.now old held.prelude.now c.requires.defined label
+
+led_behind : (g : Over) (c : In_ok-changes g) → (label : List ℕ)
+    → led_after c.args.held.now.labels.now c.in_ok-changes.changes label ≡ table c.args.held.now.entities.now (source_behind c.args.held.now c.args.text) label
+led_behind g c label =
+    let held = c.args.held.now in
+    let text = c.args.text in
+    let E = held.entities.now in
+    c.in_ok-changes.ensures.led label
+    ∙ ap (λ us. led_by us held.prelude.now label)
+    (new_trees (setting_in held) text held.prelude.now held.head held.units.now.items c.in_ok-reparsed.reparsed c.requires.held c.in_ok-reparsed.ensures.read (table E (source_before held text)) (table E (source_behind held text)))
+    ∙ led_by_text E (lines_of text) held.prelude.now c.requires.defined label
+
+-- what is due for spans, in the parts that are read
+due_in_parts : (g : Over) (c : In_ok-changes g) → nesting_refusal (setting_in c.args.held.now) (source_behind c.args.held.now c.args.text)
+    ≡ option_map inline_too_deep (deep_in_parts c.args.held.now.options.now.max_spans c.args.held.now.entities.now (led_after c.args.held.now.labels.now c.in_ok-changes.changes)
+    (head_read c.args.held.now.head c.in_ok-reparsed.reparsed) c.args.held.now.units.now.items c.in_ok-reparsed.reparsed)
+due_in_parts g c =
     let held = c.args.held.now in
     let text = c.args.text in
     let setting : Setting = setting_in held in
     let E = held.entities.now in
-    let units : List HeldUnit = held.units.now.items in
-    let before : Table = table E (source_before held text) in
-    let old = target_held held.labels.now in
-    let old_same : (label : List ℕ) → old label ≡ before label =
-    λ label. c.requires.led label ∙ ap (λ us. led_by us held.prelude.now label) (trees_are E (old_lines text) held.head units c.requires.held)
-    ∙ led_by_text E (old_lines text) held.prelude.now c.requires.defined label in
-    all_shallow E (old_lines text) held.head units c.requires.held held.options.now.max_spans old
-    (deep_found_under held.options.now.max_spans E old before old_same (text_units E (old_lines text)) ∙ none_deep_before setting (source_before held text) c.requires.spans)
+    let deep = deep_is setting text held.prelude.now held.head held.units.now.items c.in_ok-reparsed.reparsed c.requires.held c.in_ok-reparsed.ensures.read (table E (source_before held text)) (table E (source_behind held text))
+    (led_after held.labels.now c.in_ok-changes.changes) (led_behind g c) c.requires.old c.requires.few in
+    nested_in_none setting (source_behind held text) c.in_ok-reparsed.ensures.fits ∙ refused_for_spans setting (source_behind held text) ∙ ap (option_map inline_too_deep) (sym deep)
+
+-- ---- the answers
+
+pub behind-requires-clause-shallow : goal.behind-requires-clause-shallow
+behind-requires-clause-shallow g c =
+    let held = c.args.held.now in
+    let old = old_lines c.args.text in
+    let before = table held.entities.now (source_before held c.args.text) in
+    let led = led_before g (goal.at.behind-requires-clause-shallow g c).In_ok-reparsed in
+    all_shallow held.entities.now old held.head held.units.now.items c.requires.held held.options.now.max_spans (target_held held.labels.now)
+    (deep_found_under held.options.now.max_spans held.entities.now (target_held held.labels.now) before led (text_units held.entities.now old)
+    ∙ none_deep_before (setting_in held) (source_before held c.args.text) c.requires.spans)
 
 pub behind-requires-clause-near : goal.behind-requires-clause-near
 behind-requires-clause-near g c =
     let held = c.args.held.now in
     let text = c.args.text in
-    let setting : Setting = setting_in held in
-    let E = held.entities.now in
-    let units : List HeldUnit = held.units.now.items in
-    let rp = c.in_ok-reparsed.reparsed in
-    let before : Table = table E (source_before held text) in
-    let after : Table = table E (source_behind held text) in
-    let old = target_held held.labels.now in
-    let a = head_small setting text held.prelude.now held.head units rp c.requires.held c.in_ok-reparsed.ensures.read before after c.requires.few in
-    let b = held_small setting text held.prelude.now held.head units rp c.requires.held c.in_ok-reparsed.ensures.read before after c.requires.old in
+    let before = table held.entities.now (source_before held text) in
+    let after = table held.entities.now (source_behind held text) in
+    let a = head_small (setting_in held) text held.prelude.now held.head held.units.now.items c.in_ok-reparsed.reparsed c.requires.held c.in_ok-reparsed.ensures.read before after c.requires.few in
+    let b = held_small (setting_in held) text held.prelude.now held.head held.units.now.items c.in_ok-reparsed.reparsed c.requires.held c.in_ok-reparsed.ensures.read before after c.requires.old in
     omega (arith, a, b)
 
 pub behind-requires-clause-far : goal.behind-requires-clause-far
 behind-requires-clause-far g c =
     let held = c.args.held.now in
     let text = c.args.text in
-    let setting : Setting = setting_in held in
-    let E = held.entities.now in
-    let units : List HeldUnit = held.units.now.items in
-    let rp = c.in_ok-reparsed.reparsed in
-    let before : Table = table E (source_before held text) in
-    let after : Table = table E (source_behind held text) in
-    let old = target_held held.labels.now in
-    let a = meet_small setting text held.prelude.now held.head units rp c.requires.held c.in_ok-reparsed.ensures.read before after c.requires.few in
-    let b = held_small setting text held.prelude.now held.head units rp c.requires.held c.in_ok-reparsed.ensures.read before after c.requires.old in
+    let before = table held.entities.now (source_before held text) in
+    let after = table held.entities.now (source_behind held text) in
+    let a = meet_small (setting_in held) text held.prelude.now held.head held.units.now.items c.in_ok-reparsed.reparsed c.requires.held c.in_ok-reparsed.ensures.read before after c.requires.few in
+    let b = held_small (setting_in held) text held.prelude.now held.head held.units.now.items c.in_ok-reparsed.reparsed c.requires.held c.in_ok-reparsed.ensures.read before after c.requires.old in
     omega (arith, a, b)
 
 pub returns-clause-refused : goal.returns-clause-refused
 returns-clause-refused g c =
     let held = c.args.held.now in
-    let text = c.args.text in
-    let setting : Setting = setting_in held in
-    let E = held.entities.now in
-    let units : List HeldUnit = held.units.now.items in
     let rp = c.in_ok-reparsed.reparsed in
-    let before : Table = table E (source_before held text) in
-    let after : Table = table E (source_behind held text) in
-    let old = target_held held.labels.now in
-    let new = led_after held.labels.now c.in_ok-changes.changes in
-    let new_same : (label : List ℕ) → new label ≡ after label =
-    λ label. c.in_ok-changes.ensures.led label
-    ∙ ap (λ us. led_by us held.prelude.now label) (new_trees setting text held.prelude.now held.head units rp c.requires.held c.in_ok-reparsed.ensures.read before after)
-    ∙ led_by_text E (lines_of text) held.prelude.now c.requires.defined label in
-    let deep = deep_is setting text held.prelude.now held.head units rp c.requires.held c.in_ok-reparsed.ensures.read before after new new_same c.requires.old c.requires.few in
-    let due = nested_in_none setting (source_behind held text) c.in_ok-reparsed.ensures.fits ∙ refused_for_spans setting (source_behind held text) ∙ ap (option_map inline_too_deep) (sym deep) in
-    let parts = deep_in_parts held.options.now.max_spans E new (head_read held.head rp) units rp in
-    IfErr-weaker c.behind.result (IsTextFault parts) (IsRefusedBy (nesting_refusal setting (source_behind held text))) (texts_refused (nesting_refusal setting (source_behind held text)) parts due) c.behind.ensures.deep
+    let why = nesting_refusal (setting_in held) (source_behind held c.args.text) in
+    let parts = deep_in_parts held.options.now.max_spans held.entities.now (led_after held.labels.now c.in_ok-changes.changes) (head_read held.head rp) held.units.now.items rp in
+    IfErr-weaker c.behind.result (IsTextFault parts) (IsRefusedBy why) (texts_refused why parts (due_in_parts g (goal.at.returns-clause-refused g c).In_ok-changes)) c.behind.ensures.deep
 
 pub returns-clause-accepted : goal.returns-clause-accepted
 returns-clause-accepted g c =
     let held = c.args.held.now in
-    let text = c.args.text in
-    let setting : Setting = setting_in held in
-    let E = held.entities.now in
-    let units : List HeldUnit = held.units.now.items in
     let rp = c.in_ok-reparsed.reparsed in
-    let before : Table = table E (source_before held text) in
-    let after : Table = table E (source_behind held text) in
-    let old = target_held held.labels.now in
-    let new = led_after held.labels.now c.in_ok-changes.changes in
-    let new_same : (label : List ℕ) → new label ≡ after label =
-    λ label. c.in_ok-changes.ensures.led label
-    ∙ ap (λ us. led_by us held.prelude.now label) (new_trees setting text held.prelude.now held.head units rp c.requires.held c.in_ok-reparsed.ensures.read before after)
-    ∙ led_by_text E (lines_of text) held.prelude.now c.requires.defined label in
-    let deep = deep_is setting text held.prelude.now held.head units rp c.requires.held c.in_ok-reparsed.ensures.read before after new new_same c.requires.old c.requires.few in
-    let due = nested_in_none setting (source_behind held text) c.in_ok-reparsed.ensures.fits ∙ refused_for_spans setting (source_behind held text) ∙ ap (option_map inline_too_deep) (sym deep) in
-    when_ok c.behind.result (λ (none : deep_in_parts held.options.now.max_spans E new (head_read held.head rp) units rp ≡ None). due ∙ ap (option_map inline_too_deep) none) c.behind.ensures.shallow
+    let due = due_in_parts g (goal.at.returns-clause-accepted g c).In_ok-changes in
+    when_ok c.behind.result
+    (λ (none : deep_in_parts held.options.now.max_spans held.entities.now (led_after held.labels.now c.in_ok-changes.changes) (head_read held.head rp) held.units.now.items rp ≡ None). due ∙ ap (option_map inline_too_deep) none)
+    c.behind.ensures.shallow
 
 pub returns-clause-replacing : goal.returns-clause-replacing
 returns-clause-replacing g c =
@@ -114,80 +112,45 @@ returns-clause-replacing g c =
 pub returns-clause-led : goal.returns-clause-led
 returns-clause-led g c =
     let held = c.args.held.now in
-    let text = c.args.text in
-    let setting : Setting = setting_in held in
-    let E = held.entities.now in
-    let units : List HeldUnit = held.units.now.items in
-    let rp = c.in_ok-reparsed.reparsed in
-    let before : Table = table E (source_before held text) in
-    let after : Table = table E (source_behind held text) in
-    let old = target_held held.labels.now in
-    let new = led_after held.labels.now c.in_ok-changes.changes in
-    let new_same : (label : List ℕ) → new label ≡ after label =
-    λ label. c.in_ok-changes.ensures.led label
-    ∙ ap (λ us. led_by us held.prelude.now label) (new_trees setting text held.prelude.now held.head units rp c.requires.held c.in_ok-reparsed.ensures.read before after)
-    ∙ led_by_text E (lines_of text) held.prelude.now c.requires.defined label in
-    IfOk-weaker c.behind.result (λ (r : Update). r.changes ≡ c.in_ok-changes.changes) (λ (r : Update). (label : List ℕ) → led_after held.labels.now r.changes label ≡ after label)
-    (λ r is label. ap (λ z. led_after held.labels.now z label) is ∙ new_same label) c.behind.ensures.changes
+    let led = led_behind g (goal.at.returns-clause-led g c).In_ok-changes in
+    IfOk-weaker c.behind.result (λ (r : Update). r.changes ≡ c.in_ok-changes.changes)
+    (λ (r : Update). (label : List ℕ) → led_after held.labels.now r.changes label ≡ table held.entities.now (source_behind held c.args.text) label)
+    (λ r is label. ap (λ z. led_after held.labels.now z label) is ∙ led label) c.behind.ensures.changes
 
 pub returns-clause-read : goal.returns-clause-read
 returns-clause-read g c =
     let held = c.args.held.now in
-    let text = c.args.text in
-    let setting : Setting = setting_in held in
     let E = held.entities.now in
-    let units : List HeldUnit = held.units.now.items in
-    let rp = c.in_ok-reparsed.reparsed in
-    let before : Table = table E (source_before held text) in
-    let after : Table = table E (source_behind held text) in
-    let old = target_held held.labels.now in
     let new = led_after held.labels.now c.in_ok-changes.changes in
-    let new_same : (label : List ℕ) → new label ≡ after label =
-    λ label. c.in_ok-changes.ensures.led label
-    ∙ ap (λ us. led_by us held.prelude.now label) (new_trees setting text held.prelude.now held.head units rp c.requires.held c.in_ok-reparsed.ensures.read before after)
-    ∙ led_by_text E (lines_of text) held.prelude.now c.requires.defined label in
+    let after = table E (source_behind held c.args.text) in
+    let led = led_behind g (goal.at.returns-clause-read g c).In_ok-changes in
     IfOk-weaker c.behind.result (λ (r : Update). All (IsReadUnder E new) r.units.items) (λ (r : Update). All (IsReadUnder E after) r.units.items)
-    (λ r all. all_read_under E new after new_same r.units.items all) c.behind.ensures.read
+    (λ r all. all_read_under E new after led r.units.items all) c.behind.ensures.read
 
 pub returns-clause-reread : goal.returns-clause-reread
 returns-clause-reread g c =
     let held = c.args.held.now in
-    let text = c.args.text in
-    let setting : Setting = setting_in held in
     let E = held.entities.now in
-    let units : List HeldUnit = held.units.now.items in
-    let rp = c.in_ok-reparsed.reparsed in
-    let before : Table = table E (source_before held text) in
-    let after : Table = table E (source_behind held text) in
-    let old = target_held held.labels.now in
+    let units = map unit_in held.units.now.items in
     let new = led_after held.labels.now c.in_ok-changes.changes in
-    let new_same : (label : List ℕ) → new label ≡ after label =
-    λ label. c.in_ok-changes.ensures.led label
-    ∙ ap (λ us. led_by us held.prelude.now label) (new_trees setting text held.prelude.now held.head units rp c.requires.held c.in_ok-reparsed.ensures.read before after)
-    ∙ led_by_text E (lines_of text) held.prelude.now c.requires.defined label in
-    IfOk-weaker c.behind.result (λ (r : Update). All (IsReread E new (map unit_in units)) r.again.items) (λ (r : Update). All (IsReread E after (map unit_in units)) r.again.items)
-    (λ r all. all_reread_under E new after new_same (map unit_in units) r.again.items all) c.behind.ensures.reread
+    let after = table E (source_behind held c.args.text) in
+    let led = led_behind g (goal.at.returns-clause-reread g c).In_ok-changes in
+    IfOk-weaker c.behind.result (λ (r : Update). All (IsReread E new units) r.again.items) (λ (r : Update). All (IsReread E after units) r.again.items)
+    (λ r all. all_reread_under E new after led units r.again.items all) c.behind.ensures.reread
 
 pub returns-clause-numbers : goal.returns-clause-numbers
 returns-clause-numbers g c =
     let held = c.args.held.now in
     let text = c.args.text in
-    let setting : Setting = setting_in held in
     let E = held.entities.now in
     let units : List HeldUnit = held.units.now.items in
     let rp = c.in_ok-reparsed.reparsed in
     let before : Table = table E (source_before held text) in
     let after : Table = table E (source_behind held text) in
     let old = target_held held.labels.now in
-    let old_same : (label : List ℕ) → old label ≡ before label =
-    λ label. c.requires.led label ∙ ap (λ us. led_by us held.prelude.now label) (trees_are E (old_lines text) held.head units c.requires.held)
-    ∙ led_by_text E (old_lines text) held.prelude.now c.requires.defined label in
     let new = led_after held.labels.now c.in_ok-changes.changes in
-    let new_same : (label : List ℕ) → new label ≡ after label =
-    λ label. c.in_ok-changes.ensures.led label
-    ∙ ap (λ us. led_by us held.prelude.now label) (new_trees setting text held.prelude.now held.head units rp c.requires.held c.in_ok-reparsed.ensures.read before after)
-    ∙ led_by_text E (lines_of text) held.prelude.now c.requires.defined label in
-    let same = numbers_are setting text held.prelude.now held.head units rp c.requires.held c.in_ok-reparsed.ensures.read before after old new old_same new_same in
+    let at = goal.at.returns-clause-numbers g c in
+    let same = numbers_are (setting_in held) text held.prelude.now held.head units rp c.requires.held c.in_ok-reparsed.ensures.read before after old new (led_before g at.In_ok-reparsed) (led_behind g at.In_ok-changes) in
     both_ok c.behind.result (λ (r : Update). map number_again r.again.items ≡ asking_in_parts E old new units rp.first rp.next) (λ (r : Update). (r.first ≡ rp.first) × (r.next ≡ rp.next))
     (λ (r : Update). map number_again r.again.items ≡ asking_in_parts E before after units r.first r.next)
     (λ r is place. is ∙ same ∙ ap (λ n. asking_in_parts E before after units n rp.next) (sym place.0) ∙ ap (λ n. asking_in_parts E before after units r.first n) (sym place.1))
@@ -196,21 +159,7 @@ returns-clause-numbers g c =
 pub returns-clause-texts : goal.returns-clause-texts
 returns-clause-texts g c =
     let held = c.args.held.now in
-    let text = c.args.text in
-    let setting : Setting = setting_in held in
-    let E = held.entities.now in
-    let units : List HeldUnit = held.units.now.items in
-    let rp = c.in_ok-reparsed.reparsed in
-    let before : Table = table E (source_before held text) in
-    let after : Table = table E (source_behind held text) in
-    let old = target_held held.labels.now in
-    let old_same : (label : List ℕ) → old label ≡ before label =
-    λ label. c.requires.led label ∙ ap (λ us. led_by us held.prelude.now label) (trees_are E (old_lines text) held.head units c.requires.held)
-    ∙ led_by_text E (old_lines text) held.prelude.now c.requires.defined label in
-    let new = led_after held.labels.now c.in_ok-changes.changes in
-    let new_same : (label : List ℕ) → new label ≡ after label =
-    λ label. c.in_ok-changes.ensures.led label
-    ∙ ap (λ us. led_by us held.prelude.now label) (new_trees setting text held.prelude.now held.head units rp c.requires.held c.in_ok-reparsed.ensures.read before after)
-    ∙ led_by_text E (lines_of text) held.prelude.now c.requires.defined label in
-    let same = texts_soon_are setting text held.prelude.now held.head units rp c.requires.held c.in_ok-reparsed.ensures.read held.prelude.now.lines c.in_ok-reparsed.ensures.soon old new old_same new_same in
+    let at = goal.at.returns-clause-texts g c in
+    let same = texts_soon_are (setting_in held) c.args.text held.prelude.now held.head held.units.now.items c.in_ok-reparsed.reparsed c.requires.held c.in_ok-reparsed.ensures.read held.prelude.now.lines c.in_ok-reparsed.ensures.soon
+    (target_held held.labels.now) (led_after held.labels.now c.in_ok-changes.changes) (led_before g at.In_ok-reparsed) (led_behind g at.In_ok-changes) in
     omega (arith, same, c.behind.ensures.inlines, c.reparse.ensures.inlines)
