@@ -34,6 +34,7 @@ pub mod ReadStretches
 pub mod EditPlaces
 pub mod CountedLaws
 pub mod Reparses
+pub mod LineReads
 pub mod JoinedTexts
 pub mod NearReadings
 pub mod NearStops
