@@ -6,7 +6,7 @@ ghost use Rattle.mdinline.specs.declared.faults.InlineFault.TheVariants.{TooDeep
 ghost use Rattle.mdtext.specs.Counted.{counted};
 ghost use Rattle.mdsource.specs.Refusals.{is_deep};
 ghost use Rattle.mdsource.specs.View.{reading_of};
-ghost use Rattle.mdview.specs.HeldTexts.{entities_in, labels_behind};
+ghost use Rattle.mdview.specs.LabelTargets.{IsElsewhere};
 
 mod alike_texts;
 pub(crate) mod concerned_texts;
@@ -26,16 +26,20 @@ pub(crate) struct UnitTextReader<'a> {
     pub(crate) alloc: Global,
     pub(crate) options: &'a Options,
     pub(crate) labels: &'a LabelsAfter<'a>,
+    ghost limits: { HasLimits options.now },
+    // The labels that change are those that lead elsewhere then.
+    ghost elsewhere: { IsElsewhere labels.now.held.now labels.now.changes.now },
 }
 
 impl<'a> UnitTextReader<'a> {
+    ghost use Rattle.mdview.specs.HeldTexts.{entities_in, labels_behind};
+
     pub(crate) fn read_text<C: Count>(
         &self,
         text: &str,
         room: &mut TextRoom<'a>,
         count: &mut C,
     ) -> Result<Parsed, InlineFault>
-        requires limits { HasLimits self.now.options.now }
         ensures reading { IfOk result (λ parsed. parsed ≡ reading_of (entities_in room.old) (labels_behind self.now) text.now) }
         ensures shallow { OnOk result (is_deep self.now.options.now.max_spans (reading_of (entities_in room.old) (labels_behind self.now) text.now) ≡ false) }
         ensures deep { IsErrOf result TooDeep → is_deep self.now.options.now.max_spans (reading_of (entities_in room.old) (labels_behind self.now) text.now) ≡ true }

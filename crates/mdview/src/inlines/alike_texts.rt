@@ -2,14 +2,13 @@
 
 ghost use Rattle.std.specs.Prelude.{◌≡◌, ◌+◌, ◌<◌, ◌≤◌, ◌++◌, ℕ, Bool, List, if◌then◌else◌, IfOk, IfSome, IsErrOf, OnOk, Some, false, is_some, length, map, slice_get, string_bytes, take, true, None};
 ghost use Rattle.std.specs.List.{list_any};
-ghost use Rattle.mdhtml.specs.Limits.{HasLimits};
 ghost use Rattle.mdinline.specs.ParsedText.{ParsedText};
 ghost use Rattle.mdinline.specs.declared.faults.InlineFault.TheVariants.{TooDeep};
 ghost use Rattle.mdtext.specs.Counted.{counted};
 ghost use Rattle.mdsource.specs.Refusals.{is_deep};
 ghost use Rattle.mdsource.specs.View.{reading_of};
 ghost use Rattle.mdview.specs.HeldTexts.{IsReadUnder, IsShallow, entities_in, labels_before, labels_behind};
-ghost use Rattle.mdview.specs.LabelTargets.{IsElsewhere, at};
+ghost use Rattle.mdview.specs.LabelTargets.{at};
 
 use crate::held::units::HeldUnit;
 use crate::inlines::UnitTextReader;
@@ -74,8 +73,6 @@ impl<'a> UnitTextReader<'a> {
         room: &mut TextRoom<'a>,
         count: &mut C,
     ) -> Result<usize, InlineFault>
-        requires limits { HasLimits self.now.options.now }
-        requires elsewhere { IsElsewhere self.now.labels.now.held.now self.now.labels.now.changes.now }
         requires held { IfSome held (λ u. IsReadUnder (entities_in room.old) (labels_before self.now) u.now) }
         requires held_shallow { IfSome held (λ u. IsShallow self.now.options.now.max_spans (entities_in room.old) (labels_before self.now) u.now) }
         ensures readings { OnOk result (inlines.new.items
@@ -119,8 +116,6 @@ impl<'a> UnitTextReader<'a> {
         room: &mut TextRoom<'a>,
         count: &mut C,
     ) -> Result<Parsed, InlineFault>
-        requires limits { HasLimits self.now.options.now }
-        requires elsewhere { IsElsewhere self.now.labels.now.held.now self.now.labels.now.changes.now }
         requires kept { IfSome kept (λ r. r.now ≡ reading_of (entities_in room.old) (labels_before self.now) text.now) }
         requires shallow { IfSome kept (λ r. is_deep self.now.options.now.max_spans r.now ≡ false) }
         ensures reading { IfOk result (λ parsed. parsed ≡ reading_of (entities_in room.old) (labels_behind self.now) text.now) }
@@ -144,8 +139,6 @@ impl<'a> UnitTextReader<'a> {
         room: &mut TextRoom<'a>,
         count: &mut C,
     ) -> Result<Parsed, InlineFault>
-        requires limits { HasLimits self.now.options.now }
-        requires elsewhere { IsElsewhere self.now.labels.now.held.now self.now.labels.now.changes.now }
         requires held { held.now ≡ reading_of (entities_in room.old) (labels_before self.now) text.now }
         requires shallow { is_deep self.now.options.now.max_spans held.now ≡ false }
         ensures reading { IfOk result (λ parsed. parsed ≡ reading_of (entities_in room.old) (labels_behind self.now) text.now) }

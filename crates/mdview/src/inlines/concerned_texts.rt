@@ -3,7 +3,6 @@
 ghost use Rattle.std.specs.Prelude.{◌≡◌, ◌+◌, ◌≤◌, ◌<◌, ◌^◌, ◌++◌, ◌∷◌, List, [], None, Some, IfOk, IfErr, IsErrOf, OnOk, false, if◌then◌else◌, length, map, slice_get, string_bytes, sum_by, true};
 ghost use Rattle.std.specs.List.{All, list_any};
 ghost use Rattle.blockspec.specs.UnitTree.{UnitTree};
-ghost use Rattle.mdhtml.specs.Limits.{HasLimits};
 ghost use Rattle.mdinline.specs.declared.faults.InlineFault.TheVariants.{TooDeep};
 ghost use Rattle.mdsource.specs.Changes.{asks_changed};
 ghost use Rattle.mdsource.specs.Refusals.{is_deep};
@@ -15,7 +14,6 @@ ghost use Rattle.mdview.specs.Update.{Fits, IsWritten};
 ghost use Rattle.mdview.specs.HeldBlocks.{held_tile, lines_in};
 ghost use Rattle.mdview.specs.HeldTexts.{IsReadUnder, IsReread, IsShallow, between, entities_in, labels_before, labels_behind, number_again};
 ghost use Rattle.mdsource.specs.TextFaults.{IsTextFault};
-ghost use Rattle.mdview.specs.LabelTargets.{IsElsewhere};
 
 use crate::held::marked_units::{line_from, next_marked};
 use crate::held::pieces::Piece;
@@ -62,10 +60,8 @@ impl<'a> UnitTextReader<'a> {
         again: &mut Vec<Again>,
         count: &mut C,
     ) -> Result<(), EditFault>
-        requires limits { HasLimits self.now.options.now }
         requires order { first ≤ next }
         requires within { next ≤ length units.now.items }
-        requires elsewhere { IsElsewhere self.now.labels.now.held.now self.now.labels.now.changes.now }
         requires read { All (IsReadUnder (entities_in room.old) (labels_before self.now)) units.now.items }
         requires shallow { All (IsShallow self.now.options.now.max_spans (entities_in room.old) (labels_before self.now)) units.now.items }
         requires near { begin + sum_by lines_in (between first next units.now.items) < 2 ^ 64 }
@@ -109,8 +105,6 @@ impl<'a> UnitTextReader<'a> {
         again: &mut Vec<Again>,
         count: &mut C,
     ) -> Result<(), InlineFault>
-        requires limits { HasLimits self.now.options.now }
-        requires elsewhere { IsElsewhere self.now.labels.now.held.now self.now.labels.now.changes.now }
         requires read { IsReadUnder (entities_in room.old) (labels_before self.now) unit.now }
         requires shallow { IsShallow self.now.options.now.max_spans (entities_in room.old) (labels_before self.now) unit.now }
         // Of any units of which this one has this number.
@@ -137,7 +131,6 @@ impl<'a> UnitTextReader<'a> {
 
     /// Whether a text of the unit asked for a label that leads elsewhere after the edit.
     fn is_concerned(&self, unit: &HeldUnit) -> bool
-        requires { IsElsewhere self.now.labels.now.held.now self.now.labels.now.changes.now }
         ensures { result ≡ list_any (asks_changed (labels_before self.now) (labels_behind self.now)) unit.now.read.readings }
     {
         for parsed in unit.inlines() {
@@ -155,8 +148,6 @@ impl<'a> UnitTextReader<'a> {
         room: &mut TextRoom<'a>,
         count: &mut C,
     ) -> Result<Again, InlineFault>
-        requires limits { HasLimits self.now.options.now }
-        requires elsewhere { IsElsewhere self.now.labels.now.held.now self.now.labels.now.changes.now }
         requires read { IsReadUnder (entities_in room.old) (labels_before self.now) unit.now }
         requires shallow { IsShallow self.now.options.now.max_spans (entities_in room.old) (labels_before self.now) unit.now }
         ensures unit { IfOk result (λ again. again.unit ≡ number) }
@@ -187,8 +178,6 @@ impl<'a> UnitTextReader<'a> {
         room: &mut TextRoom<'a>,
         count: &mut C,
     ) -> Result<Vec<Parsed>, InlineFault>
-        requires limits { HasLimits self.now.options.now }
-        requires elsewhere { IsElsewhere self.now.labels.now.held.now self.now.labels.now.changes.now }
         requires read { IsReadUnder (entities_in room.old) (labels_before self.now) unit.now }
         requires shallow { IsShallow self.now.options.now.max_spans (entities_in room.old) (labels_before self.now) unit.now }
         ensures all { IfOk result (λ inlines. length inlines.items ≡ length unit.now.read.unit.texts) }
@@ -214,8 +203,6 @@ impl<'a> UnitTextReader<'a> {
         room: &mut TextRoom<'a>,
         count: &mut C,
     ) -> Result<(), InlineFault>
-        requires limits { HasLimits self.now.options.now }
-        requires elsewhere { IsElsewhere self.now.labels.now.held.now self.now.labels.now.changes.now }
         requires held { held.now ≡ map (reading_of (entities_in room.old) (labels_before self.now)) (map string_bytes texts.now) }
         requires shallow { list_any (is_deep self.now.options.now.max_spans) held.now ≡ false }
         ensures readings { OnOk result (inlines.new.items
@@ -242,8 +229,6 @@ impl<'a> UnitTextReader<'a> {
         room: &mut TextRoom<'a>,
         count: &mut C,
     ) -> Result<Parsed, InlineFault>
-        requires limits { HasLimits self.now.options.now }
-        requires elsewhere { IsElsewhere self.now.labels.now.held.now self.now.labels.now.changes.now }
         requires held { held.now ≡ reading_of (entities_in room.old) (labels_before self.now) text.now }
         requires shallow { is_deep self.now.options.now.max_spans held.now ≡ false }
         ensures reading { IfOk result (λ parsed. parsed ≡ reading_of (entities_in room.old) (labels_behind self.now) text.now) }

@@ -3,14 +3,12 @@
 ghost use Rattle.std.specs.Prelude.{◌≡◌, ◌+◌, ◌≤◌, ◌∷◌, None, take, IfOk, IfSome, IfErr, IsErrOf, OnOk, false, length, map, option_map, sum_by, true, MatchOption};
 ghost use Rattle.std.specs.List.{All};
 ghost use Rattle.mdblock.specs.FoundLists.{found_unit};
-ghost use Rattle.mdhtml.specs.Limits.{HasLimits};
 ghost use Rattle.mdinline.specs.declared.faults.InlineFault.TheVariants.{TooDeep};
 ghost use Rattle.mdsource.specs.UnitTexts.{deep_found, is_deep_under, readings_under, trees_in};
 ghost use Rattle.mdview.specs.HeldUnit.{IsRendered, texts_in};
 ghost use Rattle.mdview.specs.HeldLists.{list_in, unplaced};
 ghost use Rattle.mdview.specs.HeldTexts.{IsReadUnder, IsShallow, entities_in, labels_before, labels_behind, line_on};
 ghost use Rattle.mdsource.specs.TextFaults.{IsTextFault};
-ghost use Rattle.mdview.specs.LabelTargets.{IsElsewhere};
 
 use crate::held::SPLICE_ROOM;
 use crate::held::units::HeldUnit;
@@ -35,9 +33,7 @@ impl<'a> UnitTextReader<'a> {
         room: &mut TextRoom<'a>,
         count: &mut C,
     ) -> Result<Vec<HeldUnit>, EditFault>
-        requires limits { HasLimits self.now.options.now }
         requires first { first ≤ length held.now.items }
-        requires elsewhere { IsElsewhere self.now.labels.now.held.now self.now.labels.now.changes.now }
         requires held { All (IsReadUnder (entities_in room.old) (labels_before self.now)) held.now.items }
         requires held_shallow { All (IsShallow self.now.options.now.max_spans (entities_in room.old) (labels_before self.now)) held.now.items }
         requires rendered { All (IsRendered self.now.options.now) held.now.items }
@@ -78,8 +74,6 @@ impl<'a> UnitTextReader<'a> {
         room: &mut TextRoom<'a>,
         count: &mut C,
     ) -> Result<HeldUnit, InlineFault>
-        requires limits { HasLimits self.now.options.now }
-        requires elsewhere { IsElsewhere self.now.labels.now.held.now self.now.labels.now.changes.now }
         requires held { IfSome held (λ u. IsReadUnder (entities_in room.old) (labels_before self.now) u.now) }
         requires held_shallow { IfSome held (λ u. IsShallow self.now.options.now.max_spans (entities_in room.old) (labels_before self.now) u.now) }
         requires rendered { IfSome held (λ u. IsRendered self.now.options.now u.now) }
@@ -116,8 +110,6 @@ impl<'a> UnitTextReader<'a> {
         room: &mut TextRoom<'a>,
         count: &mut C,
     ) -> Result<(Vec<Parsed>, usize), InlineFault>
-        requires limits { HasLimits self.now.options.now }
-        requires elsewhere { IsElsewhere self.now.labels.now.held.now self.now.labels.now.changes.now }
         requires held { IfSome held (λ u. IsReadUnder (entities_in room.old) (labels_before self.now) u.now) }
         requires held_shallow { IfSome held (λ u. IsShallow self.now.options.now.max_spans (entities_in room.old) (labels_before self.now) u.now) }
         ensures all { IfOk result (λ read. length read.0.items ≡ length unit.now.texts) }

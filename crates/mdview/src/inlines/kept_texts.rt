@@ -4,7 +4,6 @@ ghost use Rattle.std.specs.Prelude.{◌≡◌, ◌+◌, ◌≤◌, ◌++◌, ◌
 ghost use Rattle.std.specs.List.{All};
 ghost use Rattle.blockspec.specs.UnitTree.{UnitTree};
 ghost use Rattle.mdblock.specs.FoundLists.{found_unit};
-ghost use Rattle.mdhtml.specs.Limits.{HasLimits};
 ghost use Rattle.mdinline.specs.declared.faults.InlineFault.TheVariants.{TooDeep};
 ghost use Rattle.mdsource.specs.UnitTexts.{deep_found, is_deep_under, readings_under, trees_in};
 ghost use Rattle.mdsource.specs.LaterTexts.{asking_of};
@@ -13,7 +12,6 @@ ghost use Rattle.mdview.specs.HeldUnit.{HeldUnit, IsRendered};
 ghost use Rattle.mdview.specs.HeldTexts.{IsReadUnder, IsShallow, entities_in, labels_before, labels_behind, line_on};
 ghost use Rattle.mdsource.specs.TextFaults.{IsTextFault};
 ghost use Rattle.mdview.specs.KeptTexts.{AreReadingsOf, IsHeldPart, last_texts, number_kept, number_read, texts_with_kept};
-ghost use Rattle.mdview.specs.LabelTargets.{IsElsewhere};
 
 use crate::blocks::reparse::KeptTexts;
 use crate::held::units::HeldUnit;
@@ -67,8 +65,6 @@ impl<'a> UnitTextReader<'a> {
         room: &mut TextRoom<'a>,
         count: &mut C,
     ) -> Result<Vec<HeldUnit>, EditFault>
-        requires limits { HasLimits self.now.options.now }
-        requires elsewhere { IsElsewhere self.now.labels.now.held.now self.now.labels.now.changes.now }
         requires first { first ≤ length held.now.items }
         requires held { All (IsReadUnder (entities_in room.old) (labels_before self.now)) held.now.items }
         requires held_shallow { All (IsShallow self.now.options.now.max_spans (entities_in room.old) (labels_before self.now)) held.now.items }
@@ -109,8 +105,6 @@ impl<'a> UnitTextReader<'a> {
         room: &mut TextRoom<'a>,
         count: &mut C,
     ) -> Result<HeldUnit, InlineFault>
-        requires limits { HasLimits self.now.options.now }
-        requires elsewhere { IsElsewhere self.now.labels.now.held.now self.now.labels.now.changes.now }
         requires kept { AreReadingsOf self.now.options.now.max_spans (entities_in room.old) (labels_before self.now) found.unit.texts kept }
         requires rendered { IsRendered self.now.options.now kept.unit.now }
         ensures unit { IfOk result (λ unit. unit.read.unit ≡ found.unit) }
@@ -143,8 +137,6 @@ impl<'a> UnitTextReader<'a> {
         room: &mut TextRoom<'a>,
         count: &mut C,
     ) -> Result<(Vec<Parsed>, usize), InlineFault>
-        requires limits { HasLimits self.now.options.now }
-        requires elsewhere { IsElsewhere self.now.labels.now.held.now self.now.labels.now.changes.now }
         requires kept { AreReadingsOf self.now.options.now.max_spans (entities_in room.old) (labels_before self.now) unit.now.texts kept }
         ensures front { IfOk result (λ read. (read.1 ≤ length unit.now.texts) × (take read.1 unit.now.texts ≡ take read.1 kept.entry.unit.now.read.unit.texts)) }
         ensures all { IfOk result (λ read. length read.0.items ≡ length unit.now.texts) }

@@ -12,7 +12,7 @@ returns-then-concern c =
     let p : ParsedText → Bool = asks_changed (labels_before c.args.self.now) (labels_behind c.args.self.now) in
     let items = c.inlines-parsed-items.result.now in
     let i = c.loop-parsed.parsed-index in
-    let asks = concerned c.args.self.now c.requires c.parsed-item.result c.asked.result.now c.concern.result c.asked.ensures c.concern.ensures in
+    let asks = concerned c.args.self.now c.args.self.now.elsewhere c.parsed-item.result c.asked.result.now c.concern.result c.asked.ensures c.concern.ensures in
     sym (sym c.loop-parsed.invariant ∙ ap (λ l. list_any p (drop i l)) (sym c.inlines-parsed-items.ensures.value)
     ∙ any_here p items i c.parsed-item.result c.loop-parsed-test.true c.parsed-item.is ∙ ap (λ b. b || list_any p (drop (i + 1) items)) (sym asks ∙ c.if-concern.true))
 
@@ -21,7 +21,7 @@ loop-parsed-preserved c =
     let p : ParsedText → Bool = asks_changed (labels_before c.args.self.now) (labels_behind c.args.self.now) in
     let items = c.inlines-parsed-items.result.now in
     let i = c.loop-parsed.parsed-index in
-    let asks = concerned c.args.self.now c.requires c.parsed-item.result c.asked.result.now c.concern.result c.asked.ensures c.concern.ensures in
+    let asks = concerned c.args.self.now c.args.self.now.elsewhere c.parsed-item.result c.asked.result.now c.concern.result c.asked.ensures c.concern.ensures in
     ap (λ l. list_any p (drop (i + 1) l)) (sym c.inlines-parsed-items.ensures.value)
     ∙ sym (any_here p items i c.parsed-item.result c.loop-parsed-test.true c.parsed-item.is ∙ ap (λ b. b || list_any p (drop (i + 1) items)) (sym asks ∙ c.if-concern.false))
     ∙ ap (λ l. list_any p (drop i l)) c.inlines-parsed-items.ensures.value ∙ c.loop-parsed.invariant

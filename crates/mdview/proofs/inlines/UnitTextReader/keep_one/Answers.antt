@@ -12,7 +12,7 @@ returns-clause-reading g c =
     let old = labels_before c.args.self.now in
     let new = labels_behind c.args.self.now in
     let e = entities_in c.args.room.now in
-    let asks = concerned c.args.self.now c.requires.elsewhere c.args.held.now c.asked.result.now c.concern.result c.asked.ensures c.concern.ensures in
+    let asks = concerned c.args.self.now c.args.self.now.elsewhere c.args.held.now c.asked.result.now c.concern.result c.asked.ensures c.concern.ensures in
     let none : asks_changed old new (reading_of e old c.args.text.now) ≡ false = ap (asks_changed old new) (sym c.requires.held) ∙ sym asks ∙ c.if-concern.false in
     c.in_ok-copy.ensures ∙ c.requires.held ∙ reads_as_before e old new c.args.text.now none
 
@@ -21,6 +21,6 @@ returns-clause-shallow g c =
     let old = labels_before c.args.self.now in
     let new = labels_behind c.args.self.now in
     let e = entities_in c.args.room.now in
-    let asks = concerned c.args.self.now c.requires.elsewhere c.args.held.now c.asked.result.now c.concern.result c.asked.ensures c.concern.ensures in
+    let asks = concerned c.args.self.now c.args.self.now.elsewhere c.args.held.now c.asked.result.now c.concern.result c.asked.ensures c.concern.ensures in
     let none : asks_changed old new (reading_of e old c.args.text.now) ≡ false = ap (asks_changed old new) (sym c.requires.held) ∙ sym asks ∙ c.if-concern.false in
     ap (is_deep c.args.self.now.options.now.max_spans) (sym (c.requires.held ∙ reads_as_before e old new c.args.text.now none)) ∙ c.requires.shallow

@@ -16,7 +16,7 @@ use Rattle.mdview.proofs.inlines.UnitTextReader.read_again.Goals as goal
 pub returns-then-is_empty-clause-numbers : goal.returns-then-is_empty-clause-numbers
 returns-then-is_empty-clause-numbers g c =
     let before : List ℕ = map number_again c.args.again.now.items in
-    sym (ap (λ l. before ++ l) (none_asking c.args.self.now c.requires.elsewhere (c.is_empty.ensures c.if-is_empty.true) (entities_in c.args.room.now) c.args.first
+    sym (ap (λ l. before ++ l) (none_asking c.args.self.now c.args.self.now.elsewhere (c.is_empty.ensures c.if-is_empty.true) (entities_in c.args.room.now) c.args.first
     (map unit_in (between c.args.first c.args.next c.args.units.now.items))) ∙ append-nil before)
 
 pub returns-then-is_empty-clause-shallow : goal.returns-then-is_empty-clause-shallow
@@ -26,7 +26,7 @@ returns-then-is_empty-clause-shallow g c =
     let units : List HeldUnit = c.args.units.now.items in
     let P = IsShallow limit e (labels_behind c.args.self.now) in
     none_deep limit e (labels_behind c.args.self.now) c.args.begin (between c.args.first c.args.next units)
-    (All-take P (c.args.next - c.args.first) (drop c.args.first units) (All-drop P c.args.first units (all_shallow c.args.self.now c.requires.elsewhere (c.is_empty.ensures c.if-is_empty.true) limit e units c.requires.shallow)))
+    (All-take P (c.args.next - c.args.first) (drop c.args.first units) (All-drop P c.args.first units (all_shallow c.args.self.now c.args.self.now.elsewhere (c.is_empty.ensures c.if-is_empty.true) limit e units c.requires.shallow)))
 
 pub unwrap-unit-requires : goal.unwrap-unit-requires
 unwrap-unit-requires g c =
@@ -99,7 +99,7 @@ loop-i-init g c =
     let j = c.next_marked-i.result in
     let passes = c.next_marked-i.ensures in
     let before : List ℕ = map number_again c.args.again.now.items in
-    let quiet = all_quiet c.args.self.now c.requires.elsewhere c.marks-marks.result c.marks-marks.ensures e units c.requires.read first j passes.apart in
+    let quiet = all_quiet c.args.self.now c.args.self.now.elsewhere c.marks-marks.result c.marks-marks.ensures e units c.requires.read first j passes.apart in
     record {
       low = passes.low;
       high = passes.high;
@@ -109,7 +109,7 @@ loop-i-init g c =
       reread = c.requires.reread;
       numbers = sym (ap (λ l. before ++ l) (quiet_numbers e old new first (between first j units) quiet) ∙ append-nil before);
       shallow = none_deep limit e new c.args.begin (between first j units)
-          (shallow_between c.args.self.now c.requires.elsewhere c.marks-marks.result c.marks-marks.ensures e units c.requires.read first j passes.apart limit c.requires.shallow);
+          (shallow_between c.args.self.now c.args.self.now.elsewhere c.marks-marks.result c.marks-marks.ensures e units c.requires.read first j passes.apart limit c.requires.shallow);
       room = refl;
       lines = refl;
       inlines = omega arith;
@@ -149,7 +149,7 @@ loop-i-preserved g c =
     let so_far : List ℕ = asking_units e old new first (map unit_in (between first i units)) in
     let one = subst (λ z. map number_again c.read_if_concerned.new.again.items ≡ map number_again c.loop-i.again.items ++ asking_units z old new i (u.read.unit ∷ [])) c.loop-i.invariant.room
     c.in_default.ensures.numbers in
-    let quiet = all_quiet c.args.self.now c.requires.elsewhere c.marks-marks.result c.marks-marks.ensures e units c.requires.read (i + 1) j passes.apart in
+    let quiet = all_quiet c.args.self.now c.args.self.now.elsewhere c.marks-marks.result c.marks-marks.ensures e units c.requires.read (i + 1) j passes.apart in
     let texts = texts_next e old new limit c.args.begin first units i u low high is in
     let more = texts_past e old new first (i + 1) j units up passes.low in
     let read = c.read_if_concerned.ensures.inlines in
@@ -167,7 +167,7 @@ loop-i-preserved g c =
       shallow = shallow_past e old new first (i + 1) j units up passes.low limit c.args.begin
           (shallow_next e old new limit c.args.begin first units i u low high is c.loop-i.invariant.shallow
           (subst (λ z. IsShallow limit z new u) c.loop-i.invariant.room c.in_default.ensures.shallow))
-          (shallow_between c.args.self.now c.requires.elsewhere c.marks-marks.result c.marks-marks.ensures e units c.requires.read (i + 1) j passes.apart limit c.requires.shallow);
+          (shallow_between c.args.self.now c.args.self.now.elsewhere c.marks-marks.result c.marks-marks.ensures e units c.requires.read (i + 1) j passes.apart limit c.requires.shallow);
       room = c.read_if_concerned.ensures.room ∙ c.loop-i.invariant.room;
       lines = c.read_if_concerned.ensures.lines ∙ c.loop-i.invariant.lines;
       inlines = omega (arith, read, same, texts, more, c.loop-i.invariant.inlines);

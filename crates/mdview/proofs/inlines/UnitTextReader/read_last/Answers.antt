@@ -10,6 +10,6 @@ piece_like-requires-clause-alike g c =
     let reader = c.args.self.now in
     let front = c.read_alike_in.result in
     let behind = c.read_alike_in-2.result in
-    alike_kept reader c.requires.elsewhere (entities_in c.args.room.now) reader.options.now.max_spans front behind c.in_ok-inlines.same c.unit.result.now.texts c.deref.result.now c.args.kept
+    alike_kept reader c.args.self.now.elsewhere (entities_in c.args.room.now) reader.options.now.max_spans front behind c.in_ok-inlines.same c.unit.result.now.texts c.deref.result.now c.args.kept
     (record { unit = c.args.kept.unit; front = front; behind = behind }) refl refl refl (c.deref.ensures.value ∙ c.in_ok-inlines.ensures.readings) (subst (λ (u : UnitTree). AreReadingsOf reader.options.now.max_spans (entities_in c.args.room.now) (labels_before reader) u.texts c.args.kept) (sym c.unit.ensures) c.requires.kept) c.in_ok-inlines.ensures.front.0 c.in_ok-inlines.ensures.front.1
     c.read_alike_in.ensures c.read_alike_in-2.ensures

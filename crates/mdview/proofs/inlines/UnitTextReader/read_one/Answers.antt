@@ -9,7 +9,7 @@ use Rattle.mdview.proofs.inlines.UnitTextReader.read_one.Goals as goal
 
 pub returns-then-concern-clause-inlines : goal.returns-then-concern-clause-inlines
 returns-then-concern-clause-inlines g c =
-    let asks = concerned c.args.self.now c.requires.elsewhere c.args.held.now c.asked.result.now c.concern.result c.asked.ensures c.concern.ensures in
+    let asks = concerned c.args.self.now c.args.self.now.elsewhere c.args.held.now c.asked.result.now c.concern.result c.asked.ensures c.concern.ensures in
     let once : g.C.Count.inlines c.read_text.new.count ≤ g.C.Count.inlines c.args.count.now + 1 = omega (arith, c.read_text.ensures.inlines) in
     rw (sym asks ∙ c.if-concern.true) once
 
@@ -18,7 +18,7 @@ returns-in_ok-copy-clause-reading g c =
     let old = labels_before c.args.self.now in
     let new = labels_behind c.args.self.now in
     let e = entities_in c.args.room.now in
-    let asks = concerned c.args.self.now c.requires.elsewhere c.args.held.now c.asked.result.now c.concern.result c.asked.ensures c.concern.ensures in
+    let asks = concerned c.args.self.now c.args.self.now.elsewhere c.args.held.now c.asked.result.now c.concern.result c.asked.ensures c.concern.ensures in
     let none : asks_changed old new (reading_of e old c.args.text.now) ≡ false = ap (asks_changed old new) (sym c.requires.held) ∙ sym asks ∙ c.if-concern.false in
     c.in_ok-copy.ensures ∙ c.requires.held ∙ reads_as_before e old new c.args.text.now none
 
@@ -27,6 +27,6 @@ returns-in_ok-copy-clause-shallow g c =
     let old = labels_before c.args.self.now in
     let new = labels_behind c.args.self.now in
     let e = entities_in c.args.room.now in
-    let asks = concerned c.args.self.now c.requires.elsewhere c.args.held.now c.asked.result.now c.concern.result c.asked.ensures c.concern.ensures in
+    let asks = concerned c.args.self.now c.args.self.now.elsewhere c.args.held.now c.asked.result.now c.concern.result c.asked.ensures c.concern.ensures in
     let none : asks_changed old new (reading_of e old c.args.text.now) ≡ false = ap (asks_changed old new) (sym c.requires.held) ∙ sym asks ∙ c.if-concern.false in
     ap (is_deep c.args.self.now.options.now.max_spans) (sym (c.requires.held ∙ reads_as_before e old new c.args.text.now none)) ∙ c.requires.shallow

@@ -12,5 +12,5 @@ piece_like-requires-clause-alike g c =
     let texts = c.unit.result.now.texts in
     let read = subst (λ z. IfSome z (λ u. IsReadUnder e (labels_before reader) u.now)) c.in-Some.is c.requires.held in
     let front = subst (λ z. IfSome z (λ u. take same texts ≡ take same u.now.read.unit.texts)) c.in-Some.is c.in_ok-inlines.ensures.front.1 in
-    alike_front reader c.requires.elsewhere e c.read_alike_in.result same texts c.deref.result.now (record { unit = c.in-Some.unit; front = c.read_alike_in.result; behind = 0 }) refl refl
+    alike_front reader c.args.self.now.elsewhere e c.read_alike_in.result same texts c.deref.result.now (record { unit = c.in-Some.unit; front = c.read_alike_in.result; behind = 0 }) refl refl
     (c.deref.ensures.value ∙ c.in_ok-inlines.ensures.readings) read c.in_ok-inlines.ensures.front.0 front c.read_alike_in.ensures
