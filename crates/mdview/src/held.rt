@@ -1,5 +1,10 @@
 //! What a preview holds of a text: its units with their HTML, and where its labels lead.
 
+ghost use Rattle.std.specs.Prelude.{map};
+ghost use Rattle.mdhtml.specs.Limits.{HasLimits};
+ghost use Rattle.mdview.specs.HeldUnit.{unit_in};
+ghost use Rattle.mdview.specs.LabelTargets.{Leads};
+
 pub(crate) mod label_marks;
 pub(crate) mod labels;
 pub(crate) mod marked_units;
@@ -29,4 +34,6 @@ pub(crate) struct HeldText<'a> {
     pub(crate) units: &'a Chunks<HeldUnit>,
     pub(crate) prelude: &'a Prelude,
     pub(crate) labels: &'a HeldLabels,
+    ghost limits: { HasLimits options.now },
+    ghost led: { Leads labels.now (map unit_in units.now.items) prelude.now },
 }

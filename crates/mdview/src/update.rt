@@ -13,12 +13,11 @@ ghost use Rattle.mdsource.specs.Preludes.{IsDefinedBy};
 ghost use Rattle.mdsource.specs.UnitTiles.{front_of};
 ghost use Rattle.mdview.specs.HeldBlocks.{HoldsUnits, IsReplacing, old_lines};
 ghost use Rattle.mdview.specs.HeldLists.{list_in, unplaced};
-ghost use Rattle.mdhtml.specs.Limits.{HasLimits};
 ghost use Rattle.mdsource.specs.SourceLimits.{size_of};
 ghost use Rattle.mdview.specs.NewText.{lines_of};
 ghost use Rattle.mdview.specs.HeldTexts.{IsReadUnder, IsRefusedBy, IsReread, IsShallow, asking_in_parts, deep_in_parts, head_read, number_again, setting_in, source_before, source_behind, texts_in_parts};
 ghost use Rattle.mdsource.specs.TextFaults.{IsTextFault};
-ghost use Rattle.mdview.specs.LabelTargets.{IsElsewhere, Leads, LeadsAfter, led_after, led_by, target_held};
+ghost use Rattle.mdview.specs.LabelTargets.{IsElsewhere, LeadsAfter, led_after, led_by, target_held};
 ghost use Rattle.mdview.specs.HeldBlocks.{held_tile, lines_in};
 ghost use Rattle.mdview.specs.HeldUnit.{IsRendered, unit_in, read_of, texts_before, texts_of};
 ghost use Rattle.mdview.specs.KeptTexts.{IsKept};
@@ -60,13 +59,11 @@ impl Update {
         text: NewText<'_>,
         count: &mut C,
     ) -> Result<Update, EditFault>
-        requires limits { HasLimits held.now.options.now }
         requires few { length (lines_of text) ≤ 1000000 }
         requires small { size_of (lines_of text) ≤ 16777216 }
         requires old { length (old_lines text) ≤ 1000000 }
         requires held { HoldsUnits held.now.entities.now (old_lines text) held.now.head (map read_of held.now.units.now.items) }
         requires fits { first_too_deep held.now.options.now.max_containers (old_lines text) ≡ None }
-        requires led { Leads held.now.labels.now (map unit_in held.now.units.now.items) held.now.prelude.now }
         requires defined { IsDefinedBy held.now.entities.now held.now.prelude.now }
         requires read { All (IsReadUnder held.now.entities.now (target_held held.now.labels.now)) held.now.units.now.items }
         requires rendered { All (IsRendered held.now.options.now) held.now.units.now.items }
@@ -99,8 +96,6 @@ impl Update {
         prelude: &Prelude,
         count: &mut C,
     ) -> Result<Update, EditFault>
-        requires limits { HasLimits held.now.options.now }
-        requires led { Leads held.now.labels.now (map unit_in held.now.units.now.items) held.now.prelude.now }
         requires read { All (IsReadUnder held.now.entities.now (target_held held.now.labels.now)) held.now.units.now.items }
         requires shallow { All (IsShallow held.now.options.now.max_spans held.now.entities.now (target_held held.now.labels.now)) held.now.units.now.items }
         requires rendered { All (IsRendered held.now.options.now) held.now.units.now.items }
@@ -139,7 +134,6 @@ impl Update {
         changes: LabelChanges,
         count: &mut C,
     ) -> Result<Update, EditFault>
-        requires limits { HasLimits held.now.options.now }
         requires first { reparsed.first ≤ reparsed.next }
         requires next { reparsed.next ≤ length held.now.units.now.items }
         requires elsewhere { IsElsewhere held.now.labels.now changes }

@@ -10,7 +10,6 @@ ghost use Rattle.mdsource.specs.Stops.{is_near, lines_to_stop};
 ghost use Rattle.mdblock.specs.FoundLists.{FoundList, found_unit};
 ghost use Rattle.mdblock.specs.held.ReaderState.{held_joined};
 ghost use Rattle.mdblock.specs.held.Reads.{Reads, handed, open_begin};
-ghost use Rattle.mdhtml.specs.Limits.{HasLimits};
 ghost use Rattle.mdsource.specs.Stretch.{is_meeting};
 ghost use Rattle.mdsource.specs.UnitTexts.{trees_in};
 ghost use Rattle.mdsource.specs.UnitTiles.{IsAhead};
@@ -63,7 +62,6 @@ pub(crate) fn reparse<C: Count>(
     text: NewText<'_>,
     count: &mut C,
 ) -> Result<Reparsed, EditFault>
-    requires limits { HasLimits held.now.options.now }
     requires few { length (lines_of text) ≤ 1000000 }
     requires small { size_of (lines_of text) ≤ 16777216 }
     requires old { length (old_lines text) ≤ 1000000 }
@@ -138,7 +136,6 @@ fn begun_reader<'a, C: Count>(
     start: UnitStart,
     count: &mut C,
 ) -> Result<Reader<'a>, AllocError>
-    requires limits { HasLimits held.now.options.now }
     requires few { length (lines_of text) ≤ 1000000 }
     requires small { size_of (lines_of text) ≤ 16777216 }
     requires old { length (old_lines text) ≤ 1000000 }

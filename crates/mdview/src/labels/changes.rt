@@ -13,7 +13,7 @@ ghost use Rattle.mdblock.specs.FoundLists.{found_unit};
 ghost use Rattle.mdsource.specs.UnitTexts.{trees_in};
 ghost use Rattle.mdview.specs.HeldUnit.{unit_in};
 ghost use Rattle.mdview.specs.LabelMarks.{label_mark};
-ghost use Rattle.mdview.specs.LabelTargets.{HasRoom, IsElsewhere, Leads, LeadsAfter, at, led_after, target_held, leading, target_after};
+ghost use Rattle.mdview.specs.LabelTargets.{HasRoom, IsElsewhere, LeadsAfter, at, led_after, target_held, leading, target_after};
 
 use crate::blocks::reparse::Reparsed;
 use crate::held::HeldText;
@@ -38,7 +38,6 @@ impl LabelChanges {
     pub(crate) fn of(held: &HeldText<'_>, reparsed: &Reparsed) -> Result<LabelChanges, NoMemory>
         requires first { reparsed.now.first ≤ reparsed.now.next }
         requires next { reparsed.now.next ≤ length held.now.units.now.items }
-        requires led { Leads held.now.labels.now (map unit_in held.now.units.now.items) held.now.prelude.now }
         ensures led { IfOk result (LeadsAfter held.now.labels.now
             (take reparsed.now.first (map unit_in held.now.units.now.items) ++ trees_in (map found_unit reparsed.now.found.items) ++ drop reparsed.now.next (map unit_in held.now.units.now.items))
             held.now.prelude.now) }
@@ -58,7 +57,6 @@ impl LabelChanges {
         held: &HeldText<'_>,
         prelude: &Prelude,
     ) -> Result<LabelChanges, NoMemory>
-        requires led { Leads held.now.labels.now (map unit_in held.now.units.now.items) held.now.prelude.now }
         ensures led { IfOk result (LeadsAfter held.now.labels.now (map unit_in held.now.units.now.items) prelude.now) }
         ensures elsewhere { IfOk result (IsElsewhere held.now.labels.now) }
     {

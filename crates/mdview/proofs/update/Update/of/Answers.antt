@@ -28,7 +28,7 @@ led_before : (g : Over) (c : In_ok-reparsed g) → (label : List ℕ) → target
 led_before g c label =
     let held = c.args.held.now in
     let old = old_lines c.args.text in
-    c.requires.led label ∙ ap (λ us. led_by us held.prelude.now label) (trees_are held.entities.now old held.head held.units.now.items c.requires.held)
+    c.args.held.now.led label ∙ ap (λ us. led_by us held.prelude.now label) (trees_are held.entities.now old held.head held.units.now.items c.requires.held)
     ∙ led_by_text held.entities.now old held.prelude.now c.requires.defined label
 
 led_behind : (g : Over) (c : In_ok-changes g) → (label : List ℕ)

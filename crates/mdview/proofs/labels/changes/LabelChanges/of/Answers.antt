@@ -36,7 +36,7 @@ returns-clause-led c = λ q.
     seen ∙ ap (λ back. told_by (definitions_by (front ++ map (λ one. one.unit) c.deref-2.result.now ++ map unit_in back)) q (told c.touch_found.new.self q)) to_end
     ∙ ap (λ found. told_by (definitions_by (front ++ map (λ one. one.unit) found ++ back)) q (told c.touch_found.new.self q)) c.deref-2.ensures.value
     ∙ ap (told_by (definitions_by (front ++ found ++ back)) q) touched in
-    let before = c.requires.led q ∙ ap (λ us. option_or (table_of (definitions_by us) q) (target_beside held.prelude.now q)) (units_cut unit_in units first next c.requires.first) in
+    let before = c.args.held.now.led q ∙ ap (λ us. option_or (table_of (definitions_by us) q) (target_beside held.prelude.now q)) (units_cut unit_in units first next c.requires.first) in
     edit_leads front gone found back q (at q c.in_ok-changed.field-0.entries) (told c.define_all.new.self q) (target_held held.labels.now q) (target_beside held.prelude.now q) is (c.in_ok-changed.ensures q) before
     ∙ ap (λ us. option_or (table_of (definitions_by (us ++ found ++ back)) q) (target_beside held.prelude.now q)) (sym (take-map unit_in first units))
     ∙ ap (λ us. option_or (table_of (definitions_by (take first (map unit_in units) ++ found ++ us)) q) (target_beside held.prelude.now q)) (sym (drop-map unit_in next units))

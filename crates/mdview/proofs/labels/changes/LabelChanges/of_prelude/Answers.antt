@@ -27,7 +27,7 @@ returns-clause-led c = λ q.
     ∙ ap (λ us. told_by (definitions_by us) q (told c.touch_prelude-2.new.self q)) (append-nil (units ++ []) ∙ append-nil units)
     ∙ ap (told_by (definitions_by units) q) touched in
     prelude_leads (definitions_by units) held.prelude.now.labels c.args.prelude.now.labels q (at q c.in_ok-changed.field-0.entries) (told c.define_all.new.self q) (target_held held.labels.now q)
-    is (c.in_ok-changed.ensures q) (c.requires.led q)
+    is (c.in_ok-changed.ensures q) (c.args.held.now.led q)
 
 pub returns-clause-elsewhere : goal.returns-clause-elsewhere
 returns-clause-elsewhere c = λ q.
