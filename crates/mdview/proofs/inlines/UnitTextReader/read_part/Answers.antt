@@ -1,5 +1,4 @@
-use Rattle.std.proofs.Common.{◌≡◌, ◌≤◌, ◌++◌, Err, arith, ap, drop, length, map, string_bytes, take, ◌-◌, ◌∙◌, sym}
-use Rattle.std.specs.List.{list_any}
+use Rattle.std.proofs.Common.{◌≡◌, ◌≤◌, ◌+◌, Err, arith, ap, drop, length, map, string_bytes, take, ◌∙◌, sym}
 use Rattle.std.proofs.lemmas.List.{length-map, length-take, take-map}
 use Rattle.mdsource.specs.Refusals.{is_deep}
 use Rattle.mdsource.specs.View.{reading_of}
@@ -8,6 +7,8 @@ use Rattle.mdblock.proofs.LevelBegins.{err_is}
 use Rattle.mdview.specs.HeldTexts.{entities_in, labels_before, labels_behind}
 use Rattle.mdview.proofs.AlikeUnits.{take_within}
 use Rattle.mdview.proofs.KeptTexts.{behind_passes, both_parts, front_passes, neither_passes, part_is}
+use Rattle.mdview.proofs.inlines.UnitTextReader.read_part.Given.{Over}
+use Rattle.mdview.proofs.inlines.UnitTextReader.read_part.Goals.{After-read_concerned}
 use Rattle.mdview.proofs.inlines.UnitTextReader.read_part.Goals as goal
 
 pub returns-in_err-same-clause-deep : goal.returns-in_err-same-clause-deep
@@ -18,64 +19,46 @@ returns-in_err-same-clause-deep g c =
 
 pub read_concerned-requires-clause-held : goal.read_concerned-requires-clause-held
 read_concerned-requires-clause-held g c =
-    let old = labels_before c.args.self.now in
-    let read = reading_of (entities_in c.args.room.now) old in
-    let texts = c.texts-texts.result.now in
-    c.requires.kept.readings
-    ∙ ap (map read) (part_is read texts c.args.unit.now.texts c.texts-texts.ensures c.args.kept.at)
-    ∙ ap (λ e. map (reading_of e old) (map string_bytes (take (length texts - c.args.kept.at) (drop c.args.kept.at texts)))) (sym c.read_alike.ensures.room)
+    let read = reading_of (entities_in c.args.room.now) (labels_before c.args.self.now) in
+    let part = part_is read c.texts-texts.result.now c.args.unit.now.texts c.texts-texts.ensures c.args.kept.at in
+    rw c.read_alike.ensures.room (c.requires.kept.readings ∙ ap (map read) part)
 
 pub returns-in_err-read_concerned-clause-deep : goal.returns-in_err-read_concerned-clause-deep
 returns-in_err-read_concerned-clause-deep g c =
-    let new = labels_behind c.args.self.now in
-    let read = reading_of (entities_in c.args.room.now) new in
-    let deep = is_deep c.args.self.now.options.now.max_spans in
+    let read = reading_of (entities_in c.args.room.now) (labels_behind c.args.self.now) in
+    λ too. let fault = err_is c.from_residual-in_err-read_concerned.result _ _ c.from_residual-in_err-read_concerned.ensures.1 too in
+    behind_passes read c.texts-texts.result.now c.args.unit.now.texts c.texts-texts.ensures c.args.kept.at (is_deep c.args.self.now.options.now.max_spans)
+    (rw c.read_alike.ensures.room at (c.in_err-read_concerned.ensures.deep (ap Err (sym fault))))
+
+-- how many texts are read, at most
+inlines_within : (g : Over) (c : After-read_concerned g) → g.C.Count.inlines c.read_concerned.new.count ≤ g.C.Count.inlines c.args.count.now
+    + (c.args.kept.at
+    + asking_of (entities_in c.args.room.now) (labels_before c.args.self.now) (labels_behind c.args.self.now) (drop c.args.kept.at c.args.unit.now.texts))
+inlines_within g c =
     let texts = c.texts-texts.result.now in
-    λ too. behind_passes read texts c.args.unit.now.texts c.texts-texts.ensures c.args.kept.at deep
-    (ap (λ e. list_any deep (map (reading_of e new) (map string_bytes (take (length texts - c.args.kept.at) (drop c.args.kept.at texts))))) (sym c.read_alike.ensures.room)
-    ∙ c.in_err-read_concerned.ensures.deep (ap Err (sym (err_is c.from_residual-in_err-read_concerned.result _ _ c.from_residual-in_err-read_concerned.ensures.1 too))))
+    let read = reading_of (entities_in c.args.room.now) (labels_before c.args.self.now) in
+    let part = part_is read texts c.args.unit.now.texts c.texts-texts.ensures c.args.kept.at in
+    let asked = rw (c.read_alike.ensures.room, ← part) at c.read_concerned.ensures.inlines in
+    let size = length-take c.args.kept.at texts in
+    grind (arith, asked, c.read_alike.ensures.inlines, size)
 
 pub returns-in_err-read_concerned-clause-inlines : goal.returns-in_err-read_concerned-clause-inlines
-returns-in_err-read_concerned-clause-inlines g c =
-    let old = labels_before c.args.self.now in
-    let new = labels_behind c.args.self.now in
-    let texts = c.texts-texts.result.now in
-    let same = ap (λ e. asking_of e old new (map string_bytes (take (length texts - c.args.kept.at) (drop c.args.kept.at texts)))) c.read_alike.ensures.room
-    ∙ ap (asking_of (entities_in c.args.room.now) old new) (sym (part_is (reading_of (entities_in c.args.room.now) old) texts c.args.unit.now.texts c.texts-texts.ensures c.args.kept.at)) in
-    let size = length-take c.args.kept.at texts in
-    grind (arith, c.read_concerned.ensures.inlines, c.read_alike.ensures.inlines, same, size)
+returns-in_err-read_concerned-clause-inlines g c = inlines_within g (goal.at.returns-in_err-read_concerned-clause-inlines g c).After-read_concerned
+
+pub returns-clause-inlines : goal.returns-clause-inlines
+returns-clause-inlines g c = inlines_within g (goal.at.returns-clause-inlines g c).After-read_concerned
 
 pub returns-clause-readings : goal.returns-clause-readings
 returns-clause-readings g c =
-    let new = labels_behind c.args.self.now in
-    let read = reading_of (entities_in c.args.room.now) new in
-    let texts = c.texts-texts.result.now in
-    let part = map string_bytes (take (length texts - c.args.kept.at) (drop c.args.kept.at texts)) in
-    c.in_ok-read_concerned.ensures.readings
-    ∙ ap (λ l. l ++ map (reading_of (entities_in c.read_alike.new.room) new) part)
-    (c.in_ok-same.ensures.readings ∙ ap (λ l. l ++ map read (map string_bytes (take c.args.kept.at texts))) c.in_ok-inlines.ensures.items)
-    ∙ ap (λ e. map read (map string_bytes (take c.args.kept.at texts)) ++ map (reading_of e new) part) c.read_alike.ensures.room
-    ∙ both_parts read texts c.args.unit.now.texts c.texts-texts.ensures c.args.kept.at
+    let read = reading_of (entities_in c.args.room.now) (labels_behind c.args.self.now) in
+    rw (c.in_ok-same.ensures.readings, c.in_ok-inlines.ensures.items, c.read_alike.ensures.room) at c.in_ok-read_concerned.ensures.readings
+    ∙ both_parts read c.texts-texts.result.now c.args.unit.now.texts c.texts-texts.ensures c.args.kept.at
 
 pub returns-clause-shallow : goal.returns-clause-shallow
 returns-clause-shallow g c =
-    let new = labels_behind c.args.self.now in
-    let read = reading_of (entities_in c.args.room.now) new in
-    let deep = is_deep c.args.self.now.options.now.max_spans in
-    let texts = c.texts-texts.result.now in
-    neither_passes read texts c.args.unit.now.texts c.texts-texts.ensures c.args.kept.at deep c.in_ok-same.ensures.shallow
-    (ap (λ e. list_any deep (map (reading_of e new) (map string_bytes (take (length texts - c.args.kept.at) (drop c.args.kept.at texts))))) (sym c.read_alike.ensures.room)
-    ∙ c.in_ok-read_concerned.ensures.shallow)
-
-pub returns-clause-inlines : goal.returns-clause-inlines
-returns-clause-inlines g c =
-    let old = labels_before c.args.self.now in
-    let new = labels_behind c.args.self.now in
-    let texts = c.texts-texts.result.now in
-    let same = ap (λ e. asking_of e old new (map string_bytes (take (length texts - c.args.kept.at) (drop c.args.kept.at texts)))) c.read_alike.ensures.room
-    ∙ ap (asking_of (entities_in c.args.room.now) old new) (sym (part_is (reading_of (entities_in c.args.room.now) old) texts c.args.unit.now.texts c.texts-texts.ensures c.args.kept.at)) in
-    let size = length-take c.args.kept.at texts in
-    grind (arith, c.read_concerned.ensures.inlines, c.read_alike.ensures.inlines, same, size)
+    let read = reading_of (entities_in c.args.room.now) (labels_behind c.args.self.now) in
+    neither_passes read c.texts-texts.result.now c.args.unit.now.texts c.texts-texts.ensures c.args.kept.at (is_deep c.args.self.now.options.now.max_spans)
+    c.in_ok-same.ensures.shallow (rw c.read_alike.ensures.room at c.in_ok-read_concerned.ensures.shallow)
 
 pub returns-clause-front : goal.returns-clause-front
 returns-clause-front g c =

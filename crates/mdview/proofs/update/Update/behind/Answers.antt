@@ -1,17 +1,18 @@
-use Rattle.std.proofs.Common.{◌≡◌, ℕ, ◌++◌, List, arith, length, map, option_map, subst, ap, ◌∙◌, sym}
-use Rattle.std.specs.Prelude.{IfSome}
-use Rattle.std.specs.List.{All}
+use Rattle.std.proofs.Common.{◌≤◌, ◌+◌, ℕ, Option, arith, length, map, option_map, ap, ◌∙◌}
 use Rattle.std.specs.Option.{option_or}
-use Rattle.mdsource.specs.UnitTexts.{asking_texts, asking_units, deep_found, deep_from, trees_in}
+use Rattle.mdsource.specs.UnitTexts.{deep_found, deep_from, trees_in}
 use Rattle.mdblock.specs.FoundLists.{found_unit}
 use Rattle.mdview.specs.HeldBlocks.{held_tile}
-use Rattle.mdview.specs.HeldTexts.{IsReadUnder, IsReread, IsShallow, between, deep_in_parts, entities_in, head_read, line_on, number_again}
+use Rattle.mdview.specs.HeldTexts.{between, head_read, line_on, texts_in_parts}
 use Rattle.mdsource.specs.TextFaults.{IsTextFault}
-use Rattle.mdview.specs.HeldUnit.{HeldUnit, unit_in}
-use Rattle.mdview.specs.KeptTexts.{AreReadingsOf, last_texts, number_kept, texts_with_kept}
 use Rattle.mdview.specs.LabelTargets.{led_after, target_held}
+use Rattle.mdview.specs.declared.blocks.reparse.Reparsed.{Reparsed}
+use Rattle.mdview.specs.declared.held.HeldText.{HeldText}
+use Rattle.mdview.specs.declared.labels.changes.LabelChanges.{LabelChanges}
 use Rattle.mdview.proofs.KeptTexts.{kept_read}
 use Rattle.mdview.proofs.ReadParts.{fault_behind, fault_in_front, lines_between, returned}
+use Rattle.mdview.proofs.update.Update.behind.Given.{Over}
+use Rattle.mdview.proofs.update.Update.behind.Goals.{After-read_again-2}
 use Rattle.mdview.proofs.update.Update.behind.Goals as goal
 
 pub read_again-requires-clause-near : goal.read_again-requires-clause-near
@@ -27,185 +28,108 @@ read_again-requires-2-clause-near g c =
 pub read_found-requires-clause-kept : goal.read_found-requires-clause-kept
 read_found-requires-clause-kept g c =
     let held = c.args.held.now in
-    let limit = held.options.now.max_spans in
-    let old = target_held held.labels.now in
+    let kept = c.kept_readings-kept.ensures in
     let trees = trees_in (map found_unit c.args.reparsed.found.items) in
-    subst (λ z. IfSome c.kept_readings-kept.result (AreReadingsOf limit z old (last_texts trees))) (sym (c.read_again.ensures.room ∙ c.new-room.ensures))
-    (kept_read limit held.entities.now old held.units.now.items trees c.requires.read c.requires.shallow c.args.reparsed.kept c.kept_readings-kept.result c.requires.kept
-    c.kept_readings-kept.ensures.at c.kept_readings-kept.ensures.readings c.kept_readings-kept.ensures.unit)
+    rw (c.read_again.ensures.room, c.new-room.ensures)
+    (kept_read held.options.now.max_spans held.entities.now (target_held held.labels.now) held.units.now.items trees
+    c.requires.read c.requires.shallow c.args.reparsed.kept c.kept_readings-kept.result c.requires.kept kept.at kept.readings kept.unit)
 
 pub read_found-requires-clause-held : goal.read_found-requires-clause-held
-read_found-requires-clause-held g c =
-    let held = c.args.held.now in
-    subst (λ z. All (IsReadUnder z (target_held held.labels.now)) held.units.now.items) (sym (c.read_again.ensures.room ∙ c.new-room.ensures)) c.requires.read
+read_found-requires-clause-held g c = rw (c.read_again.ensures.room, c.new-room.ensures) c.requires.read
 
 pub read_found-requires-clause-held_shallow : goal.read_found-requires-clause-held_shallow
-read_found-requires-clause-held_shallow g c =
-    let held = c.args.held.now in
-    subst (λ z. All (IsShallow held.options.now.max_spans z (target_held held.labels.now)) held.units.now.items) (sym (c.read_again.ensures.room ∙ c.new-room.ensures)) c.requires.shallow
+read_found-requires-clause-held_shallow g c = rw (c.read_again.ensures.room, c.new-room.ensures) c.requires.shallow
+
+-- ---- where spans lie too deep first: in the units in front, in those found and in those behind
+
+abbrev front_deep : HeldText → LabelChanges → Reparsed → Option ℕ
+front_deep held changes r =
+    deep_from held.options.now.max_spans held.entities.now (led_after held.labels.now changes) (head_read held.head r)
+    (map held_tile (between 0 r.first held.units.now.items))
+
+abbrev found_deep : HeldText → LabelChanges → Reparsed → Option ℕ
+found_deep held changes r =
+    option_map (line_on r.from)
+    (deep_found held.options.now.max_spans held.entities.now (led_after held.labels.now changes) (map found_unit r.found.items))
+
+abbrev rest_deep : HeldText → LabelChanges → Reparsed → Option ℕ
+rest_deep held changes r =
+    deep_from held.options.now.max_spans held.entities.now (led_after held.labels.now changes) r.meet
+    (map held_tile (between r.next (length held.units.now.items) held.units.now.items))
 
 pub returns-in_err-read_again-clause-deep : goal.returns-in_err-read_again-clause-deep
 returns-in_err-read_again-clause-deep g c =
-    let E = c.args.held.now.entities.now in
-    let limit = c.args.held.now.options.now.max_spans in
-    let units : List HeldUnit = c.args.held.now.units.now.items in
-    let old = target_held c.args.held.now.labels.now in
-    let new = led_after c.args.held.now.labels.now c.args.changes in
-    let r = c.args.reparsed in
-    let front = option_or (option_map (line_on r.from) (deep_found limit E new (map found_unit r.found.items))) (deep_from limit E new r.meet (map held_tile (between r.next (length units) units))) in
-    let deep = subst (λ n. IsTextFault (deep_from limit E new n (map held_tile (between 0 r.first units))) c.in_err-read_again.field-0.0) c.head_behind-head.ensures
-    (subst (λ z. IsTextFault (deep_from limit z new c.head_behind-head.result (map held_tile (between 0 r.first units))) c.in_err-read_again.field-0.0) c.new-room.ensures c.in_err-read_again.ensures.deep) in
-    returned c.from_residual.result c.in_err-read_again.field-0.0 (IsTextFault (deep_in_parts limit E new (head_read c.args.held.now.head r) units r)) c.from_residual.ensures.1
-    (fault_in_front (deep_from limit E new (head_read c.args.held.now.head r) (map held_tile (between 0 r.first units))) front c.in_err-read_again.field-0.0 deep)
+    let fault = c.in_err-read_again.field-0.0 in
+    let front = front_deep c.args.held.now c.args.changes c.args.reparsed in
+    let behind = option_or (found_deep c.args.held.now c.args.changes c.args.reparsed) (rest_deep c.args.held.now c.args.changes c.args.reparsed) in
+    let deep = rw (c.new-room.ensures, c.head_behind-head.ensures) at c.in_err-read_again.ensures.deep in
+    returned c.from_residual.result fault (IsTextFault (option_or front behind)) c.from_residual.ensures.1 (fault_in_front front behind fault deep)
 
 pub returns-in_err-units-clause-deep : goal.returns-in_err-units-clause-deep
 returns-in_err-units-clause-deep g c =
-    let E = c.args.held.now.entities.now in
-    let limit = c.args.held.now.options.now.max_spans in
-    let units : List HeldUnit = c.args.held.now.units.now.items in
-    let old = target_held c.args.held.now.labels.now in
-    let new = led_after c.args.held.now.labels.now c.args.changes in
-    let r = c.args.reparsed in
-    let r2 : entities_in c.read_again.new.room ≡ E = c.read_again.ensures.room ∙ c.new-room.ensures in
-    let front = option_or (option_map (line_on r.from) (deep_found limit E new (map found_unit r.found.items))) (deep_from limit E new r.meet (map held_tile (between r.next (length units) units))) in
-    let none = ap (λ n. deep_from limit E new n (map held_tile (between 0 r.first units))) (sym c.head_behind-head.ensures)
-    ∙ ap (λ z. deep_from limit z new c.head_behind-head.result (map held_tile (between 0 r.first units))) (sym c.new-room.ensures) ∙ c.in_ok-read_again.ensures.shallow in
-    let deep = subst (λ z. IsTextFault (option_map (line_on r.from) (deep_found limit z new (map found_unit r.found.items))) c.in_err-units.field-0.0) r2 c.in_err-units.ensures.deep in
-    returned c.from_residual-in_err-units.result c.in_err-units.field-0.0 (IsTextFault (deep_in_parts limit E new (head_read c.args.held.now.head r) units r)) c.from_residual-in_err-units.ensures.1
-    (fault_behind (deep_from limit E new (head_read c.args.held.now.head r) (map held_tile (between 0 r.first units))) front c.in_err-units.field-0.0 none
-    (fault_in_front (option_map (line_on r.from) (deep_found limit E new (map found_unit r.found.items))) (deep_from limit E new r.meet (map held_tile (between r.next (length units) units))) c.in_err-units.field-0.0 deep))
+    let fault = c.in_err-units.field-0.0 in
+    let front = front_deep c.args.held.now c.args.changes c.args.reparsed in
+    let found = found_deep c.args.held.now c.args.changes c.args.reparsed in
+    let rest = rest_deep c.args.held.now c.args.changes c.args.reparsed in
+    let none = rw (c.new-room.ensures, c.head_behind-head.ensures) at c.in_ok-read_again.ensures.shallow in
+    let deep = rw (c.read_again.ensures.room, c.new-room.ensures) at c.in_err-units.ensures.deep in
+    returned c.from_residual-in_err-units.result fault (IsTextFault (option_or front (option_or found rest))) c.from_residual-in_err-units.ensures.1
+    (fault_behind front (option_or found rest) fault none (fault_in_front found rest fault deep))
 
 pub returns-in_err-read_again-2-clause-deep : goal.returns-in_err-read_again-2-clause-deep
 returns-in_err-read_again-2-clause-deep g c =
-    let E = c.args.held.now.entities.now in
-    let limit = c.args.held.now.options.now.max_spans in
-    let units : List HeldUnit = c.args.held.now.units.now.items in
-    let old = target_held c.args.held.now.labels.now in
-    let new = led_after c.args.held.now.labels.now c.args.changes in
-    let r = c.args.reparsed in
-    let r2 : entities_in c.read_again.new.room ≡ E = c.read_again.ensures.room ∙ c.new-room.ensures in
-    let r3 : entities_in c.read_found.new.room ≡ E = c.read_found.ensures.room ∙ r2 in
-    let front = option_or (option_map (line_on r.from) (deep_found limit E new (map found_unit r.found.items))) (deep_from limit E new r.meet (map held_tile (between r.next (length units) units))) in
-    let none = ap (λ n. deep_from limit E new n (map held_tile (between 0 r.first units))) (sym c.head_behind-head.ensures)
-    ∙ ap (λ z. deep_from limit z new c.head_behind-head.result (map held_tile (between 0 r.first units))) (sym c.new-room.ensures) ∙ c.in_ok-read_again.ensures.shallow in
-    let few = ap (option_map (line_on r.from)) (ap (λ z. deep_found limit z new (map found_unit r.found.items)) (sym r2) ∙ c.in_ok-units.ensures.shallow) in
-    let deep = subst (λ n. IsTextFault (deep_from limit E new r.meet (map held_tile (between r.next n units))) c.in_err-read_again-2.field-0.0) c.len.ensures
-    (subst (λ z. IsTextFault (deep_from limit z new r.meet (map held_tile (between r.next c.len.result units))) c.in_err-read_again-2.field-0.0) r3 c.in_err-read_again-2.ensures.deep) in
-    returned c.from_residual-in_err-read_again-2.result c.in_err-read_again-2.field-0.0 (IsTextFault (deep_in_parts limit E new (head_read c.args.held.now.head r) units r)) c.from_residual-in_err-read_again-2.ensures.1
-    (fault_behind (deep_from limit E new (head_read c.args.held.now.head r) (map held_tile (between 0 r.first units))) front c.in_err-read_again-2.field-0.0 none
-    (fault_behind (option_map (line_on r.from) (deep_found limit E new (map found_unit r.found.items))) (deep_from limit E new r.meet (map held_tile (between r.next (length units) units))) c.in_err-read_again-2.field-0.0 few deep))
+    let fault = c.in_err-read_again-2.field-0.0 in
+    let front = front_deep c.args.held.now c.args.changes c.args.reparsed in
+    let found = found_deep c.args.held.now c.args.changes c.args.reparsed in
+    let rest = rest_deep c.args.held.now c.args.changes c.args.reparsed in
+    let none = rw (c.new-room.ensures, c.head_behind-head.ensures) at c.in_ok-read_again.ensures.shallow in
+    let few = ap (option_map (line_on c.args.reparsed.from)) (rw (c.read_again.ensures.room, c.new-room.ensures) at c.in_ok-units.ensures.shallow) in
+    let deep = rw (c.read_found.ensures.room, c.read_again.ensures.room, c.new-room.ensures, c.len.ensures) at c.in_err-read_again-2.ensures.deep in
+    returned c.from_residual-in_err-read_again-2.result fault (IsTextFault (option_or front (option_or found rest)))
+    c.from_residual-in_err-read_again-2.ensures.1 (fault_behind front (option_or found rest) fault none (fault_behind found rest fault few deep))
 
 pub returns-clause-shallow : goal.returns-clause-shallow
 returns-clause-shallow g c =
-    let E = c.args.held.now.entities.now in
-    let limit = c.args.held.now.options.now.max_spans in
-    let units : List HeldUnit = c.args.held.now.units.now.items in
-    let old = target_held c.args.held.now.labels.now in
-    let new = led_after c.args.held.now.labels.now c.args.changes in
-    let r = c.args.reparsed in
-    let r2 : entities_in c.read_again.new.room ≡ E = c.read_again.ensures.room ∙ c.new-room.ensures in
-    let r3 : entities_in c.read_found.new.room ≡ E = c.read_found.ensures.room ∙ r2 in
-    let front = option_or (option_map (line_on r.from) (deep_found limit E new (map found_unit r.found.items))) (deep_from limit E new r.meet (map held_tile (between r.next (length units) units))) in
-    let none = ap (λ n. deep_from limit E new n (map held_tile (between 0 r.first units))) (sym c.head_behind-head.ensures)
-    ∙ ap (λ z. deep_from limit z new c.head_behind-head.result (map held_tile (between 0 r.first units))) (sym c.new-room.ensures) ∙ c.in_ok-read_again.ensures.shallow in
-    let few = ap (option_map (line_on r.from)) (ap (λ z. deep_found limit z new (map found_unit r.found.items)) (sym r2) ∙ c.in_ok-units.ensures.shallow) in
-    let last = ap (λ n. deep_from limit E new r.meet (map held_tile (between r.next n units))) (sym c.len.ensures)
-    ∙ ap (λ z. deep_from limit z new r.meet (map held_tile (between r.next c.len.result units))) (sym r3) ∙ c.in_ok-read_again-2.ensures.shallow in
-    ap (λ o. option_or o front) none ∙ ap (λ o. option_or o (deep_from limit E new r.meet (map held_tile (between r.next (length units) units)))) few ∙ last
+    let found = found_deep c.args.held.now c.args.changes c.args.reparsed in
+    let rest = rest_deep c.args.held.now c.args.changes c.args.reparsed in
+    let none = rw (c.new-room.ensures, c.head_behind-head.ensures) at c.in_ok-read_again.ensures.shallow in
+    let few = ap (option_map (line_on c.args.reparsed.from)) (rw (c.read_again.ensures.room, c.new-room.ensures) at c.in_ok-units.ensures.shallow) in
+    let last = rw (c.read_found.ensures.room, c.read_again.ensures.room, c.new-room.ensures, c.len.ensures) at c.in_ok-read_again-2.ensures.shallow in
+    ap (λ o. option_or o (option_or found rest)) none ∙ ap (λ o. option_or o rest) few ∙ last
+
+-- ---- what is read, and how much
 
 pub returns-clause-read : goal.returns-clause-read
-returns-clause-read g c =
-    let E = c.args.held.now.entities.now in
-    let limit = c.args.held.now.options.now.max_spans in
-    let units : List HeldUnit = c.args.held.now.units.now.items in
-    let old = target_held c.args.held.now.labels.now in
-    let new = led_after c.args.held.now.labels.now c.args.changes in
-    let r = c.args.reparsed in
-    let r2 : entities_in c.read_again.new.room ≡ E = c.read_again.ensures.room ∙ c.new-room.ensures in
-    subst (λ z. All (IsReadUnder z new) c.in_ok-units.units.items) r2 c.in_ok-units.ensures.read
+returns-clause-read g c = rw (c.read_again.ensures.room, c.new-room.ensures) at c.in_ok-units.ensures.read
 
 pub returns-clause-reread : goal.returns-clause-reread
-returns-clause-reread g c =
-    let E = c.args.held.now.entities.now in
-    let limit = c.args.held.now.options.now.max_spans in
-    let units : List HeldUnit = c.args.held.now.units.now.items in
-    let old = target_held c.args.held.now.labels.now in
-    let new = led_after c.args.held.now.labels.now c.args.changes in
-    let r = c.args.reparsed in
-    let r2 : entities_in c.read_again.new.room ≡ E = c.read_again.ensures.room ∙ c.new-room.ensures in
-    let r3 : entities_in c.read_found.new.room ≡ E = c.read_found.ensures.room ∙ r2 in
-    subst (λ z. All (IsReread z new (map unit_in units)) c.read_again-2.new.again.items) r3 c.in_ok-read_again-2.ensures.reread
+returns-clause-reread g c = rw (c.read_found.ensures.room, c.read_again.ensures.room, c.new-room.ensures) at c.in_ok-read_again-2.ensures.reread
 
 pub returns-clause-numbers : goal.returns-clause-numbers
 returns-clause-numbers g c =
-    let E = c.args.held.now.entities.now in
-    let limit = c.args.held.now.options.now.max_spans in
-    let units : List HeldUnit = c.args.held.now.units.now.items in
-    let old = target_held c.args.held.now.labels.now in
-    let new = led_after c.args.held.now.labels.now c.args.changes in
-    let r = c.args.reparsed in
-    let r2 : entities_in c.read_again.new.room ≡ E = c.read_again.ensures.room ∙ c.new-room.ensures in
-    let r3 : entities_in c.read_found.new.room ≡ E = c.read_found.ensures.room ∙ r2 in
-    let front : List ℕ = asking_units E old new 0 (map unit_in (between 0 r.first units)) in
-    let one = c.in_ok-read_again.ensures.numbers ∙ ap (λ z. map number_again c.new-again.result.items ++ asking_units z old new 0 (map unit_in (between 0 r.first units))) c.new-room.ensures
-    ∙ ap (λ l. map number_again l ++ front) c.new-again.ensures.items in
-    c.in_ok-read_again-2.ensures.numbers
-    ∙ ap (λ n. map number_again c.read_again.new.again.items ++ asking_units (entities_in c.read_found.new.room) old new r.next (map unit_in (between r.next n units))) c.len.ensures
-    ∙ ap (λ z. map number_again c.read_again.new.again.items ++ asking_units z old new r.next (map unit_in (between r.next (length units) units))) r3
-    ∙ ap (λ l. l ++ asking_units E old new r.next (map unit_in (between r.next (length units) units))) one
+    rw (c.in_ok-read_again.ensures.numbers, c.new-again.ensures.items, c.len.ensures, c.read_found.ensures.room, c.read_again.ensures.room, c.new-room.ensures)
+    at c.in_ok-read_again-2.ensures.numbers
+
+texts_read : (g : Over) (c : After-read_again-2 g) → g.C.Count.inlines c.read_again-2.new.count
+    ≤ g.C.Count.inlines c.args.count.now + texts_in_parts c.args.held.now.entities.now (target_held c.args.held.now.labels.now)
+    (led_after c.args.held.now.labels.now c.args.changes) c.args.held.now.units.now.items c.args.reparsed
+texts_read g c =
+    let front = rw c.new-room.ensures at c.read_again.ensures.inlines in
+    let found = rw (c.kept_readings-kept.ensures.at, c.read_again.ensures.room, c.new-room.ensures) at c.read_found.ensures.inlines in
+    let rest = rw (c.len.ensures, c.read_found.ensures.room, c.read_again.ensures.room, c.new-room.ensures) at c.read_again-2.ensures.inlines in
+    omega (arith, front, found, rest)
 
 pub returns-in_err-read_again-clause-inlines : goal.returns-in_err-read_again-clause-inlines
-returns-in_err-read_again-clause-inlines g c =
-    let E = c.args.held.now.entities.now in
-    let limit = c.args.held.now.options.now.max_spans in
-    let units : List HeldUnit = c.args.held.now.units.now.items in
-    let old = target_held c.args.held.now.labels.now in
-    let new = led_after c.args.held.now.labels.now c.args.changes in
-    let r = c.args.reparsed in
-    let front = ap (λ z. asking_texts z old new (map unit_in (between 0 r.first units))) c.new-room.ensures in
-    omega (arith, c.read_again.ensures.inlines, front)
+returns-in_err-read_again-clause-inlines g c = let front = rw c.new-room.ensures at c.read_again.ensures.inlines in omega (arith, front)
 
 pub returns-in_err-units-clause-inlines : goal.returns-in_err-units-clause-inlines
 returns-in_err-units-clause-inlines g c =
-    let E = c.args.held.now.entities.now in
-    let limit = c.args.held.now.options.now.max_spans in
-    let units : List HeldUnit = c.args.held.now.units.now.items in
-    let old = target_held c.args.held.now.labels.now in
-    let new = led_after c.args.held.now.labels.now c.args.changes in
-    let r = c.args.reparsed in
-    let front = ap (λ z. asking_texts z old new (map unit_in (between 0 r.first units))) c.new-room.ensures in
-    let mid = ap (λ at. texts_with_kept (entities_in c.read_again.new.room) old new at (trees_in (map found_unit r.found.items))) c.kept_readings-kept.ensures.at
-    ∙ ap (λ z. texts_with_kept z old new (option_map number_kept r.kept) (trees_in (map found_unit r.found.items))) (c.read_again.ensures.room ∙ c.new-room.ensures) in
-    omega (arith, c.read_again.ensures.inlines, c.read_found.ensures.inlines, front, mid)
+    let front = rw c.new-room.ensures at c.read_again.ensures.inlines in
+    let found = rw (c.kept_readings-kept.ensures.at, c.read_again.ensures.room, c.new-room.ensures) at c.read_found.ensures.inlines in
+    omega (arith, front, found)
 
 pub returns-in_err-read_again-2-clause-inlines : goal.returns-in_err-read_again-2-clause-inlines
-returns-in_err-read_again-2-clause-inlines g c =
-    let E = c.args.held.now.entities.now in
-    let limit = c.args.held.now.options.now.max_spans in
-    let units : List HeldUnit = c.args.held.now.units.now.items in
-    let old = target_held c.args.held.now.labels.now in
-    let new = led_after c.args.held.now.labels.now c.args.changes in
-    let r = c.args.reparsed in
-    let r2 : entities_in c.read_again.new.room ≡ E = c.read_again.ensures.room ∙ c.new-room.ensures in
-    let r3 : entities_in c.read_found.new.room ≡ E = c.read_found.ensures.room ∙ r2 in
-    let front = ap (λ z. asking_texts z old new (map unit_in (between 0 r.first units))) c.new-room.ensures in
-    let last = ap (λ n. asking_texts (entities_in c.read_found.new.room) old new (map unit_in (between r.next n units))) c.len.ensures ∙ ap (λ z. asking_texts z old new (map unit_in (between r.next (length units) units))) r3 in
-    let mid = ap (λ at. texts_with_kept (entities_in c.read_again.new.room) old new at (trees_in (map found_unit r.found.items))) c.kept_readings-kept.ensures.at
-    ∙ ap (λ z. texts_with_kept z old new (option_map number_kept r.kept) (trees_in (map found_unit r.found.items))) r2 in
-    omega (arith, c.read_again.ensures.inlines, c.read_found.ensures.inlines, c.read_again-2.ensures.inlines, front, mid, last)
+returns-in_err-read_again-2-clause-inlines g c = texts_read g (goal.at.returns-in_err-read_again-2-clause-inlines g c).After-read_again-2
 
 pub returns-clause-inlines : goal.returns-clause-inlines
-returns-clause-inlines g c =
-    let E = c.args.held.now.entities.now in
-    let limit = c.args.held.now.options.now.max_spans in
-    let units : List HeldUnit = c.args.held.now.units.now.items in
-    let old = target_held c.args.held.now.labels.now in
-    let new = led_after c.args.held.now.labels.now c.args.changes in
-    let r = c.args.reparsed in
-    let r2 : entities_in c.read_again.new.room ≡ E = c.read_again.ensures.room ∙ c.new-room.ensures in
-    let r3 : entities_in c.read_found.new.room ≡ E = c.read_found.ensures.room ∙ r2 in
-    let front = ap (λ z. asking_texts z old new (map unit_in (between 0 r.first units))) c.new-room.ensures in
-    let last = ap (λ n. asking_texts (entities_in c.read_found.new.room) old new (map unit_in (between r.next n units))) c.len.ensures ∙ ap (λ z. asking_texts z old new (map unit_in (between r.next (length units) units))) r3 in
-    let mid = ap (λ at. texts_with_kept (entities_in c.read_again.new.room) old new at (trees_in (map found_unit r.found.items))) c.kept_readings-kept.ensures.at
-    ∙ ap (λ z. texts_with_kept z old new (option_map number_kept r.kept) (trees_in (map found_unit r.found.items))) r2 in
-    omega (arith, c.read_again.ensures.inlines, c.read_found.ensures.inlines, c.read_again-2.ensures.inlines, front, mid, last)
+returns-clause-inlines g c = texts_read g (goal.at.returns-clause-inlines g c).After-read_again-2
