@@ -135,7 +135,7 @@ quote_follows room less level new inner inner_new before after l il n is m opens
     let all : AddsLine (suc less) level before l new after = λ in_item s texts definitions r.
     let g = quote_matched level inner l is m before.entities.now (length texts) in_item s r.1 in
     with_blank (λ z. IsAdded before.entities.now (suc less) in_item s texts definitions l z after) new false blank
-        (quote_added less level new inner inner_new before after l il is adds over marks held in_item s texts definitions r (subst (GoesInside s l) (sym opens) g) false (full_gap before.entities.now (suc less) s l (quoted_full l m))) in
+    (quote_added less level new inner inner_new before after l il is adds over marks held in_item s texts definitions r (subst (GoesInside s l) (sym opens) g) false (full_gap before.entities.now (suc less) s l (quoted_full l m))) in
     subst (λ z. AddsLine z level before l new after) same all
 
 pub quote_is_followed : (level : Level) (inner : Box Level Global) (l : BlockLine) → level.last ≡ open_block.Quote inner → matches Quote l ≡ true → IsFollowed level l
@@ -162,7 +162,7 @@ item_follows room less level new inner list inner_new before after l il n is m o
     let all : AddsLine (suc less) level before l new after = λ in_item s texts definitions r.
     let g = item_matched level inner list l is m before.entities.now (length texts) in_item s r.1 in
     with_blank (λ z. IsAdded before.entities.now (suc less) in_item s texts definitions l z after) new false blank
-        (item_added less level new inner list inner_new before after l il is adds over marks held in_item s texts definitions r (subst (GoesInside s l) (sym opens) g) false (full_gap before.entities.now (suc less) s l (columns_full list l m))) in
+    (item_added less level new inner list inner_new before after l il is adds over marks held in_item s texts definitions r (subst (GoesInside s l) (sym opens) g) false (full_gap before.entities.now (suc less) s l (columns_full list l m))) in
     subst (λ z. AddsLine z level before l new after) same all
 
 pub item_is_followed : (level : Level) (inner : Box Level Global) (list : OpenList) (l : BlockLine) → level.last ≡ open_block.List inner list → has_columns list l ≡ true → IsFollowed level l
