@@ -1,7 +1,6 @@
 //! Why a line is not read.
 
 ghost use Rattle.std.specs.Prelude.{◌≡◌};
-ghost use Rattle.mdblock.specs.declared.faults.BlockFault.TheVariants.{NoMemory};
 
 use std::alloc::{AllocError, AllocFailed};
 use std::error::Error;
@@ -32,7 +31,51 @@ impl fmt::Display for BlockFault {
 
 impl Error for BlockFault {}
 
+/// Why a line is not read where no earlier one had a fault.
+#[derive(Clone, Copy, Debug, Drop, PartialEq, Eq)]
+pub(crate) enum LineFault {
+    /// A container begins that lies in more others than the limit allows.
+    TooDeep,
+    /// A growth was refused.
+    NoMemory,
+}
+
+impl LineFault {
+    /// The fault as a reader tells it.
+    pub(crate) fn told(self) -> BlockFault
+        ensures deep { result ≡ BlockFault.NestedTooDeep → self ≡ LineFault.TooDeep }
+        ensures going { result ≡ BlockFault.Failed → ⊥ }
+    {
+        match self {
+            LineFault::TooDeep => BlockFault::NestedTooDeep,
+            LineFault::NoMemory => BlockFault::NoMemory,
+        }
+    }
+}
+
+impl From<AllocError> for LineFault {
+    ghost use Rattle.mdblock.specs.declared.faults.LineFault.TheVariants.{NoMemory};
+
+    ghost from_gives = { λ _ fault. fault ≡ NoMemory };
+
+    fn from(_fault: AllocError) -> LineFault {
+        LineFault::NoMemory
+    }
+}
+
+impl<T: Drop> From<AllocFailed<T>> for LineFault {
+    ghost use Rattle.mdblock.specs.declared.faults.LineFault.TheVariants.{NoMemory};
+
+    ghost from_gives = { λ _ fault. fault ≡ NoMemory };
+
+    fn from(_fault: AllocFailed<T>) -> LineFault {
+        LineFault::NoMemory
+    }
+}
+
 impl From<AllocError> for BlockFault {
+    ghost use Rattle.mdblock.specs.declared.faults.BlockFault.TheVariants.{NoMemory};
+
     ghost from_gives = { λ _ fault. fault ≡ NoMemory };
 
     fn from(_fault: AllocError) -> BlockFault {
@@ -41,6 +84,8 @@ impl From<AllocError> for BlockFault {
 }
 
 impl<T: Drop> From<AllocFailed<T>> for BlockFault {
+    ghost use Rattle.mdblock.specs.declared.faults.BlockFault.TheVariants.{NoMemory};
+
     ghost from_gives = { λ _ fault. fault ≡ NoMemory };
 
     fn from(_fault: AllocFailed<T>) -> BlockFault {

@@ -2,7 +2,7 @@
 
 ghost use Rattle.std.specs.Prelude.{◌≡◌, ◌+◌, ℕ, IfErr, IfOk, OnErr};
 ghost use Rattle.blockspec.specs.LineSummary.{no_summary};
-ghost use Rattle.mdblock.specs.declared.faults.BlockFault.TheVariants.{NestedTooDeep};
+ghost use Rattle.mdblock.specs.declared.faults.LineFault.TheVariants.{TooDeep};
 ghost use Rattle.mdblock.specs.held.HeldLevel.{StandsFor, EndsIn, is_front, is_shut};
 ghost use Rattle.mdblock.specs.held.LevelSteps.{IsAllOver, IsEmpty};
 ghost use Rattle.mdblock.specs.held.OpenPositions.{LevelIn};
@@ -18,7 +18,7 @@ mod reading;
 use crate::block_starts::BlockStart;
 use crate::blocks::Block;
 use crate::container::lists::OpenList;
-use crate::faults::BlockFault;
+use crate::faults::LineFault;
 use crate::leaf::Leaf;
 use mdscan::Marker;
 use std::alloc::Global;
@@ -114,13 +114,13 @@ impl Level {
 }
 
 /// One container less may be opened inside.
-pub(crate) fn deeper(room: usize) -> Result<usize, BlockFault>
+pub(crate) fn deeper(room: usize) -> Result<usize, LineFault>
     ensures less { IfOk result (λ less. less + 1 ≡ room) }
-    ensures fault { IfErr result (λ fault. fault ≡ NestedTooDeep) }
+    ensures fault { IfErr result (λ fault. fault ≡ TooDeep) }
     ensures none { OnErr result (room ≡ 0) }
 {
     if room == 0 {
-        return Err(BlockFault::NestedTooDeep);
+        return Err(LineFault::TooDeep);
     }
     Ok(room - 1)
 }

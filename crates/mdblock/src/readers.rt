@@ -4,6 +4,7 @@ ghost use Rattle.std.specs.Prelude.{List, [], ℕ, ◌≡◌, ◌+◌, ◌-◌, 
 ghost use Rattle.std.specs.Option.{option_map, option_to_list};
 ghost use Rattle.mdtext.specs.Counted.{counted};
 ghost use Rattle.mdblock.specs.declared.faults.BlockFault.TheVariants.{Failed, NestedTooDeep};
+ghost use Rattle.mdblock.specs.declared.faults.LineFault.TheVariants.{TooDeep};
 ghost use Rattle.blockspec.specs.BlockLine.{document_line};
 ghost use Rattle.blockspec.specs.BlockUnits.{units};
 ghost use Rattle.blockspec.specs.Nesting.{first_too_deep};
@@ -22,7 +23,7 @@ ghost use Rattle.mdblock.specs.held.Reads.{Reads, BeginsUnit, HandsOn, SinksBehi
 ghost use Rattle.mdtext.specs.EntityTable.{EntityTable};
 
 use crate::block_starts::{BlockStart, beginning};
-use crate::faults::BlockFault;
+use crate::faults::{BlockFault, LineFault};
 use crate::gathering::Gathering;
 use crate::lines::Line;
 use crate::open_blocks::{Continuation, Level};
@@ -124,8 +125,8 @@ impl<'e> Reader<'e> {
         let item = match item_behind(alloc, entities, limit, old, k, text, count) {
             Ok(Some(item)) => item,
             Ok(None) => return Ok(None),
-            Err(BlockFault::NestedTooDeep) | Err(BlockFault::Failed) => return Ok(None),
-            Err(BlockFault::NoMemory) => return Err(AllocError),
+            Err(LineFault::TooDeep) => return Ok(None),
+            Err(LineFault::NoMemory) => return Err(AllocError),
         };
         Ok(Some(Reader {
             alloc,
@@ -181,7 +182,7 @@ impl<'e> Reader<'e> {
             }
             Err(fault) => {
                 self.held = None;
-                Err(fault)
+                Err(fault.told())
             }
         }
     }
@@ -279,14 +280,13 @@ impl<'e> OpenUnit<'e> {
 
     /// Reads a line before which `fed` lines were read, where so many containers may be open inside one another. It is inlined, as `Reader::line` is.
     #[inline(always)]
-    fn read(&mut self, text: &str, fed: usize, limit: usize) -> Result<Option<Found>, BlockFault>
+    fn read(&mut self, text: &str, fed: usize, limit: usize) -> Result<Option<Found>, LineFault>
         requires short { 4 * length text.now < 2 ^ 64 }
         requires kept { AreKept self.old }
         ensures kept { OnOk result (AreKept self.new) }
         ensures entities { OnOk result (self.new.gathering.entities.now ≡ self.old.gathering.entities.now) }
         ensures next { IfOk result (λ found. HandsOn limit fed self.old (document_line text.now) found self.new) }
-        ensures deep { IsErrOf result NestedTooDeep → SinksBehind limit self.old (document_line text.now) }
-        ensures fault { IfErr result (λ fault. fault ≡ Failed → ⊥) }
+        ensures deep { IsErrOf result TooDeep → SinksBehind limit self.old (document_line text.now) }
     {
         let mut line = Line::new(text);
         if self.level.is_shut() {
@@ -324,7 +324,7 @@ impl<'e> OpenUnit<'e> {
         continuation: Continuation,
         fed: usize,
         limit: usize,
-    ) -> Result<(), BlockFault>
+    ) -> Result<(), LineFault>
         requires kept { AreKept self.old }
         requires continuation { IsContinuationOf line.old continuation }
         requires step { ContinuesOpen self.old.level.last line.old continuation }
@@ -335,8 +335,7 @@ impl<'e> OpenUnit<'e> {
         ensures kept { OnOk result (AreKept self.new) }
         ensures entities { OnOk result (self.new.gathering.entities.now ≡ self.old.gathering.entities.now) }
         ensures next { OnOk result (HandsOn limit fed self.old line.old None self.new) }
-        ensures deep { IsErrOf result NestedTooDeep → SinksBehind limit self.old line.old }
-        ensures fault { IfErr result (λ fault. fault ≡ Failed → ⊥) }
+        ensures deep { IsErrOf result TooDeep → SinksBehind limit self.old line.old }
     {
         self.level.end_item(&mut self.gathering)?;
         let join = self.join_after(fed);
@@ -371,14 +370,13 @@ impl<'e> OpenUnit<'e> {
         opening: Option<BlockStart>,
         fed: usize,
         limit: usize,
-    ) -> Result<Option<Found>, BlockFault>
+    ) -> Result<Option<Found>, LineFault>
         requires kept { AreKept self.old }
         requires opening { IsBeginningOf line.old opening }
         ensures kept { OnOk result (AreKept self.new) }
         ensures entities { OnOk result (self.new.gathering.entities.now ≡ self.old.gathering.entities.now) }
         ensures begins { IfOk result (λ found. BeginsUnit limit fed self.old line.old found self.new) }
-        ensures deep { IsErrOf result NestedTooDeep → sinks limit no_summary line.old ≡ true }
-        ensures fault { IfErr result (λ fault. fault ≡ Failed → ⊥) }
+        ensures deep { IsErrOf result TooDeep → sinks limit no_summary line.old ≡ true }
     {
         let found = self.take_unit(fed)?;
         self.level.begin(line, opening, limit, &mut self.gathering)?;

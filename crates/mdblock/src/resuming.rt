@@ -13,13 +13,13 @@ ghost use Rattle.mdblock.specs.Positions.{ItemsIn};
 ghost use Rattle.mdblock.specs.Spliced.{first_items, mark_at, take_items};
 ghost use Rattle.mdblock.specs.held.OpenPositions.{LevelIn};
 ghost use Rattle.mdblock.specs.held.ResumedItems.{BeginsAt, IsResumedAt};
-ghost use Rattle.mdblock.specs.declared.faults.BlockFault.TheVariants.{Failed, NestedTooDeep};
+ghost use Rattle.mdblock.specs.declared.faults.LineFault.TheVariants.{TooDeep};
 
 use crate::block_starts::beginning;
 use crate::blocks::Item;
 use crate::container::lists::{OpenList, next_of, take_marker};
 use crate::copies::{copied_item, push_definitions};
-use crate::faults::BlockFault;
+use crate::faults::LineFault;
 use crate::gathering::Gathering;
 use crate::lines::Line;
 use crate::open_blocks::{Level, deeper};
@@ -47,16 +47,15 @@ pub(crate) fn item_behind<'e, C: Count>(
     k: usize,
     text: &str,
     count: &mut C,
-) -> Result<Option<OpenItem<'e>>, BlockFault>
+) -> Result<Option<OpenItem<'e>>, LineFault>
     requires some { 1 ≤ limit }
     requires short { 4 * length text.now < 2 ^ 64 }
-    ensures fault { IfErr result (λ fault. fault ≡ Failed → ⊥) }
     ensures entities { IfOk result (λ behind. IfSome behind (λ item. item.gathering.entities.now ≡ entities.now)) }
     ensures kept { IfOk result (λ behind. IfSome behind (λ item. LevelIn (length item.gathering.texts.items) item.level)) }
     ensures there { IfOk result (λ behind. IfSome behind (λ item. k < length old.now.marks)) }
     ensures resumed { IfOk result (λ behind. IfSome behind (IsResumedAt limit entities.now old.now k text.now)) }
     ensures given { IfOk result (λ behind. (zs ys : List (List ℕ)) → BeginsAt entities.now old.now k text.now zs ys → is_some behind ≡ true) }
-    ensures deep { IsErrOf result NestedTooDeep → (zs ys : List (List ℕ)) → BeginsAt entities.now old.now k text.now zs ys
+    ensures deep { IsErrOf result TooDeep → (zs ys : List (List ℕ)) → BeginsAt entities.now old.now k text.now zs ys
         → first_too_deep limit (zs ++ text.now ∷ ys) ≡ None → ⊥ }
     ensures lines { IfOk result (λ behind. IfSome behind (λ item. C.lines count.new ≡ counted_by ((mark_at old.now.marks k).line + 1) (C.lines count.old))) }
     ensures no_more { C.lines count.new ≤ C.lines count.old + ((mark_at old.now.marks k).line + 1) }

@@ -6,7 +6,7 @@ ghost use Rattle.blockspec.specs.LineSummary.{no_summary};
 ghost use Rattle.blockspec.specs.SummaryDepth.{sinks};
 ghost use Rattle.mdblock.specs.BlockView.{blocks_view, items_view};
 ghost use Rattle.mdblock.specs.Positions.{BlocksIn, ItemsIn};
-ghost use Rattle.mdblock.specs.declared.faults.BlockFault.TheVariants.{Failed, NestedTooDeep};
+ghost use Rattle.mdblock.specs.declared.faults.LineFault.TheVariants.{TooDeep};
 ghost use Rattle.mdblock.specs.held.ClosedViews.{found_view};
 ghost use Rattle.mdblock.specs.held.Continuations.{IsBeginningOf};
 ghost use Rattle.mdblock.specs.held.Growing.{Grows};
@@ -18,7 +18,7 @@ use crate::block_starts::{BlockStart, beginning};
 use crate::closed_blocks::{push_block, push_found};
 use crate::container::block_quotes;
 use crate::container::lists::{self, OpenList};
-use crate::faults::BlockFault;
+use crate::faults::LineFault;
 use crate::gathering::Gathering;
 use crate::leaf::paragraphs::Paragraph;
 use crate::leaf::{Leaf, LeafAfter, atx_headings};
@@ -50,15 +50,14 @@ impl Level {
         opening: Option<BlockStart>,
         room: usize,
         gathering: &mut Gathering,
-    ) -> Result<(), BlockFault>
+    ) -> Result<(), LineFault>
         requires level { LevelIn (length gathering.old.texts.items) self.old }
         requires opening { IsBeginningOf line.old opening }
         ensures within { OnOk result (LevelIn (length gathering.new.texts.items) self.new) }
         ensures grows { Grows gathering.old gathering.new }
-        ensures fault { IfErr result (λ fault. fault ≡ Failed → ⊥) }
         ensures behind { OnOk result (BeginsBehind room self.old gathering.old line.old self.new gathering.new) }
         ensures fits { OnOk result (sinks room no_summary line.old ≡ false) }
-        ensures sinks { IsErrOf result NestedTooDeep → sinks room no_summary line.old ≡ true }
+        ensures sinks { IsErrOf result TooDeep → sinks room no_summary line.old ≡ true }
     {
         if line.is_blank() {
             self.pass_blank();
@@ -86,16 +85,15 @@ impl Level {
         opening: Option<BlockStart>,
         room: usize,
         gathering: &mut Gathering,
-    ) -> Result<(), BlockFault>
+    ) -> Result<(), LineFault>
         requires level { LevelIn (length gathering.old.texts.items) self.old }
         requires opening { IsBeginningOf line.old opening }
         requires full { is_blank_line line.old ≡ false }
         ensures within { OnOk result (LevelIn (length gathering.new.texts.items) self.new) }
         ensures grows { Grows gathering.old gathering.new }
-        ensures fault { IfErr result (λ fault. fault ≡ Failed → ⊥) }
         ensures begins { OnOk result (BeginsBlock room self.old gathering.old line.old self.new gathering.new) }
         ensures fits { OnOk result (sinks room no_summary line.old ≡ false) }
-        ensures sinks { IsErrOf result NestedTooDeep → sinks room no_summary line.old ≡ true }
+        ensures sinks { IsErrOf result TooDeep → sinks room no_summary line.old ≡ true }
     {
         let Some(start) = opening else {
             return Ok(self.begin_paragraph(line, gathering)?);

@@ -1,7 +1,7 @@
 //! The reading of a line inside a level: it goes down through the open containers that it matches, and continues what is open there or begins a block.
 
 ghost use Rattle.std.specs.Prelude.{◌≡◌, ◌≤◌, IfErr, IfOk, IsErrOf, OnOk, false, length, true};
-ghost use Rattle.mdblock.specs.declared.faults.BlockFault.TheVariants.{Failed, NestedTooDeep};
+ghost use Rattle.mdblock.specs.declared.faults.LineFault.TheVariants.{TooDeep};
 ghost use Rattle.mdblock.specs.held.Continuations.{ContinuesOpen, IsContinuationOf};
 ghost use Rattle.mdblock.specs.held.Growing.{Grows};
 ghost use Rattle.mdblock.specs.held.LevelSteps.{AddsButBlank, IsInside};
@@ -11,50 +11,26 @@ ghost use Rattle.mdblock.specs.held.OpenPositions.{LevelIn};
 use crate::block_starts::beginning;
 use crate::container::block_quotes;
 use crate::container::list_items::{Entry, enter_item};
-use crate::faults::BlockFault;
+use crate::faults::LineFault;
 use crate::gathering::Gathering;
 use crate::lines::Line;
 use crate::open_blocks::{Continuation, Level, OpenBlock, deeper};
 
-/// How the reading of a line inside a level ends.
-#[derive(Clone, Copy, Debug, PartialEq, Eq)]
-enum LineRead {
-    /// It is read.
-    Done,
-    TooDeep,
-    NoMemory,
-}
-
 impl Level {
-    /// Reads one line more, where at most `room` containers may be open inside one another.
+    /// Reads one line more, where at most `room` containers may be open inside one another. It ends with the reading inside the open container, of which the
+    /// compiler makes a loop.
+    #[tactic(auto, using(crate::proofs::Within::growing))]
     pub(crate) fn read(
         &mut self,
         line: &mut Line,
         room: usize,
         gathering: &mut Gathering,
-    ) -> Result<(), BlockFault>
+    ) -> Result<(), LineFault>
         requires { LevelIn (length gathering.old.texts.items) self.old }
         ensures within { OnOk result (LevelIn (length gathering.new.texts.items) self.new) }
         ensures grows { Grows gathering.old gathering.new }
-        ensures fault { IfErr result (λ fault. fault ≡ Failed → ⊥) }
         ensures adds { OnOk result (AddsLine room self.old gathering.old line.old self.new gathering.new) }
-        ensures deep { IsErrOf result NestedTooDeep → SinksLine room self.old gathering.old line.old }
-    {
-        match self.read_inside(line, room, gathering) {
-            LineRead::Done => Ok(()),
-            LineRead::TooDeep => Err(BlockFault::NestedTooDeep),
-            LineRead::NoMemory => Err(BlockFault::NoMemory),
-        }
-    }
-
-    /// Reads one line more, and tells by a word how that ends: it ends with the reading inside the open container, of which the compiler makes a loop.
-    #[tactic(auto, using(crate::proofs::Within::growing))]
-    fn read_inside(&mut self, line: &mut Line, room: usize, gathering: &mut Gathering) -> LineRead
-        requires { LevelIn (length gathering.old.texts.items) self.old }
-        ensures within { result ≡ LineRead.Done → LevelIn (length gathering.new.texts.items) self.new }
-        ensures grows { Grows gathering.old gathering.new }
-        ensures adds { result ≡ LineRead.Done → AddsLine room self.old gathering.old line.old self.new gathering.new }
-        ensures deep { result ≡ LineRead.TooDeep → SinksLine room self.old gathering.old line.old }
+        ensures deep { IsErrOf result TooDeep → SinksLine room self.old gathering.old line.old }
     {
         match &mut self.last {
             OpenBlock::Shut => self.read_unfollowed(line, room, gathering),
@@ -64,22 +40,22 @@ impl Level {
                     return self.read_unfollowed(line, room, gathering);
                 }
                 if room < 1 {
-                    return LineRead::TooDeep;
+                    return Err(LineFault::TooDeep);
                 }
                 block_quotes::take_marker(line);
                 self.blank = false;
-                inner.read_inside(line, room - 1, gathering)
+                inner.read(line, room - 1, gathering)
             }
             OpenBlock::List(inner, list) => {
                 if !list.matches(line) {
                     return self.read_unfollowed(line, room, gathering);
                 }
                 if room < 1 {
-                    return LineRead::TooDeep;
+                    return Err(LineFault::TooDeep);
                 }
                 list.enter(line);
                 self.blank = false;
-                inner.read_inside(line, room - 1, gathering)
+                inner.read(line, room - 1, gathering)
             }
         }
     }
@@ -91,21 +67,16 @@ impl Level {
         line: &mut Line,
         room: usize,
         gathering: &mut Gathering,
-    ) -> LineRead
+    ) -> Result<(), LineFault>
         requires level { LevelIn (length gathering.old.texts.items) self.old }
         requires unfollowed { IsUnfollowed self.old.last line.old }
-        ensures within { result ≡ LineRead.Done → LevelIn (length gathering.new.texts.items) self.new }
+        ensures within { OnOk result (LevelIn (length gathering.new.texts.items) self.new) }
         ensures grows { Grows gathering.old gathering.new }
-        ensures adds { result ≡ LineRead.Done → AddsLine room self.old gathering.old line.old self.new gathering.new }
-        ensures deep { result ≡ LineRead.TooDeep → SinksLine room self.old gathering.old line.old }
+        ensures adds { OnOk result (AddsLine room self.old gathering.old line.old self.new gathering.new) }
+        ensures deep { IsErrOf result TooDeep → SinksLine room self.old gathering.old line.old }
     {
         let continuation = self.continuation(line);
-        match self.add(line, continuation, room, gathering) {
-            Ok(()) => LineRead::Done,
-            Err(BlockFault::NestedTooDeep) => LineRead::TooDeep,
-            Err(BlockFault::NoMemory) => LineRead::NoMemory,
-            Err(BlockFault::Failed) => unreachable!(),
-        }
+        self.add(line, continuation, room, gathering)
     }
 
     /// Reads one line more, which continues what is open so, where at most `room` containers may be open inside one another.
@@ -116,16 +87,15 @@ impl Level {
         continuation: Continuation,
         room: usize,
         gathering: &mut Gathering,
-    ) -> Result<(), BlockFault>
+    ) -> Result<(), LineFault>
         requires level { LevelIn (length gathering.old.texts.items) self.old }
         requires continuation { IsContinuationOf line.old continuation }
         requires step { ContinuesOpen self.old.last line.old continuation }
         requires last { ContinuesLevel self.old line.old continuation }
         ensures within { OnOk result (LevelIn (length gathering.new.texts.items) self.new) }
         ensures grows { Grows gathering.old gathering.new }
-        ensures fault { IfErr result (λ fault. fault ≡ Failed → ⊥) }
         ensures adds { OnOk result (AddsLine room self.old gathering.old line.old self.new gathering.new) }
-        ensures deep { IsErrOf result NestedTooDeep → SinksLine room self.old gathering.old line.old }
+        ensures deep { IsErrOf result TooDeep → SinksLine room self.old gathering.old line.old }
     {
         let blank = line.is_blank();
         if let Continuation::Outside(opening) = continuation {
@@ -146,7 +116,7 @@ impl Level {
         continuation: Continuation,
         room: usize,
         gathering: &mut Gathering,
-    ) -> Result<(), BlockFault>
+    ) -> Result<(), LineFault>
         requires level { LevelIn (length gathering.old.texts.items) self.old }
         requires continuation { IsContinuationOf line.old continuation }
         requires step { ContinuesOpen self.old.last line.old continuation }
@@ -154,9 +124,8 @@ impl Level {
         requires inside { IsInside continuation }
         ensures within { OnOk result (LevelIn (length gathering.new.texts.items) self.new) }
         ensures grows { Grows gathering.old gathering.new }
-        ensures fault { IfErr result (λ fault. fault ≡ Failed → ⊥) }
         ensures adds { OnOk result (AddsButBlank room self.old gathering.old line.old self.new gathering.new) }
-        ensures deep { IsErrOf result NestedTooDeep → SinksLine room self.old gathering.old line.old }
+        ensures deep { IsErrOf result TooDeep → SinksLine room self.old gathering.old line.old }
     {
         match &mut self.last {
             OpenBlock::Shut => Ok(()),

@@ -12,7 +12,7 @@ use Rattle.blockspec.specs.ItemMarks.{ItemMark}
 use Rattle.mdblock.specs.BlockView.{items_view, kind_view}
 use Rattle.mdblock.specs.FoundLists.{join_mark}
 use Rattle.mdblock.specs.Spliced.{first_kind}
-use Rattle.mdblock.specs.declared.faults.BlockFault.TheVariants.{NestedTooDeep}
+use Rattle.mdblock.specs.declared.faults.LineFault.TheVariants.{TooDeep}
 use Rattle.mdblock.proofs.LevelBegins.{err_is}
 use Rattle.mdblock.proofs.ResumedGiven.{begins_next, fits_next, has_kind}
 use Rattle.mdblock.proofs.ResumedReading.{item_resumed}
@@ -56,5 +56,5 @@ returns-in_err-begin-clause-deep g c = λ err zs ys at shallow.
     let line = c.new-line.ensures in
     let begins = ap begun (sym line) ∙ c.in-Some-next_of.ensures.begins ∙ ap Holds c.take_marker-needed.ensures.needed in
     let opens = c.take_marker-needed.ensures.line ∙ ap (opened (Item m c.take_marker-needed.result)) line in
-    let sunk = c.in_err-begin.ensures.sinks (ap Err (sym (err_is c.from_residual-in_err-begin.result _ NestedTooDeep c.from_residual-in_err-begin.ensures.1 err))) in
+    let sunk = c.in_err-begin.ensures.sinks (ap Err (sym (err_is c.from_residual-in_err-begin.result _ TooDeep c.from_residual-in_err-begin.ensures.1 err))) in
     fits_next c.args.entities.now c.args.limit (c.args.limit - 1) c.args.k c.args.old.now c.args.text.now zs ys c.take_marker-needed.new.line m c.take_marker-needed.result at shallow (omega (arith, c.requires.some)) begins opens sunk

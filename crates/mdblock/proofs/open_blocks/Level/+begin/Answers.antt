@@ -119,7 +119,6 @@ begin_block-returns-in_ok-begin_leaf-in_default-start t c =
     record {
       within = h.within _ c.requires.level;
       grows = (omega arith, refl);
-      fault = tt;
       begins = h.begins c.args.room;
       fits = found_fits c.args.room c.args.line.now c.args.opening c.in-Some.start c.in-Some.is c.requires.opening.1
           (leaf_opens c.in-Some.start (leaf_start c.in-Some.start c.in_default-start.not-Quote c.in_default-start.not-Item c.in_default-start.not-Heading));

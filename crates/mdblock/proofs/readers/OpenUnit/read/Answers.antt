@@ -1,6 +1,6 @@
 use Rattle.std.proofs.Common.{Err, IfOk, None, false, refl, sym, ap, subst, ◌∙◌}
 use Rattle.blockspec.specs.BlockLine.{BlockLine, document_line}
-use Rattle.mdblock.specs.declared.faults.BlockFault.TheVariants.{NestedTooDeep}
+use Rattle.mdblock.specs.declared.faults.LineFault.TheVariants.{TooDeep}
 use Rattle.mdblock.specs.declared.open_blocks.Level.{Level}
 use Rattle.mdblock.specs.held.Reads.{HandsOn, SinksBehind}
 use Rattle.mdblock.proofs.CloseLaws.{if_ok}
@@ -39,7 +39,7 @@ pub returns-in_err-read-clause-deep : goal.returns-in_err-read-clause-deep
 returns-in_err-read-clause-deep c = λ err.
     let l = c.new-line.result in
     let lazy = ap (λ (z : BlockLine). z.lazy) c.new-line.ensures in
-    subst (SinksBehind c.args.limit c.args.self.now) c.new-line.ensures (sinks_on c.args.limit c.args.self.now l lazy (c.in_err-read.ensures.deep (ap Err (sym (err_is c.from_residual.result _ NestedTooDeep c.from_residual.ensures.1 err)))))
+    subst (SinksBehind c.args.limit c.args.self.now) c.new-line.ensures (sinks_on c.args.limit c.args.self.now l lazy (c.in_err-read.ensures.deep (ap Err (sym (err_is c.from_residual.result _ TooDeep c.from_residual.ensures.1 err)))))
 
 pub returns-then-is_followed_by-clause-next : goal.returns-then-is_followed_by-clause-next
 returns-then-is_followed_by-clause-next c =
@@ -75,7 +75,7 @@ returns-in_err-add-clause-deep c = λ err.
     let l = c.new-line.result in
     let lazy = ap (λ (z : BlockLine). z.lazy) c.new-line.ensures in
     subst (SinksBehind c.args.limit c.args.self.now) c.new-line.ensures
-    (sinks_on c.args.limit c.args.self.now l lazy (c.in_err-add.ensures.deep (ap Err (sym (err_is c.from_residual-in_err-add.result _ NestedTooDeep c.from_residual-in_err-add.ensures.1 err)))))
+    (sinks_on c.args.limit c.args.self.now l lazy (c.in_err-add.ensures.deep (ap Err (sym (err_is c.from_residual-in_err-add.result _ TooDeep c.from_residual-in_err-add.ensures.1 err)))))
 
 pub returns-clause-next : goal.returns-clause-next
 returns-clause-next c =

@@ -1,7 +1,9 @@
-use Rattle.std.proofs.Common.{◌≡◌, IfSome, None, Some, subst, sym, ◌∙◌}
+use Rattle.std.proofs.Common.{◌≡◌, Err, IfSome, None, Some, ap, refl, subst, sym, ◌∙◌}
 use Rattle.std.specs.Prelude.{option_map}
 use Rattle.mdblock.specs.held.ReaderState.{AreKept, unit_so_far}
 use Rattle.mdblock.specs.held.Reads.{Reads}
+use Rattle.mdblock.specs.declared.faults.BlockFault.TheVariants.{NestedTooDeep}
+use Rattle.mdblock.proofs.LevelBegins.{err_is}
 use Rattle.mdblock.proofs.NextLineLaws.{reads_next, hands_next, joins_next, stands_next, deep_next}
 use Rattle.mdblock.proofs.readers.Reader.line.Goals as goal
 
@@ -58,5 +60,5 @@ returns-in-Err-clause-deep g c = λ err limit e ls r.
     let i = c.self.inside in
     let seen = subst (λ z. Reads limit e z ls) (sym c.self.view_is) r in
     let kept = subst (λ z. IfSome z (λ held. AreKept held × (held.gathering.entities.now ≡ i.entities.now))) c.in-Some.is c.self.invariant in
-    deep_next limit e i.entities.now i.limit i.fed c.in-Some.held c.args.text.now ls kept.1 (c.in-Err.ensures.deep err)
+    deep_next limit e i.entities.now i.limit i.fed c.in-Some.held c.args.text.now ls kept.1 (c.in-Err.ensures.deep (ap Err (c.told.ensures.deep (err_is (Err c.told.result) (λ z. c.told.result ≡ z) NestedTooDeep refl err))))
     (subst (λ z. Reads limit e (record { entities = i.entities.now; limit = i.limit; fed = i.fed; held = option_map unit_so_far z }) ls) c.in-Some.is seen)
