@@ -1,32 +1,27 @@
 -- A unit begins only at a line that begins one behind the lines before it.
 use Rattle.std.proofs.Common.{◌≡◌, ℕ, suc, ◌+◌, ◌≤◌, ◌<◌, Bool, true, false, not, ◌&&◌, List, [], ◌∷◌, ◌++◌, length, map, Option, Some, None, refl, sym, ◌∙◌, ap, subst, append_assoc, arith}
 use Rattle.std.proofs.lemmas.List.{map-append, append-nil}
-use Rattle.std.specs.Prelude.{Contains, zero, slice_index_or, if◌then◌else◌}
+use Rattle.std.specs.Prelude.{Contains, if◌then◌else◌}
 use Rattle.mdtext.specs.EntityTable.{EntityTable}
 use Rattle.blockspec.specs.BlockLine.{BlockLine, document_line, is_blank_line}
-use Rattle.blockspec.specs.BlockStart.{Kind, begun}
+use Rattle.blockspec.specs.BlockStart.{begun}
 use Rattle.blockspec.specs.BlockTree.{ListKind}
 use Rattle.blockspec.specs.BlockUnits.{group_of, groups_within, found_units, visible_in, depth_of, groups, units, begins}
 use Rattle.blockspec.specs.Laziness.{Tip}
 use Rattle.blockspec.specs.ListGroups.{Part, Leaves, Quoted, Listed, Group, is_same_list, joined_where, joined_list, joined, grouped}
-use Rattle.blockspec.specs.Stretches.{Stretch, Step, Continues, IsLastLine, IsOverBefore, step, is_single, Tail, Empty, Going, Over, Cut, no_lines, all_of, stretches, ended, gap_behind, first_of, tail_of, begin_where, grown, after_step, add_at, add, cut_from, cut_by, tip_within}
+use Rattle.blockspec.specs.Stretches.{Stretch, Step, Continues, IsLastLine, IsOverBefore, step, Tail, Empty, Going, Over, Cut, no_lines, all_of, stretches, begin_where, grown, after_step, add_at, add, cut_from, cut_by, tip_within}
 use Rattle.blockspec.specs.LineSummary.{part_mark}
 use Rattle.blockspec.specs.Meetings.{IsBeginning}
-use Rattle.blockspec.specs.UnitBegin.{is_stop, is_apart, list_mark, same_mark, tail_mark, begins_behind, begins_unit, units_of, shift_found}
+use Rattle.blockspec.specs.UnitBegin.{is_apart, list_mark, same_mark, tail_mark, begins_behind, begins_unit, units_of, shift_found}
 use Rattle.blockspec.specs.UnitTree.{FoundUnit}
-use Rattle.blockspec.proofs.CutLaws.{cut_from_append, apart_begins}
+use Rattle.blockspec.proofs.CutLaws.{cut_from_append}
 use Rattle.blockspec.proofs.VisibleLaws.{visible_append}
 use Rattle.blockspec.proofs.DepthLaws.{groups_deep, begins_deep}
 use Rattle.blockspec.proofs.DocumentLaws.{units_meet, map_length, document_units, document_meets}
 use Rattle.blockspec.proofs.GroupLaws.{joins, grouped_first, joined_nil}
+use Rattle.blockspec.proofs.Lacking.{Lacks, both_lack, lacks_not, behind_first}
+use Rattle.blockspec.proofs.Outlines.{Mark, outline, last_mark, grown_outline, cut_of, stays, begin_none, begin_one, blank_outline, begun_outline, same_as_last}
 use Rattle.blockspec.proofs.UnitLaws.{IsHeadedBy, first_headed, IsWhole, cut_whole, add_lines, cut_lines, joins_marks, mark_of_part, keeps, step_keeps}
-
--- where a block begins, and whether it is an item of a list
-abbrev Mark : Type 0
-Mark = ℕ × Option ListKind
-
-abbrev outline : List Stretch → List Mark
-outline ss = map (λ s. (s.begin, list_mark s.kind)) ss
 
 abbrev unless : Bool → ℕ → List ℕ → List ℕ
 unless true n ns = ns
@@ -90,10 +85,6 @@ groups_begin e R (s ∷ r ∷ rs) = behind_this_group e R s r rs (groups_begin e
 
 -- ---- what later lines add
 
-last_mark : Option ListKind → List Mark → Option ListKind
-last_mark m [] = m
-last_mark m (x ∷ xs) = last_mark x.1 xs
-
 unless_append : (b : Bool) (n : ℕ) (ns ms : List ℕ) → unless b n (ns ++ ms) ≡ unless b n ns ++ ms
 unless_append true n ns ms = refl
 unless_append false n ns ms = refl
@@ -114,10 +105,6 @@ abbrev AreFrom : ℕ → List Mark → Type 0
 AreFrom n [] = Unit {0}
 AreFrom n (x ∷ xs) = (n ≤ x.0) × AreFrom n xs
 
-abbrev Lacks : ℕ → List ℕ → Type 0
-Lacks n [] = Unit {0}
-Lacks n (m ∷ ms) = (m ≡ n → ⊥) × Lacks n ms
-
 unless_lacks : (n : ℕ) (b : Bool) (m : ℕ) (ms : List ℕ) → (m ≡ n → ⊥) → Lacks n ms → Lacks n (unless b m ms)
 unless_lacks n true m ms f w = w
 unless_lacks n false m ms f w = (f, w)
@@ -131,10 +118,6 @@ from_lacks : (n : ℕ) (m : Option ListKind) (xs : List Mark) → AreFrom (suc n
 unfolding starts
 from_lacks n m [] w = tt
 from_lacks n m (x ∷ xs) w = unless_lacks n (same_mark m x.1) x.0 (starts x.1 xs) (λ e. absurd (omega (arith, w.0, e))) (from_lacks n x.1 xs w.1)
-
-both_lack : (n : ℕ) (xs ys : List ℕ) → Lacks n xs → Lacks n ys → Lacks n (xs ++ ys)
-both_lack n [] ys v w = w
-both_lack n (x ∷ xs) ys v w = (v.0, both_lack n xs ys v.1 w)
 
 below_more : (n m : ℕ) (xs : List Mark) → n ≤ m → AreBelow n xs → AreBelow m xs
 below_more n m [] h w = tt
@@ -152,14 +135,6 @@ from_both : (n : ℕ) (xs ys : List Mark) → AreFrom n xs → AreFrom n ys → 
 from_both n [] ys v w = w
 from_both n (x ∷ xs) ys v w = (v.0, from_both n xs ys v.1 w)
 
-last_of_push : (m : Option ListKind) (xs : List Mark) (x : Mark) → last_mark m (xs ++ x ∷ []) ≡ x.1
-unfolding last_mark
-last_of_push m [] x = refl
-last_of_push m (y ∷ xs) x = last_of_push y.1 xs x
-
-outline_push : (ss : List Stretch) (s : Stretch) → outline (ss ++ s ∷ []) ≡ outline ss ++ (s.begin, list_mark s.kind) ∷ []
-outline_push ss s = map-append (λ (r : Stretch). (r.begin, list_mark r.kind)) ss (s ∷ [])
-
 -- one line more: at most one block more, which begins there
 record Adds (c : Cut) (ss : List Stretch) : Type 0 where
   more : List Mark
@@ -170,33 +145,9 @@ record Adds (c : Cut) (ss : List Stretch) : Type 0 where
 adds_none : (c : Cut) (ss : List Stretch) → outline ss ≡ outline (stretches c) → Adds c ss
 adds_none c ss e = record { more = []; is = e ∙ sym (append-nil (outline (stretches c))); from = tt; below = tt }
 
-ended_outline : (before : List Stretch) (t : Tail) → outline (all_of before (ended t)) ≡ outline (all_of before t)
-unfolding all_of
-ended_outline before Empty = refl
-ended_outline before (Going s) = refl
-ended_outline before (Over s) = refl
-
-tail_outline : (before : List Stretch) (b : Bool) (s : Stretch) → outline (all_of before (tail_of b s)) ≡ outline before ++ (s.begin, list_mark s.kind) ∷ []
-unfolding all_of
-tail_outline before true s = outline_push before s
-tail_outline before false s = outline_push before s
-
 begin_adds : (T : List BlockLine → Tip) (c : Cut) (l : BlockLine) (blank : Bool) → Adds c (stretches (begin_where blank T c l))
-unfolding begin_where
-begin_adds T c l true = adds_none c (all_of c.before (ended c.tail)) (ended_outline c.before c.tail)
-begin_adds T c l false = record {
-  more = (c.lines, list_mark (begun l)) ∷ [];
-  is = tail_outline (stretches c) (is_single (begun l) l) (first_of c.lines (gap_behind T c) l);
-  from = (omega arith, tt);
-  below = (omega arith, tt);
-}
-
-grown_outline : (before : List Stretch) (s : Stretch) (k : Kind) (l : BlockLine) → list_mark k ≡ list_mark s.kind → outline (before ++ grown s k l ∷ []) ≡ outline (before ++ s ∷ [])
-grown_outline before s k l e =
-    outline_push before (grown s k l) ∙ ap (λ z. outline before ++ (s.begin, z) ∷ []) e ∙ sym (outline_push before s)
-
-abbrev cut_of : List Stretch → Tail → Bool → ℕ → Cut
-cut_of before t b m = record { before = before; tail = t; blank = b; lines = m }
+begin_adds T c l true = adds_none c (stretches (begin_where true T c l)) (begin_none T c l)
+begin_adds T c l false = record { more = (c.lines, list_mark (begun l)) ∷ []; is = begin_one T c l; from = (omega arith, tt); below = (omega arith, tt) }
 
 step_adds : (T : List BlockLine → Tip) (before : List Stretch) (s : Stretch) (b : Bool) (m : ℕ) (l : BlockLine) (st : Step) → keeps (list_mark s.kind) st →
     Adds (cut_of before (Going s) b m) (stretches (after_step T (cut_of before (Going s) b m) s l st))
@@ -245,26 +196,6 @@ cut_goes T c (x ∷ xs) =
 
 -- ---- a line that begins no unit
 
-step_stays : (T : List BlockLine → Tip) (before : List Stretch) (s : Stretch) (b : Bool) (m : ℕ) (l : BlockLine) (st : Step) → keeps (list_mark s.kind) st → is_stop st ≡ false →
-    outline (stretches (after_step T (cut_of before (Going s) b m) s l st)) ≡ outline (before ++ s ∷ [])
-unfolding after_step all_of
-step_stays T before s b m l (Continues kind) k e = grown_outline before s kind l k
-step_stays T before s b m l (IsLastLine kind) k e = grown_outline before s kind l k
-step_stays T before s b m l IsOverBefore k e = absurd (let x : ⊥ = cc in x)
-
-stays : (T : List BlockLine → Tip) (before : List Stretch) (t : Tail) (b : Bool) (m : ℕ) (l : BlockLine) → is_apart T t l ≡ false →
-    outline (stretches (add_at T (cut_of before t b m) l t)) ≡ outline (all_of before t)
-unfolding is_apart add_at all_of
-stays T before Empty b m l e = absurd (let x : ⊥ = cc in x)
-stays T before (Over s) b m l e = absurd (let x : ⊥ = cc in x)
-stays T before (Going s) b m l e = step_stays T before s b m l (step T s.kind s.first s.later l) (step_keeps T s.kind s.first s.later l) e
-
-this_is_last : (before : List Stretch) (t : Tail) → IsWhole before t → last_mark None (outline (all_of before t)) ≡ tail_mark t
-unfolding all_of last_mark
-this_is_last before Empty w = ap (λ z. last_mark None (outline z)) w
-this_is_last before (Going s) w = ap (last_mark None) (outline_push before s) ∙ last_of_push None (outline before) (s.begin, list_mark s.kind)
-this_is_last before (Over s) w = ap (last_mark None) (outline_push before s) ∙ last_of_push None (outline before) (s.begin, list_mark s.kind)
-
 -- the blocks so far, and blocks that begin behind
 rest_lacks : (n : ℕ) (o more : List Mark) → AreBelow n o → AreFrom (suc n) more → Lacks n (starts None (o ++ more))
 rest_lacks n o more v w =
@@ -280,21 +211,15 @@ item_lacks n o more m v w e =
 line_lacks : (T : List BlockLine → Tip) (c : Cut) (l : BlockLine) (more : List Mark) (apart blank same : Bool) →
     is_apart T c.tail l ≡ apart → is_blank_line l ≡ blank → same_mark (tail_mark c.tail) (list_mark (begun l)) ≡ same → (apart && not blank && not same) ≡ false →
     IsWhole c.before c.tail → AreBelow c.lines (outline (stretches c)) → AreFrom (suc c.lines) more → Lacks c.lines (starts None (outline (stretches (add T c l)) ++ more))
-unfolding begin_where
 line_lacks T c l more false blank same a b s e w v f =
     subst (λ z. Lacks c.lines (starts None (z ++ more))) (sym (stays T c.before c.tail c.blank c.lines l a)) (rest_lacks c.lines (outline (stretches c)) more v f)
 line_lacks T c l more true true same a b s e w v f =
-    let is : outline (stretches (add T c l)) ≡ outline (stretches c) =
-    ap (λ (z : Cut). outline (stretches z)) (apart_begins T c l c.tail a ∙ ap (λ z. begin_where z T c l) b) ∙ ended_outline c.before c.tail in
-    subst (λ z. Lacks c.lines (starts None (z ++ more))) (sym is) (rest_lacks c.lines (outline (stretches c)) more v f)
+    subst (λ z. Lacks c.lines (starts None (z ++ more))) (sym (blank_outline T c l a b)) (rest_lacks c.lines (outline (stretches c)) more v f)
 line_lacks T c l more true false true a b s e w v f =
     let o = outline (stretches c) in
     let m = list_mark (begun l) in
-    let is : outline (stretches (add T c l)) ≡ o ++ (c.lines, m) ∷ [] =
-    ap (λ (z : Cut). outline (stretches z)) (apart_begins T c l c.tail a ∙ ap (λ z. begin_where z T c l) b)
-    ∙ tail_outline (stretches c) (is_single (begun l) l) (first_of c.lines (gap_behind T c) l) in
-    let last : same_mark (last_mark None o) m ≡ true = ap (λ z. same_mark z m) (this_is_last c.before c.tail w) ∙ s in
-    subst (λ z. Lacks c.lines (starts None z)) (sym (ap (λ z. z ++ more) is ∙ append_assoc o ((c.lines, m) ∷ []) more)) (item_lacks c.lines o more m v f last)
+    let is = ap (λ z. z ++ more) (begun_outline T c l a b) ∙ append_assoc o ((c.lines, m) ∷ []) more in
+    subst (λ z. Lacks c.lines (starts None z)) (sym is) (item_lacks c.lines o more m v f (same_as_last c.before c.tail m true w s))
 line_lacks T c l more true false false a b s e w v f = absurd (let x : ⊥ = cc in x)
 
 -- ---- units
@@ -329,11 +254,6 @@ units_lack e xs l ys b =
     subst (λ z. Lacks (length xs) z) (sym (found_begins (groups e all) (length all)))
     (subst (λ z. Lacks (length xs) z) (sym whole) (subst (λ z. Lacks z (starts None (outline (stretches (add T c l)) ++ g.more))) n lacks))
 
-lacks_not : (n : ℕ) (xs : List ℕ) → Lacks n xs → (k : ℕ) → k < length xs → slice_index_or xs k n ≡ n → ⊥
-lacks_not n [] w k h e = absurd (omega (arith, h))
-lacks_not n (x ∷ xs) w zero h e = w.0 e
-lacks_not n (x ∷ xs) w (suc k) h e = lacks_not n xs w.1 k (omega (arith, h)) e
-
 -- A unit begins at a line only if the line begins one behind those before it.
 pub begins_only : (e : EntityTable) (xs : List BlockLine) (l : BlockLine) (ys : List BlockLine) →
     Contains (map (λ (f : FoundUnit). f.begin) (units_of e (xs ++ l ∷ ys))) (length xs) → begins_unit xs l ≡ true
@@ -342,11 +262,6 @@ begins_only e xs l ys w = go (begins_unit xs l) refl
     go : (b : Bool) → begins_unit xs l ≡ b → b ≡ true
     go true h = refl
     go false h = absurd (lacks_not (length xs) (map (λ (f : FoundUnit). f.begin) (units_of e (xs ++ l ∷ ys))) (units_lack e xs l ys h) w.0 w.1 w.2)
-
--- a list that begins with a number, behind others
-behind_first : (xs ys : List ℕ) (n : ℕ) → Contains (xs ++ n ∷ ys) n
-behind_first [] ys n = (0, omega arith, refl)
-behind_first (x ∷ xs) ys n = let w = behind_first xs ys n in (suc w.0, omega (arith, w.1), w.2)
 
 abbrev pub begins_in : List FoundUnit → List ℕ
 begins_in us = map (λ f. f.begin) us
@@ -427,17 +342,12 @@ push_starts o n m false e = starts_append None o ((n, m) ∷ []) ∙ ap (λ z. s
 line_starts : (T : List BlockLine → Tip) (c : Cut) (l : BlockLine) (apart blank same : Bool) →
     is_apart T c.tail l ≡ apart → is_blank_line l ≡ blank → same_mark (tail_mark c.tail) (list_mark (begun l)) ≡ same → IsWhole c.before c.tail →
     starts None (outline (stretches (add T c l))) ≡ with_begin (apart && not blank && not same) c.lines (starts None (outline (stretches c)))
-unfolding begin_where with_begin
+unfolding with_begin
 line_starts T c l false blank same a b s w = ap (starts None) (stays T c.before c.tail c.blank c.lines l a)
-line_starts T c l true true same a b s w =
-    ap (λ (z : Cut). starts None (outline (stretches z))) (apart_begins T c l c.tail a ∙ ap (λ z. begin_where z T c l) b)
-    ∙ ap (starts None) (ended_outline c.before c.tail)
+line_starts T c l true true same a b s w = ap (starts None) (blank_outline T c l a b)
 line_starts T c l true false same a b s w =
     let m = list_mark (begun l) in
-    let last : same_mark (last_mark None (outline (stretches c))) m ≡ same = ap (λ z. same_mark z m) (this_is_last c.before c.tail w) ∙ s in
-    ap (λ (z : Cut). starts None (outline (stretches z))) (apart_begins T c l c.tail a ∙ ap (λ z. begin_where z T c l) b)
-    ∙ ap (starts None) (tail_outline (stretches c) (is_single (begun l) l) (first_of c.lines (gap_behind T c) l))
-    ∙ push_starts (outline (stretches c)) c.lines m same last
+    ap (starts None) (begun_outline T c l a b) ∙ push_starts (outline (stretches c)) c.lines m same (same_as_last c.before c.tail m same w s)
 
 begins_at : (e : EntityTable) (d : ℕ) (xs : List BlockLine) → visible_in xs ≤ d → begins_in (units_of e xs) ≡ starts None (outline (stretches (cut_by (tip_within d) xs)))
 unfolding groups_within

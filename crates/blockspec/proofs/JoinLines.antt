@@ -1,23 +1,25 @@
 -- A list may be parted at a line exactly if the line begins an item of the list that stands last behind the lines before it.
-use Rattle.std.proofs.Common.{◌≡◌, ℕ, zero, suc, ◌+◌, ◌≤◌, ◌<◌, Bool, true, false, not, ◌&&◌, List, [], ◌∷◌, ◌++◌, length, map, Option, Some, None, refl, sym, ◌∙◌, ap, subst, append_assoc, arith}
+use Rattle.std.proofs.Common.{◌≡◌, ℕ, suc, ◌+◌, ◌≤◌, ◌<◌, Bool, true, false, not, ◌&&◌, List, [], ◌∷◌, ◌++◌, length, map, Option, Some, None, refl, sym, ◌∙◌, ap, subst, append_assoc, arith}
 use Rattle.std.proofs.lemmas.List.{map-append, append-nil}
-use Rattle.std.specs.Prelude.{Contains, slice_index_or}
+use Rattle.std.specs.Prelude.{Contains}
 use Rattle.std.specs.List.{flat_map}
 use Rattle.mdtext.specs.EntityTable.{EntityTable}
 use Rattle.blockspec.specs.BlockLine.{BlockLine, document_line, is_blank_line}
-use Rattle.blockspec.specs.BlockStart.{Kind, begun}
+use Rattle.blockspec.specs.BlockStart.{begun}
 use Rattle.blockspec.specs.BlockTree.{ListKind}
 use Rattle.blockspec.specs.BlockUnits.{group_of, groups_within, visible_in, depth_of}
 use Rattle.blockspec.specs.Laziness.{Tip}
 use Rattle.blockspec.specs.LineSummary.{part_mark}
 use Rattle.blockspec.specs.ListGroups.{Part, Leaves, Quoted, Listed, Group, is_same_list}
 use Rattle.blockspec.specs.Meetings.{joins_behind, joins_list}
-use Rattle.blockspec.specs.Stretches.{Stretch, Step, Continues, IsLastLine, IsOverBefore, step, is_single, Tail, Empty, Going, Over, Cut, no_lines, all_of, stretches, ended, gap_behind, first_of, tail_of, begin_where, grown, after_step, add_at, add, cut_from, cut_by, cut_within, tip_within}
-use Rattle.blockspec.specs.UnitBegin.{is_stop, is_apart, list_mark, same_mark, tail_mark}
-use Rattle.blockspec.proofs.CutLaws.{cut_from_append, apart_begins}
+use Rattle.blockspec.specs.Stretches.{Stretch, Cut, no_lines, all_of, stretches, add, cut_from, cut_by, cut_within, tip_within}
+use Rattle.blockspec.specs.UnitBegin.{is_apart, list_mark, same_mark, tail_mark}
+use Rattle.blockspec.proofs.CutLaws.{cut_from_append}
 use Rattle.blockspec.proofs.DepthLaws.{apart_deep, cut_deep}
 use Rattle.blockspec.proofs.DocumentLaws.{map_length}
-use Rattle.blockspec.proofs.UnitLaws.{IsWhole, cut_whole, cut_lines, keeps, step_keeps, mark_of_part}
+use Rattle.blockspec.proofs.Lacking.{Lacks, both_lack, lacks_not, behind_first}
+use Rattle.blockspec.proofs.Outlines.{Mark, outline, last_mark, stays, blank_outline, begun_outline, same_as_last}
+use Rattle.blockspec.proofs.UnitLaws.{IsWhole, cut_whole, cut_lines, mark_of_part}
 use Rattle.blockspec.proofs.VisibleLaws.{visible_append}
 use Rattle.blockspec.specs.Joins.{later_lines, joins}
 use Rattle.blockspec.specs.ListItems.{ListItem, TopBlock, ItemList, with_item_where, with_item, item_of_group, with_part, tops_of, top_blocks}
@@ -25,10 +27,6 @@ use Rattle.blockspec.proofs.ItemsMeet.{singles_at, singles_deep}
 use Rattle.blockspec.proofs.TopLaws.{item_first}
 
 -- ---- blocks by their marks
-
--- where a block begins, and whether it is an item of a list
-abbrev Mark : Type 0
-Mark = ℕ × Option ListKind
 
 abbrev pub number_if : Bool → ℕ → List ℕ → List ℕ
 number_if true n ns = n ∷ ns
@@ -45,9 +43,6 @@ later_from m (x ∷ xs) = number_if (same_mark m x.1) x.0 (later_from x.1 xs)
 
 abbrev marks_of : List Group → List Mark
 marks_of gs = map (λ g. (g.begin, part_mark g.part)) gs
-
-abbrev outline : List Stretch → List Mark
-outline ss = map (λ s. (s.begin, list_mark s.kind)) ss
 
 abbrev of_part : ℕ → Bool → Part → Group
 of_part b gap p = record { begin = b; gap = gap; part = p }
@@ -111,56 +106,6 @@ joins_at e d ls h =
 
 -- ---- one line more
 
-last_mark : Option ListKind → List Mark → Option ListKind
-last_mark m [] = m
-last_mark m (x ∷ xs) = last_mark x.1 xs
-
-last_of_push : (m : Option ListKind) (xs : List Mark) (x : Mark) → last_mark m (xs ++ x ∷ []) ≡ x.1
-unfolding last_mark
-last_of_push m [] x = refl
-last_of_push m (y ∷ xs) x = last_of_push y.1 xs x
-
-outline_push : (ss : List Stretch) (s : Stretch) → outline (ss ++ s ∷ []) ≡ outline ss ++ (s.begin, list_mark s.kind) ∷ []
-outline_push ss s = map-append (λ (r : Stretch). (r.begin, list_mark r.kind)) ss (s ∷ [])
-
-ended_outline : (before : List Stretch) (t : Tail) → outline (all_of before (ended t)) ≡ outline (all_of before t)
-unfolding all_of
-ended_outline before Empty = refl
-ended_outline before (Going s) = refl
-ended_outline before (Over s) = refl
-
-tail_outline : (before : List Stretch) (b : Bool) (s : Stretch) → outline (all_of before (tail_of b s)) ≡ outline before ++ (s.begin, list_mark s.kind) ∷ []
-unfolding all_of
-tail_outline before true s = outline_push before s
-tail_outline before false s = outline_push before s
-
-grown_outline : (before : List Stretch) (s : Stretch) (k : Kind) (l : BlockLine) → list_mark k ≡ list_mark s.kind → outline (before ++ grown s k l ∷ []) ≡ outline (before ++ s ∷ [])
-grown_outline before s k l e =
-    outline_push before (grown s k l) ∙ ap (λ z. outline before ++ (s.begin, z) ∷ []) e ∙ sym (outline_push before s)
-
-abbrev cut_of : List Stretch → Tail → Bool → ℕ → Cut
-cut_of before t b m = record { before = before; tail = t; blank = b; lines = m }
-
-step_stays : (T : List BlockLine → Tip) (before : List Stretch) (s : Stretch) (b : Bool) (m : ℕ) (l : BlockLine) (st : Step) → keeps (list_mark s.kind) st → is_stop st ≡ false →
-    outline (stretches (after_step T (cut_of before (Going s) b m) s l st)) ≡ outline (before ++ s ∷ [])
-unfolding after_step all_of
-step_stays T before s b m l (Continues kind) k e = grown_outline before s kind l k
-step_stays T before s b m l (IsLastLine kind) k e = grown_outline before s kind l k
-step_stays T before s b m l IsOverBefore k e = absurd (let x : ⊥ = cc in x)
-
-stays : (T : List BlockLine → Tip) (before : List Stretch) (t : Tail) (b : Bool) (m : ℕ) (l : BlockLine) → is_apart T t l ≡ false →
-    outline (stretches (add_at T (cut_of before t b m) l t)) ≡ outline (all_of before t)
-unfolding is_apart add_at all_of
-stays T before Empty b m l e = absurd (let x : ⊥ = cc in x)
-stays T before (Over s) b m l e = absurd (let x : ⊥ = cc in x)
-stays T before (Going s) b m l e = step_stays T before s b m l (step T s.kind s.first s.later l) (step_keeps T s.kind s.first s.later l) e
-
-last_is : (before : List Stretch) (t : Tail) → IsWhole before t → last_mark None (outline (all_of before t)) ≡ tail_mark t
-unfolding all_of last_mark
-last_is before Empty w = ap (λ z. last_mark None (outline z)) w
-last_is before (Going s) w = ap (last_mark None) (outline_push before s) ∙ last_of_push None (outline before) (s.begin, list_mark s.kind)
-last_is before (Over s) w = ap (last_mark None) (outline_push before s) ∙ last_of_push None (outline before) (s.begin, list_mark s.kind)
-
 with_append : (b : Bool) (n : ℕ) (ns ms : List ℕ) → number_if b n (ns ++ ms) ≡ number_if b n ns ++ ms
 with_append true n ns ms = refl
 with_append false n ns ms = refl
@@ -185,17 +130,11 @@ push_later o n m same e =
 line_later : (T : List BlockLine → Tip) (c : Cut) (l : BlockLine) (apart blank same : Bool) →
     is_apart T c.tail l ≡ apart → is_blank_line l ≡ blank → same_mark (tail_mark c.tail) (list_mark (begun l)) ≡ same → IsWhole c.before c.tail →
     later_from None (outline (stretches (add T c l))) ≡ with_number (apart && not blank && same) c.lines (later_from None (outline (stretches c)))
-unfolding begin_where
 line_later T c l false blank same a b s w = ap (later_from None) (stays T c.before c.tail c.blank c.lines l a)
-line_later T c l true true same a b s w =
-    ap (λ (z : Cut). later_from None (outline (stretches z))) (apart_begins T c l c.tail a ∙ ap (λ z. begin_where z T c l) b)
-    ∙ ap (later_from None) (ended_outline c.before c.tail)
+line_later T c l true true same a b s w = ap (later_from None) (blank_outline T c l a b)
 line_later T c l true false same a b s w =
     let m = list_mark (begun l) in
-    let last : same_mark (last_mark None (outline (stretches c))) m ≡ same = ap (λ z. same_mark z m) (last_is c.before c.tail w) ∙ s in
-    ap (λ (z : Cut). later_from None (outline (stretches z))) (apart_begins T c l c.tail a ∙ ap (λ z. begin_where z T c l) b)
-    ∙ ap (later_from None) (tail_outline (stretches c) (is_single (begun l) l) (first_of c.lines (gap_behind T c) l))
-    ∙ push_later (outline (stretches c)) c.lines m same last
+    ap (later_from None) (begun_outline T c l a b) ∙ push_later (outline (stretches c)) c.lines m same (same_as_last c.before c.tail m same w s)
 
 -- whether a line begins a later item is told by every depth that suffices
 pub joins_deep : (d : ℕ) (xs : List BlockLine) (l : BlockLine) → visible_in xs < d → joins_behind (tip_within d) (cut_by (tip_within d) xs) l ≡ joins_list xs l
@@ -293,10 +232,6 @@ joins_below e xs =
 
 -- ---- a line of the whole
 
-abbrev Lacks : ℕ → List ℕ → Type 0
-Lacks n [] = Unit {0}
-Lacks n (m ∷ ms) = (m ≡ n → ⊥) × Lacks n ms
-
 below_lacks : (n : ℕ) (xs : List ℕ) → AreBelow n xs → Lacks n xs
 below_lacks n [] w = tt
 below_lacks n (x ∷ xs) w = (λ e. absurd (omega (arith, w.0, e)), below_lacks n xs w.1)
@@ -304,19 +239,6 @@ below_lacks n (x ∷ xs) w = (λ e. absurd (omega (arith, w.0, e)), below_lacks 
 from_lacks : (n : ℕ) (xs : List ℕ) → AreFrom (suc n) xs → Lacks n xs
 from_lacks n [] w = tt
 from_lacks n (x ∷ xs) w = (λ e. absurd (omega (arith, w.0, e)), from_lacks n xs w.1)
-
-both_lack : (n : ℕ) (xs ys : List ℕ) → Lacks n xs → Lacks n ys → Lacks n (xs ++ ys)
-both_lack n [] ys v w = w
-both_lack n (x ∷ xs) ys v w = (v.0, both_lack n xs ys v.1 w)
-
-lacks_not : (n : ℕ) (xs : List ℕ) → Lacks n xs → (k : ℕ) → k < length xs → slice_index_or xs k n ≡ n → ⊥
-lacks_not n [] w k h e = absurd (omega (arith, h))
-lacks_not n (x ∷ xs) w zero h e = w.0 e
-lacks_not n (x ∷ xs) w (suc k) h e = lacks_not n xs w.1 k (omega (arith, h)) e
-
-behind_first : (xs ys : List ℕ) (n : ℕ) → Contains (xs ++ n ∷ ys) n
-behind_first [] ys n = (0, omega arith, refl)
-behind_first (x ∷ xs) ys n = let w = behind_first xs ys n in (suc w.0, omega (arith, w.1), w.2)
 
 joins_split : (e : EntityTable) (xs : List BlockLine) (l : BlockLine) (ys : List BlockLine) →
     joins_in e (xs ++ l ∷ ys) ≡ joins_in e xs ++ number_if (joins_list xs l) (length xs) (joins_along (xs ++ l ∷ []) ys)

@@ -7,43 +7,24 @@ use Rattle.std.specs.List.{list_any}
 use Rattle.std.specs.Prelude.{◌==◌, if◌then◌else◌}
 use Rattle.mdtext.specs.EntityTable.{EntityTable}
 use Rattle.blockspec.specs.BlockLine.{BlockLine, document_line, is_blank_line}
-use Rattle.blockspec.specs.BlockStart.{Kind, Paragraph, SetextHeading, Table, AtxHeading, ThematicBreak, FencedCode, IndentedCode, HtmlBlock, Holds, begun}
+use Rattle.blockspec.specs.BlockStart.{begun}
 use Rattle.blockspec.specs.BlockUnits.{depth_of, groups_within}
-use Rattle.blockspec.specs.LineSummary.{Summary, last_at, last_of, summary_within, summary_of, is_apart_after, mark_of}
+use Rattle.blockspec.specs.LineSummary.{last_of, summary_within, summary_of, is_apart_after}
 use Rattle.blockspec.specs.Meetings.{joins_behind, joins_list}
-use Rattle.blockspec.specs.Stretches.{Stretch, Tail, Empty, Going, Over, no_lines, cut_by, tip_within}
+use Rattle.blockspec.specs.Stretches.{no_lines, cut_by, tip_within}
 use Rattle.blockspec.specs.UnitBegin.{begins_unit, list_mark, same_mark, tail_mark}
 use Rattle.blockspec.specs.UnitReader.{lines_held}
 use Rattle.blockspec.proofs.DocumentLaws.{map_length}
 use Rattle.blockspec.proofs.LeafSteps.{cut_made}
 use Rattle.blockspec.proofs.LimitLaws.{for_next_line}
 use Rattle.blockspec.proofs.ReaderLaws.{summary_deep}
-use Rattle.blockspec.proofs.SummaryLaws.{laws, of_apart}
-use Rattle.blockspec.proofs.UnitLaws.{mark_of_part}
+use Rattle.blockspec.proofs.SummaryLaws.{laws, of_apart, tail_marked}
 use Rattle.blockspec.specs.Joins.{joins, is_joined}
 use Rattle.blockspec.specs.SummaryJoins.{joins_after}
 use Rattle.blockspec.proofs.JoinCuts.{joins_cut}
 use Rattle.blockspec.proofs.JoinLines.{AreBelow, with_number, joins_in, joins_next, joins_below, joins_deep}
 
 -- ---- by the summary of the lines before it
-
-at_mark : (S : List BlockLine → Summary) (k : Kind) (s : Stretch) → list_mark k ≡ mark_of (last_at S k s)
-unfolding mark_of last_at
-at_mark S (Holds c) s = refl
-at_mark S Paragraph s = refl
-at_mark S (SetextHeading level) s = refl
-at_mark S (Table above) s = refl
-at_mark S (AtxHeading level content) s = refl
-at_mark S ThematicBreak s = refl
-at_mark S (FencedCode i u v info c) s = refl
-at_mark S IndentedCode s = refl
-at_mark S (HtmlBlock kind) s = refl
-
-tail_marked : (e : EntityTable) (d : ℕ) (t : Tail) → tail_mark t ≡ mark_of (last_of e (groups_within e d) (summary_within e d) t)
-unfolding last_of mark_of
-tail_marked e d Empty = refl
-tail_marked e d (Over s) = sym (mark_of_part e (groups_within e d) s.kind s.first s.later)
-tail_marked e d (Going s) = at_mark (summary_within e d) s.kind s
 
 joins_law : (e : EntityTable) (d : ℕ) (xs : List BlockLine) (l : BlockLine) →
     joins_behind (tip_within d) (cut_by (tip_within d) xs) l ≡ joins_after (summary_within e (suc d) xs) l

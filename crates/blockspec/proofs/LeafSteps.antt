@@ -2,7 +2,7 @@
 use Rattle.std.proofs.Common.{◌≡◌, ℕ, ◌≤◌, Bool, true, false, List, [], ◌∷◌, ◌++◌, length, Option, Some, None, refl, arith, nat_lt}
 use Rattle.std.proofs.lemmas.List.{length-append}
 use Rattle.blockspec.specs.BlockLine.{BlockLine, is_blank_line}
-use Rattle.blockspec.specs.BlockStart.{Free, Inside, Container, Kind, Paragraph, SetextHeading, Table, AtxHeading, ThematicBreak, FencedCode, IndentedCode, HtmlBlock, Holds, start, begun}
+use Rattle.blockspec.specs.BlockStart.{Mode, Free, Inside, is_inside, Container, Kind, Paragraph, SetextHeading, Table, AtxHeading, ThematicBreak, FencedCode, IndentedCode, HtmlBlock, Holds, start, begun}
 use Rattle.blockspec.specs.Laziness.{Tip}
 use Rattle.blockspec.specs.ContainerLines.{inner, is_bare}
 use Rattle.blockspec.specs.Stretches.{Stretch, Step, Continues, IsLastLine, IsOverBefore, continues_if, goes_on, closes, ends_html, is_row, is_code, fence_step, html_step, interrupted, paragraph_step, step, is_single, Tail, Empty, Going, Over, Cut, ended, gap_behind, first_of, tail_of, begin_where, after_step, add_at, add, cut_from}
@@ -132,9 +132,9 @@ paragraph_made later true blank k w = tt
 paragraph_made later false true k w = tt
 paragraph_made later false false k w = interrupted_made later k w
 
--- a block that begins behind a paragraph, or where none is open
-next_made : (f : BlockLine) (r : List BlockLine) (l : BlockLine) → Kinds (λ z. IsMade z (r ++ l ∷ [])) Inside (f ∷ r) l
-next_made f r l = record {
+-- a block that a line begins, if the rows of a table are there
+kinds_made : (later : List BlockLine) (mode : Mode) (p : List BlockLine) (l : BlockLine) → (is_inside mode ≡ true → IsMade (Table (length p)) later) → Kinds (λ z. IsMade z later) mode p l
+kinds_made later mode p l w = record {
   quote = tt;
   atx = λ level content. tt;
   fence = λ i m n info. refl;
@@ -142,22 +142,16 @@ next_made f r l = record {
   underline = λ level. tt;
   break = tt;
   item = λ m e. tt;
-  rows = λ e. (omega arith, let p = length-append r (l ∷ []) in omega (arith, p));
+  rows = w;
   code = tt;
 }
 
+-- behind a paragraph, or where none is open
+next_made : (f : BlockLine) (r : List BlockLine) (l : BlockLine) → Kinds (λ z. IsMade z (r ++ l ∷ [])) Inside (f ∷ r) l
+next_made f r l = kinds_made (r ++ l ∷ []) Inside (f ∷ r) l (λ e. (omega arith, let p = length-append r (l ∷ []) in omega (arith, p)))
+
 begins_made : (l : BlockLine) → Kinds (λ z. IsMade z []) Free [] l
-begins_made l = record {
-  quote = tt;
-  atx = λ level content. tt;
-  fence = λ i m n info. refl;
-  html = λ kind. tt;
-  underline = λ level. tt;
-  break = tt;
-  item = λ m e. tt;
-  rows = λ e. absurd (let x : ⊥ = cc in x);
-  code = tt;
-}
+begins_made l = kinds_made [] Free [] l (λ e. absurd (let x : ⊥ = cc in x))
 
 pub begun_made : (l : BlockLine) → IsMade (begun l) []
 begun_made l = begun_kinds (λ z. IsMade z []) l (begins_made l) tt

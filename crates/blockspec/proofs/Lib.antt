@@ -27,3 +27,5 @@ pub mod LastParted
 pub mod MarkLines
 pub mod ListsSpliced
 pub mod MarkedLines
+pub mod Outlines
+pub mod Lacking

@@ -1,5 +1,5 @@
 -- A line that begins a later item of two lists, of which each is the last one of its lines: the items from it on stand behind those of either.
-use Rattle.std.proofs.Common.{◌≡◌, ℕ, zero, suc, ◌+◌, ◌-◌, Bool, true, false, not, ◌&&◌, ◌||◌, List, [], ◌∷◌, ◌++◌, length, map, refl, sym, ◌∙◌, ap, subst, append_assoc, arith}
+use Rattle.std.proofs.Common.{◌≡◌, ℕ, zero, suc, ◌+◌, ◌-◌, Bool, true, false, not, ◌&&◌, ◌||◌, List, [], ◌∷◌, ◌++◌, length, map, refl, sym, ◌∙◌, ap, append_assoc, arith}
 use Rattle.std.proofs.lemmas.List.{append-nil}
 use Rattle.std.proofs.Math.Seq.{drop-append-add}
 use Rattle.std.specs.List.{flat_map, list_any}
@@ -10,7 +10,7 @@ use Rattle.blockspec.specs.BlockTree.{ListKind}
 use Rattle.blockspec.specs.BlockUnits.{groups, found_units}
 use Rattle.blockspec.specs.ListGroups.{Group, Listed, items_before, part_before}
 use Rattle.blockspec.specs.Meetings.{joins_list, gap_after}
-use Rattle.blockspec.specs.NodeTree.{ItemNodes, no_nodes, texts_in_items, definitions_in_items, unit_of}
+use Rattle.blockspec.specs.NodeTree.{no_nodes, unit_of}
 use Rattle.blockspec.specs.UnitBegin.{units_of}
 use Rattle.blockspec.specs.UnitTree.{FoundUnit}
 use Rattle.blockspec.proofs.BeginLaws.{begins_in}
@@ -18,20 +18,8 @@ use Rattle.blockspec.proofs.UnitReaderLaws.{IsOne}
 use Rattle.blockspec.specs.ItemMarks.{ItemMark, last_item, is_parted, item_marks, block_marks, list_marks, mark_behind}
 use Rattle.blockspec.specs.ListItems.{ListItem, TopBlock, ItemList, is_tight_list, nodes_of_items, top_group, top_blocks, moved_item, item_behind, items_behind, moved_top}
 use Rattle.blockspec.proofs.ItemsMeet.{blocks_are, ItemsMeet, items_meet_at}
-use Rattle.blockspec.proofs.MarkLines.{behind_is, marks_behind, marks_more, stands_alone}
+use Rattle.blockspec.proofs.MarkLines.{SameInside, item_mark, texts_of, definitions_of, behind_is, marks_behind, marks_more, stands_alone}
 use Rattle.blockspec.proofs.UnitsMeet.{list_together}
-
-abbrev item_mark : (line texts definitions : ℕ) → (loose : Bool) → ItemMark
-item_mark l t d w = record { line = l; texts = t; definitions = d; loose = w }
-
-abbrev texts_of : ItemNodes → ℕ
-texts_of nodes = length (texts_in_items nodes)
-
-abbrev definitions_of : ItemNodes → ℕ
-definitions_of nodes = length (definitions_in_items nodes)
-
-abbrev SameInside : ListItem → ListItem → Type 0
-SameInside i j = (i.nodes ≡ j.nodes) × (i.tight ≡ j.tight)
 
 -- an item behind `to` that stood behind `from`
 abbrev pub moved_mark : (from to : ItemMark) → ItemMark → ItemMark
@@ -42,20 +30,26 @@ moved_mark from to mark = record {
   loose = mark.loose;
 }
 
--- ---- a list that is all of some lines
+-- ---- lines that are one list
 
-pub record IsAll (before : List TopBlock) (first : ListItem) (blocks : List TopBlock) : Type 0 where
-  pub front : before ≡ []
-  pub behind : blocks ≡ []
-  pub line : first.line ≡ 0
+-- a list of two parts that is all of some lines
+pub record IsParted (e : EntityTable) (xs : List BlockLine) (l : BlockLine) (ys : List BlockLine) (w : ItemsMeet e xs l ys) : Type 0 where
+  pub line : w.first.line ≡ 0
+  pub front : top_blocks e xs ≡ ItemList w.kind w.first w.later ∷ []
+  pub whole : top_blocks e (xs ++ l ∷ ys) ≡ ItemList w.kind w.first (w.later ++ items_behind (gap_after xs) (length xs) w.item w.items) ∷ []
+  pub behind : map (moved_top (length xs)) w.blocks ≡ []
 
-pub all_in : (n : ℕ) (before : List TopBlock) (kind : ListKind) (first : ListItem) (later : List ListItem) (blocks : List TopBlock) →
-    IsOne (begins_in (found_units (map top_group (before ++ ItemList kind first later ∷ blocks)) n)) → IsAll before first blocks
-unfolding found_units
-all_in n [] kind first later [] one = record { front = refl; behind = refl; line = one }
-all_in n [] kind first later (b ∷ blocks) one = absurd one
-all_in n (t ∷ []) kind first later blocks one = absurd one
-all_in n (t ∷ u ∷ ts) kind first later blocks one = absurd one
+pub one_parted : (e : EntityTable) (xs : List BlockLine) (l : BlockLine) (ys : List BlockLine) (w : ItemsMeet e xs l ys) → IsOne (begins_in (units_of e (xs ++ l ∷ ys))) → IsParted e xs l ys w
+one_parted e xs l ys w one =
+    let n = length xs in
+    let all = w.later ++ items_behind (gap_after xs) n w.item w.items in
+    let a = stands_alone e (xs ++ l ∷ ys) w.before w.kind w.first all (map (moved_top n) w.blocks) one w.whole in
+    record {
+      line = a.line;
+      front = w.front ∙ ap (λ z. z ++ ItemList w.kind w.first w.later ∷ []) a.front;
+      whole = w.whole ∙ ap (λ z. z ++ ItemList w.kind w.first all ∷ map (moved_top n) w.blocks) a.front ∙ ap (λ z. ItemList w.kind w.first all ∷ z) a.behind;
+      behind = a.behind;
+    }
 
 none_moved : (k : ℕ) (ts : List TopBlock) → map (moved_top k) ts ≡ [] → ts ≡ []
 none_moved k [] e = refl
@@ -83,12 +77,9 @@ met : (e : EntityTable) (xs zs : List BlockLine) (l : BlockLine) (ys : List Bloc
     ListsSpliced e xs zs l ys
 met e xs zs l ys w v one old_one =
     let n = length xs in
-    let m = length zs in
-    let s = stands_alone e xs w.before w.kind w.first w.later one w.front in
-    let V = ItemList v.kind v.first (v.later ++ items_behind (gap_after zs) m v.item v.items) in
-    let a = all_in (length (zs ++ l ∷ ys)) v.before v.kind v.first (v.later ++ items_behind (gap_after zs) m v.item v.items) (map (moved_top m) v.blocks)
-    (subst (λ z. IsOne (begins_in (found_units z (length (zs ++ l ∷ ys))))) (sym (blocks_are e (zs ++ l ∷ ys)) ∙ ap (map top_group) v.whole) old_one) in
-    let none = none_moved m v.blocks a.behind in
+    let s = stands_alone e xs w.before w.kind w.first w.later [] one w.front in
+    let a = one_parted e zs l ys v old_one in
+    let none = none_moved (length zs) v.blocks a.behind in
     let same : ItemList w.other w.item w.items ∷ w.blocks ≡ ItemList v.other v.item v.items ∷ v.blocks = sym w.alone ∙ v.alone in
     let item : w.item ≡ v.item = cc in
     let items : w.items ≡ v.items = cc in
@@ -103,15 +94,15 @@ met e xs zs l ys w v one old_one =
       old_later = v.later;
       item = v.item;
       items = v.items;
-      line = s.at_front;
+      line = s.line;
       old_line = a.line;
       item_line = v.line;
-      front = w.front ∙ ap (λ z. z ++ ItemList w.kind w.first w.later ∷ []) s.none;
-      old_front = v.front ∙ ap (λ z. z ++ ItemList v.kind v.first v.later ∷ []) a.front;
-      old_all = v.whole ∙ ap (λ z. z ++ V ∷ map (moved_top m) v.blocks) a.front ∙ ap (λ z. V ∷ z) a.behind;
+      front = w.front ∙ ap (λ z. z ++ ItemList w.kind w.first w.later ∷ []) s.front;
+      old_front = a.front;
+      old_all = a.whole;
       all =
           w.whole
-          ∙ ap (λ z. z ++ W w.item w.items ∷ map (moved_top n) w.blocks) s.none
+          ∙ ap (λ z. z ++ W w.item w.items ∷ map (moved_top n) w.blocks) s.front
           ∙ ap (λ z. W z w.items ∷ map (moved_top n) w.blocks) item
           ∙ ap (λ z. W v.item z ∷ map (moved_top n) w.blocks) items
           ∙ ap (λ z. W v.item v.items ∷ map (moved_top n) z) (blocks ∙ none);
@@ -248,33 +239,20 @@ unit_of_list e ls kind first later line is =
     ∙ ap (λ z. record { begin = z; lines = n - first.line; unit = u } ∷ []) line
     ∙ ap (λ z. record { begin = 0; lines = z; unit = u } ∷ []) lines
 
--- The joined list is one unit, of the items in front and those from the line on, which both parts and the gap between them make tight or not.
-pub unit_spliced : (e : EntityTable) (xs zs : List BlockLine) (l : BlockLine) (ys : List BlockLine) (w : ListsSpliced e xs zs l ys) →
+-- a list of two parts, which both and the gap between them make tight or not
+pub unit_parted : (e : EntityTable) (xs : List BlockLine) (l : BlockLine) (ys : List BlockLine) (kind : ListKind) (first : ListItem) (later : List ListItem) (item : ListItem) (items : List ListItem) →
+    first.line ≡ 0 → top_blocks e (xs ++ l ∷ ys) ≡ ItemList kind first (later ++ items_behind (gap_after xs) (length xs) item items) ∷ [] →
     units_of e (xs ++ l ∷ ys)
     ≡ record {
       begin = 0;
       lines = length (xs ++ l ∷ ys);
-      unit = unit_of (part_before (Listed w.kind (is_tight_list w.first w.later && not (gap_after xs) && is_tight_list w.item w.items) (items_before (nodes_of_items w.first w.later) (nodes_of_items w.item w.items))) no_nodes);
+      unit = unit_of (part_before (Listed kind (is_tight_list first later && not (gap_after xs) && is_tight_list item items) (items_before (nodes_of_items first later) (nodes_of_items item items))) no_nodes);
     } ∷ []
-unit_spliced e xs zs l ys w =
-    let more = items_behind (gap_after xs) (length xs) w.item w.items in
+unit_parted e xs l ys kind first later item items line all =
+    let more = items_behind (gap_after xs) (length xs) item items in
     let n = length (xs ++ l ∷ ys) in
-    unit_of_list e (xs ++ l ∷ ys) w.kind w.first (w.later ++ more) w.line w.all
-    ∙ ap (λ (g : Group). record { begin = 0; lines = n; unit = unit_of (part_before g.part no_nodes) } ∷ []) (list_together w.kind w.first w.later (gap_after xs) (length xs) w.item w.items)
-
--- and the old one another, of its own items in front and the same ones
-pub unit_before : (e : EntityTable) (xs zs : List BlockLine) (l : BlockLine) (ys : List BlockLine) (w : ListsSpliced e xs zs l ys) →
-    units_of e (zs ++ l ∷ ys)
-    ≡ record {
-      begin = 0;
-      lines = length (zs ++ l ∷ ys);
-      unit = unit_of (part_before (Listed w.old_kind (is_tight_list w.old_first w.old_later && not (gap_after zs) && is_tight_list w.item w.items) (items_before (nodes_of_items w.old_first w.old_later) (nodes_of_items w.item w.items))) no_nodes);
-    } ∷ []
-unit_before e xs zs l ys w =
-    let more = items_behind (gap_after zs) (length zs) w.item w.items in
-    let n = length (zs ++ l ∷ ys) in
-    unit_of_list e (zs ++ l ∷ ys) w.old_kind w.old_first (w.old_later ++ more) w.old_line w.old_all
-    ∙ ap (λ (g : Group). record { begin = 0; lines = n; unit = unit_of (part_before g.part no_nodes) } ∷ []) (list_together w.old_kind w.old_first w.old_later (gap_after zs) (length zs) w.item w.items)
+    unit_of_list e (xs ++ l ∷ ys) kind first (later ++ more) line all
+    ∙ ap (λ (g : Group). record { begin = 0; lines = n; unit = unit_of (part_before g.part no_nodes) } ∷ []) (list_together kind first later (gap_after xs) (length xs) item items)
 
 last_behind : (item : ListItem) (later : List ListItem) (next : ListItem) (more : List ListItem) → last_item item (later ++ next ∷ more) ≡ last_item next more
 last_behind item [] next more = refl

@@ -36,7 +36,7 @@ use Rattle.blockspec.proofs.UnitsMeet.{texts_together, definitions_together, lis
 abbrev AtSame : ListItem → ListItem → Type 0
 AtSame i j = (i.line ≡ j.line) × (i.gap ≡ j.gap)
 
-abbrev SameInside : ListItem → ListItem → Type 0
+abbrev pub SameInside : ListItem → ListItem → Type 0
 SameInside i j = (i.nodes ≡ j.nodes) × (i.tight ≡ j.tight)
 
 abbrev AlikeLater : (item : ListItem) → (later : List ListItem) → (other : ListItem) → (more : List ListItem) → Type 0
@@ -51,13 +51,13 @@ Alike (Other g ∷ ts) (Other h ∷ us) = Alike ts us
 Alike (ItemList k i is ∷ ts) (ItemList m j js ∷ us) = (k ≡ m) × AtSame i j × AlikeLater i is j js × Alike ts us
 Alike ts us = ⊥
 
-abbrev item_mark : (line texts definitions : ℕ) → (loose : Bool) → ItemMark
+abbrev pub item_mark : (line texts definitions : ℕ) → (loose : Bool) → ItemMark
 item_mark l t d w = record { line = l; texts = t; definitions = d; loose = w }
 
-abbrev texts_of : ItemNodes → ℕ
+abbrev pub texts_of : ItemNodes → ℕ
 texts_of nodes = length (texts_in_items nodes)
 
-abbrev definitions_of : ItemNodes → ℕ
+abbrev pub definitions_of : ItemNodes → ℕ
 definitions_of nodes = length (definitions_in_items nodes)
 
 alike_items : (b t d : ℕ) (i : ListItem) (is : List ListItem) (j : ListItem) (js : List ListItem) → AlikeLater i is j js → item_marks b t d i is ≡ item_marks b t d j js
@@ -265,22 +265,24 @@ moved_marks k (ItemList kind first later ∷ ts) =
     ap (λ z. z ++ flat_map block_marks (map (moved_top k) ts)) (moved_later k first.line 0 0 first later (moved_item k first) (refl, refl))
     ∙ ap (λ z. item_marks first.line 0 0 first later ++ z) (moved_marks k ts)
 
--- a list alone
-pub record StandsAlone (kind : ListKind) (first : ListItem) (later : List ListItem) (before : List TopBlock) : Type 0 where
-  pub none : before ≡ []
-  pub at_front : first.line ≡ 0
+-- a list that is all of some lines
+pub record IsAll (before : List TopBlock) (first : ListItem) (blocks : List TopBlock) : Type 0 where
+  pub front : before ≡ []
+  pub behind : blocks ≡ []
+  pub line : first.line ≡ 0
 
-alone_in : (e : EntityTable) (n : ℕ) (before : List TopBlock) (kind : ListKind) (first : ListItem) (later : List ListItem) →
-    IsOne (begins_in (found_units (map top_group (before ++ ItemList kind first later ∷ [])) n)) → StandsAlone kind first later before
+pub all_in : (n : ℕ) (before : List TopBlock) (kind : ListKind) (first : ListItem) (later : List ListItem) (blocks : List TopBlock) →
+    IsOne (begins_in (found_units (map top_group (before ++ ItemList kind first later ∷ blocks)) n)) → IsAll before first blocks
 unfolding found_units
-alone_in e n [] kind first later one = record { none = refl; at_front = one }
-alone_in e n (t ∷ []) kind first later one = absurd one
-alone_in e n (t ∷ u ∷ ts) kind first later one = absurd one
+all_in n [] kind first later [] one = record { front = refl; behind = refl; line = one }
+all_in n [] kind first later (b ∷ blocks) one = absurd one
+all_in n (t ∷ []) kind first later blocks one = absurd one
+all_in n (t ∷ u ∷ ts) kind first later blocks one = absurd one
 
-pub stands_alone : (e : EntityTable) (xs : List BlockLine) (before : List TopBlock) (kind : ListKind) (first : ListItem) (later : List ListItem) → IsOne (begins_in (units_of e xs)) →
-    top_blocks e xs ≡ before ++ ItemList kind first later ∷ [] → StandsAlone kind first later before
-stands_alone e xs before kind first later one is =
-    alone_in e (length xs) before kind first later (subst (λ z. IsOne (begins_in (found_units z (length xs)))) (sym (blocks_are e xs) ∙ ap (map top_group) is) one)
+pub stands_alone : (e : EntityTable) (xs : List BlockLine) (before : List TopBlock) (kind : ListKind) (first : ListItem) (later : List ListItem) (blocks : List TopBlock) →
+    IsOne (begins_in (units_of e xs)) → top_blocks e xs ≡ before ++ ItemList kind first later ∷ blocks → IsAll before first blocks
+stands_alone e xs before kind first later blocks one is =
+    all_in (length xs) before kind first later blocks (subst (λ z. IsOne (begins_in (found_units z (length xs)))) (sym (blocks_are e xs) ∙ ap (map top_group) is) one)
 
 -- what a list alone gives is what all lines do
 pub behind_is : (e : EntityTable) (xs : List BlockLine) (kind : ListKind) (first : ListItem) (later : List ListItem) → top_blocks e xs ≡ ItemList kind first later ∷ [] →
@@ -307,16 +309,16 @@ unfolding item_marks
 more_met e xs l one w =
     let n = length xs in
     let N = nodes_of_items w.first w.later in
-    let s = stands_alone e xs w.before w.kind w.first w.later one w.front in
+    let s = stands_alone e xs w.before w.kind w.first w.later [] one w.front in
     let none = none_behind w.other w.item w.items w.blocks (ap (flat_map block_marks) (sym w.alone) ∙ marks_none e l) in
     let next = item_behind (gap_after xs) n w.item in
     let loose = not (last_item w.first w.later).tight || gap_after xs in
-    let front : top_blocks e xs ≡ ItemList w.kind w.first w.later ∷ [] = w.front ∙ ap (λ z. z ++ ItemList w.kind w.first w.later ∷ []) s.none in
+    let front : top_blocks e xs ≡ ItemList w.kind w.first w.later ∷ [] = w.front ∙ ap (λ z. z ++ ItemList w.kind w.first w.later ∷ []) s.front in
     let marks = item_marks w.first.line 0 0 w.first w.later in
     let was : list_marks e xs ≡ marks = ap (flat_map block_marks) front ∙ append-nil marks in
-    let line : w.item.line + n - w.first.line ≡ n = (let a = w.line in let b = s.at_front in omega (arith, a, b)) in
+    let line : w.item.line + n - w.first.line ≡ n = (let a = w.line in let b = s.line in omega (arith, a, b)) in
     ap (flat_map block_marks) w.whole
-    ∙ ap (λ z. flat_map block_marks (z ++ ItemList w.kind w.first (w.later ++ items_behind (gap_after xs) n w.item w.items) ∷ map (moved_top n) w.blocks)) s.none
+    ∙ ap (λ z. flat_map block_marks (z ++ ItemList w.kind w.first (w.later ++ items_behind (gap_after xs) n w.item w.items) ∷ map (moved_top n) w.blocks)) s.front
     ∙ ap (λ z. item_marks w.first.line 0 0 w.first (w.later ++ next ∷ map (moved_item n) z) ++ flat_map block_marks (map (moved_top n) w.blocks)) none.0
     ∙ ap (λ z. item_marks w.first.line 0 0 w.first (w.later ++ next ∷ []) ++ z) (moved_marks n w.blocks ∙ none.1)
     ∙ append-nil (item_marks w.first.line 0 0 w.first (w.later ++ next ∷ []))

@@ -15,10 +15,10 @@ use Rattle.blockspec.proofs.BeginLaws.{begins_in}
 use Rattle.blockspec.proofs.UnitReaderLaws.{IsOne}
 use Rattle.blockspec.specs.ItemMarks.{ItemMark, item_marks, block_marks, list_marks, mark_behind}
 use Rattle.blockspec.specs.Joins.{later_lines}
-use Rattle.blockspec.specs.ListItems.{ListItem, TopBlock, Other, ItemList, top_group, tops_of, top_blocks, moved_item, item_behind, items_behind, moved_top}
+use Rattle.blockspec.specs.ListItems.{ListItem, TopBlock, Other, ItemList, top_group, tops_of, top_blocks, moved_item, item_behind}
 use Rattle.blockspec.proofs.ItemsMeet.{blocks_are, items_meet_at}
 use Rattle.blockspec.proofs.JoinLines.{AreBelow, with_number, joins_in, joins_next, joins_below, joins_only}
-use Rattle.blockspec.proofs.ListsSpliced.{all_in, marks_parted}
+use Rattle.blockspec.proofs.ListsSpliced.{one_parted, marks_parted}
 
 -- ---- ascending numbers
 
@@ -134,12 +134,8 @@ marked_at e zs l ys before mark behind one marks line =
     sym (list_lines e L list) ∙ ap (map line_of) marks ∙ map-append line_of before (mark ∷ behind) ∙ ap (λ z. map line_of before ++ z ∷ map line_of behind) line in
     let joins = joins_only e zs l ys (subst (λ z. Contains z n) (sym here) (there (map line_of before) (map line_of behind) n)) in
     let w = items_meet_at e zs l ys joins in
-    let all = w.later ++ items_behind (gap_after zs) n w.item w.items in
-    let a = all_in (length L) w.before w.kind w.first all (map (moved_top n) w.blocks)
-    (subst (λ z. IsOne (begins_in (found_units z (length L)))) (sym (blocks_are e L) ∙ ap (map top_group) w.whole) one) in
-    let front = w.front ∙ ap (λ z. z ++ ItemList w.kind w.first w.later ∷ []) a.front in
-    let whole = w.whole ∙ ap (λ z. z ++ ItemList w.kind w.first all ∷ map (moved_top n) w.blocks) a.front ∙ ap (λ z. ItemList w.kind w.first all ∷ z) a.behind in
-    let parted = marks_parted e zs l ys w.kind w.first w.later w.item w.items a.line w.line front whole in
+    let a = one_parted e zs l ys w one in
+    let parted = marks_parted e zs l ys w.kind w.first w.later w.item w.items a.line w.line a.front a.whole in
     let m = mark_behind e zs in
     let rest = item_marks 0 m.texts m.definitions (item_behind (gap_after zs) n w.item) (map (moved_item n) w.items) in
     let lines : joins_in e L ≡ map line_of (list_marks e zs) ++ n ∷ map line_of rest =

@@ -57,19 +57,28 @@ unfolding deep_to
 to_meets d zero xs l ys a b = in_meets (λ inside. Some 0) d xs l ys a b
 to_meets d (suc limit) xs l ys a b = in_meets (deep_to d limit) d xs l ys a b
 
--- Where a line begins a unit, the first line too deep is that of the lines before it, or else that of the lines from it
--- on alone, so many lines further on.
+-- Where a line goes on with nothing at a depth that all lines keep to, the first line too deep is that of the lines before it,
+-- or else that of the lines from it on alone, so many lines further on.
+pub deep_apart : (limit : ℕ) (xs : List BlockLine) (l : BlockLine) (ys : List BlockLine) →
+    is_apart (tip_within (suc (visible_in (xs ++ l ∷ ys)))) (cut_by (tip_within (suc (visible_in (xs ++ l ∷ ys)))) xs).tail l ≡ true → is_blank_line l ≡ false →
+    deep_within limit (xs ++ l ∷ ys) ≡ option_or (deep_within limit xs) (moved_on (length xs) (deep_within limit (l ∷ ys)))
+deep_apart limit xs l ys a b =
+    let all = xs ++ l ∷ ys in
+    let d = suc (visible_in all) in
+    let v = visible_append xs (l ∷ ys) in
+    sym (deep_agrees (suc d) limit all (omega arith))
+    ∙ to_meets d limit xs l ys a b
+    ∙ ap (λ z. option_or z (moved_on (length xs) (deep_to (suc d) limit (l ∷ ys)))) (deep_agrees (suc d) limit xs (omega (arith, v)))
+    ∙ ap (λ z. option_or (deep_within limit xs) (moved_on (length xs) z)) (deep_agrees (suc d) limit (l ∷ ys) (omega (arith, v)))
+
+-- So it is where the line begins a unit.
 pub deep_meets : (limit : ℕ) (xs : List BlockLine) (l : BlockLine) (ys : List BlockLine) → begins_unit xs l ≡ true →
     deep_within limit (xs ++ l ∷ ys) ≡ option_or (deep_within limit xs) (moved_on (length xs) (deep_within limit (l ∷ ys)))
 unfolding begins_behind
 deep_meets limit xs l ys b =
-    let all = xs ++ l ∷ ys in
-    let d = suc (visible_in all) in
+    let d = suc (visible_in (xs ++ l ∷ ys)) in
     let T = tip_within d in
     let t = (cut_by T xs).tail in
     let v = visible_append xs (l ∷ ys) in
     let w = three_facts (is_apart T t l) (is_blank_line l) (same_mark (tail_mark t) (list_mark (begun l))) (begins_deep d xs l (omega (arith, v)) ∙ b) in
-    sym (deep_agrees (suc d) limit all (omega arith))
-    ∙ to_meets d limit xs l ys w.0 w.1
-    ∙ ap (λ z. option_or z (moved_on (length xs) (deep_to (suc d) limit (l ∷ ys)))) (deep_agrees (suc d) limit xs (omega (arith, v)))
-    ∙ ap (λ z. option_or (deep_within limit xs) (moved_on (length xs) z)) (deep_agrees (suc d) limit (l ∷ ys) (omega (arith, v)))
+    deep_apart limit xs l ys w.0 w.1

@@ -268,11 +268,11 @@ at_mark S (FencedCode i u v info c) s = refl
 at_mark S IndentedCode s = refl
 at_mark S (HtmlBlock kind) s = refl
 
-of_mark : (e : EntityTable) (d : ℕ) (t : Tail) → tail_mark t ≡ mark_of (last_of e (groups_within e d) (summary_within e d) t)
+pub tail_marked : (e : EntityTable) (d : ℕ) (t : Tail) → tail_mark t ≡ mark_of (last_of e (groups_within e d) (summary_within e d) t)
 unfolding last_of mark_of
-of_mark e d Empty = refl
-of_mark e d (Over s) = sym (mark_of_part e (groups_within e d) s.kind s.first s.later)
-of_mark e d (Going s) = at_mark (summary_within e d) s.kind s
+tail_marked e d Empty = refl
+tail_marked e d (Over s) = sym (mark_of_part e (groups_within e d) s.kind s.first s.later)
+tail_marked e d (Going s) = at_mark (summary_within e d) s.kind s
 
 -- Whether a line begins a unit follows from the summary of those before it.
 pub begins_law : (e : EntityTable) (d : ℕ) (xs : List BlockLine) (l : BlockLine) →
@@ -282,4 +282,4 @@ begins_law e d xs l =
     let t = (cut_by (tip_within d) xs).tail in
     let last = last_of e (groups_within e d) (summary_within e d) t in
     ap (λ z. z && not (is_blank_line l) && not (same_mark (tail_mark t) (list_mark (begun l)))) (of_apart (laws e d) t l (cut_made (tip_within d) no_lines xs tt))
-    ∙ ap (λ z. is_apart_after last l && not (is_blank_line l) && not (same_mark z (list_mark (begun l)))) (of_mark e d t)
+    ∙ ap (λ z. is_apart_after last l && not (is_blank_line l) && not (same_mark z (list_mark (begun l)))) (tail_marked e d t)

@@ -6,7 +6,6 @@ use Rattle.mdleaf.specs.LinkDefinition.{LinkDefinition}
 use Rattle.mdtext.specs.EntityTable.{EntityTable}
 use Rattle.blockspec.specs.BlockLine.{BlockLine}
 use Rattle.blockspec.specs.BlockTree.{ListKind}
-use Rattle.blockspec.specs.BlockUnits.{found_units}
 use Rattle.blockspec.specs.ListGroups.{items_before}
 use Rattle.blockspec.specs.Meetings.{joins_list, gap_after}
 use Rattle.blockspec.specs.NodeTree.{ItemNodes, texts_in_items, definitions_in_items, placed, placed_items}
@@ -15,9 +14,9 @@ use Rattle.blockspec.specs.UnitTree.{UnitTree}
 use Rattle.blockspec.proofs.BeginLaws.{begins_in}
 use Rattle.blockspec.proofs.UnitReaderLaws.{IsOne}
 use Rattle.blockspec.specs.ItemMarks.{ItemMark, list_marks, mark_behind, item_marks}
-use Rattle.blockspec.specs.ListItems.{ListItem, ItemList, is_tight_list, nodes_of_items, top_group, top_blocks, moved_item, item_behind, items_behind, moved_top}
-use Rattle.blockspec.proofs.ItemsMeet.{blocks_are, items_meet_at}
-use Rattle.blockspec.proofs.ListsSpliced.{all_in, marks_parted, unit_of_list}
+use Rattle.blockspec.specs.ListItems.{ListItem, ItemList, is_tight_list, nodes_of_items, top_blocks, moved_item, item_behind, items_behind}
+use Rattle.blockspec.proofs.ItemsMeet.{items_meet_at}
+use Rattle.blockspec.proofs.ListsSpliced.{one_parted, marks_parted, unit_of_list}
 use Rattle.blockspec.proofs.MarkedLines.{marked_at}
 use Rattle.blockspec.proofs.UnitsMeet.{list_definitions, list_texts}
 use Rattle.mdblock.specs.Copies.{items_positions, texts_at}
@@ -65,27 +64,24 @@ list_front e zs l ys old k stands before behind cut size line =
     let m = marked_at e zs l ys before (mark_at old.marks k) behind whole_one (sym stands.1 ∙ cut) line in
     let w = items_meet_at e zs l ys m.joins in
     let all = w.later ++ items_behind (gap_after zs) n w.item w.items in
-    let a = all_in (length L) w.before w.kind w.first all (map (moved_top n) w.blocks)
-    (subst (λ z. IsOne (begins_in (found_units z (length L)))) (sym (blocks_are e L) ∙ ap (map top_group) w.whole) whole_one) in
-    let front = w.front ∙ ap (λ z. z ++ ItemList w.kind w.first w.later ∷ []) a.front in
-    let whole = w.whole ∙ ap (λ z. z ++ ItemList w.kind w.first all ∷ map (moved_top n) w.blocks) a.front ∙ ap (λ z. ItemList w.kind w.first all ∷ z) a.behind in
-    let parted = marks_parted e zs l ys w.kind w.first w.later w.item w.items a.line w.line front whole in
+    let a = one_parted e zs l ys w whole_one in
+    let parted = marks_parted e zs l ys w.kind w.first w.later w.item w.items a.line w.line a.front a.whole in
     let N = nodes_of_items w.first w.later in
     let M = nodes_of_items w.item w.items in
     let t = is_tight_list w.first all in
-    let same = same_found old.lines (length L) old.unit (list_unit w.kind t (nodes_of_items w.first all)) (sym stands.0 ∙ unit_of_list e L w.kind w.first all a.line whole) in
+    let same = same_found old.lines (length L) old.unit (list_unit w.kind t (nodes_of_items w.first all)) (sym stands.0 ∙ unit_of_list e L w.kind w.first all a.line a.whole) in
     let unit : old.unit ≡ list_unit w.kind t (items_before N M) = same.1 ∙ ap (list_unit w.kind t) (nodes_together w.kind w.first w.later (gap_after zs) n w.item w.items) in
     let count : k + 1 ≡ suc (length (list_marks e zs)) = let c = m.count in omega (arith, c, size) in
-    let many : k + 1 ≡ suc (length w.later) = let c = m.count in let d = list_count e zs w.kind w.first w.later front in omega (arith, c, d, size) in
-    let single = single_list e zs w.kind w.first w.later front in
+    let many : k + 1 ≡ suc (length w.later) = let c = m.count in let d = list_count e zs w.kind w.first w.later a.front in omega (arith, c, d, size) in
+    let single = single_list e zs w.kind w.first w.later a.front in
     let mark : mark_at old.marks k ≡ mark_behind e zs = sym m.is in
     record {
       kind = w.kind;
       first = w.first;
       later = w.later;
       line = a.line;
-      front = front;
-      one = subst (λ z. IsOne (begins_in z)) (sym (unit_of_list e zs w.kind w.first w.later a.line front)) refl;
+      front = a.front;
+      one = subst (λ z. IsOne (begins_in z)) (sym (unit_of_list e zs w.kind w.first w.later a.line a.front)) refl;
       joins = m.joins;
       within = let size = same.0 in let whole = length-append zs (l ∷ ys) in omega (arith, size, whole);
       marks =
@@ -106,6 +102,6 @@ list_front e zs l ys old k stands before behind cut size line =
           ap (λ (u : UnitTree). take (mark_at old.marks k).definitions u.definitions) unit
           ∙ ap (λ (z : List LinkDefinition). take (mark_at old.marks k).definitions z) (list_definitions w.kind t (items_before N M) ∙ sym (append-nil (definitions_in_items (items_before N M))))
           ∙ ap (λ (z : ItemMark). take z.definitions (definitions_in_items (items_before N M) ++ [])) mark
-          ∙ ap (λ z. take z (definitions_in_items (items_before N M) ++ [])) (definitions_before e zs w.kind w.first w.later front)
+          ∙ ap (λ z. take z (definitions_in_items (items_before N M) ++ [])) (definitions_before e zs w.kind w.first w.later a.front)
           ∙ definitions_kept N M;
     }

@@ -14,7 +14,7 @@ use Rattle.blockspec.proofs.BeginLaws.{begins_in}
 use Rattle.blockspec.proofs.UnitReaderLaws.{IsOne}
 use Rattle.blockspec.specs.ItemMarks.{ItemMark, is_parted, list_marks, mark_behind}
 use Rattle.blockspec.specs.ListItems.{ListItem, ItemList, is_tight_list, nodes_of_items, top_blocks, items_behind}
-use Rattle.blockspec.proofs.ListsSpliced.{ListsSpliced, lists_spliced, moved_mark, marks_spliced, parted_alike, unit_of_list, unit_spliced, unit_before}
+use Rattle.blockspec.proofs.ListsSpliced.{ListsSpliced, lists_spliced, moved_mark, marks_spliced, parted_alike, unit_of_list, unit_parted}
 use Rattle.blockspec.proofs.MarkLines.{behind_is, marks_more}
 use Rattle.blockspec.proofs.MarkedLines.{MarkedAt, marked_at}
 use Rattle.blockspec.proofs.UnitsMeet.{list_definitions, list_texts, list_together}
@@ -71,7 +71,7 @@ front_first e f xs l kind first later is stands w =
     let t = is_tight_list w.first w.later && not (gap_after xs) && is_tight_list w.item w.items in
     let n = length (xs ++ l ∷ []) in
     list_first e f (xs ++ l ∷ []) kind t first later M stands
-    (unit_spliced e xs xs l [] w
+    (unit_parted e xs l [] w.kind w.first w.later w.item w.items w.line w.all
     ∙ ap (λ z. found_at n (list_unit z t (items_before (nodes_of_items w.first w.later) M)) ∷ []) same.0
     ∙ ap (λ z. found_at n (list_unit kind t (items_before (nodes_of_items z w.later) M)) ∷ []) same.1
     ∙ ap (λ z. found_at n (list_unit kind t (items_before (nodes_of_items first z) M)) ∷ []) same.2)
@@ -230,7 +230,7 @@ known : (e : EntityTable) (xs zs : List BlockLine) (l : BlockLine) (ys : List Bl
     Known e xs zs l ys front old k w
 known e xs zs l ys front old k w stands old_stands alone marks before size m =
     let t = is_tight_list w.old_first w.old_later && not (gap_after zs) && is_tight_list w.item w.items in
-    let other = same_found old.lines (length (zs ++ l ∷ ys)) old.unit (list_unit w.old_kind t (items_before (nodes_of_items w.old_first w.old_later) (nodes_of_items w.item w.items))) (sym old_stands.0 ∙ unit_before e xs zs l ys w) in
+    let other = same_found old.lines (length (zs ++ l ∷ ys)) old.unit (list_unit w.old_kind t (items_before (nodes_of_items w.old_first w.old_later) (nodes_of_items w.item w.items))) (sym old_stands.0 ∙ unit_parted e zs l ys w.old_kind w.old_first w.old_later w.item w.items w.old_line w.old_all) in
     record {
       first = front_first e front xs l w.kind w.first w.later w.front stands alone;
       old_tight = t;
