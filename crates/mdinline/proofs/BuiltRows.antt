@@ -1,10 +1,11 @@
 -- Inlines one after the other, and the spans that are open, as events.
 use Rattle.std.proofs.Common.{◌≡◌, ℕ, List, [], ◌∷◌, ◌++◌, String, Global, string_bytes, refl, sym, ap, ◌∙◌, append_assoc, append-nil}
 use Rattle.inlinespec.specs.InlineEvents.{Event, Enter, Leave, within, written}
-use Rattle.mdinline.specs.held.TreeBuilding.{made_events, open_span, row_events, spread}
+use Rattle.mdinline.specs.held.TreeBuilding.{built, made_events, open_span, row_events, spread}
 use Rattle.mdinline.specs.declared.inlines.Inline.{Inline}
 use Rattle.mdinline.specs.declared.inlines.Inline.TheBlock as made
 use Rattle.mdinline.specs.declared.trees.Frame.{Frame}
+use Rattle.mdinline.specs.declared.trees.TreeBuilder.{TreeBuilder}
 use Rattle.mdinline.proofs.SeenInlines.{text_seen}
 
 pub row_push : (is : List Inline) (i : Inline) → row_events (is ++ i ∷ []) ≡ row_events is ++ made_events i
@@ -22,6 +23,10 @@ pub text_ended : (front : List Event) (is js : List Inline) (t : String Global) 
 text_ended front is js t text e same =
     append-nil (front ++ row_events js) ∙ ap (λ xs. front ++ row_events xs) e ∙ ap (λ es. front ++ es) (row_push is (made.Text t) ∙ ap (λ es. row_events is ++ es) (text_seen t ∙ ap written same))
     ∙ sym (append_assoc front (row_events is) (written text))
+
+-- what was built, behind which no text is left
+pub built_rows : (s : TreeBuilder) (all : List Event) → string_bytes s.text ≡ [] → built s ≡ all → (spread s.frames.items ++ row_events s.last.items) ++ written [] ≡ all
+built_rows s all none is = ap (λ t. (spread s.frames.items ++ row_events s.last.items) ++ written t) (sym none) ∙ is
 
 pub added : (front : List Event) (is js : List Inline) (i : Inline) (all : List Event) → js ≡ is ++ i ∷ [] → (front ++ row_events is) ++ written [] ≡ all →
     (front ++ row_events js) ++ written [] ≡ all ++ made_events i

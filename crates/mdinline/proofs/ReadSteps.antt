@@ -7,7 +7,7 @@ use Rattle.std.proofs.lemmas.Bool.Decides.{nat_tests}
 use Rattle.mdtext.specs.EntityTable.{EntityTable}
 use Rattle.mdpair.specs.declared.runs.DelimiterChar.{DelimiterChar}
 use Rattle.mdpair.specs.declared.runs.DelimiterRun.{DelimiterRun}
-use Rattle.mdpair.specs.Neighbours.{byte_of, char_after, char_before, delimiter_of, run_at, run_between, run_length, run_of}
+use Rattle.mdpair.specs.Neighbours.{byte_of, delimiter_of, run_at, run_of}
 use Rattle.inlinespec.specs.InlineEvents.{Event, Byte, written}
 use Rattle.inlinespec.specs.Lexing.{Lexeme, Delimiters, DelimiterMark, as_written, leaf, lex, lexeme_by, delimiters_at, is_lone_tilde, kept_run, run_lexeme, sign_of}
 use Rattle.inlinespec.specs.LinkTails.{Table}
@@ -16,6 +16,7 @@ use Rattle.inlinespec.specs.TextReading.{Item, after_deed, asks_of, item_at, ite
 use Rattle.mdinline.specs.held.ReadMarks.{marks_back, ones}
 use Rattle.mdinline.specs.held.ReadSteps.{AreLeaves, LeadsTo, rest_from}
 use Rattle.mdinline.proofs.ReadMarks.{back_append, ones_append}
+use Rattle.mdinline.proofs.RunTokens.{run_size}
 
 pub byte_at : (text : List ℕ) (at : ℕ) → at < length text → drop at text ≡ slice_index text at ∷ drop (at + 1) text
 byte_at text at h = rw (add-one, drop-cons text at 0) refl
@@ -167,20 +168,9 @@ unfolding lex
 at_run entities text at r h = ap (lexeme_by entities text at (drop at text)) (run_sign text at r (run_kept entities text at r h)) ∙ ap (run_lexeme (drop at text)) h
 
 -- its characters
-of_mark : (text : List ℕ) (at : ℕ) (o : Option DelimiterChar) (r : DelimiterRun) → Some r ≡ run_of text at o → r.length ≡ run_length r.delimiter (drop at text)
-of_mark text at None r e = cc
-of_mark text at (Some d) r e =
-    let n = run_length d (drop at text) in
-    let same : r ≡ run_between d n (char_before text at) (char_after text (at + n)) = cc in
-    ap (λ (x : DelimiterRun). x.length) same ∙ sym (ap (λ (x : DelimiterRun). run_length x.delimiter (drop at text)) same)
-
-long : (text : List ℕ) (at : ℕ) (r : DelimiterRun) → Some r ≡ run_at text at → r.length ≡ run_length r.delimiter (drop at text)
-unfolding run_at
-long text at r e = of_mark text at (option_and_then delimiter_of (slice_get text at)) r e
-
 pub run_text : (text : List ℕ) (at : ℕ) (r : DelimiterRun) → Some r ≡ run_at text at → at + r.length ≤ length text → take r.length (drop at text) ≡ replicate r.length (byte_of r.delimiter)
 run_text text at r e within = all r.length (drop at text) (omega (arith, within, length-drop at text)) (λ i lt.
-    (let passes : eqb (get_or (drop at text) i 0) (byte_of r.delimiter) ≡ true = prefix_len_passes (λ b. eqb b (byte_of r.delimiter)) (drop at text) i 0 (omega (arith, lt, long text at r e)) in
+    (let passes : eqb (get_or (drop at text) i 0) (byte_of r.delimiter) ≡ true = prefix_len_passes (λ b. eqb b (byte_of r.delimiter)) (drop at text) i 0 (omega (arith, lt, run_size text at r e)) in
     grind (arith, nat_tests, passes)))
   where
     all : (n : ℕ) (xs : List ℕ) → n ≤ length xs → ((i : ℕ) → i < n → get_or xs i 0 ≡ byte_of r.delimiter) → take n xs ≡ replicate n (byte_of r.delimiter)

@@ -23,9 +23,10 @@ of_mark text at (Some d) r e =
     let same : r ≡ run_between d n (char_before text at) (char_after text (at + n)) = cc in
     ap (λ (x : DelimiterRun). x.length) same ∙ sym (ap (λ (x : DelimiterRun). run_length x.delimiter (drop at text)) same)
 
-long : (text : List ℕ) (at : ℕ) (r : DelimiterRun) → Some r ≡ run_at text at → r.length ≡ run_length r.delimiter (drop at text)
+-- its length
+pub run_size : (text : List ℕ) (at : ℕ) (r : DelimiterRun) → Some r ≡ run_at text at → r.length ≡ run_length r.delimiter (drop at text)
 unfolding run_at
-long text at r e = of_mark text at (option_and_then delimiter_of (slice_get text at)) r e
+run_size text at r e = of_mark text at (option_and_then delimiter_of (slice_get text at)) r e
 
 no_mark : (d : DelimiterChar) → is_escaped (byte_of d) ≡ false
 no_mark Asterisk = refl
@@ -40,7 +41,7 @@ run_token text at r e end whole =
       record { ordered = omega arith; within = end.within; starts_whole = whole; ends_whole = end.whole },
       plain_bytes (take (at + r.length - at) (drop at text)) (λ i lt.
           let short : i < r.length = omega (arith, lt, size, length-take-le (at + r.length - at) (drop at text) (omega (arith, length-drop at text, within))) in
-          let passes : eqb (get_or (drop at text) i 0) (byte_of r.delimiter) ≡ true = prefix_len_passes (λ b. eqb b (byte_of r.delimiter)) (drop at text) i 0 (omega (arith, short, long text at r e)) in
+          let passes : eqb (get_or (drop at text) i 0) (byte_of r.delimiter) ≡ true = prefix_len_passes (λ b. eqb b (byte_of r.delimiter)) (drop at text) i 0 (omega (arith, short, run_size text at r e)) in
           let is : get_or (drop at text) i 0 ≡ byte_of r.delimiter = grind (arith, nat_tests, passes) in
           ap is_escaped (get_or-take (at + r.length - at) (drop at text) i 0 (omega (arith, short, size)) ∙ is) ∙ no_mark r.delimiter),
     )

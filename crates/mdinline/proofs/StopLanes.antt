@@ -1,7 +1,6 @@
 -- Stops among 16 bytes at a time.
-use Rattle.std.proofs.Common.{eqb-true, ◌≡◌, ℕ, zero, suc, ◌+◌, ◌*◌, ◌/◌, ◌^◌, ◌%◌, ◌<◌, Bool, true, false, not, cond, eqb, ◌&&◌, List, [], ◌∷◌, map, length, get_or, replicate, bit_and, refl, sym, ap, subst, ◌∙◌, arith, w8, Fits}
-use Rattle.std.specs.Prelude.{◌==◌}
-use Rattle.std.proofs.lemmas.Bool.Decides.{nat_tests}
+use Rattle.std.proofs.Common.{◌≡◌, ℕ, zero, suc, ◌+◌, ◌*◌, ◌/◌, ◌^◌, ◌%◌, ◌<◌, Bool, true, not, cond, eqb, List, [], ◌∷◌, map, length, get_or, replicate, bit_and, refl, sym, ap, ◌∙◌, arith, w8, Fits}
+use Rattle.std.proofs.lemmas.Bool.{agree_below, agree_below_at}
 use Rattle.std.proofs.lemmas.List.{get_or-map, length-map, ext_get_or}
 use Rattle.std.proofs.lemmas.Nat.{and_le_r}
 use Rattle.std.proofs.lemmas.Simd.{Each1-all, Each1-weaker, Each1-zip2, Each2-splat, below_from_Fits, bitmask_splat, get_or-swz_l_below, length-swz_l, length-zip2, map-map, swz_l, SwzOk, SwzOk-from_below, zip2_of_maps}
@@ -47,43 +46,16 @@ looked_up t g v js fits e small =
 
 -- ---- the tables tell the stops
 
-agree : (ℕ → Bool) → (ℕ → Bool) → ℕ → Bool
-agree p q zero = true
-agree p q (suc n) = cond (p n) (q n) (not (q n)) && agree p q n
-
-both : (x y : Bool) → (x && y) ≡ true → (x ≡ true) × (y ≡ true)
-both true true e = (refl, refl)
-both true false e = cc
-both false y e = cc
-
-same : (x y : Bool) → cond x y (not y) ≡ true → x ≡ y
-same true true e = refl
-same true false e = cc
-same false true e = cc
-same false false e = refl
-
-below : (p q : ℕ → Bool) (n : ℕ) → agree p q n ≡ true → (c : ℕ) → c < n → p c ≡ q c
-unfolding agree
-below p q zero h c less = absurd (omega arith)
-below p q (suc n) h c less =
-    let parts = both (cond (p n) (q n) (not (q n))) (agree p q n) h in
-    by (c == n) refl (same (p n) (q n) parts.0) (below p q n parts.1 c)
-  where
-    by : (t : Bool) → (c == n) ≡ t → p n ≡ q n → (c < n → p c ≡ q c) → p c ≡ q c
-    by true e here rest = subst (λ k. p k ≡ q k) (sym (eqb-true c n e)) here
-    by false e here rest = rest (grind (arith, nat_tests))
-
 abbrev is_marked : ℕ → Bool
 is_marked x = not (eqb (bit_and (low_of x) (high_of x)) 0)
 
-stops : agree is_marked is_stop 256 ≡ true
-unfolding agree
+stops : agree_below is_marked is_stop 256 ≡ true
 stops = refl
 
 marked_stops : (xs : List ℕ) → Each1 (Fits w8) xs → map is_marked xs ≡ map is_stop xs
 marked_stops [] fits = refl
 marked_stops (x ∷ xs) fits =
-    ap (λ b. b ∷ map is_marked xs) (below is_marked is_stop 256 stops x fits.0.fits) ∙ ap (λ bs. is_stop x ∷ bs) (marked_stops xs fits.1)
+    ap (λ b. b ∷ map is_marked xs) (agree_below_at is_marked is_stop 256 x stops fits.0.fits) ∙ ap (λ bs. is_stop x ∷ bs) (marked_stops xs fits.1)
 
 pub found_stops : (v low high : List ℕ) → IsBlock v → low ≡ map low_of v → high ≡ map high_of v
     → mask_l (map (top 7) (zip2 (λ a b. cond (not (eqb a b)) 255 0) (zip2 bit_and low high) (replicate 16 0))) % 2 ^ 64 ≡ mask_l (map is_stop v)

@@ -5,11 +5,14 @@ use Rattle.std.specs.Int.RustNames.{bit_or}
 use Rattle.std.specs.Simd.Lanes.{mask_l}
 use Rattle.std.specs.List.{position_or_len, slice_range}
 use Rattle.std.proofs.lemmas.Nat.Bits.{bit_at_or, same_from_bits}
-use Rattle.std.proofs.lemmas.Simd.{bit_mask_l}
-use Rattle.std.proofs.lemmas.List.Folds.{prefix_len-append}
+use Rattle.std.proofs.lemmas.Simd.{bit_mask_l, leading_from_mask_l, trailing_mask_l}
+use lib.Count.{count_trailing_zeros}
+use Rattle.std.proofs.lemmas.List.Folds.{list_any_more, prefix_len-append}
 use Rattle.std.proofs.lemmas.List.{take-append-drop, take_all, drop-drop, length-take-le}
 use Rattle.std.proofs.lemmas.List.Sums.{prefix_len-le-length}
 use Rattle.std.proofs.Common.{length-drop}
+use Rattle.std.specs.Prelude.{◌==◌}
+use Rattle.mdtext.specs.ByteClass.{in_class}
 
 pub no_marks : (xs : List ℕ) → 0 ≡ mask_l (map (λ _. false) xs)
 no_marks [] = refl
@@ -38,8 +41,14 @@ either_marks p q r h xs =
     let b : bit_at (mask_l (map q xs)) i ≡ cond (get_or (map q xs) i false) 1 0 = bit_mask_l (map q xs) i in
     bit_at_or (mask_l (map p xs)) (mask_l (map q xs)) i ∙ both _ _ _ _ a b ∙ either_at p q r h xs i ∙ sym (bit_mask_l (map r xs) i))
 
+-- one more byte of a class
+pub class_more : (class block : List ℕ) (i one more : ℕ) → i < length class → one ≡ mask_l (map (in_class (take i class)) block) → more ≡ mask_l (map (λ x. x == get_or class i 0) block)
+    → bit_or one more ≡ mask_l (map (in_class (take (i + 1) class)) block)
+class_more class block i one more h e f =
+    ap (λ m. bit_or m more) e ∙ ap (bit_or _) f ∙ either_marks (in_class (take i class)) _ (in_class (take (i + 1) class)) (λ x. list_any_more _ class i 0 h) block
+
 -- the next w bytes
-abbrev block : List ℕ → ℕ → ℕ → List ℕ
+abbrev pub block : List ℕ → ℕ → ℕ → List ℕ
 block bytes at w = take w (drop at bytes)
 
 pub block_is : (bytes : List ℕ) (at w : ℕ) → slice_range bytes at (at + w) ≡ block bytes at w
@@ -47,6 +56,18 @@ block_is bytes at w = ap (λ n. take n (drop at bytes)) (omega arith)
 
 pub length_block : (bytes : List ℕ) (at w : ℕ) → at + w ≤ length bytes → length (block bytes at w) ≡ w
 length_block bytes at w h = length-take-le w (drop at bytes) (omega (arith, length-drop at bytes))
+
+-- what the marks of a block tell: no place, or the first one
+pub no_place : (class bytes : List ℕ) (at w marks : ℕ) → at + w ≤ length bytes → marks ≡ mask_l (map (in_class class) (block bytes at w)) → marks ≡ 0
+    → w ≡ position_or_len (in_class class) (slice_range bytes at (at + w))
+no_place class bytes at w marks long is none =
+    sym (ap (position_or_len _) (block_is bytes at w) ∙ leading_from_mask_l (in_class class) _ (sym is ∙ none) ∙ length_block bytes at w long)
+
+pub first_place : (class bytes : List ℕ) (at w marks : ℕ) → at + w ≤ length bytes → w ≤ 64 → marks ≡ mask_l (map (in_class class) (block bytes at w)) → 0 < marks
+    → count_trailing_zeros 64 marks ≡ position_or_len (in_class class) (slice_range bytes at (at + w))
+first_place class bytes at w marks long small is some =
+    let size = length_block bytes at w long in
+    ap (count_trailing_zeros 64) is ∙ trailing_mask_l (in_class class) 64 _ (omega (arith, size, small)) (omega (arith, is, some)) ∙ sym (ap (position_or_len _) (block_is bytes at w))
 
 cut : (p : ℕ → Bool) (bytes : List ℕ) (at w n : ℕ) → at + w ≤ length bytes → n ≡ position_or_len p (slice_range bytes at (at + w))
     → position_or_len p (drop at bytes) ≡ cond (eqb n w) (w + position_or_len p (drop (at + w) bytes)) n

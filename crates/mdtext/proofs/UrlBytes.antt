@@ -1,9 +1,9 @@
 -- The set of escaped bytes is the one that the definition names.
-use Rattle.std.proofs.Common.{◌≡◌, [], ◌∷◌, ℕ, zero, suc, ◌<◌, ◌≤◌, Bool, true, false, not, cond, ◌&&◌, ◌||◌, refl, sym, ap, ◌∙◌, arith, eqb}
+use Rattle.std.proofs.Common.{◌≡◌, [], ◌∷◌, ℕ, ◌<◌, ◌≤◌, Bool, true, false, not, cond, ◌||◌, refl, sym, ap, ◌∙◌, arith, eqb}
 use Rattle.std.proofs.Common.{List, ◌++◌, nat_lt}
 use Rattle.std.proofs.lemmas.Bool.Decides.{nat_tests}
 use Rattle.std.proofs.Common.{◌⊎◌, inl, inr, ◌==◌, codes}
-use Rattle.std.proofs.lemmas.Bool.{eqb-true}
+use Rattle.std.proofs.lemmas.Bool.{agree_below, agree_below_at, and_parts, eqb-true}
 use Rattle.std.specs.Char.{is_ascii_alphanumeric}
 use Rattle.std.specs.List.{flat_map, list_any, list_all}
 use Rattle.mdtext.specs.ByteClass.{in_class}
@@ -13,40 +13,12 @@ use Rattle.percent_encoding.specs.Percent.{percent_encode_byte, percent_encode, 
 use Rattle.mdtext.specs.declared.urls.TheConstants.{ESCAPED}
 use Rattle.percent_encoding.specs.AsciiSet.{should_percent_encode}
 
-abbrev same : Bool → Bool → Bool
-same true b = b
-same false b = not b
-
-same_is : (a b : Bool) → same a b ≡ true → a ≡ b
-same_is true true h = refl
-same_is true false h = cc
-same_is false true h = cc
-same_is false false h = refl
-
-abbrev all_under : (ℕ → Bool) → ℕ → Bool
-all_under p zero = true
-all_under p (suc n) = p n && all_under p n
-
-both_true : (a b : Bool) → (a && b) ≡ true → (a ≡ true) × (b ≡ true)
-both_true true true h = (refl, refl)
-both_true true false h = cc
-both_true false b h = cc
-
-under : (p : ℕ → Bool) (n k : ℕ) → all_under p n ≡ true → k < n → p k ≡ true
-under p zero k h small = absurd (omega arith)
-under p (suc n) k h small =
-    let b = both_true (p n) (all_under p n) h in
-    elim (eqb k n) as (λ e. eqb k n ≡ e → p k ≡ true) [
-      | true ↦ λ e. (let same_place : k ≡ n = grind (arith, e) in ap p same_place ∙ b.0)
-      | false ↦ λ e. under p n k b.1 (grind (arith, e, small))
-    ] refl
-
-agree_all : all_under (λ b. same (should_percent_encode ESCAPED b) (not (is_url_plain b))) 256 ≡ true
+agree_all : agree_below (should_percent_encode ESCAPED) (λ b. not (is_url_plain b)) 256 ≡ true
 unfolding is_url_plain should_percent_encode
 agree_all = refl
 
 plain_is : (b : ℕ) → b < 256 → should_percent_encode ESCAPED b ≡ not (is_url_plain b)
-plain_is b h = same_is _ _ (under (λ x. same (should_percent_encode ESCAPED x) (not (is_url_plain x))) 256 b agree_all h)
+plain_is b h = agree_below_at (should_percent_encode ESCAPED) (λ x. not (is_url_plain x)) 256 b agree_all h
 
 coded_ascii : (b : ℕ) → should_percent_encode ESCAPED b ≡ false → b < 128
 unfolding should_percent_encode
@@ -63,7 +35,7 @@ either_true false b h = inr h
 among_ascii : (ks : List ℕ) (b : ℕ) → list_all (λ k. nat_lt k 128) ks ≡ true → list_any (λ k. b == k) ks ≡ true → b < 128
 among_ascii [] b h e = cc
 among_ascii (k ∷ ks) b h e =
-    let each = both_true (nat_lt k 128) (list_all (λ k. nat_lt k 128) ks) h in
+    let each = and_parts (nat_lt k 128) (list_all (λ k. nat_lt k 128) ks) h in
     elim (either_true _ _ e) [
       | inl same ↦ (let here : b ≡ k = eqb-true b k same in let small : k < 128 = grind (arith, nat_tests, each.0) in omega (arith, here, small))
       | inr later ↦ among_ascii ks b each.1 later

@@ -1,17 +1,17 @@
-use Rattle.std.proofs.Common.{[]}
+use Rattle.std.proofs.Common.{[], refl}
 use Rattle.mdinline.specs.held.LeafEvents.{leaf_events}
-use Rattle.mdinline.proofs.ReadHolding.{holds_still, holds_straight, leaves_quiet, no_items}
+use Rattle.mdinline.proofs.ReadHolding.{leaf_handed, leaf_kept}
 use Rattle.mdinline.proofs.readers.TextReader.put.Goals as goal
 
 pub returns-then-not-is_empty-clause-takes : goal.returns-then-not-is_empty-clause-takes
-returns-then-not-is_empty-clause-takes g c = (
-  [],
-  g.met.S.InlineSink.takes_none c.args.sink.now,
-  λ handed ps qs leaf leaves same h.
-      let entities = c.args.self.now.entities.now in
-      let text = c.args.text.now in
-      holds_still entities text handed c.leaf.new.self _ (c.in_ok-leaf.ensures.pieces entities text handed ps qs leaf (leaves_quiet qs leaves) same h),
-)
+returns-then-not-is_empty-clause-takes g c =
+    let entities = c.args.self.now.entities.now in
+    let text = c.args.text.now in
+    let put = c.in_ok-leaf.ensures in (
+      [],
+      g.met.S.InlineSink.takes_none c.args.sink.now,
+      λ handed ps qs leaf. leaf_kept entities text (leaf_events entities text c.args.token) c.args.self.now.pending c.leaf.new.self (λ before old new. put.pieces entities text before old new leaf) handed ps qs,
+    )
 
 pub returns-clause-takes : goal.returns-clause-takes
 returns-clause-takes g c =
@@ -20,5 +20,5 @@ returns-clause-takes g c =
     let es = leaf_events entities text c.args.token in (
       es,
       c.in_ok-hand_leaf.ensures,
-      λ handed ps qs leaf leaves same h. holds_straight entities text handed c.args.self.now.pending ps h es qs (no_items c.args.self.now.pending.tokens.items c.is_empty.result c.is_empty.ensures c.if-not-is_empty.false) leaves same,
+      λ handed ps qs leaf. leaf_handed entities text es es c.args.self.now.pending c.is_empty.result c.is_empty.ensures c.if-not-is_empty.false refl handed ps qs,
     )

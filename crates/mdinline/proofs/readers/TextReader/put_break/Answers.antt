@@ -1,21 +1,20 @@
 use Rattle.std.proofs.Common.{[], ◌∷◌, refl}
 use Rattle.inlinespec.specs.InlineEvents.{SoftBreak}
-use Rattle.mdinline.proofs.ReadHolding.{holds_still, holds_straight, leaves_quiet, no_items}
+use Rattle.mdinline.proofs.ReadHolding.{leaf_handed, leaf_kept}
 use Rattle.mdinline.proofs.readers.TextReader.put_break.Goals as goal
 
 pub returns-then-not-is_empty-clause-takes : goal.returns-then-not-is_empty-clause-takes
-returns-then-not-is_empty-clause-takes g c = (
-  [],
-  g.met.S.InlineSink.takes_none c.args.sink.now,
-  λ text handed ps qs leaves same h.
-      let entities = c.args.self.now.entities.now in
-      holds_still entities text handed c.leaf.new.self _ (c.in_ok-leaf.ensures.pieces entities text handed ps qs refl (leaves_quiet qs leaves) same h),
-)
+returns-then-not-is_empty-clause-takes g c =
+    let entities = c.args.self.now.entities.now in (
+      [],
+      g.met.S.InlineSink.takes_none c.args.sink.now,
+      λ text. leaf_kept entities text (SoftBreak ∷ []) c.args.self.now.pending c.leaf.new.self (λ handed ps qs. c.in_ok-leaf.ensures.pieces entities text handed ps qs refl),
+    )
 
 pub returns-clause-takes : goal.returns-clause-takes
-returns-clause-takes g c = (
-  SoftBreak ∷ [],
-  c.in_ok-soft_break.ensures,
-  λ text handed ps qs leaves same h.
-      holds_straight c.args.self.now.entities.now text handed c.args.self.now.pending ps h (SoftBreak ∷ []) qs (no_items c.args.self.now.pending.tokens.items c.is_empty.result c.is_empty.ensures c.if-not-is_empty.false) leaves same,
-)
+returns-clause-takes g c =
+    let es = SoftBreak ∷ [] in (
+      es,
+      c.in_ok-soft_break.ensures,
+      λ text. leaf_handed c.args.self.now.entities.now text es es c.args.self.now.pending c.is_empty.result c.is_empty.ensures c.if-not-is_empty.false refl,
+    )

@@ -1,7 +1,7 @@
-use Rattle.std.proofs.Common.{◌≡◌, [], ap, sym, ◌∙◌, ◌++◌}
+use Rattle.std.proofs.Common.{ap, ◌∙◌, ◌++◌}
 use Rattle.inlinespec.specs.InlineEvents.{written}
 use Rattle.mdinline.specs.held.TreeBuilding.{built, row_events, spread}
-use Rattle.mdinline.proofs.BuiltRows.{added}
+use Rattle.mdinline.proofs.BuiltRows.{added, built_rows}
 use Rattle.mdinline.proofs.JoinedRows.{frames_still, row_more}
 use Rattle.mdinline.proofs.trees.TreeBuilder.add.Goals as goal
 
@@ -10,10 +10,9 @@ returns-clause-events c =
     let s = c.end_text.new.self in
     let all = built c.args.self.now in
     let front = spread s.frames.items in
-    let text = c.in_ok-end_text.ensures.text in
-    let before : (front ++ row_events s.last.items) ++ written [] ≡ all = ap (λ t. (front ++ row_events s.last.items) ++ written t) (sym text) ∙ c.in_ok-end_text.ensures.events in
-    ap (λ t. (front ++ row_events c.push_inline.new.inlines.items) ++ written t) text
-    ∙ added front s.last.items c.push_inline.new.inlines.items c.args.inline all c.in_ok-push_inline.ensures before
+    let now = c.in_ok-end_text.ensures in
+    ap (λ t. (front ++ row_events c.push_inline.new.inlines.items) ++ written t) now.text
+    ∙ added front s.last.items c.push_inline.new.inlines.items c.args.inline all c.in_ok-push_inline.ensures (built_rows s all now.text now.events)
 
 pub returns-clause-joined : goal.returns-clause-joined
 returns-clause-joined c = λ apart h.
