@@ -133,7 +133,8 @@ paragraph_made later false true k w = tt
 paragraph_made later false false k w = interrupted_made later k w
 
 -- a block that a line begins, if the rows of a table are there
-kinds_made : (later : List BlockLine) (mode : Mode) (p : List BlockLine) (l : BlockLine) → (is_inside mode ≡ true → IsMade (Table (length p)) later) → Kinds (λ z. IsMade z later) mode p l
+kinds_made : (later : List BlockLine) (mode : Mode) (p : List BlockLine) (l : BlockLine) → (is_inside mode ≡ true → IsMade (Table (length p)) later) →
+    Kinds (λ z. IsMade z later) mode p l
 kinds_made later mode p l w = record {
   quote = tt;
   atx = λ level content. tt;

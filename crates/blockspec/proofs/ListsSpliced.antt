@@ -39,7 +39,8 @@ pub record IsParted (e : EntityTable) (xs : List BlockLine) (l : BlockLine) (ys 
   pub whole : top_blocks e (xs ++ l ∷ ys) ≡ ItemList w.kind w.first (w.later ++ items_behind (gap_after xs) (length xs) w.item w.items) ∷ []
   pub behind : map (moved_top (length xs)) w.blocks ≡ []
 
-pub one_parted : (e : EntityTable) (xs : List BlockLine) (l : BlockLine) (ys : List BlockLine) (w : ItemsMeet e xs l ys) → IsOne (begins_in (units_of e (xs ++ l ∷ ys))) → IsParted e xs l ys w
+pub one_parted : (e : EntityTable) (xs : List BlockLine) (l : BlockLine) (ys : List BlockLine) (w : ItemsMeet e xs l ys) →
+    IsOne (begins_in (units_of e (xs ++ l ∷ ys))) → IsParted e xs l ys w
 one_parted e xs l ys w one =
     let n = length xs in
     let all = w.later ++ items_behind (gap_after xs) n w.item w.items in
@@ -240,7 +241,8 @@ unit_of_list e ls kind first later line is =
     ∙ ap (λ z. record { begin = 0; lines = z; unit = u } ∷ []) lines
 
 -- a list of two parts, which both and the gap between them make tight or not
-pub unit_parted : (e : EntityTable) (xs : List BlockLine) (l : BlockLine) (ys : List BlockLine) (kind : ListKind) (first : ListItem) (later : List ListItem) (item : ListItem) (items : List ListItem) →
+pub unit_parted : (e : EntityTable) (xs : List BlockLine) (l : BlockLine) (ys : List BlockLine) (kind : ListKind) (first : ListItem) (later : List ListItem)
+    (item : ListItem) (items : List ListItem) →
     first.line ≡ 0 → top_blocks e (xs ++ l ∷ ys) ≡ ItemList kind first (later ++ items_behind (gap_after xs) (length xs) item items) ∷ [] →
     units_of e (xs ++ l ∷ ys)
     ≡ record {
@@ -252,7 +254,8 @@ unit_parted e xs l ys kind first later item items line all =
     let more = items_behind (gap_after xs) (length xs) item items in
     let n = length (xs ++ l ∷ ys) in
     unit_of_list e (xs ++ l ∷ ys) kind first (later ++ more) line all
-    ∙ ap (λ (g : Group). record { begin = 0; lines = n; unit = unit_of (part_before g.part no_nodes) } ∷ []) (list_together kind first later (gap_after xs) (length xs) item items)
+    ∙ ap (λ (g : Group). record { begin = 0; lines = n; unit = unit_of (part_before g.part no_nodes) } ∷ [])
+    (list_together kind first later (gap_after xs) (length xs) item items)
 
 last_behind : (item : ListItem) (later : List ListItem) (next : ListItem) (more : List ListItem) → last_item item (later ++ next ∷ more) ≡ last_item next more
 last_behind item [] next more = refl

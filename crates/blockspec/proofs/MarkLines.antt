@@ -279,10 +279,12 @@ all_in n [] kind first later (b ∷ blocks) one = absurd one
 all_in n (t ∷ []) kind first later blocks one = absurd one
 all_in n (t ∷ u ∷ ts) kind first later blocks one = absurd one
 
-pub stands_alone : (e : EntityTable) (xs : List BlockLine) (before : List TopBlock) (kind : ListKind) (first : ListItem) (later : List ListItem) (blocks : List TopBlock) →
+pub stands_alone : (e : EntityTable) (xs : List BlockLine) (before : List TopBlock) (kind : ListKind) (first : ListItem) (later : List ListItem)
+    (blocks : List TopBlock) →
     IsOne (begins_in (units_of e xs)) → top_blocks e xs ≡ before ++ ItemList kind first later ∷ blocks → IsAll before first blocks
 stands_alone e xs before kind first later blocks one is =
-    all_in (length xs) before kind first later blocks (subst (λ z. IsOne (begins_in (found_units z (length xs)))) (sym (blocks_are e xs) ∙ ap (map top_group) is) one)
+    all_in (length xs) before kind first later blocks
+    (subst (λ z. IsOne (begins_in (found_units z (length xs)))) (sym (blocks_are e xs) ∙ ap (map top_group) is) one)
 
 -- what a list alone gives is what all lines do
 pub behind_is : (e : EntityTable) (xs : List BlockLine) (kind : ListKind) (first : ListItem) (later : List ListItem) → top_blocks e xs ≡ ItemList kind first later ∷ [] →

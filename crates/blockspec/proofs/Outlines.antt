@@ -71,24 +71,28 @@ last_is before (Over s) w = ap (last_mark None) (outline_push before s) ∙ last
 
 -- ---- a line that may begin one
 
-begun_cut : (T : List BlockLine → Tip) (c : Cut) (l : BlockLine) (blank : Bool) → is_apart T c.tail l ≡ true → is_blank_line l ≡ blank → add T c l ≡ begin_where blank T c l
+begun_cut : (T : List BlockLine → Tip) (c : Cut) (l : BlockLine) (blank : Bool) → is_apart T c.tail l ≡ true → is_blank_line l ≡ blank →
+    add T c l ≡ begin_where blank T c l
 begun_cut T c l blank a b = apart_begins T c l c.tail a ∙ ap (λ z. begin_where z T c l) b
 
 pub begin_none : (T : List BlockLine → Tip) (c : Cut) (l : BlockLine) → outline (stretches (begin_where true T c l)) ≡ outline (stretches c)
 unfolding begin_where
 begin_none T c l = ended_outline c.before c.tail
 
-pub begin_one : (T : List BlockLine → Tip) (c : Cut) (l : BlockLine) → outline (stretches (begin_where false T c l)) ≡ outline (stretches c) ++ (c.lines, list_mark (begun l)) ∷ []
+pub begin_one : (T : List BlockLine → Tip) (c : Cut) (l : BlockLine) →
+    outline (stretches (begin_where false T c l)) ≡ outline (stretches c) ++ (c.lines, list_mark (begun l)) ∷ []
 unfolding begin_where
 begin_one T c l = tail_outline (stretches c) (is_single (begun l) l) (first_of c.lines (gap_behind T c) l)
 
 -- a blank line begins none, another one that is apart does
-pub blank_outline : (T : List BlockLine → Tip) (c : Cut) (l : BlockLine) → is_apart T c.tail l ≡ true → is_blank_line l ≡ true → outline (stretches (add T c l)) ≡ outline (stretches c)
+pub blank_outline : (T : List BlockLine → Tip) (c : Cut) (l : BlockLine) → is_apart T c.tail l ≡ true → is_blank_line l ≡ true →
+    outline (stretches (add T c l)) ≡ outline (stretches c)
 blank_outline T c l a b = ap (λ (z : Cut). outline (stretches z)) (begun_cut T c l true a b) ∙ begin_none T c l
 
 pub begun_outline : (T : List BlockLine → Tip) (c : Cut) (l : BlockLine) → is_apart T c.tail l ≡ true → is_blank_line l ≡ false →
     outline (stretches (add T c l)) ≡ outline (stretches c) ++ (c.lines, list_mark (begun l)) ∷ []
 begun_outline T c l a b = ap (λ (z : Cut). outline (stretches z)) (begun_cut T c l false a b) ∙ begin_one T c l
 
-pub same_as_last : (before : List Stretch) (t : Tail) (m : Option ListKind) (same : Bool) → IsWhole before t → same_mark (tail_mark t) m ≡ same → same_mark (last_mark None (outline (all_of before t))) m ≡ same
+pub same_as_last : (before : List Stretch) (t : Tail) (m : Option ListKind) (same : Bool) → IsWhole before t → same_mark (tail_mark t) m ≡ same →
+    same_mark (last_mark None (outline (all_of before t))) m ≡ same
 same_as_last before t m same w s = ap (λ z. same_mark z m) (last_is before t w) ∙ s

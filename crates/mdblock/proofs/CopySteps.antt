@@ -1,5 +1,6 @@
 -- Copies of blocks and items one after the other, each with its texts.
-use Rattle.std.proofs.Common.{◌≡◌, ℕ, suc, ◌+◌, ◌<◌, List, [], ◌∷◌, ◌++◌, length, drop, refl, sym, ◌∙◌, ap, subst, arith}
+use Rattle.std.proofs.Common.{◌≡◌, ℕ, suc, ◌+◌, ◌<◌, ◌≤◌, List, [], ◌∷◌, ◌++◌, length, drop, refl, sym, ◌∙◌, ap, subst, arith}
+use Rattle.std.proofs.lemmas.List.{drop_all}
 use Rattle.std.proofs.Math.ListN.{get_or}
 use Rattle.std.proofs.Math.Seq.{drop-cons}
 use Rattle.blockspec.specs.BlockTree.{Block, Blocks, no_blocks, block, Items, no_items, item}
@@ -32,6 +33,18 @@ no_blocks_behind (block x front) = ap (block x) (no_blocks_behind front)
 pub no_items_behind : (front : Items) → placed_before front no_items ≡ front
 no_items_behind no_items = refl
 no_items_behind (item x front) = ap (item x) (no_items_behind front)
+
+-- once all are copied
+pub all_blocks_copied : (copies all : List b.Block) (n many : ℕ) (whole : Blocks) → length all ≤ n →
+    blocks_before (blocks_view copies) (copied_blocks many (blocks_view (drop n all))) ≡ whole → blocks_view copies ≡ whole
+all_blocks_copied copies all n many whole past was =
+    sym (no_blocks_behind (blocks_view copies)) ∙ ap (λ z. blocks_before (blocks_view copies) (copied_blocks many (blocks_view z))) (sym (drop_all n all past))
+    ∙ was
+
+pub all_items_copied : (copies all : List i.Item) (n many : ℕ) (whole : Items) → length all ≤ n →
+    placed_before (items_view copies) (copied_items many (items_view (drop n all))) ≡ whole → items_view copies ≡ whole
+all_items_copied copies all n many whole past was =
+    sym (no_items_behind (items_view copies)) ∙ ap (λ z. placed_before (items_view copies) (copied_items many (items_view z))) (sym (drop_all n all past)) ∙ was
 
 pub block_copied : (copies made : List b.Block) (all : List b.Block) (copy x : b.Block) (n : ℕ) (old new T : List (List ℕ)) (whole : Blocks) → n < length all → x ≡ get_or all n x →
     made ≡ copies ++ copy ∷ [] → block_view copy ≡ copied_block (length old) (block_view x) → new ≡ old ++ texts_at T (block_positions (block_view x)) →

@@ -69,7 +69,8 @@ list_front e zs l ys old k stands before behind cut size line =
     let N = nodes_of_items w.first w.later in
     let M = nodes_of_items w.item w.items in
     let t = is_tight_list w.first all in
-    let same = same_found old.lines (length L) old.unit (list_unit w.kind t (nodes_of_items w.first all)) (sym stands.0 ∙ unit_of_list e L w.kind w.first all a.line a.whole) in
+    let same = same_found old.lines (length L) old.unit (list_unit w.kind t (nodes_of_items w.first all))
+    (sym stands.0 ∙ unit_of_list e L w.kind w.first all a.line a.whole) in
     let unit : old.unit ≡ list_unit w.kind t (items_before N M) = same.1 ∙ ap (list_unit w.kind t) (nodes_together w.kind w.first w.later (gap_after zs) n w.item w.items) in
     let count : k + 1 ≡ suc (length (list_marks e zs)) = let c = m.count in omega (arith, c, size) in
     let many : k + 1 ≡ suc (length w.later) = let c = m.count in let d = list_count e zs w.kind w.first w.later a.front in omega (arith, c, d, size) in

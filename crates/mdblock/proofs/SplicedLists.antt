@@ -230,7 +230,9 @@ known : (e : EntityTable) (xs zs : List BlockLine) (l : BlockLine) (ys : List Bl
     Known e xs zs l ys front old k w
 known e xs zs l ys front old k w stands old_stands alone marks before size m =
     let t = is_tight_list w.old_first w.old_later && not (gap_after zs) && is_tight_list w.item w.items in
-    let other = same_found old.lines (length (zs ++ l ∷ ys)) old.unit (list_unit w.old_kind t (items_before (nodes_of_items w.old_first w.old_later) (nodes_of_items w.item w.items))) (sym old_stands.0 ∙ unit_parted e zs l ys w.old_kind w.old_first w.old_later w.item w.items w.old_line w.old_all) in
+    let other = same_found old.lines (length (zs ++ l ∷ ys)) old.unit
+    (list_unit w.old_kind t (items_before (nodes_of_items w.old_first w.old_later) (nodes_of_items w.item w.items)))
+    (sym old_stands.0 ∙ unit_parted e zs l ys w.old_kind w.old_first w.old_later w.item w.items w.old_line w.old_all) in
     record {
       first = front_first e front xs l w.kind w.first w.later w.front stands alone;
       old_tight = t;

@@ -138,3 +138,13 @@ length_same xss i ys d here e =
     let new : length (joined (set xss i ys)) ≡ length (p ++ (ys ++ r)) = ap length (joined_set xss i ys here) in
     let old : length (joined xss) ≡ length (p ++ (q ++ r)) = ap length (joined_split xss i d here) in
     omega (arith, new, old, e, length-append p (ys ++ r), length-append ys r, length-append p (q ++ r), length-append q r)
+
+-- where a member lies that stands in front of a located place
+pub record StandsAt {A : Type 0} (xss : List (List A)) (block k at : ℕ) : Type 0 where
+  pub here : block < length xss
+  pub within : k < length (get_or xss block [])
+  pub place : length (joined (take block xss)) + k ≡ at
+
+pub in_front : {A : Type 0} (xss : List (List A)) (block inside at : ℕ) → block < length xss → 0 < inside → inside ≤ length (get_or xss block []) →
+    length (joined (take block xss)) + inside ≡ at + 1 → StandsAt xss block (inside - 1) at
+in_front xss block inside at here some long e = record { here = here; within = omega (arith, some, long); place = omega (arith, some, e) }

@@ -25,7 +25,8 @@ text_ended front is js t text e same =
     ∙ sym (append_assoc front (row_events is) (written text))
 
 -- what was built, behind which no text is left
-pub built_rows : (s : TreeBuilder) (all : List Event) → string_bytes s.text ≡ [] → built s ≡ all → (spread s.frames.items ++ row_events s.last.items) ++ written [] ≡ all
+pub built_rows : (s : TreeBuilder) (all : List Event) → string_bytes s.text ≡ [] → built s ≡ all →
+    (spread s.frames.items ++ row_events s.last.items) ++ written [] ≡ all
 built_rows s all none is = ap (λ t. (spread s.frames.items ++ row_events s.last.items) ++ written t) (sym none) ∙ is
 
 pub added : (front : List Event) (is js : List Inline) (i : Inline) (all : List Event) → js ≡ is ++ i ∷ [] → (front ++ row_events is) ++ written [] ≡ all →

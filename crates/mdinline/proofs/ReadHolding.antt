@@ -143,16 +143,21 @@ no_items (x ∷ xs) b e h = (let f : (length (x ∷ xs) == 0) ≡ true = sym e �
 -- A leaf is put behind what is held: it is kept where something is pending, and else it is handed out.
 abbrev pub PutsLeaf : EntityTable → List ℕ → (leaf es : List Event) → (old new : Pending) → Type 0
 PutsLeaf entities text leaf es old new =
-    (handed : List Event) (ps qs : List Piece) → AreLeaves qs → ones leaf ≡ marks_back qs → HoldsPieces entities text handed old ps → HoldsPieces entities text (handed ++ es) new (qs ++ ps)
+    (handed : List Event) (ps qs : List Piece) → AreLeaves qs → ones leaf ≡ marks_back qs → HoldsPieces entities text handed old ps →
+    HoldsPieces entities text (handed ++ es) new (qs ++ ps)
 
 pub leaf_kept : (entities : EntityTable) (text : List ℕ) (leaf : List Event) (old new : Pending) →
-    ((handed : List Event) (ps qs : List Piece) → openers qs ≡ [] → ones leaf ≡ marks_back qs → HoldsPieces entities text handed old ps → HoldsPieces entities text handed new (qs ++ ps)) →
+    ((handed : List Event) (ps qs : List Piece) → openers qs ≡ [] → ones leaf ≡ marks_back qs → HoldsPieces entities text handed old ps →
+    HoldsPieces entities text handed new (qs ++ ps)) →
     PutsLeaf entities text leaf [] old new
-leaf_kept entities text leaf old new kept = λ handed ps qs leaves same h. holds_still entities text handed new (qs ++ ps) (kept handed ps qs (leaves_quiet qs leaves) same h)
+leaf_kept entities text leaf old new kept =
+    λ handed ps qs leaves same h. holds_still entities text handed new (qs ++ ps) (kept handed ps qs (leaves_quiet qs leaves) same h)
 
-pub leaf_handed : (entities : EntityTable) (text : List ℕ) (leaf es : List Event) (old : Pending) (none : Bool) → none ≡ (length old.tokens.items == 0) → none ≡ true → ones es ≡ ones leaf →
+pub leaf_handed : (entities : EntityTable) (text : List ℕ) (leaf es : List Event) (old : Pending) (none : Bool) → none ≡ (length old.tokens.items == 0) →
+    none ≡ true → ones es ≡ ones leaf →
     PutsLeaf entities text leaf es old old
-leaf_handed entities text leaf es old none is empty alike = λ handed ps qs leaves same h. holds_straight entities text handed old ps h es qs (no_items old.tokens.items none is empty) leaves (alike ∙ same)
+leaf_handed entities text leaf es old none is empty alike =
+    λ handed ps qs leaves same h. holds_straight entities text handed old ps h es qs (no_items old.tokens.items none is empty) leaves (alike ∙ same)
 
 both_true : (s t : Bool) → (s && t) ≡ true → (s ≡ true) × (t ≡ true)
 both_true true true e = (refl, refl)

@@ -41,7 +41,8 @@ run_token text at r e end whole =
       record { ordered = omega arith; within = end.within; starts_whole = whole; ends_whole = end.whole },
       plain_bytes (take (at + r.length - at) (drop at text)) (λ i lt.
           let short : i < r.length = omega (arith, lt, size, length-take-le (at + r.length - at) (drop at text) (omega (arith, length-drop at text, within))) in
-          let passes : eqb (get_or (drop at text) i 0) (byte_of r.delimiter) ≡ true = prefix_len_passes (λ b. eqb b (byte_of r.delimiter)) (drop at text) i 0 (omega (arith, short, run_size text at r e)) in
+          let passes : eqb (get_or (drop at text) i 0) (byte_of r.delimiter) ≡ true =
+          prefix_len_passes (λ b. eqb b (byte_of r.delimiter)) (drop at text) i 0 (omega (arith, short, run_size text at r e)) in
           let is : get_or (drop at text) i 0 ≡ byte_of r.delimiter = grind (arith, nat_tests, passes) in
           ap is_escaped (get_or-take (at + r.length - at) (drop at text) i 0 (omega (arith, short, size)) ∙ is) ∙ no_mark r.delimiter),
     )

@@ -42,10 +42,12 @@ either_marks p q r h xs =
     bit_at_or (mask_l (map p xs)) (mask_l (map q xs)) i ∙ both _ _ _ _ a b ∙ either_at p q r h xs i ∙ sym (bit_mask_l (map r xs) i))
 
 -- one more byte of a class
-pub class_more : (class block : List ℕ) (i one more : ℕ) → i < length class → one ≡ mask_l (map (in_class (take i class)) block) → more ≡ mask_l (map (λ x. x == get_or class i 0) block)
+pub class_more : (class block : List ℕ) (i one more : ℕ) → i < length class → one ≡ mask_l (map (in_class (take i class)) block) →
+    more ≡ mask_l (map (λ x. x == get_or class i 0) block)
     → bit_or one more ≡ mask_l (map (in_class (take (i + 1) class)) block)
 class_more class block i one more h e f =
-    ap (λ m. bit_or m more) e ∙ ap (bit_or _) f ∙ either_marks (in_class (take i class)) _ (in_class (take (i + 1) class)) (λ x. list_any_more _ class i 0 h) block
+    ap (λ m. bit_or m more) e ∙ ap (bit_or _) f
+    ∙ either_marks (in_class (take i class)) _ (in_class (take (i + 1) class)) (λ x. list_any_more _ class i 0 h) block
 
 -- the next w bytes
 abbrev pub block : List ℕ → ℕ → ℕ → List ℕ
@@ -63,11 +65,13 @@ pub no_place : (class bytes : List ℕ) (at w marks : ℕ) → at + w ≤ length
 no_place class bytes at w marks long is none =
     sym (ap (position_or_len _) (block_is bytes at w) ∙ leading_from_mask_l (in_class class) _ (sym is ∙ none) ∙ length_block bytes at w long)
 
-pub first_place : (class bytes : List ℕ) (at w marks : ℕ) → at + w ≤ length bytes → w ≤ 64 → marks ≡ mask_l (map (in_class class) (block bytes at w)) → 0 < marks
+pub first_place : (class bytes : List ℕ) (at w marks : ℕ) → at + w ≤ length bytes → w ≤ 64 → marks ≡ mask_l (map (in_class class) (block bytes at w)) →
+    0 < marks
     → count_trailing_zeros 64 marks ≡ position_or_len (in_class class) (slice_range bytes at (at + w))
 first_place class bytes at w marks long small is some =
     let size = length_block bytes at w long in
-    ap (count_trailing_zeros 64) is ∙ trailing_mask_l (in_class class) 64 _ (omega (arith, size, small)) (omega (arith, is, some)) ∙ sym (ap (position_or_len _) (block_is bytes at w))
+    ap (count_trailing_zeros 64) is ∙ trailing_mask_l (in_class class) 64 _ (omega (arith, size, small)) (omega (arith, is, some))
+    ∙ sym (ap (position_or_len _) (block_is bytes at w))
 
 cut : (p : ℕ → Bool) (bytes : List ℕ) (at w n : ℕ) → at + w ≤ length bytes → n ≡ position_or_len p (slice_range bytes at (at + w))
     → position_or_len p (drop at bytes) ≡ cond (eqb n w) (w + position_or_len p (drop (at + w) bytes)) n

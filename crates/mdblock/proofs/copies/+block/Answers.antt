@@ -1,9 +1,5 @@
-use Rattle.std.proofs.Common.{length, map, string_bytes, sym, ◌∙◌, ap}
-use Rattle.std.proofs.lemmas.List.{drop_all}
-use Rattle.mdblock.specs.BlockView.{blocks_view, items_view}
-use Rattle.mdblock.specs.Copies.{copied_blocks, copied_items}
-use Rattle.mdblock.specs.held.TreesBehind.{blocks_before, placed_before}
-use Rattle.mdblock.proofs.CopySteps.{block_copied, block_texts, item_copied, item_texts, no_blocks_behind, no_items_behind}
+use Rattle.std.proofs.Common.{map, string_bytes}
+use Rattle.mdblock.proofs.CopySteps.{all_blocks_copied, all_items_copied, block_copied, block_texts, item_copied, item_texts}
 use Rattle.mdblock.proofs.copies.+block.Goals as goal
 
 pub copied_blocks-loop-block-preserved : goal.copied_blocks-loop-block-preserved
@@ -21,10 +17,7 @@ copied_blocks-loop-block-preserved t c =
 
 pub copied_blocks-returns-clause-copies : goal.copied_blocks-returns-clause-copies
 copied_blocks-returns-clause-copies t c =
-    let done = c.loop-block.copies.items in
-    sym (no_blocks_behind (blocks_view done))
-    ∙ ap (λ z. blocks_before (blocks_view done) (copied_blocks (length (map string_bytes c.loop-block.copied.items)) (blocks_view z))) (sym (drop_all c.loop-block.block-index c.args.blocks.now c.loop-block-test.false))
-    ∙ c.loop-block.invariant.copies
+    all_blocks_copied c.loop-block.copies.items c.args.blocks.now c.loop-block.block-index _ _ c.loop-block-test.false c.loop-block.invariant.copies
 
 pub copied_items-loop-item-preserved : goal.copied_items-loop-item-preserved
 copied_items-loop-item-preserved t c =
@@ -41,7 +34,4 @@ copied_items-loop-item-preserved t c =
 
 pub copied_items-returns-clause-copies : goal.copied_items-returns-clause-copies
 copied_items-returns-clause-copies t c =
-    let done = c.loop-item.copies.items in
-    sym (no_items_behind (items_view done))
-    ∙ ap (λ z. placed_before (items_view done) (copied_items (length (map string_bytes c.loop-item.copied.items)) (items_view z))) (sym (drop_all c.loop-item.item-index c.args.items.now c.loop-item-test.false))
-    ∙ c.loop-item.invariant.copies
+    all_items_copied c.loop-item.copies.items c.args.items.now c.loop-item.item-index _ _ c.loop-item-test.false c.loop-item.invariant.copies

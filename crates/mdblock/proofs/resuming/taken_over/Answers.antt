@@ -1,18 +1,11 @@
-use Rattle.std.proofs.Common.{length, map, string_bytes, sym, ◌∙◌, ap, arith}
-use Rattle.std.proofs.lemmas.List.{drop_all}
-use Rattle.mdblock.specs.BlockView.{items_view}
-use Rattle.mdblock.specs.Copies.{copied_items}
-use Rattle.mdblock.specs.held.TreesBehind.{placed_before}
+use Rattle.std.proofs.Common.{map, string_bytes, ◌∙◌, arith}
 use Rattle.mdblock.proofs.CountedLaws.{counted_at_most}
-use Rattle.mdblock.proofs.CopySteps.{item_copied, item_texts, no_items_behind}
+use Rattle.mdblock.proofs.CopySteps.{all_items_copied, item_copied, item_texts}
 use Rattle.mdblock.proofs.resuming.taken_over.Goals as goal
 
 pub returns-clause-copies : goal.returns-clause-copies
 returns-clause-copies g c =
-    let done = c.loop-item.copies.items in
-    sym (no_items_behind (items_view done))
-    ∙ ap (λ z. placed_before (items_view done) (copied_items (length (map string_bytes c.loop-item.copied.items)) (items_view z))) (sym (drop_all c.loop-item.item-index c.args.items.now c.loop-item-test.false))
-    ∙ c.loop-item.invariant.copies
+    all_items_copied c.loop-item.copies.items c.args.items.now c.loop-item.item-index _ _ c.loop-item-test.false c.loop-item.invariant.copies
 
 pub returns-in_err-copy-clause-no_more : goal.returns-in_err-copy-clause-no_more
 returns-in_err-copy-clause-no_more g c = counted_at_most c.loop-item.counted c.args.lines (g.C.Count.lines c.args.count.now) _ c.loop-item.invariant.lines c.loop-item.invariant.few

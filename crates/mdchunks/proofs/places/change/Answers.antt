@@ -1,10 +1,18 @@
-use Rattle.std.proofs.Common.{◌+◌, ◌-◌, ◌<◌, ◌≡◌, ◌∙◌, [], ap, arith, get_or, length, take}
+use Rattle.std.proofs.Common.{◌-◌, ◌<◌, ◌∙◌, ap, arith, get_or, length}
 use Rattle.std.proofs.Math.ListN.{set}
 use Rattle.std.proofs.lemmas.List.{get_or_default, take-set}
 use Rattle.std.proofs.lemmas.List.Elements.{All-get_or, All-set}
 use Rattle.mdchunks.specs.Lists.{IsFilled, joined}
-use Rattle.mdchunks.proofs.Joined.{item_at, length_same, set_at}
+use Rattle.mdchunks.proofs.Joined.{StandsAt, in_front, item_at, length_same, set_at}
+use Rattle.mdchunks.proofs.places.change.Given.{Over}
+use Rattle.mdchunks.proofs.places.change.Goals.{After-locate_near-place}
 use Rattle.mdchunks.proofs.places.change.Goals as goal
+
+found : (g : Over) (c : After-locate_near-place g) →
+    StandsAt c.args.blocks.now c.locate_near-place.result.block (c.locate_near-place.result.inside - 1) c.args.i
+found g c =
+    let at = c.locate_near-place.ensures in
+    in_front c.args.blocks.now c.locate_near-place.result.block c.locate_near-place.result.inside c.args.i at.found at.behind (at.inside at.found) at.place
 
 pub change-requires-clause-can : goal.change-requires-clause-can
 change-requires-clause-can g c =
@@ -12,12 +20,9 @@ change-requires-clause-can g c =
     let block = c.locate_near-place.result.block in
     let k = c.locate_near-place.result.inside - 1 in
     let old = get_or xss block c.index-blocks-place.result in
-    let here : block < length xss = c.locate_near-place.ensures.found in
-    let some = c.locate_near-place.ensures.behind in
-    let long = c.locate_near-place.ensures.inside here in
-    let within : k < length (get_or xss block []) = omega (arith, some, long) in
-    let place : length (joined (take block xss)) + k ≡ c.args.i = omega (arith, some, c.locate_near-place.ensures.place) in
-    λ d. rw (item_at xss block k c.args.i old d here (get_or_default xss block c.index-blocks-place.result old here) within place) (c.requires.can d)
+    let here = found g (goal.at.change-requires-clause-can g c).After-locate_near-place in
+    λ d. rw (item_at xss block k c.args.i old d here.here (get_or_default xss block c.index-blocks-place.result old here.here) here.within here.place)
+    (c.requires.can d)
 
 pub returns-clause-members : goal.returns-clause-members
 returns-clause-members g c =
@@ -25,16 +30,12 @@ returns-clause-members g c =
     let block = c.locate_near-place.result.block in
     let k = c.locate_near-place.result.inside - 1 in
     let old = get_or xss block c.index-blocks-place.result in
-    let here : block < length xss = c.locate_near-place.ensures.found in
-    let some = c.locate_near-place.ensures.behind in
-    let long = c.locate_near-place.ensures.inside here in
-    let within : k < length (get_or xss block []) = omega (arith, some, long) in
-    let place : length (joined (take block xss)) + k ≡ c.args.i = omega (arith, some, c.locate_near-place.ensures.place) in
-    let read = get_or_default xss block c.index-blocks-place.result old here in
+    let here = found g (goal.at.returns-clause-members g c).After-locate_near-place in
+    let read = get_or_default xss block c.index-blocks-place.result old here.here in
     λ d.
     ap (λ ys. joined (set xss block ys)) (c.change.ensures.value d)
-    ∙ set_at xss block k c.args.i old (g.C.Change.changed c.args.change (get_or old k d)) here read within place
-    ∙ ap (λ x. set (joined xss) c.args.i (g.C.Change.changed c.args.change x)) (item_at xss block k c.args.i old d here read within place)
+    ∙ set_at xss block k c.args.i old (g.C.Change.changed c.args.change (get_or old k d)) here.here read here.within here.place
+    ∙ ap (λ x. set (joined xss) c.args.i (g.C.Change.changed c.args.change x)) (item_at xss block k c.args.i old d here.here read here.within here.place)
 
 pub returns-clause-filled : goal.returns-clause-filled
 returns-clause-filled g c =

@@ -10,4 +10,5 @@ returns-then-marks-eq0 c = no_place c.args.class.now c.args.bytes.now c.args.at 
 
 pub returns-else-marks-eq0 : goal.returns-else-marks-eq0
 returns-else-marks-eq0 c =
-    first_place c.args.class.now c.args.bytes.now c.args.at 32 c.marks-marks.result c.requires (omega arith) c.marks-marks.ensures (omega (arith, c.if-marks-eq0.false))
+    first_place c.args.class.now c.args.bytes.now c.args.at 32 c.marks-marks.result c.requires (omega arith) c.marks-marks.ensures
+    (omega (arith, c.if-marks-eq0.false))

@@ -12,7 +12,9 @@ use Rattle.mdtext.proofs.entity_reading.+pass_value.Goals.{pass_value-In_ok-toke
 use Rattle.mdtext.proofs.entity_reading.+pass_value.Goals as goal
 
 first_token : (t : ℕ) (c : pass_value-In_ok-token t) (k : _) → c.in_ok-token.token ≡ k → c.args.reader.now ≡ token_of k ∷ c.next.new.self
-first_token t c k is = let first : c.args.reader.now ≡ token_of c.in_ok-token.token ∷ c.next.new.self = grind arith in first ∙ ap (λ k. token_of k ∷ c.next.new.self) is
+first_token t c k is =
+    let first : c.args.reader.now ≡ token_of c.in_ok-token.token ∷ c.next.new.self = grind arith in
+    first ∙ ap (λ k. token_of k ∷ c.next.new.self) is
 
 pub pass_value-returns-in_err-token-clause-err : goal.pass_value-returns-in_err-token-clause-err
 pass_value-returns-in_err-token-clause-err t c refused =
@@ -45,23 +47,27 @@ pass_value-returns-in_err-pass_fields-in-BeginObject-clause-err t c refused =
 
 pub pass_value-returns-in-String-clause-ok : goal.pass_value-returns-in-String-clause-ok
 pass_value-returns-in-String-clause-ok t c =
-    let is : c.args.reader.now ≡ Token.string c.in-String.text.now ∷ c.next.new.self = first_token t (goal.at.pass_value-returns-in-String-clause-ok t c).In_ok-token _ c.in-String.is in
+    let is : c.args.reader.now ≡ Token.string c.in-String.text.now ∷ c.next.new.self =
+    first_token t (goal.at.pass_value-returns-in-String-clause-ok t c).In_ok-token _ c.in-String.is in
     (string c.in-String.text.now, at_string c.args.depth c.args.reader.now c.in-String.text.now c.next.new.self is, refl, refl)
 
 pub pass_value-returns-then-is_number-clause-ok : goal.pass_value-returns-then-is_number-clause-ok
 pass_value-returns-then-is_number-clause-ok t c =
-    let is : c.args.reader.now ≡ Token.number c.in-Number.text.now ∷ c.next.new.self = first_token t (goal.at.pass_value-returns-then-is_number-clause-ok t c).In_ok-token _ c.in-Number.is in
+    let is : c.args.reader.now ≡ Token.number c.in-Number.text.now ∷ c.next.new.self =
+    first_token t (goal.at.pass_value-returns-then-is_number-clause-ok t c).In_ok-token _ c.in-Number.is in
     let n = at_good_number c.args.depth c.args.reader.now c.in-Number.text.now c.next.new.self is (sym c.is_number.ensures ∙ c.if-is_number.true) in
     (number n.0, n.1, refl, refl)
 
 pub pass_value-returns-else-is_number-clause-err : goal.pass_value-returns-else-is_number-clause-err
 pass_value-returns-else-is_number-clause-err t c refused =
-    let is : c.args.reader.now ≡ Token.number c.in-Number.text.now ∷ c.next.new.self = first_token t (goal.at.pass_value-returns-else-is_number-clause-err t c).In_ok-token _ c.in-Number.is in
+    let is : c.args.reader.now ≡ Token.number c.in-Number.text.now ∷ c.next.new.self =
+    first_token t (goal.at.pass_value-returns-else-is_number-clause-err t c).In_ok-token _ c.in-Number.is in
     at_bad_number c.args.depth c.args.reader.now c.in-Number.text.now c.next.new.self is (sym c.is_number.ensures ∙ c.if-is_number.false)
 
 pub pass_value-returns-in-Bool-clause-ok : goal.pass_value-returns-in-Bool-clause-ok
 pass_value-returns-in-Bool-clause-ok t c =
-    let is : c.args.reader.now ≡ Token.boolean c.in-Bool.field-0 ∷ c.next.new.self = first_token t (goal.at.pass_value-returns-in-Bool-clause-ok t c).In_ok-token _ c.in-Bool.is in
+    let is : c.args.reader.now ≡ Token.boolean c.in-Bool.field-0 ∷ c.next.new.self =
+    first_token t (goal.at.pass_value-returns-in-Bool-clause-ok t c).In_ok-token _ c.in-Bool.is in
     (boolean c.in-Bool.field-0, at_boolean c.args.depth c.args.reader.now c.in-Bool.field-0 c.next.new.self is, refl, refl)
 
 pub pass_value-returns-in-Null-clause-ok : goal.pass_value-returns-in-Null-clause-ok
@@ -139,10 +145,12 @@ pass_fields-returns-in_err-passed-clause-err t c refused =
 -- what has been read and what is left, with one member more
 abbrev GoesOn : (depth : ℕ) (all left : List Token) → Option (Bor (List ℕ)) → Type 0
 GoesOn depth all left text =
-    (n : ℕ) × (length left ≤ n) × (found : Members) × MembersGoOn depth all n left found × (option_map (λ s. s.now) text ≡ characters_among found) × (length left ≤ length all)
+    (n : ℕ) × (length left ≤ n) × (found : Members) × MembersGoOn depth all n left found × (option_map (λ s. s.now) text ≡ characters_among found)
+    × (length left ≤ length all)
 
 member_more : (t : ℕ) (c : pass_fields-In_ok-passed t) (text : Option (Bor (List ℕ))) →
-    option_map (λ s. s.now) text ≡ characters_among (put c.in-Some.key.now c.in_ok-passed.ensures.ok.0 c.loop-key.invariant.2) → GoesOn c.args.depth c.args.reader.now c.pass_value.new.reader text
+    option_map (λ s. s.now) text ≡ characters_among (put c.in-Some.key.now c.in_ok-passed.ensures.ok.0 c.loop-key.invariant.2) →
+    GoesOn c.args.depth c.args.reader.now c.pass_value.new.reader text
 member_more t c text told =
     let l = c.loop-key in
     let n = l.invariant.0 in
@@ -155,7 +163,8 @@ member_more t c text told =
       n - 1,
       omega (arith, l.invariant.1, less, done.shorter),
       put k done.ok.0 found,
-      members_more_read c.args.depth c.args.reader.now n l.reader found l.invariant.3 s c.pass_value.new.reader k done.ok.0 (omega (arith, l.invariant.1, less)) named done.ok.1,
+      members_more_read c.args.depth c.args.reader.now n l.reader found l.invariant.3 s c.pass_value.new.reader k done.ok.0 (omega (arith, l.invariant.1, less))
+      named done.ok.1,
       told,
       omega (arith, l.invariant.5, less, done.shorter),
     )
@@ -165,14 +174,16 @@ pass_fields-loop-key-preserved-then-eq t c =
     let k = c.in-Some.key.now in
     let done = c.in_ok-passed.ensures.ok in
     let is : k ≡ codes "characters" = (bytes_eq-Decides k (codes "characters")).0 (sym c.eq.ensures ∙ c.if-eq.true) in
-    member_more t (goal.at.pass_fields-loop-key-preserved-then-eq t c).In_ok-passed c.in_ok-passed.passed.text (done.2 ∙ characters_put k done.0 c.loop-key.invariant.2 is)
+    member_more t (goal.at.pass_fields-loop-key-preserved-then-eq t c).In_ok-passed c.in_ok-passed.passed.text
+    (done.2 ∙ characters_put k done.0 c.loop-key.invariant.2 is)
 
 pub pass_fields-loop-key-preserved : goal.pass_fields-loop-key-preserved
 pass_fields-loop-key-preserved t c =
     let l = c.loop-key in
     let k = c.in-Some.key.now in
     let other : codes "characters" ≡ k → ⊥ = grind arith in
-    member_more t (goal.at.pass_fields-loop-key-preserved t c).In_ok-passed l.characters (l.invariant.4 ∙ characters_past k c.in_ok-passed.ensures.ok.0 l.invariant.2 other)
+    member_more t (goal.at.pass_fields-loop-key-preserved t c).In_ok-passed l.characters
+    (l.invariant.4 ∙ characters_past k c.in_ok-passed.ensures.ok.0 l.invariant.2 other)
 
 pub pass_fields-returns-clause-ok : goal.pass_fields-returns-clause-ok
 pass_fields-returns-clause-ok t c =

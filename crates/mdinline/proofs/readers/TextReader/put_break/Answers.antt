@@ -8,7 +8,8 @@ returns-then-not-is_empty-clause-takes g c =
     let entities = c.args.self.now.entities.now in (
       [],
       g.met.S.InlineSink.takes_none c.args.sink.now,
-      λ text. leaf_kept entities text (SoftBreak ∷ []) c.args.self.now.pending c.leaf.new.self (λ handed ps qs. c.in_ok-leaf.ensures.pieces entities text handed ps qs refl),
+      λ text. leaf_kept entities text (SoftBreak ∷ []) c.args.self.now.pending c.leaf.new.self
+      (λ handed ps qs. c.in_ok-leaf.ensures.pieces entities text handed ps qs refl),
     )
 
 pub returns-clause-takes : goal.returns-clause-takes

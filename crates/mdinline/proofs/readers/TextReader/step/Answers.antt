@@ -41,11 +41,15 @@ pub soft_break_end-end-requires-clause-feed : goal.soft_break_end-end-requires-c
 soft_break_end-end-requires-clause-feed g c = subst (λ t. get_or t c.args.at 0 ≡ 10) c.as_bytes-bytes.ensures.value c.if-bytes-at-eq10.true
 
 -- a leaf that is put behind what is held
-leaf_reads : (entities : EntityTable) (table : Table) (text : List ℕ) (at : ℕ) (found : Found) (es : List Event) (old new : TextReader) (Asks : List (List ℕ) → Type 0) →
-    at < length text → IsEndAfter text at found.end → (KnowsText text at old.scanner → IsLeafAt entities text at found) → (KnowsText text at old.scanner → KnowsText text at new.scanner) →
-    new.entities ≡ old.entities → new.pending.openings ≡ old.pending.openings → PutsLeaf entities text (leaf_events entities text found.token) es old.pending new.pending → Asks [] →
+leaf_reads : (entities : EntityTable) (table : Table) (text : List ℕ) (at : ℕ) (found : Found) (es : List Event) (old new : TextReader)
+    (Asks : List (List ℕ) → Type 0) →
+    at < length text → IsEndAfter text at found.end → (KnowsText text at old.scanner → IsLeafAt entities text at found) →
+    (KnowsText text at old.scanner → KnowsText text at new.scanner) →
+    new.entities ≡ old.entities → new.pending.openings ≡ old.pending.openings →
+    PutsLeaf entities text (leaf_events entities text found.token) es old.pending new.pending → Asks [] →
     (handed : List Event) (ps : List Piece) → IsReadTo entities text at handed old ps →
-    (looked : List (List ℕ)) × (next : List Piece) × LeadsTo entities table text at ps looked found.end next × Asks looked × IsReadTo entities text found.end (handed ++ es) new next
+    (looked : List (List ℕ)) × (next : List Piece) × LeadsTo entities table text at ps looked found.end next × Asks looked
+    × IsReadTo entities text found.end (handed ++ es) new next
 leaf_reads entities table text at found es old new Asks inside end leaf knows same openings puts asks handed ps h =
     let led = leaf_leads entities table text at ps found inside end (leaf h.knows) in
     let later = end.later in (
@@ -72,8 +76,10 @@ returns-then-begins_text-clause-reads g c =
     let plain : IsPlainAt entities text at found = record { first = c.begins_text.ensures.value c.if-begins_text.true entities; rest = c.plain_end-end.ensures.rest; whole = refl } in (
       now.takes.0,
       now.takes.1,
-      leaf_reads entities (g.L.Labels.target c.args.labels.now) text at found now.takes.0 c.args.self.now c.put_text.new.self (λ looked. g.A.AsksLabels.asks c.args.asked.now looked c.args.asked.now)
-      c.requires.inside c.plain_end-end.ensures.end (λ _. inr plain) (subst (KnowsText text at) (sym now.scanner)) now.entities now.openings now.takes.2 (g.met.A.AsksLabels.asks_none c.args.asked.now),
+      leaf_reads entities (g.L.Labels.target c.args.labels.now) text at found now.takes.0 c.args.self.now c.put_text.new.self
+      (λ looked. g.A.AsksLabels.asks c.args.asked.now looked c.args.asked.now)
+      c.requires.inside c.plain_end-end.ensures.end (λ _. inr plain) (subst (KnowsText text at) (sym now.scanner)) now.entities now.openings now.takes.2
+      (g.met.A.AsksLabels.asks_none c.args.asked.now),
     )
 
 pub returns-then-begins_mark-clause-reads : goal.returns-then-begins_mark-clause-reads
@@ -87,8 +93,10 @@ returns-then-begins_mark-clause-reads g c =
     let plain : IsPlainAt entities text at found = record { first = c.begins_mark.ensures.value c.if-begins_mark.true entities; rest = λ e i low high. absurd (omega (arith, low, high)); whole = refl } in (
       now.takes.0,
       now.takes.1,
-      leaf_reads entities (g.L.Labels.target c.args.labels.now) text at found now.takes.0 c.args.self.now c.put_mark.new.self (λ looked. g.A.AsksLabels.asks c.args.asked.now looked c.args.asked.now)
-      c.requires.inside (c.begins_mark.ensures.end c.if-begins_mark.true) (λ _. inr plain) (subst (KnowsText text at) (sym now.scanner)) now.entities now.openings now.takes.2 (g.met.A.AsksLabels.asks_none c.args.asked.now),
+      leaf_reads entities (g.L.Labels.target c.args.labels.now) text at found now.takes.0 c.args.self.now c.put_mark.new.self
+      (λ looked. g.A.AsksLabels.asks c.args.asked.now looked c.args.asked.now)
+      c.requires.inside (c.begins_mark.ensures.end c.if-begins_mark.true) (λ _. inr plain) (subst (KnowsText text at) (sym now.scanner)) now.entities
+      now.openings now.takes.2 (g.met.A.AsksLabels.asks_none c.args.asked.now),
     )
 
 pub returns-then-bytes-at-eq10-clause-tokens : goal.returns-then-bytes-at-eq10-clause-tokens
@@ -105,8 +113,10 @@ returns-then-bytes-at-eq10-clause-reads g c =
     let here : lexeme_of entities text at found ≡ lex entities text at = sym (at_feed entities text at feed ∙ c.soft_break_end-end.ensures.value) in (
       now.takes.0,
       now.takes.1,
-      leaf_reads entities (g.L.Labels.target c.args.labels.now) text at found now.takes.0 c.args.self.now c.put_break.new.self (λ looked. g.A.AsksLabels.asks c.args.asked.now looked c.args.asked.now)
-      c.requires.inside c.soft_break_end-end.ensures.end (λ _. inl here) (subst (KnowsText text at) (sym now.scanner)) now.entities now.openings (now.takes.2 text) (g.met.A.AsksLabels.asks_none c.args.asked.now),
+      leaf_reads entities (g.L.Labels.target c.args.labels.now) text at found now.takes.0 c.args.self.now c.put_break.new.self
+      (λ looked. g.A.AsksLabels.asks c.args.asked.now looked c.args.asked.now)
+      c.requires.inside c.soft_break_end-end.ensures.end (λ _. inl here) (subst (KnowsText text at) (sym now.scanner)) now.entities now.openings
+      (now.takes.2 text) (g.met.A.AsksLabels.asks_none c.args.asked.now),
     )
 
 pub returns-in-Some-clause-reads : goal.returns-in-Some-clause-reads
@@ -176,7 +186,9 @@ returns-clause-reads g c =
     let no_bracket : is_bracket (lex entities text at).kind ≡ false = subst (λ t. is_bracket (lex entities t at).kind ≡ false) c.as_bytes-bytes.ensures.value (c.in_default-bracket_at.ensures.value entities) in (
       now.takes.0,
       now.takes.1,
-      leaf_reads entities (g.L.Labels.target c.args.labels.now) text at found now.takes.0 c.args.self.now c.put.new.self (λ looked. g.A.AsksLabels.asks c.args.asked.now looked c.args.asked.now)
-      c.requires.inside leaf.end (leaf.value no_run no_bracket) (λ known. subst (KnowsText text at) (sym now.scanner) (leaf.knows known)) now.entities now.openings
+      leaf_reads entities (g.L.Labels.target c.args.labels.now) text at found now.takes.0 c.args.self.now c.put.new.self
+      (λ looked. g.A.AsksLabels.asks c.args.asked.now looked c.args.asked.now)
+      c.requires.inside leaf.end (leaf.value no_run no_bracket) (λ known. subst (KnowsText text at) (sym now.scanner) (leaf.knows known)) now.entities
+      now.openings
       (λ handed ps qs. now.takes.2 handed ps qs leaf.leaf) (g.met.A.AsksLabels.asks_none c.args.asked.now),
     )

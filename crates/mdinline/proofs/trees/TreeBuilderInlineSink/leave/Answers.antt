@@ -23,7 +23,8 @@ returns c =
     (ap (λ t. (spread popped ++ row_events last) ++ written t) now.text
     ∙ left s.frames.items popped frame last s.last.items c.span_of.result all c.in-Some.ensures.items
     row
-    (c.span_of.ensures.events ∙ ap (λ (v : Vec Inline Global). within (open_span frame.span) (row_events v.items)) c.replace-inside.ensures.value) (built_rows s all now.text now.events))
+    (c.span_of.ensures.events ∙ ap (λ (v : Vec Inline Global). within (open_span frame.span) (row_events v.items)) c.replace-inside.ensures.value)
+    (built_rows s all now.text now.events))
     (ap (λ (v : Vec Frame Global). length v.items) (sym now.frames) ∙ ap length c.in-Some.ensures.items ∙ length-append popped (frame ∷ []))
     (λ h.
     let inside = subst (λ (v : Vec Inline Global). AreJoined (inlines_view v.items)) (sym c.replace-inside.ensures.value) (now.joined h) in

@@ -21,7 +21,9 @@ pub overflow_add-column-2 : goal.overflow_add-column-2
 overflow_add-column-2 c = let reach = reaches (goal.at.overflow_add-column-2 c).After-range_from-rest in omega (arith, reach)
 
 pub front_of-front-requires : goal.front_of-front-requires
-front_of-front-requires c = let reach = reaches (goal.at.front_of-front-requires c).After-range_from-rest in omega (arith, reach, ap length c.as_bytes.ensures.value)
+front_of-front-requires c =
+    let reach = reaches (goal.at.front_of-front-requires c).After-range_from-rest in
+    omega (arith, reach, ap length c.as_bytes.ensures.value)
 
 pub range_from-rest-requires : goal.range_from-rest-requires
 range_from-rest-requires c = mark_ends _ _ c.text.utf8 (subst (AreMarks c.args.n) (sym c.text.ensures) c.requires)
