@@ -128,36 +128,34 @@ module _ (setting : Setting) (old new : Table) (first added : ℕ) where
       omega (arith, rest)
 
   -- units that are not new
-  from_kept : (number : ℕ) (found : List FoundUnit) → ((k : ℕ) → k < length found → is_added first added (number + k) ≡ false)
+
+  abbrev AreKept : (number many : ℕ) → Type 0
+  AreKept number many = (k : ℕ) → k < many → is_added first added (number + k) ≡ false
+
+  kept_here : (n many : ℕ) → AreKept n (suc many) → is_added first added n ≡ false
+  kept_here n many g = let a : n ≡ n + 0 = omega arith in ap (is_added first added) a ∙ g 0 (omega arith)
+
+  kept_later : (n many : ℕ) → AreKept n (suc many) → AreKept (n + 1) many
+  kept_later n many g k below = let a : (n + 1) + k ≡ n + suc k = omega arith in ap (is_added first added) a ∙ g (suc k) (omega (arith, below))
+
+  from_kept : (number : ℕ) (found : List FoundUnit) → AreKept number (length found)
       → asking_from old new first added number (seen found) ≡ asking_units e old new number (trees_in found)
   from_kept number [] h = refl
   from_kept number (one ∷ found) h =
       ap (λ t. cond (not t && nat_lt 0 (length (filter (asks_changed old new) (map (reading_of e new) one.unit.texts)))) (number ∷ asking_from old new first added (number + 1) (seen found))
-      (asking_from old new first added (number + 1) (seen found))) (kept_here number (λ k. h k))
+      (asking_from old new first added (number + 1) (seen found))) (kept_here number (length found) h)
       ∙ ap (λ t. cond t (number ∷ asking_from old new first added (number + 1) (seen found)) (asking_from old new first added (number + 1) (seen found))) (some_asking one.unit.texts)
       ∙ ap (λ l. cond (asks_again e old new one.unit) (number ∷ l) l) (from_kept (number + 1) found (kept_later number (length found) h))
-    where
-      kept_here : (n : ℕ) → ((k : ℕ) → k < suc (length found) → is_added first added (n + k) ≡ false) → is_added first added n ≡ false
-      kept_here n g = let a : n ≡ n + 0 = omega arith in ap (is_added first added) a ∙ g 0 (omega arith)
 
-      kept_later : (n many : ℕ) → ((k : ℕ) → k < suc many → is_added first added (n + k) ≡ false) → (k : ℕ) → k < many → is_added first added ((n + 1) + k) ≡ false
-      kept_later n many g k below = let a : (n + 1) + k ≡ n + suc k = omega arith in ap (is_added first added) a ∙ g (suc k) (omega (arith, below))
-
-  due_kept : (number : ℕ) (found : List FoundUnit) → ((k : ℕ) → k < length found → is_added first added (number + k) ≡ false)
+  due_kept : (number : ℕ) (found : List FoundUnit) → AreKept number (length found)
       → texts_due old new first added number (seen found) ≡ asking_texts e old new (trees_in found)
   due_kept number [] h = refl
   due_kept number (one ∷ found) h =
       ap (λ t. cond t (length (map (reading_of e new) one.unit.texts)) (length (filter (asks_changed old new) (map (reading_of e new) one.unit.texts))) + texts_due old new first added (number + 1) (seen found))
-      (kept_here number (λ k. h k))
+      (kept_here number (length found) h)
       ∙ ap (λ n. n + texts_due old new first added (number + 1) (seen found)) (many_asking one.unit.texts)
       ∙ ap (λ n. asking_in e old new one.unit + n) (due_kept (number + 1) found (kept_later number (length found) h))
       ∙ sym (sum_by-cons (asking_in e old new) one.unit (map (λ (u : FoundUnit). u.unit) found))
-    where
-      kept_here : (n : ℕ) → ((k : ℕ) → k < suc (length found) → is_added first added (n + k) ≡ false) → is_added first added n ≡ false
-      kept_here n g = let a : n ≡ n + 0 = omega arith in ap (is_added first added) a ∙ g 0 (omega arith)
-
-      kept_later : (n many : ℕ) → ((k : ℕ) → k < suc many → is_added first added (n + k) ≡ false) → (k : ℕ) → k < many → is_added first added ((n + 1) + k) ≡ false
-      kept_later n many g k below = let a : (n + 1) + k ≡ n + suc k = omega arith in ap (is_added first added) a ∙ g (suc k) (omega (arith, below))
 
   -- new ones
   abbrev texts_in : UnitTree → ℕ
@@ -183,11 +181,17 @@ module _ (setting : Setting) (old new : Table) (first added : ℕ) where
 
   -- ---- a list of units in three parts
 
-  before_added : (many : ℕ) → many ≤ first → (k : ℕ) → k < many → is_added first added (0 + k) ≡ false
+  before_added : (many : ℕ) → many ≤ first → AreKept 0 many
   before_added many h k below = grind (arith, nat_tests, h, below)
 
-  behind_added : (many number : ℕ) → first + added ≤ number → (k : ℕ) → k < many → is_added first added (number + k) ≡ false
+  behind_added : (many number : ℕ) → first + added ≤ number → AreKept number many
   behind_added many number h k below = grind (arith, nat_tests, h)
+
+  many_seen : (found : List FoundUnit) → length (seen found) ≡ length found
+  many_seen found = map_length (viewed setting new) found
+
+  behind_both : (a b : List FoundUnit) → length a ≡ first → length b ≡ added → 0 + length (seen a ++ seen b) ≡ first + added
+  behind_both a b one two = let both = length-append (seen a) (seen b) in let x = many_seen a in let y = many_seen b in omega (arith, one, two, x, y, both)
 
   pub from_parts : (a b c : List FoundUnit) → length a ≡ first → length b ≡ added
       → asking_from old new first added 0 (seen ((a ++ b) ++ c)) ≡ asking_units e old new 0 (trees_in a) ++ asking_units e old new (first + added) (trees_in c)
@@ -196,18 +200,11 @@ module _ (setting : Setting) (old new : Table) (first added : ℕ) where
       ∙ from_append 0 (seen a ++ seen b) (seen c)
       ∙ ap (λ l. l ++ asking_from old new first added (0 + length (seen a ++ seen b)) (seen c)) (from_append 0 (seen a) (seen b)
       ∙ ap (λ l. l ++ asking_from old new first added (0 + length (seen a)) (seen b)) (from_kept 0 a (before_added (length a) (omega (arith, one))))
-      ∙ ap (λ l. asking_units e old new 0 (trees_in a) ++ l) (from_added (0 + length (seen a)) b (omega (arith, one, many_a)) (omega (arith, one, two, many_a))) ∙ append-nil (asking_units e old new 0 (trees_in a)))
-      ∙ ap (λ l. asking_units e old new 0 (trees_in a) ++ l) (ap (λ n. asking_from old new first added n (seen c)) at
+      ∙ ap (λ l. asking_units e old new 0 (trees_in a) ++ l)
+      (from_added (0 + length (seen a)) b (omega (arith, one, many_seen a)) (omega (arith, one, two, many_seen a)))
+      ∙ append-nil (asking_units e old new 0 (trees_in a)))
+      ∙ ap (λ l. asking_units e old new 0 (trees_in a) ++ l) (ap (λ n. asking_from old new first added n (seen c)) (behind_both a b one two)
       ∙ from_kept (first + added) c (behind_added (length c) (first + added) (omega arith)))
-    where
-      many_a : length (seen a) ≡ length a
-      many_a = map_length (viewed setting new) a
-
-      many_b : length (seen b) ≡ length b
-      many_b = map_length (viewed setting new) b
-
-      at : 0 + length (seen a ++ seen b) ≡ first + added
-      at = let both = length-append (seen a) (seen b) in omega (arith, one, two, many_a, many_b, both)
 
   pub due_parts : (a b c : List FoundUnit) → length a ≡ first → length b ≡ added
       → texts_due old new first added 0 (seen ((a ++ b) ++ c)) ≡ (asking_texts e old new (trees_in a) + sum_by texts_in (trees_in b)) + asking_texts e old new (trees_in c)
@@ -215,19 +212,11 @@ module _ (setting : Setting) (old new : Table) (first added : ℕ) where
       let x = due_append 0 (seen a ++ seen b) (seen c) in
       let y = due_append 0 (seen a) (seen b) in
       let u = due_kept 0 a (before_added (length a) (omega (arith, one))) in
-      let v = due_added (0 + length (seen a)) b (omega (arith, one, many_a)) (omega (arith, one, two, many_a)) in
-      let w = ap (λ n. texts_due old new first added n (seen c)) at ∙ due_kept (first + added) c (behind_added (length c) (first + added) (omega arith)) in
+      let v = due_added (0 + length (seen a)) b (omega (arith, one, many_seen a)) (omega (arith, one, two, many_seen a)) in
+      let w = ap (λ n. texts_due old new first added n (seen c)) (behind_both a b one two)
+      ∙ due_kept (first + added) c (behind_added (length c) (first + added) (omega arith)) in
       ap (texts_due old new first added 0) (map-append (viewed setting new) (a ++ b) c ∙ ap (λ z. z ++ seen c) (map-append (viewed setting new) a b))
       ∙ omega (arith, x, y, u, v, w)
-    where
-      many_a : length (seen a) ≡ length a
-      many_a = map_length (viewed setting new) a
-
-      many_b : length (seen b) ≡ length b
-      many_b = map_length (viewed setting new) b
-
-      at : 0 + length (seen a ++ seen b) ≡ first + added
-      at = let both = length-append (seen a) (seen b) in omega (arith, one, two, many_a, many_b, both)
 
 -- ---- an edit
 

@@ -42,19 +42,22 @@ lines_place new from line order below =
     let c = length-take-le line new below in
     omega (arith, a, b, c, order)
 
+-- the lines behind those that were read
+pub stretch_rest : (new : List (List ℕ)) (from line : ℕ) (d : List ℕ) → from ≤ line → line < length new
+    → drop from new ≡ (drop from (take line new) ++ get_or new line d ∷ []) ++ drop (line + 1) new
+stretch_rest new from line d order below =
+    let size = length-take-le (line + 1) new (omega (arith, below)) in
+    ap (drop from) (sym (take-append-drop (line + 1) new))
+    ∙ drop-append-le from (take (line + 1) new) (drop (line + 1) new) (omega (arith, order, size))
+    ∙ ap (λ z. z ++ drop (line + 1) new) (line_more new from line d order below)
+
 in_parts : (new : List (List ℕ)) (from line : ℕ) (d : List ℕ) → from ≤ line → line < length new
     → new ≡ (take from new ++ (drop from (take line new) ++ get_or new line d ∷ [])) ++ drop (line + 1) new
 in_parts new from line d order below =
-    let size = length-take-le (line + 1) new (omega (arith, below)) in
-    let front = take from new in
-    let read = drop from (take line new) ++ get_or new line d ∷ [] in
-    sym (take-append-drop from new)
-    ∙ ap (λ z. front ++ drop from z) (sym (take-append-drop (line + 1) new))
-    ∙ ap (λ z. front ++ z) (drop-append-le from (take (line + 1) new) (drop (line + 1) new) (omega (arith, order, size)))
-    ∙ ap (λ z. front ++ (z ++ drop (line + 1) new)) (line_more new from line d order below)
-    ∙ sym (append_assoc front read (drop (line + 1) new))
+    sym (take-append-drop from new) ∙ ap (λ z. take from new ++ z) (stretch_rest new from line d order below)
+    ∙ sym (append_assoc (take from new) (drop from (take line new) ++ get_or new line d ∷ []) (drop (line + 1) new))
 
-read_stretch : (e : EntityTable) (old new : List (List ℕ)) (p : Places) → IsEdit e old new p → (line : ℕ) (d : List ℕ) → from_line p ≤ line → line < length new
+pub read_stretch : (e : EntityTable) (old new : List (List ℕ)) (p : Places) → IsEdit e old new p → (line : ℕ) (d : List ℕ) → from_line p ≤ line → line < length new
     → IsReadStretch e new (take (from_line p) new) (drop (from_line p) (take line new)) (get_or new line d) (drop (line + 1) new)
 read_stretch e old new p w line d order below = record { order = in_parts new (from_line p) line d order below; cut = by (from_cut e old new p w new w.front) }
   where

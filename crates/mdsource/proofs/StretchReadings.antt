@@ -156,75 +156,62 @@ moved_on n (u ∷ us) b w = by (Contains-append_cases (u.begin ∷ []) (begins_i
         (Contains-append_left ((u.begin + n) ∷ []) (begins_in (map (shift_found n) us)) (u.begin + n) (Contains-push [] (u.begin + n)))
     by (inr v) later = Contains-append_right ((u.begin + n) ∷ []) (begins_in (map (shift_found n) us)) (b + n) (later v)
 
--- the lines up to the last one that was read, cut where reading began
-begins_of_stretch : (e : EntityTable) (text front lines : List (List ℕ)) (line : List ℕ) (later : List (List ℕ)) → IsReadStretch e text front lines line later
-    → begins e (front ++ (lines ++ line ∷ [])) ≡ begins e front ++ begins_in (map (shift_found (length front)) (units e (lines ++ line ∷ [])))
-begins_of_stretch e text front lines line later s =
-    ap begins_in (units_cut e all n (cut s.cut)
-    ∙ ap (λ z. units e z ++ map (shift_found n) (units e (drop n all))) (take-append_seam front some)
-    ∙ ap (λ z. units e front ++ map (shift_found n) (units e z)) (drop-append_seam front some))
-    ∙ map-append (λ (f : FoundUnit). f.begin) (units e front) (map (shift_found n) (units e some))
-  where
-    n : ℕ
-    n = length front
+-- ---- the lines up to the last one that was read
 
-    some : List (List ℕ)
-    some = lines ++ line ∷ []
+module _ (e : EntityTable) (text front lines : List (List ℕ)) (line : List ℕ) (later : List (List ℕ)) (s : IsReadStretch e text front lines line later) where
+  abbrev n : ℕ
+  n = length front
 
-    all : List (List ℕ)
-    all = front ++ some
+  abbrev some : List (List ℕ)
+  some = lines ++ line ∷ []
 
-    small : n < length all
-    small = let a = length-append front some in let b = length-append lines (line ∷ []) in omega (arith, a, b)
+  abbrev all : List (List ℕ)
+  all = front ++ some
 
-    cut : (n ≡ 0) ⊎ Contains (begins e text) n → IsCut e all n
-    cut (inl h) = inl h
-    cut (inr w) =
-        inr (inr (subst (λ z. Contains (begins e z) n) (append-nil all) (beginning_kept e all later [] n small (subst (λ z. Contains (begins e z) n) s.order w))))
+  abbrev at : ℕ
+  at = n + length lines
 
--- Where a unit of the text begins in the last line that was read, the reader says so, and nowhere else.
-pub stretch_begins : (e : EntityTable) (text front lines : List (List ℕ)) (line : List ℕ) (later : List (List ℕ)) → IsReadStretch e text front lines line later
-    → (Contains (begins e text) (length front + length lines) → last_of (begins e (lines ++ line ∷ [])) ≡ Some (length lines))
-    × (last_of (begins e (lines ++ line ∷ [])) ≡ Some (length lines) → Contains (begins e text) (length front + length lines))
-stretch_begins e text front lines line later s = (there, back)
-  where
-    n : ℕ
-    n = length front
+  small : at < length all
+  small = let a = length-append front some in let b = length-append lines (line ∷ []) in omega (arith, a, b)
 
-    some : List (List ℕ)
-    some = lines ++ line ∷ []
+  cut : (n ≡ 0) ⊎ Contains (begins e text) n → IsCut e all n
+  cut (inl h) = inl h
+  cut (inr w) =
+      let below : n < length all = omega (arith, small) in
+      inr (inr (subst (λ z. Contains (begins e z) n) (append-nil all) (beginning_kept e all later [] n below (subst (λ z. Contains (begins e z) n) s.order w))))
 
-    all : List (List ℕ)
-    all = front ++ some
+  -- cut where reading began
+  parts : begins e all ≡ begins e front ++ begins_in (map (shift_found n) (units e some))
+  parts =
+      ap begins_in (units_cut e all n (cut s.cut)
+      ∙ ap (λ z. units e z ++ map (shift_found n) (units e (drop n all))) (take-append_seam front some)
+      ∙ ap (λ z. units e front ++ map (shift_found n) (units e z)) (drop-append_seam front some))
+      ∙ map-append (λ (f : FoundUnit). f.begin) (units e front) (map (shift_found n) (units e some))
 
-    at : ℕ
-    at = n + length lines
+  by : Contains (begins e front) at ⊎ Contains (begins_in (map (shift_found n) (units e some))) at → last_of (begins e some) ≡ Some (length lines)
+  by (inl w) = absurd (let low = All-contains (λ b. b < n) (begins e front) at (begins_within e front) w in omega (arith, low))
+  by (inr w) =
+      let b = moved_back n (units e some) at w in
+      let is = b.2 in
+      let same : b.0 ≡ length lines = omega (arith, is) in
+      begins_last e lines line (subst (λ z. Contains (begins e some) z) same b.1)
 
-    small : at < length all
-    small = let a = length-append front some in let b = length-append lines (line ∷ []) in omega (arith, a, b)
+  there : Contains (begins e text) at → last_of (begins e some) ≡ Some (length lines)
+  there w =
+      let inside = subst (λ z. Contains (begins e z) at) (append-nil all) (beginning_kept e all later [] at small (subst (λ z. Contains (begins e z) at) s.order w)) in
+      by (Contains-append_cases (begins e front) (begins_in (map (shift_found n) (units e some))) at (subst (λ z. Contains z at) parts inside))
 
-    parts : begins e all ≡ begins e front ++ begins_in (map (shift_found n) (units e some))
-    parts = begins_of_stretch e text front lines line later s
+  back : last_of (begins e some) ≡ Some (length lines) → Contains (begins e text) at
+  back h =
+      let moved = moved_on n (units e some) (length lines) (last_is_there (begins e some) (length lines) h) in
+      let is : length lines + n ≡ at = omega arith in
+      let inside = subst (λ z. Contains z at) (sym parts)
+      (Contains-append_right (begins e front) (begins_in (map (shift_found n) (units e some))) at
+      (subst (λ z. Contains (begins_in (map (shift_found n) (units e some))) z) is moved)) in
+      subst (λ z. Contains (begins e z) at) (sym s.order)
+      (beginning_kept e all [] later at small (subst (λ z. Contains (begins e z) at) (sym (append-nil all)) inside))
 
-    by : Contains (begins e front) at ⊎ Contains (begins_in (map (shift_found n) (units e some))) at → last_of (begins e some) ≡ Some (length lines)
-    by (inl w) = absurd (let low = All-contains (λ b. b < n) (begins e front) at (begins_within e front) w in omega (arith, low))
-    by (inr w) =
-        let b = moved_back n (units e some) at w in
-        let is = b.2 in
-        let same : b.0 ≡ length lines = omega (arith, is) in
-        begins_last e lines line (subst (λ z. Contains (begins e some) z) same b.1)
-
-    there : Contains (begins e text) at → last_of (begins e some) ≡ Some (length lines)
-    there w =
-        let inside = subst (λ z. Contains (begins e z) at) (append-nil all) (beginning_kept e all later [] at small (subst (λ z. Contains (begins e z) at) s.order w)) in
-        by (Contains-append_cases (begins e front) (begins_in (map (shift_found n) (units e some))) at (subst (λ z. Contains z at) parts inside))
-
-    back : last_of (begins e some) ≡ Some (length lines) → Contains (begins e text) at
-    back h =
-        let moved = moved_on n (units e some) (length lines) (last_is_there (begins e some) (length lines) h) in
-        let is : length lines + n ≡ at = omega arith in
-        let inside = subst (λ z. Contains z at) (sym parts)
-        (Contains-append_right (begins e front) (begins_in (map (shift_found n) (units e some))) at
-        (subst (λ z. Contains (begins_in (map (shift_found n) (units e some))) z) is moved)) in
-        subst (λ z. Contains (begins e z) at) (sym s.order)
-        (beginning_kept e all [] later at small (subst (λ z. Contains (begins e z) at) (sym (append-nil all)) inside))
+  -- Where a unit of the text begins in the last line that was read, the reader says so, and nowhere else.
+  pub stretch_begins : (Contains (begins e text) (length front + length lines) → last_of (begins e (lines ++ line ∷ [])) ≡ Some (length lines))
+      × (last_of (begins e (lines ++ line ∷ [])) ≡ Some (length lines) → Contains (begins e text) (length front + length lines))
+  stretch_begins = (there, back)

@@ -40,21 +40,26 @@ unfolding found_units
 front_is_next [] n = refl
 front_is_next (g ∷ gs) n = refl
 
+-- where the groups of a document begin
+record BeginIn (e : EntityTable) (lines : List (List ℕ)) : Type 0 where
+  ascend : Ascends (group_begins (groups e (map document_line lines)))
+  within : All (λ b. b ≤ length lines) (group_begins (groups e (map document_line lines)))
+
+begin_in : (e : EntityTable) (lines : List (List ℕ)) → BeginIn e lines
+begin_in e lines =
+    let n = length lines in
+    let same = begins_of_groups (groups e (map document_line lines)) n in
+    record {
+      ascend = subst Ascends same (begins_ascend e lines);
+      within = subst (All (λ b. b ≤ n)) same (All-weaker (λ b. b < n) (λ b. b ≤ n) (λ b h. omega (arith, h)) (begins e lines) (begins_within e lines));
+    }
+
 -- The first lines of the units, by how many lines stand before the first one and how many each has.
 pub units_tile : (e : EntityTable) (lines : List (List ℕ)) → begins e lines ≡ begins_from (front_of (length lines) (units e lines)) (lines_of (units e lines))
 units_tile e lines =
-    tiles gs n (subst Ascends same (begins_ascend e lines))
-    (subst (All (λ b. b ≤ n)) same (All-weaker (λ b. b < n) (λ b. b ≤ n) (λ b h. omega (arith, h)) (begins e lines) (begins_within e lines)))
-    ∙ ap (λ z. begins_from z (lines_of (units e lines))) (sym (front_is_next gs n))
-  where
-    gs : List Group
-    gs = groups e (map document_line lines)
-
-    n : ℕ
-    n = length lines
-
-    same : begins e lines ≡ group_begins gs
-    same = begins_of_groups gs n
+    let gs = groups e (map document_line lines) in
+    let s = begin_in e lines in
+    tiles gs (length lines) s.ascend s.within ∙ ap (λ z. begins_from z (lines_of (units e lines))) (sym (front_is_next gs (length lines)))
 
 ends : (gs : List Group) (n : ℕ) → Ascends (group_begins gs) → All (λ b. b ≤ n) (group_begins gs) → next_begin gs n + sum_by (λ k. k) (lines_of (found_units gs n)) ≡ n
 unfolding found_units group_begins
@@ -68,15 +73,6 @@ ends (g ∷ gs) n h k =
 -- The lines before the first unit and those of the units are all lines.
 pub units_end : (e : EntityTable) (lines : List (List ℕ)) → front_of (length lines) (units e lines) + sum_by (λ k. k) (lines_of (units e lines)) ≡ length lines
 units_end e lines =
-    ap (λ z. z + sum_by (λ k. k) (lines_of (units e lines))) (front_is_next gs n)
-    ∙ ends gs n (subst Ascends same (begins_ascend e lines))
-    (subst (All (λ b. b ≤ n)) same (All-weaker (λ b. b < n) (λ b. b ≤ n) (λ b h. omega (arith, h)) (begins e lines) (begins_within e lines)))
-  where
-    gs : List Group
-    gs = groups e (map document_line lines)
-
-    n : ℕ
-    n = length lines
-
-    same : begins e lines ≡ group_begins gs
-    same = begins_of_groups gs n
+    let gs = groups e (map document_line lines) in
+    let s = begin_in e lines in
+    ap (λ z. z + sum_by (λ k. k) (lines_of (units e lines))) (front_is_next gs (length lines)) ∙ ends gs (length lines) s.ascend s.within

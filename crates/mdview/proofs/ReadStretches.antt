@@ -1,18 +1,18 @@
 -- What a reader is fed that reads a text from one line on, and where the text of an edit is cut.
-use Rattle.std.proofs.Common.{◌≡◌, ℕ, ◌+◌, ◌-◌, ◌<◌, ◌≤◌, ◌⊎◌, inl, inr, Bool, true, false, List, [], ◌∷◌, ◌++◌, Option, Some, None, length, map, take, drop, get_or, refl, ap, ◌∙◌, sym, subst, arith, append_assoc, length-append, nat_lt, string_bytes}
+use Rattle.std.proofs.Common.{◌≡◌, ℕ, ◌+◌, ◌-◌, ◌<◌, ◌≤◌, Bool, true, false, List, [], ◌∷◌, ◌++◌, Option, Some, None, length, map, take, drop, get_or, refl, ap, ◌∙◌, sym, subst, arith, append_assoc, length-append, nat_lt, string_bytes}
 use Rattle.std.specs.Prelude.{Contains, nat_eq}
 use Rattle.std.specs.List.{find}
 use Rattle.std.specs.Option.{unwrap_or}
 use Rattle.std.proofs.lemmas.Bool.Decides.{nat_tests}
-use Rattle.std.proofs.lemmas.List.{drop-append-le, length-drop, length-map, length-take-le, take-append-drop, take_more}
+use Rattle.std.proofs.lemmas.List.{length-drop, length-map, length-take-le}
 use Rattle.std.proofs.Math.Seq.{drop-append_seam, drop-length, take-append_seam}
 use Rattle.mdtext.specs.EntityTable.{EntityTable}
 use Rattle.blockspec.specs.BlockUnits.{begins}
 use Rattle.mdblock.specs.held.Reads.{last_of, open_begin}
 use Rattle.mdsource.specs.Stretch.{Places, from_line, is_meeting, meeting_line}
-use Rattle.mdsource.specs.ReadStretch.{IsReadStretch}
-use Rattle.mdsource.proofs.Cuts.{IsCut}
-use Rattle.mdsource.proofs.Splices.{IsEdit, found_is, from_cut}
+use Rattle.mdsource.proofs.Splices.{IsEdit, found_is}
+pub use Rattle.mdsource.proofs.NearStretch.{line_more as stretch_next, stretch_rest}
+use Rattle.mdsource.proofs.NearStretch.{lines_place, read_stretch}
 use Rattle.mdsource.proofs.StretchReadings.{stretch_begins}
 use Rattle.mdview.specs.HeldBlocks.{old_lines, places_of}
 use Rattle.mdview.specs.NewText.{lines_of as new_lines}
@@ -52,49 +52,13 @@ is_edit e text =
 
 -- ---- the lines from one on
 
-pub stretch_next : (new : List (List ℕ)) (from line : ℕ) (d : List ℕ) → from ≤ line → line < length new
-    → drop from (take (line + 1) new) ≡ drop from (take line new) ++ get_or new line d ∷ []
-stretch_next new from line d order below =
-    let size = length-take-le line new (omega (arith, below)) in
-    ap (drop from) (take_more new line d below) ∙ drop-append-le from (take line new) (get_or new line d ∷ []) (omega (arith, order, size))
-
 pub stretch_size : (new : List (List ℕ)) (from line : ℕ) → line ≤ length new → length (drop from (take line new)) ≡ line - from
 stretch_size new from line below = let a = length-drop from (take line new) in let b = length-take-le line new below in omega (arith, a, b)
 
 pub stretch_none : (new : List (List ℕ)) (from : ℕ) → from ≤ length new → drop from (take from new) ≡ []
 stretch_none new from below = ap (λ n. drop n (take from new)) (sym (length-take-le from new below)) ∙ drop-length (take from new)
 
--- the lines behind those that were read
-pub stretch_rest : (new : List (List ℕ)) (from line : ℕ) (d : List ℕ) → from ≤ line → line < length new
-    → drop from new ≡ (drop from (take line new) ++ get_or new line d ∷ []) ++ drop (line + 1) new
-stretch_rest new from line d order below =
-    let size = length-take-le (line + 1) new (omega (arith, below)) in
-    ap (drop from) (sym (take-append-drop (line + 1) new))
-    ∙ drop-append-le from (take (line + 1) new) (drop (line + 1) new) (omega (arith, order, size))
-    ∙ ap (λ z. z ++ drop (line + 1) new) (stretch_next new from line d order below)
-
-stretch_order : (new : List (List ℕ)) (from line : ℕ) (d : List ℕ) → from ≤ line → line < length new
-    → new ≡ (take from new ++ (drop from (take line new) ++ get_or new line d ∷ [])) ++ drop (line + 1) new
-stretch_order new from line d order below =
-    sym (take-append-drop from new) ∙ ap (λ z. take from new ++ z) (stretch_rest new from line d order below)
-    ∙ sym (append_assoc (take from new) (drop from (take line new) ++ get_or new line d ∷ []) (drop (line + 1) new))
-
 -- ---- what the reader tells of a line
-
-is_read_stretch : (e : EntityTable) (old new : List (List ℕ)) (p : Places) → IsEdit e old new p → (line : ℕ) (d : List ℕ) → from_line p ≤ line → line < length new
-    → IsReadStretch e new (take (from_line p) new) (drop (from_line p) (take line new)) (get_or new line d) (drop (line + 1) new)
-is_read_stretch e old new p w line d order below = record {
-  order = stretch_order new (from_line p) line d order below;
-  cut = by (from_cut e old new p w new w.front);
-}
-  where
-    size : length (take (from_line p) new) ≡ from_line p
-    size = length-take-le (from_line p) new (omega (arith, order, below))
-
-    by : IsCut e new (from_line p) → (length (take (from_line p) new) ≡ 0) ⊎ Contains (begins e new) (length (take (from_line p) new))
-    by (inl h) = inl (size ∙ h)
-    by (inr (inl h)) = absurd (omega (arith, h, order, below))
-    by (inr (inr h)) = inr (subst (λ z. Contains (begins e new) z) (sym size) h)
 
 -- A unit of the new text begins in the last line that was read exactly where the reader's last unit does.
 pub tells_begin : (e : EntityTable) (old new : List (List ℕ)) (p : Places) → IsEdit e old new p → (line : ℕ) (d : List ℕ) → from_line p ≤ line → line < length new
@@ -113,11 +77,11 @@ tells_begin e old new p w line d order below =
     size = stretch_size new from line (omega (arith, below))
 
     place : length (take from new) + length ls ≡ line
-    place = let a = length-take-le from new (omega (arith, order, below)) in omega (arith, a, size, order)
+    place = lines_place new from line order (omega (arith, below))
 
     s : (Contains (begins e new) (length (take from new) + length ls) → last_of (begins e (ls ++ get_or new line d ∷ [])) ≡ Some (length ls))
         × (last_of (begins e (ls ++ get_or new line d ∷ [])) ≡ Some (length ls) → Contains (begins e new) (length (take from new) + length ls))
-    s = stretch_begins e new (take from new) ls (get_or new line d) (drop (line + 1) new) (is_read_stretch e old new p w line d order below)
+    s = stretch_begins e new (take from new) ls (get_or new line d) (drop (line + 1) new) (read_stretch e old new p w line d order below)
 
 -- No unit begins in both texts up to a line: reading goes on to it at least.
 pub meets_later : (e : EntityTable) (old new : List (List ℕ)) (p : Places) → IsEdit e old new p → (line : ℕ) → line ≤ length new
