@@ -164,7 +164,7 @@ member_more t c text told =
       omega (arith, l.invariant.1, less, done.shorter),
       put k done.ok.0 found,
       members_more_read c.args.depth c.args.reader.now n l.reader found l.invariant.3 s c.pass_value.new.reader k done.ok.0 (omega (arith, l.invariant.1, less))
-      named done.ok.1,
+          named done.ok.1,
       told,
       omega (arith, l.invariant.5, less, done.shorter),
     )

@@ -11,7 +11,7 @@ returns-then-not-is_empty-clause-takes g c =
       [],
       g.met.S.InlineSink.takes_none c.args.sink.now,
       λ handed ps qs leaf. leaf_kept entities text (leaf_events entities text c.args.token) c.args.self.now.pending c.leaf.new.self
-      (λ before old new. put.pieces entities text before old new leaf) handed ps qs,
+          (λ before old new. put.pieces entities text before old new leaf) handed ps qs,
     )
 
 pub returns-clause-takes : goal.returns-clause-takes

@@ -9,7 +9,7 @@ returns-then-not-is_empty-clause-takes g c =
       [],
       g.met.S.InlineSink.takes_none c.args.sink.now,
       λ text. leaf_kept entities text (SoftBreak ∷ []) c.args.self.now.pending c.leaf.new.self
-      (λ handed ps qs. c.in_ok-leaf.ensures.pieces entities text handed ps qs refl),
+          (λ handed ps qs. c.in_ok-leaf.ensures.pieces entities text handed ps qs refl),
     )
 
 pub returns-clause-takes : goal.returns-clause-takes

@@ -19,5 +19,5 @@ returns-clause-takes g c =
       es,
       c.in_ok-text.ensures,
       leaf_handed c.args.self.now.entities.now c.args.text.now _ es c.args.self.now.pending c.is_empty.result c.is_empty.ensures c.if-not-is_empty.false
-      (ap (λ t. ones (written t)) c.part.ensures),
+          (ap (λ t. ones (written t)) c.part.ensures),
     )

@@ -77,9 +77,9 @@ returns-then-begins_text-clause-reads g c =
       now.takes.0,
       now.takes.1,
       leaf_reads entities (g.L.Labels.target c.args.labels.now) text at found now.takes.0 c.args.self.now c.put_text.new.self
-      (λ looked. g.A.AsksLabels.asks c.args.asked.now looked c.args.asked.now)
-      c.requires.inside c.plain_end-end.ensures.end (λ _. inr plain) (subst (KnowsText text at) (sym now.scanner)) now.entities now.openings now.takes.2
-      (g.met.A.AsksLabels.asks_none c.args.asked.now),
+          (λ looked. g.A.AsksLabels.asks c.args.asked.now looked c.args.asked.now)
+          c.requires.inside c.plain_end-end.ensures.end (λ _. inr plain) (subst (KnowsText text at) (sym now.scanner)) now.entities now.openings now.takes.2
+          (g.met.A.AsksLabels.asks_none c.args.asked.now),
     )
 
 pub returns-then-begins_mark-clause-reads : goal.returns-then-begins_mark-clause-reads
@@ -94,9 +94,9 @@ returns-then-begins_mark-clause-reads g c =
       now.takes.0,
       now.takes.1,
       leaf_reads entities (g.L.Labels.target c.args.labels.now) text at found now.takes.0 c.args.self.now c.put_mark.new.self
-      (λ looked. g.A.AsksLabels.asks c.args.asked.now looked c.args.asked.now)
-      c.requires.inside (c.begins_mark.ensures.end c.if-begins_mark.true) (λ _. inr plain) (subst (KnowsText text at) (sym now.scanner)) now.entities
-      now.openings now.takes.2 (g.met.A.AsksLabels.asks_none c.args.asked.now),
+          (λ looked. g.A.AsksLabels.asks c.args.asked.now looked c.args.asked.now)
+          c.requires.inside (c.begins_mark.ensures.end c.if-begins_mark.true) (λ _. inr plain) (subst (KnowsText text at) (sym now.scanner)) now.entities
+          now.openings now.takes.2 (g.met.A.AsksLabels.asks_none c.args.asked.now),
     )
 
 pub returns-then-bytes-at-eq10-clause-tokens : goal.returns-then-bytes-at-eq10-clause-tokens
@@ -114,9 +114,9 @@ returns-then-bytes-at-eq10-clause-reads g c =
       now.takes.0,
       now.takes.1,
       leaf_reads entities (g.L.Labels.target c.args.labels.now) text at found now.takes.0 c.args.self.now c.put_break.new.self
-      (λ looked. g.A.AsksLabels.asks c.args.asked.now looked c.args.asked.now)
-      c.requires.inside c.soft_break_end-end.ensures.end (λ _. inl here) (subst (KnowsText text at) (sym now.scanner)) now.entities now.openings
-      (now.takes.2 text) (g.met.A.AsksLabels.asks_none c.args.asked.now),
+          (λ looked. g.A.AsksLabels.asks c.args.asked.now looked c.args.asked.now)
+          c.requires.inside c.soft_break_end-end.ensures.end (λ _. inl here) (subst (KnowsText text at) (sym now.scanner)) now.entities now.openings
+          (now.takes.2 text) (g.met.A.AsksLabels.asks_none c.args.asked.now),
     )
 
 pub returns-in-Some-clause-reads : goal.returns-in-Some-clause-reads
@@ -187,8 +187,8 @@ returns-clause-reads g c =
       now.takes.0,
       now.takes.1,
       leaf_reads entities (g.L.Labels.target c.args.labels.now) text at found now.takes.0 c.args.self.now c.put.new.self
-      (λ looked. g.A.AsksLabels.asks c.args.asked.now looked c.args.asked.now)
-      c.requires.inside leaf.end (leaf.value no_run no_bracket) (λ known. subst (KnowsText text at) (sym now.scanner) (leaf.knows known)) now.entities
-      now.openings
-      (λ handed ps qs. now.takes.2 handed ps qs leaf.leaf) (g.met.A.AsksLabels.asks_none c.args.asked.now),
+          (λ looked. g.A.AsksLabels.asks c.args.asked.now looked c.args.asked.now)
+          c.requires.inside leaf.end (leaf.value no_run no_bracket) (λ known. subst (KnowsText text at) (sym now.scanner) (leaf.knows known)) now.entities
+          now.openings
+          (λ handed ps qs. now.takes.2 handed ps qs leaf.leaf) (g.met.A.AsksLabels.asks_none c.args.asked.now),
     )
