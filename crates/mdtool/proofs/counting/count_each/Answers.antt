@@ -1,10 +1,15 @@
-use Rattle.std.proofs.Common.{◌≡◌, refl, ap, ◌∙◌, true, false}
+use Rattle.std.proofs.Common.{◌≡◌, Result, refl, ap, ◌∙◌, false}
 use Rattle.std.specs.Prelude.{not}
-use Rattle.std.specs.Result.{is_ok}
+use Rattle.std.specs.Result.{IsErrAnd}
 use Rattle.std.proofs.lemmas.Result.{err_from_is_err_and}
-use Rattle.mdtool.proofs.Readings.{draws_of}
-use Rattle.mdtool.proofs.CountRuns.{counts_start, counts_more, counts_stop, counts_starve, counts_break, counts_end}
 use Rattle.mdtool.specs.Commands.{Done}
+use Rattle.mdtool.specs.Counts.{Counts}
+use Rattle.mdtool.specs.declared.fault.ToolFault.{ToolFault}
+use Rattle.mdtool.specs.declared.fault.ToolFault.TheVariants.{NoMemory}
+use Rattle.mdtool.proofs.Readings.{draws_of}
+use Rattle.mdtool.proofs.CountRuns.{CountRun, counts_start, counts_more, counts_stop, counts_starve, counts_break, counts_end}
+use Rattle.mdtool.proofs.counting.count_each.Given.{Over}
+use Rattle.mdtool.proofs.counting.count_each.Goals.{In-Some, After-is_err}
 use Rattle.mdtool.proofs.counting.count_each.Goals as goal
 
 pub loop-script-init : goal.loop-script-init
@@ -15,57 +20,50 @@ returns-in_err-command-clause-counts g c =
     let p = err_from_is_err_and c.from_residual.result c.from_residual.ensures.1 in
     rw (p.1, p.2) (counts_end (Unit {0}) c.in_err-command.field-0.0 _ _ _ _ _ _ _ _ _ c.loop-script.invariant.run c.in_err-command.ensures.next)
 
-pub returns-in_err-count-clause-counts : goal.returns-in_err-count-clause-counts
-returns-in_err-count-clause-counts g c =
+-- memory ended the work before the line of the command that was read
+starves : (g : Over) (c : In-Some g) (result : Result (Unit {0}) ToolFault) → IsErrAnd result (λ fault. fault ≡ NoMemory)
+    → Counts result c.args.preview.now (g.R.Feed.left c.args.feed.now) (g.R.Feed.left c.next_command.new.feed) (g.W.Out.written c.args.out.now) (g.W.Out.written c.loop-script.out)
+starves g c result failed =
     let read = rw c.in-Some.is at c.in_ok-command.ensures.next in
-    let p = err_from_is_err_and c.from_residual-in_err-count.result c.from_residual-in_err-count.ensures.1 in
+    let p = err_from_is_err_and result failed in
     rw (p.1, p.2) (counts_starve _ _ _ _ _ _ _ _ c.loop-script.invariant.run (draws_of _ _ _ _ _ read.reads))
 
+pub returns-in_err-count-clause-counts : goal.returns-in_err-count-clause-counts
+returns-in_err-count-clause-counts g c = starves g (goal.at.returns-in_err-count-clause-counts g c).In-Some c.from_residual-in_err-count.result c.from_residual-in_err-count.ensures.1
+
 pub returns-in_err-line-clause-counts : goal.returns-in_err-line-clause-counts
-returns-in_err-line-clause-counts g c =
-    let read = rw c.in-Some.is at c.in_ok-command.ensures.next in
-    let p = err_from_is_err_and c.from_residual-in_err-line.result c.from_residual-in_err-line.ensures.1 in
-    rw (p.1, p.2) (counts_starve _ _ _ _ _ _ _ _ c.loop-script.invariant.run (draws_of _ _ _ _ _ read.reads))
+returns-in_err-line-clause-counts g c = starves g (goal.at.returns-in_err-line-clause-counts g c).In-Some c.from_residual-in_err-line.result c.from_residual-in_err-line.ensures.1
 
 pub returns-then-is_err-clause-counts : goal.returns-then-is_err-clause-counts
 returns-then-is_err-clause-counts g c =
     let read = rw c.in-Some.is at c.in_ok-command.ensures.next in
-    let failed : is_ok c.send.result ≡ false = c.is_err.ensures.negation ∙ ap not c.if-is_err.true in
-    let front = rw (failed, c.as_bytes.ensures.value, c.as_str.ensures.value, c.in_ok-line.ensures) at c.send.ensures in
+    let front = rw (c.is_err.ensures.negation ∙ ap not c.if-is_err.true, c.as_bytes.ensures.value, c.as_str.ensures.value, c.in_ok-line.ensures) at c.send.ensures in
     counts_break _ _ _ _ _ _ _ _ _ _ _ _ _ _ c.loop-script.invariant.run read c.in_ok-count.ensures front.0
 
-pub loop-script-preserved-else-is_err : goal.loop-script-preserved-else-is_err
-loop-script-preserved-else-is_err g c =
+-- the line was sent, and the script goes on
+goes_on : (g : Over) (c : After-is_err g) → c.is_err.result ≡ false → record {
+    run : CountRun c.args.preview.now (g.R.Feed.left c.args.feed.now) (g.R.Feed.left c.next_command.new.feed) c.next_command.new.self
+        (g.W.Out.written c.args.out.now) (g.W.Out.written c.send.new.out) c.counted.new.preview;
+    feed : g.R.Feed.failures c.next_command.new.feed ≡ g.R.Feed.failures c.args.feed.now;
+    out : g.W.Out.failures c.send.new.out ≡ g.W.Out.failures c.args.out.now;
+  }
+goes_on g c sent =
     let read = rw c.in-Some.is at c.in_ok-command.ensures.next in
-    let sent : is_ok c.send.result ≡ true = c.is_err.ensures.negation ∙ ap not c.if-is_err.false in
-    let gained = rw (sent, c.as_bytes.ensures.value, c.as_str.ensures.value, c.in_ok-line.ensures) at c.send.ensures in
+    let gained = rw (c.is_err.ensures.negation ∙ ap not sent, c.as_bytes.ensures.value, c.as_str.ensures.value, c.in_ok-line.ensures) at c.send.ensures in
     record {
       run = counts_more _ _ _ _ _ _ _ _ _ _ _ _ _ _ c.loop-script.invariant.run read c.in_ok-count.ensures gained.0;
       feed = c.in_ok-command.ensures.failures ∙ c.loop-script.invariant.feed;
       out = gained.1 ∙ c.loop-script.invariant.out;
     }
+
+pub loop-script-preserved-else-is_err : goal.loop-script-preserved-else-is_err
+loop-script-preserved-else-is_err g c = goes_on g (goal.at.loop-script-preserved-else-is_err g c).After-is_err c.if-is_err.false
 
 pub loop-script-preserved-else-is_err-2 : goal.loop-script-preserved-else-is_err-2
-loop-script-preserved-else-is_err-2 g c =
-    let read = rw c.in-Some.is at c.in_ok-command.ensures.next in
-    let sent : is_ok c.send.result ≡ true = c.is_err.ensures.negation ∙ ap not c.if-is_err.false in
-    let gained = rw (sent, c.as_bytes.ensures.value, c.as_str.ensures.value, c.in_ok-line.ensures) at c.send.ensures in
-    record {
-      run = counts_more _ _ _ _ _ _ _ _ _ _ _ _ _ _ c.loop-script.invariant.run read c.in_ok-count.ensures gained.0;
-      feed = c.in_ok-command.ensures.failures ∙ c.loop-script.invariant.feed;
-      out = gained.1 ∙ c.loop-script.invariant.out;
-    }
+loop-script-preserved-else-is_err-2 g c = goes_on g (goal.at.loop-script-preserved-else-is_err-2 g c).After-is_err c.if-is_err.false
 
 pub loop-script-preserved : goal.loop-script-preserved
-loop-script-preserved g c =
-    let read = rw c.in-Some.is at c.in_ok-command.ensures.next in
-    let sent : is_ok c.send.result ≡ true = c.is_err.ensures.negation ∙ ap not c.if-is_err.false in
-    let gained = rw (sent, c.as_bytes.ensures.value, c.as_str.ensures.value, c.in_ok-line.ensures) at c.send.ensures in
-    record {
-      run = counts_more _ _ _ _ _ _ _ _ _ _ _ _ _ _ c.loop-script.invariant.run read c.in_ok-count.ensures gained.0;
-      feed = c.in_ok-command.ensures.failures ∙ c.loop-script.invariant.feed;
-      out = gained.1 ∙ c.loop-script.invariant.out;
-    }
+loop-script-preserved g c = goes_on g (goal.at.loop-script-preserved g c).After-is_err c.if-is_err.false
 
 pub returns-clause-counts : goal.returns-clause-counts
 returns-clause-counts g c = counts_stop _ _ _ _ _ _ _ _ Done c.loop-script.invariant.run (rw c.in_default.is at c.in_ok-command.ensures.next)
