@@ -1,11 +1,14 @@
 -- The ends of a conversion, from those of its steps.
 use Rattle.std.proofs.Common.{◌≡◌, ℕ, List, [], Option, Some, None, Result, Ok, Err, String, string_bytes, refl, ap, sym, ◌∙◌, subst, inl, inr}
 use Rattle.std.specs.Global.{Global}
+use Rattle.std.specs.Result.{IsErrAnd}
+use Rattle.std.proofs.lemmas.Result.{err_from_is_err_and}
 use Rattle.mdsource.specs.Setting.{Setting}
 use Rattle.mdtext.specs.Lines.{text_lines}
 use Rattle.mdsource.specs.declared.fault.EditFault.{EditFault}
 use Rattle.mdsource.specs.declared.fault.EditFault.TheVariants.{OutOfRange, BreakInLine, TooManyLines, TooLarge, NestedTooDeep, InlineTooDeep, NotDefinitions}
 use Rattle.mdsource.specs.declared.fault.EditFault.TheVariants.{NoMemory as EditNoMemory}
+use Rattle.mdsource.specs.FaultReasons.{reason_of}
 use Rattle.mdsource.specs.Preludes.{HeldPrelude, IsDefinedBy}
 use Rattle.mdbatch.specs.ViewHtml.{ViewHtml}
 use Rattle.mdtool.specs.declared.fault.ToolFault.{ToolFault}
@@ -17,6 +20,7 @@ use Rattle.mdtool.specs.Serve.{out_failures_after}
 use Rattle.mdtool.specs.Steps.{Steps, failures_after}
 use Rattle.mdtool.specs.ToolRefusals.{IsRefusal, refusal_of}
 use Rattle.mdtool.proofs.Devices.{takes_nothing}
+use Rattle.mdtool.proofs.OnlyRefuses.{handed_on}
 
 -- ---- the HTML of a text
 
@@ -62,53 +66,34 @@ module _ (setting : Setting) (given : List (List ℕ)) (left left' written : Opt
   page_unread U (Table fault) ok stands end = absurd end
 
   -- it was, and has no HTML
-  pub page_no_html : (U : Type 0) (fault : ToolFault) (text : List ℕ) → prelude_due setting given ≡ None → TextRead left text left'
-      → WholeHtml (Err fault) setting (with_prelude given (text_lines text)) → Conversion {T = U} (Err fault) setting given left left' written written
-  page_no_html U (Refused fault) text stands (bytes, takes, is) end =
-      (refl, inr (record { lines = text_lines text; read = (bytes, takes, ap text_lines is); prelude_stands = stands; why = end }))
-  page_no_html U NoMemory text stands (bytes, takes, is) end = (refl, (bytes, takes.0))
-  page_no_html U Read text stands read end = absurd end
-  page_no_html U Write text stands read end = absurd end
-  page_no_html U (BadCommand line) text stands read end = absurd end
-  page_no_html U (Truncated line) text stands read end = absurd end
-  page_no_html U (Table fault) text stands read end = absurd end
+  pub page_no_html : {U : Type 0} (answer : Result U ToolFault) (fault : ToolFault) (text : List ℕ) → IsErrAnd answer (λ f. f ≡ fault) → prelude_due setting given ≡ None → TextRead left text left'
+      → WholeHtml (Err fault) setting (with_prelude given (text_lines text)) → Conversion answer setting given left left' written written
+  page_no_html answer fault text failed stands (bytes, takes, is) end =
+      handed_on (λ f. WholeHtml (Err f) setting (with_prelude given (text_lines text))) (record { read = λ e. e; write = λ e. e; bad = λ line e. e; short = λ line e. e; table = λ why e. e })
+      (λ r. Conversion r setting given left left' written written) answer fault failed end
+      (λ why end. (refl, inr (record { lines = text_lines text; read = (bytes, takes, ap text_lines is); prelude_stands = stands; why = end }))) (λ end. (refl, (bytes, takes.0)))
 
 -- it has
 pub page_reads : (setting : Setting) (given : List (List ℕ)) (left left' : Option (List ℕ)) (text html : List ℕ) → prelude_due setting given ≡ None → TextRead left text left'
     → HasHtml setting (with_prelude given (text_lines text)) html → Reads setting given left left' html
 page_reads setting given left left' text html stands (bytes, takes, is) has = record { lines = text_lines text; read = (bytes, takes, ap text_lines is); prelude_stands = stands; has = has }
 
--- the prelude was refused, or memory was for it
-pub page_ends_first : (U : Type 0) (fault : ToolFault) (setting : Setting) (given : List (List ℕ)) (left written : Option (List ℕ)) → PreludeRead (Err fault) setting given
-    → Conversion {T = U} (Err fault) setting given left left written written
-page_ends_first U (Refused fault) setting given left written end = (refl, inl (record { why = end; unread = refl }))
-page_ends_first U NoMemory setting given left written end = (refl, ([], takes_nothing left))
-page_ends_first U Read setting given left written end = absurd end
-page_ends_first U Write setting given left written end = absurd end
-page_ends_first U (BadCommand line) setting given left written end = absurd end
-page_ends_first U (Truncated line) setting given left written end = absurd end
-page_ends_first U (Table fault) setting given left written end = absurd end
+-- the prelude was refused, or memory was for it; no device failed then
+module _ {U : Type 0} (answer : Result U ToolFault) (fault : ToolFault) (setting : Setting) (given : List (List ℕ)) (failed : IsErrAnd answer (λ f. f ≡ fault)) (end : PreludeRead (Err fault) setting given) where
+  page_ends : (P : Result U ToolFault → Type 0) → ((why : EditFault) → prelude_due setting given ≡ Some (reason_of why) → P (Err (Refused why))) → P (Err NoMemory) → P answer
+  page_ends P refused starved =
+      handed_on (λ f. PreludeRead (Err f) setting given) (record { read = λ e. e; write = λ e. e; bad = λ line e. e; short = λ line e. e; table = λ why e. e }) P
+      answer fault failed end refused (λ e. starved)
 
--- no device failed then
-pub page_feed_stays : (U : Type 0) (fault : ToolFault) (setting : Setting) (given : List (List ℕ)) (failures : ℕ) → PreludeRead (Err fault) setting given
-    → failures ≡ failures_after {T = U} (Err fault) failures
-page_feed_stays U (Refused fault) setting given failures end = refl
-page_feed_stays U NoMemory setting given failures end = refl
-page_feed_stays U Read setting given failures end = absurd end
-page_feed_stays U Write setting given failures end = absurd end
-page_feed_stays U (BadCommand line) setting given failures end = absurd end
-page_feed_stays U (Truncated line) setting given failures end = absurd end
-page_feed_stays U (Table fault) setting given failures end = absurd end
+  pub page_ends_first : (left written : Option (List ℕ)) → Conversion answer setting given left left written written
+  page_ends_first left written =
+      page_ends (λ r. Conversion r setting given left left written written) (λ why end. (refl, inl (record { why = end; unread = refl }))) (refl, ([], takes_nothing left))
 
-pub page_out_stays : (U : Type 0) (fault : ToolFault) (setting : Setting) (given : List (List ℕ)) (failures : ℕ) → PreludeRead (Err fault) setting given
-    → failures ≡ out_failures_after {T = U} (Err fault) failures
-page_out_stays U (Refused fault) setting given failures end = refl
-page_out_stays U NoMemory setting given failures end = refl
-page_out_stays U Read setting given failures end = absurd end
-page_out_stays U Write setting given failures end = absurd end
-page_out_stays U (BadCommand line) setting given failures end = absurd end
-page_out_stays U (Truncated line) setting given failures end = absurd end
-page_out_stays U (Table fault) setting given failures end = absurd end
+  pub page_feed_stays : (failures : ℕ) → failures ≡ failures_after answer failures
+  page_feed_stays failures = page_ends (λ r. failures ≡ failures_after r failures) (λ why end. refl) refl
+
+  pub page_out_stays : (failures : ℕ) → failures ≡ out_failures_after answer failures
+  page_out_stays failures = page_ends (λ r. failures ≡ out_failures_after r failures) (λ why end. refl) refl
 
 -- and none where the text was
 page_refusal_stays : (U : Type 0) (fault : EditFault) (failures : ℕ) → (failures_after {T = U} (Err (refusal_of fault)) failures ≡ failures) × (out_failures_after {T = U} (Err (refusal_of fault)) failures ≡ failures)
@@ -121,8 +106,12 @@ page_refusal_stays U (OutOfRange count) failures = (refl, refl)
 page_refusal_stays U (BreakInLine index) failures = (refl, refl)
 page_refusal_stays U (NotDefinitions line) failures = (refl, refl)
 
-pub page_feed_refused : (U : Type 0) (tool : ToolFault) (failures : ℕ) → IsRefusal tool → failures ≡ failures_after {T = U} (Err tool) failures
-page_feed_refused U tool failures (fault, is) = sym (ap (λ t. failures_after {T = U} (Err t) failures) is ∙ (page_refusal_stays U fault failures).0)
+pub page_feed_refused : {U : Type 0} (answer : Result U ToolFault) (tool : ToolFault) (failures : ℕ) → IsErrAnd answer (λ f. f ≡ tool) → IsRefusal tool → failures ≡ failures_after answer failures
+page_feed_refused {U} answer tool failures failed (fault, is) =
+    let p = err_from_is_err_and answer failed in
+    rw (p.1, p.2) (sym (ap (λ t. failures_after {T = U} (Err t) failures) is ∙ (page_refusal_stays U fault failures).0))
 
-pub page_out_refused : (U : Type 0) (tool : ToolFault) (failures : ℕ) → IsRefusal tool → failures ≡ out_failures_after {T = U} (Err tool) failures
-page_out_refused U tool failures (fault, is) = sym (ap (λ t. out_failures_after {T = U} (Err t) failures) is ∙ (page_refusal_stays U fault failures).1)
+pub page_out_refused : {U : Type 0} (answer : Result U ToolFault) (tool : ToolFault) (failures : ℕ) → IsErrAnd answer (λ f. f ≡ tool) → IsRefusal tool → failures ≡ out_failures_after answer failures
+page_out_refused {U} answer tool failures failed (fault, is) =
+    let p = err_from_is_err_and answer failed in
+    rw (p.1, p.2) (sym (ap (λ t. out_failures_after {T = U} (Err t) failures) is ∙ (page_refusal_stays U fault failures).1))

@@ -1,5 +1,6 @@
 -- Commands that were carried out and counted, one after the other.
 use Rattle.std.proofs.Common.{◌≡◌, ℕ, ◌+◌, ◌≤◌, List, [], ◌∷◌, ◌++◌, Option, Result, Ok, Err, refl, ap, sym, ◌∙◌, subst, append-nil, append_assoc, arith, inl, inr}
+use Rattle.std.specs.Result.{IsErrAnd}
 use Rattle.std.proofs.lemmas.List.{map-append}
 use Rattle.mdtool.specs.declared.fault.ToolFault.{ToolFault}
 use Rattle.mdtool.specs.declared.fault.ToolFault.TheVariants.{Read, Write, Refused, BadCommand, Truncated, Table, NoMemory}
@@ -19,6 +20,7 @@ use Rattle.mdtool.specs.PreludeSet.{PreludeSet, Sets}
 use Rattle.mdtool.specs.Replies.{ScriptTurn, held_behind}
 use Rattle.mdtool.specs.Steps.{NextCommand, ReadsCommand, StopsAt}
 use Rattle.mdtool.proofs.Devices.{gains_more}
+use Rattle.mdtool.proofs.PreludeEnds.{prelude_ends}
 use Rattle.mdtool.proofs.Readings.{draws_nothing}
 use Rattle.mdtool.proofs.ServeRuns.{Progress, gains_nothing, held_after, held_more, progress_breaks, progress_more, progress_start, progress_stops}
 
@@ -121,15 +123,10 @@ counts_beside (Err (Refused fault)) old held lines left left' written written' s
 counts_beside (Err (Table fault)) old held lines left left' written written' set end = absurd end
 
 -- where the prelude is refused, or memory is, nothing was read or written
-pub prelude_ends_counts : {T : Type 0} (U : Type 0) (held : T → Document) (fault : ToolFault) (old : Document) (lines : List (List ℕ)) (left written : Option (List ℕ)) → PreludeSet held (Err fault) old lines
-    → CountsBeside {T = U} (Err fault) old lines left left written written
-prelude_ends_counts U held (Refused fault) old lines left written end = record { refused = end; unread = refl; unwritten = refl }
-prelude_ends_counts U held NoMemory old lines left written end = inl (refl, refl)
-prelude_ends_counts U held Read old lines left written end = absurd end
-prelude_ends_counts U held Write old lines left written end = absurd end
-prelude_ends_counts U held (BadCommand line) old lines left written end = absurd end
-prelude_ends_counts U held (Truncated line) old lines left written end = absurd end
-prelude_ends_counts U held (Table fault) old lines left written end = absurd end
+pub prelude_ends_counts : {U : Type 0} (answer : Result U ToolFault) (fault : ToolFault) (old : Document) (lines : List (List ℕ)) → IsErrAnd answer (λ f. f ≡ fault)
+    → PreludeSet (λ (held : Document). held) (Err fault) old lines → (left written : Option (List ℕ)) → CountsBeside answer old lines left left written written
+prelude_ends_counts answer fault old lines failed end left written =
+    prelude_ends answer fault old lines failed end (λ r. CountsBeside r old lines left left written written) (λ why end. record { refused = end; unread = refl; unwritten = refl }) (inl (refl, refl))
 
 -- a call that was answered so, for which a counter that stood at 0 has counted so much
 pub counting : (old new : Document) (call : Call) (answer : Result ChangedPieces EditFault) (lines lines' inlines inlines' : ℕ) → (answer_of answer, new) ≡ outcome_of (is_starved answer) old call

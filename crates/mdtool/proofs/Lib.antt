@@ -14,6 +14,7 @@ pub mod ServeRuns
 pub mod ServeEnds
 pub mod CountRuns
 pub mod Rows
+pub mod OnlyRefuses
 pub mod PreludeEnds
 pub mod PreludeDue
 pub mod Conversions

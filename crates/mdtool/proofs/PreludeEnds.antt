@@ -1,5 +1,6 @@
 -- The ends of a script whose prelude is read first.
 use Rattle.std.proofs.Common.{◌≡◌, ℕ, List, Option, Result, Ok, Err, refl, subst, inl, inr}
+use Rattle.std.specs.Result.{IsErrAnd}
 use Rattle.mdsource.specs.Calls.{set_prelude}
 use Rattle.mdsource.specs.ChangedPieces.{ChangedPieces}
 use Rattle.mdsource.specs.declared.fault.EditFault.{EditFault}
@@ -11,10 +12,11 @@ use Rattle.mdview.proofs.Outcomes.{accepted_holds, accepted_stands, refused_due}
 use Rattle.mdtool.specs.declared.fault.ToolFault.{ToolFault}
 use Rattle.mdtool.specs.declared.fault.ToolFault.TheVariants.{Read, Write, Refused, BadCommand, Truncated, Table, NoMemory}
 use Rattle.mdwords.specs.declared.reply_forms.ReplyForm.{ReplyForm}
-use Rattle.mdtool.specs.PreludeSet.{PreludeSet, Sets}
+use Rattle.mdtool.specs.PreludeSet.{PreludeSet, RefusesLines, Sets}
 use Rattle.mdtool.specs.Serve.{Served, ServedBeside, out_failures_after}
 use Rattle.mdtool.specs.Steps.{failures_after}
 use Rattle.mdtool.specs.ToolRefusals.{refusal_of}
+use Rattle.mdtool.proofs.OnlyRefuses.{handed_on}
 
 -- the end of the script beside a prelude that is held
 pub serves_beside : {T : Type 0} (form : ReplyForm) (r : Result T ToolFault) (old held : Document) (lines : List (List ℕ)) (left left' written written' : Option (List ℕ)) → Sets old lines held
@@ -28,37 +30,23 @@ serves_beside form (Err NoMemory) old held lines left left' written written' set
 serves_beside form (Err (Refused fault)) old held lines left left' written written' set end = absurd end
 serves_beside form (Err (Table fault)) old held lines left left' written written' set end = absurd end
 
--- where the prelude is refused, or memory is, nothing was read or written
-pub prelude_ends_script : {T : Type 0} (U : Type 0) (form : ReplyForm) (held : T → Document) (fault : ToolFault) (old : Document) (lines : List (List ℕ)) (left written : Option (List ℕ)) → PreludeSet held (Err fault) old lines
-    → ServedBeside {T = U} form (Err fault) old lines left left written written
-prelude_ends_script U form held (Refused fault) old lines left written end = record { refused = end; unread = refl; unwritten = refl }
-prelude_ends_script U form held NoMemory old lines left written end = inl (refl, refl)
-prelude_ends_script U form held Read old lines left written end = absurd end
-prelude_ends_script U form held Write old lines left written end = absurd end
-prelude_ends_script U form held (BadCommand line) old lines left written end = absurd end
-prelude_ends_script U form held (Truncated line) old lines left written end = absurd end
-prelude_ends_script U form held (Table fault) old lines left written end = absurd end
+-- where the prelude is refused, or memory is, nothing was read or written, and no device failed
+module _ {U : Type 0} (answer : Result U ToolFault) (fault : ToolFault) (old : Document) (lines : List (List ℕ)) (failed : IsErrAnd answer (λ f. f ≡ fault))
+    (end : PreludeSet (λ (held : Document). held) (Err fault) old lines) where
+  pub prelude_ends : (P : Result U ToolFault → Type 0) → ((why : EditFault) → RefusesLines old lines why → P (Err (Refused why))) → P (Err NoMemory) → P answer
+  prelude_ends P refused starved =
+      handed_on (λ f. PreludeSet (λ (held : Document). held) (Err f) old lines) (record { read = λ e. e; write = λ e. e; bad = λ line e. e; short = λ line e. e; table = λ why e. e }) P
+      answer fault failed end refused (λ e. starved)
 
--- no device failed then
-pub no_feed_failed : {T : Type 0} (U : Type 0) (held : T → Document) (fault : ToolFault) (old : Document) (lines : List (List ℕ)) (failures : ℕ) → PreludeSet held (Err fault) old lines
-    → failures ≡ failures_after {T = U} (Err fault) failures
-no_feed_failed U held (Refused fault) old lines failures end = refl
-no_feed_failed U held NoMemory old lines failures end = refl
-no_feed_failed U held Read old lines failures end = absurd end
-no_feed_failed U held Write old lines failures end = absurd end
-no_feed_failed U held (BadCommand line) old lines failures end = absurd end
-no_feed_failed U held (Truncated line) old lines failures end = absurd end
-no_feed_failed U held (Table fault) old lines failures end = absurd end
+  pub prelude_ends_script : (form : ReplyForm) (left written : Option (List ℕ)) → ServedBeside form answer old lines left left written written
+  prelude_ends_script form left written =
+      prelude_ends (λ r. ServedBeside form r old lines left left written written) (λ why end. record { refused = end; unread = refl; unwritten = refl }) (inl (refl, refl))
 
-pub no_out_failed : {T : Type 0} (U : Type 0) (held : T → Document) (fault : ToolFault) (old : Document) (lines : List (List ℕ)) (failures : ℕ) → PreludeSet held (Err fault) old lines
-    → failures ≡ out_failures_after {T = U} (Err fault) failures
-no_out_failed U held (Refused fault) old lines failures end = refl
-no_out_failed U held NoMemory old lines failures end = refl
-no_out_failed U held Read old lines failures end = absurd end
-no_out_failed U held Write old lines failures end = absurd end
-no_out_failed U held (BadCommand line) old lines failures end = absurd end
-no_out_failed U held (Truncated line) old lines failures end = absurd end
-no_out_failed U held (Table fault) old lines failures end = absurd end
+  pub no_feed_failed : (failures : ℕ) → failures ≡ failures_after answer failures
+  no_feed_failed failures = prelude_ends (λ r. failures ≡ failures_after r failures) (λ why end. refl) refl
+
+  pub no_out_failed : (failures : ℕ) → failures ≡ out_failures_after answer failures
+  no_out_failed failures = prelude_ends (λ r. failures ≡ out_failures_after r failures) (λ why end. refl) refl
 
 -- a preview's answer to a new prelude, as an engine tells it
 pub sets : (answer : Result ChangedPieces EditFault) (old new : Document) (lines : List (List ℕ)) (patch : ChangedPieces) → answer ≡ Ok patch
