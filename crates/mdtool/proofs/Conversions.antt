@@ -1,5 +1,5 @@
 -- The ends of a conversion, from those of its steps.
-use Rattle.std.proofs.Common.{◌≡◌, ℕ, List, [], Option, Some, None, Result, Ok, Err, String, string_bytes, refl, ap, sym, ◌∙◌, subst, inl, inr}
+use Rattle.std.proofs.Common.{◌≡◌, ℕ, List, [], Option, Some, None, Result, Ok, Err, String, refl, ap, sym, ◌∙◌, subst, inl, inr}
 use Rattle.std.specs.Global.{Global}
 use Rattle.std.specs.Result.{IsErrAnd}
 use Rattle.std.proofs.lemmas.Result.{err_from_is_err_and}
@@ -13,7 +13,6 @@ use Rattle.mdsource.specs.Preludes.{HeldPrelude, IsDefinedBy}
 use Rattle.mdbatch.specs.ViewHtml.{ViewHtml}
 use Rattle.mdtool.specs.declared.fault.ToolFault.{ToolFault}
 use Rattle.mdtool.specs.declared.fault.ToolFault.TheVariants.{Read, Write, Refused, BadCommand, Truncated, Table, NoMemory}
-use Rattle.mdtool.specs.Bytes.{Gains, GainsFront}
 use Rattle.mdtool.specs.Convert.{Conversion, HasHtml, IsPreludeOf, PreludeRead, Reads, TextRead, WholeHtml, prelude_due, with_prelude}
 use Rattle.mdtool.specs.Drained.{TakesSome}
 use Rattle.mdtool.specs.Serve.{out_failures_after}
@@ -66,17 +65,18 @@ module _ (setting : Setting) (given : List (List ℕ)) (left left' written : Opt
   page_unread U (Table fault) ok stands end = absurd end
 
   -- it was, and has no HTML
-  pub page_no_html : {U : Type 0} (answer : Result U ToolFault) (fault : ToolFault) (text : List ℕ) → IsErrAnd answer (λ f. f ≡ fault) → prelude_due setting given ≡ None → TextRead left text left'
-      → WholeHtml (Err fault) setting (with_prelude given (text_lines text)) → Conversion answer setting given left left' written written
-  page_no_html answer fault text failed stands (bytes, takes, is) end =
-      handed_on (λ f. WholeHtml (Err f) setting (with_prelude given (text_lines text))) (record { read = λ e. e; write = λ e. e; bad = λ line e. e; short = λ line e. e; table = λ why e. e })
+  pub page_no_html : {U : Type 0} (answer : Result U ToolFault) (fault : ToolFault) (text shown : List ℕ) → IsErrAnd answer (λ f. f ≡ fault) → shown ≡ text → prelude_due setting given ≡ None
+      → TextRead left text left' → WholeHtml (Err fault) setting (with_prelude given (text_lines shown)) → Conversion answer setting given left left' written written
+  page_no_html answer fault text shown failed same stands (bytes, takes, is) end =
+      handed_on (λ f. WholeHtml (Err f) setting (with_prelude given (text_lines shown))) (record { read = λ e. e; write = λ e. e; bad = λ line e. e; short = λ line e. e; table = λ why e. e })
       (λ r. Conversion r setting given left left' written written) answer fault failed end
-      (λ why end. (refl, inr (record { lines = text_lines text; read = (bytes, takes, ap text_lines is); prelude_stands = stands; why = end }))) (λ end. (refl, (bytes, takes.0)))
+      (λ why end. (refl, inr (record { lines = text_lines shown; read = (bytes, takes, ap text_lines (same ∙ is)); prelude_stands = stands; why = end }))) (λ end. (refl, (bytes, takes.0)))
 
 -- it has
-pub page_reads : (setting : Setting) (given : List (List ℕ)) (left left' : Option (List ℕ)) (text html : List ℕ) → prelude_due setting given ≡ None → TextRead left text left'
-    → HasHtml setting (with_prelude given (text_lines text)) html → Reads setting given left left' html
-page_reads setting given left left' text html stands (bytes, takes, is) has = record { lines = text_lines text; read = (bytes, takes, ap text_lines is); prelude_stands = stands; has = has }
+pub page_reads : (setting : Setting) (given : List (List ℕ)) (left left' : Option (List ℕ)) (text shown html : List ℕ) → shown ≡ text → prelude_due setting given ≡ None → TextRead left text left'
+    → HasHtml setting (with_prelude given (text_lines shown)) html → Reads setting given left left' html
+page_reads setting given left left' text shown html same stands (bytes, takes, is) has =
+    record { lines = text_lines shown; read = (bytes, takes, ap text_lines (same ∙ is)); prelude_stands = stands; has = has }
 
 -- the prelude was refused, or memory was for it; no device failed then
 module _ {U : Type 0} (answer : Result U ToolFault) (fault : ToolFault) (setting : Setting) (given : List (List ℕ)) (failed : IsErrAnd answer (λ f. f ≡ fault)) (end : PreludeRead (Err fault) setting given) where

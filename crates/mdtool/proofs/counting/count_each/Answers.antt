@@ -1,15 +1,11 @@
-use Rattle.std.proofs.Common.{◌≡◌, Result, refl, ap, ◌∙◌, false}
+use Rattle.std.proofs.Common.{◌≡◌, refl, ap, ◌∙◌, false}
 use Rattle.std.specs.Prelude.{not}
-use Rattle.std.specs.Result.{IsErrAnd}
 use Rattle.std.proofs.lemmas.Result.{err_from_is_err_and}
 use Rattle.mdtool.specs.Commands.{Done}
-use Rattle.mdtool.specs.Counts.{Counts}
-use Rattle.mdtool.specs.declared.fault.ToolFault.{ToolFault}
-use Rattle.mdtool.specs.declared.fault.ToolFault.TheVariants.{NoMemory}
 use Rattle.mdtool.proofs.Readings.{draws_of}
 use Rattle.mdtool.proofs.CountRuns.{CountRun, counts_start, counts_more, counts_stop, counts_starve, counts_break, counts_end}
 use Rattle.mdtool.proofs.counting.count_each.Given.{Over}
-use Rattle.mdtool.proofs.counting.count_each.Goals.{In-Some, After-is_err}
+use Rattle.mdtool.proofs.counting.count_each.Goals.{After-is_err}
 use Rattle.mdtool.proofs.counting.count_each.Goals as goal
 
 pub loop-script-init : goal.loop-script-init
@@ -20,19 +16,17 @@ returns-in_err-command-clause-counts g c =
     let p = err_from_is_err_and c.from_residual.result c.from_residual.ensures.1 in
     rw (p.1, p.2) (counts_end (Unit {0}) c.in_err-command.field-0.0 _ _ _ _ _ _ _ _ _ c.loop-script.invariant.run c.in_err-command.ensures.next)
 
--- memory ended the work before the line of the command that was read
-starves : (g : Over) (c : In-Some g) (result : Result (Unit {0}) ToolFault) → IsErrAnd result (λ fault. fault ≡ NoMemory)
-    → Counts result c.args.preview.now (g.R.Feed.left c.args.feed.now) (g.R.Feed.left c.next_command.new.feed) (g.W.Out.written c.args.out.now) (g.W.Out.written c.loop-script.out)
-starves g c result failed =
+pub returns-in_err-count-clause-counts : goal.returns-in_err-count-clause-counts
+returns-in_err-count-clause-counts g c =
     let read = rw c.in-Some.is at c.in_ok-command.ensures.next in
-    let p = err_from_is_err_and result failed in
+    let p = err_from_is_err_and c.from_residual-in_err-count.result c.from_residual-in_err-count.ensures.1 in
     rw (p.1, p.2) (counts_starve _ _ _ _ _ _ _ _ c.loop-script.invariant.run (draws_of _ _ _ _ _ read.reads))
 
-pub returns-in_err-count-clause-counts : goal.returns-in_err-count-clause-counts
-returns-in_err-count-clause-counts g c = starves g (goal.at.returns-in_err-count-clause-counts g c).In-Some c.from_residual-in_err-count.result c.from_residual-in_err-count.ensures.1
-
 pub returns-in_err-line-clause-counts : goal.returns-in_err-line-clause-counts
-returns-in_err-line-clause-counts g c = starves g (goal.at.returns-in_err-line-clause-counts g c).In-Some c.from_residual-in_err-line.result c.from_residual-in_err-line.ensures.1
+returns-in_err-line-clause-counts g c =
+    let read = rw c.in-Some.is at c.in_ok-command.ensures.next in
+    let p = err_from_is_err_and c.from_residual-in_err-line.result c.from_residual-in_err-line.ensures.1 in
+    rw (p.1, p.2) (counts_starve _ _ _ _ _ _ _ _ c.loop-script.invariant.run (draws_of _ _ _ _ _ read.reads))
 
 pub returns-then-is_err-clause-counts : goal.returns-then-is_err-clause-counts
 returns-then-is_err-clause-counts g c =
