@@ -15,11 +15,10 @@ use Rattle.mdtool.specs.declared.fault.ToolFault.{ToolFault}
 use Rattle.mdtool.specs.declared.fault.ToolFault.TheVariants.{Read, Write, Refused, BadCommand, Truncated, Table, NoMemory}
 use Rattle.mdtool.specs.Convert.{Conversion, HasHtml, IsPreludeOf, PreludeRead, Reads, TextRead, WholeHtml, prelude_due, with_prelude}
 use Rattle.mdtool.specs.Drained.{TakesSome}
-use Rattle.mdtool.specs.Serve.{out_failures_after}
-use Rattle.mdtool.specs.Steps.{Steps, failures_after}
+use Rattle.mdtool.specs.Steps.{Steps}
 use Rattle.mdtool.specs.ToolRefusals.{IsRefusal, refusal_of}
 use Rattle.mdtool.proofs.Devices.{takes_nothing}
-use Rattle.mdtool.proofs.OnlyRefuses.{handed_on}
+use Rattle.mdtool.proofs.OnlyRefuses.{NoDeviceFailed, handed_on}
 
 -- ---- the HTML of a text
 
@@ -65,53 +64,54 @@ module _ (setting : Setting) (given : List (List ℕ)) (left left' written : Opt
   page_unread U (Table fault) ok stands end = absurd end
 
   -- it was, and has no HTML
-  pub page_no_html : {U : Type 0} (answer : Result U ToolFault) (fault : ToolFault) (text shown : List ℕ) → IsErrAnd answer (λ f. f ≡ fault) → shown ≡ text → prelude_due setting given ≡ None
-      → TextRead left text left' → WholeHtml (Err fault) setting (with_prelude given (text_lines shown)) → Conversion answer setting given left left' written written
+  pub page_no_html : {U : Type 0} (answer : Result U ToolFault) (fault : ToolFault) (text shown : List ℕ) → IsErrAnd answer (λ f. f ≡ fault)
+      → shown ≡ text → prelude_due setting given ≡ None → TextRead left text left' → WholeHtml (Err fault) setting (with_prelude given (text_lines shown))
+      → Conversion answer setting given left left' written written
   page_no_html answer fault text shown failed same stands (bytes, takes, is) end =
-      handed_on (λ f. WholeHtml (Err f) setting (with_prelude given (text_lines shown))) (record { read = λ e. e; write = λ e. e; bad = λ line e. e; short = λ line e. e; table = λ why e. e })
+      handed_on (λ f. WholeHtml (Err f) setting (with_prelude given (text_lines shown)))
+      (record { read = λ e. e; write = λ e. e; bad = λ line e. e; short = λ line e. e; table = λ why e. e })
       (λ r. Conversion r setting given left left' written written) answer fault failed end
-      (λ why end. (refl, inr (record { lines = text_lines shown; read = (bytes, takes, ap text_lines (same ∙ is)); prelude_stands = stands; why = end }))) (λ end. (refl, (bytes, takes.0)))
+      (λ why end. (refl, inr (record { lines = text_lines shown; read = (bytes, takes, ap text_lines (same ∙ is)); prelude_stands = stands; why = end })))
+      (λ end. (refl, (bytes, takes.0)))
 
 -- it has
-pub page_reads : (setting : Setting) (given : List (List ℕ)) (left left' : Option (List ℕ)) (text shown html : List ℕ) → shown ≡ text → prelude_due setting given ≡ None → TextRead left text left'
-    → HasHtml setting (with_prelude given (text_lines shown)) html → Reads setting given left left' html
+pub page_reads : (setting : Setting) (given : List (List ℕ)) (left left' : Option (List ℕ)) (text shown html : List ℕ)
+    → shown ≡ text → prelude_due setting given ≡ None → TextRead left text left' → HasHtml setting (with_prelude given (text_lines shown)) html
+    → Reads setting given left left' html
 page_reads setting given left left' text shown html same stands (bytes, takes, is) has =
     record { lines = text_lines shown; read = (bytes, takes, ap text_lines (same ∙ is)); prelude_stands = stands; has = has }
 
 -- the prelude was refused, or memory was for it; no device failed then
-module _ {U : Type 0} (answer : Result U ToolFault) (fault : ToolFault) (setting : Setting) (given : List (List ℕ)) (failed : IsErrAnd answer (λ f. f ≡ fault)) (end : PreludeRead (Err fault) setting given) where
-  page_ends : (P : Result U ToolFault → Type 0) → ((why : EditFault) → prelude_due setting given ≡ Some (reason_of why) → P (Err (Refused why))) → P (Err NoMemory) → P answer
+module _ {U : Type 0} (answer : Result U ToolFault) (fault : ToolFault) (setting : Setting) (given : List (List ℕ))
+    (failed : IsErrAnd answer (λ f. f ≡ fault)) (end : PreludeRead (Err fault) setting given) where
+  page_ends : (P : Result U ToolFault → Type 0) → ((why : EditFault) → prelude_due setting given ≡ Some (reason_of why) → P (Err (Refused why)))
+      → P (Err NoMemory) → P answer
   page_ends P refused starved =
-      handed_on (λ f. PreludeRead (Err f) setting given) (record { read = λ e. e; write = λ e. e; bad = λ line e. e; short = λ line e. e; table = λ why e. e }) P
-      answer fault failed end refused (λ e. starved)
+      handed_on (λ f. PreludeRead (Err f) setting given)
+      (record { read = λ e. e; write = λ e. e; bad = λ line e. e; short = λ line e. e; table = λ why e. e })
+      P answer fault failed end refused (λ e. starved)
 
   pub page_ends_first : (left written : Option (List ℕ)) → Conversion answer setting given left left written written
   page_ends_first left written =
-      page_ends (λ r. Conversion r setting given left left written written) (λ why end. (refl, inl (record { why = end; unread = refl }))) (refl, ([], takes_nothing left))
+      page_ends (λ r. Conversion r setting given left left written written)
+      (λ why end. (refl, inl (record { why = end; unread = refl }))) (refl, ([], takes_nothing left))
 
-  pub page_feed_stays : (failures : ℕ) → failures ≡ failures_after answer failures
-  page_feed_stays failures = page_ends (λ r. failures ≡ failures_after r failures) (λ why end. refl) refl
-
-  pub page_out_stays : (failures : ℕ) → failures ≡ out_failures_after answer failures
-  page_out_stays failures = page_ends (λ r. failures ≡ out_failures_after r failures) (λ why end. refl) refl
+  pub page_devices_stay : (failures : ℕ) → NoDeviceFailed answer failures
+  page_devices_stay failures = page_ends (λ r. NoDeviceFailed r failures) (λ why end. (refl, refl)) (refl, refl)
 
 -- and none where the text was
-page_refusal_stays : (U : Type 0) (fault : EditFault) (failures : ℕ) → (failures_after {T = U} (Err (refusal_of fault)) failures ≡ failures) × (out_failures_after {T = U} (Err (refusal_of fault)) failures ≡ failures)
-page_refusal_stays U TooManyLines failures = (refl, refl)
-page_refusal_stays U TooLarge failures = (refl, refl)
-page_refusal_stays U (NestedTooDeep line) failures = (refl, refl)
-page_refusal_stays U (InlineTooDeep line) failures = (refl, refl)
-page_refusal_stays U EditNoMemory failures = (refl, refl)
-page_refusal_stays U (OutOfRange count) failures = (refl, refl)
-page_refusal_stays U (BreakInLine index) failures = (refl, refl)
-page_refusal_stays U (NotDefinitions line) failures = (refl, refl)
+refusal_stays : (U : Type 0) (fault : EditFault) (failures : ℕ) → NoDeviceFailed {U = U} (Err (refusal_of fault)) failures
+refusal_stays U TooManyLines failures = (refl, refl)
+refusal_stays U TooLarge failures = (refl, refl)
+refusal_stays U (NestedTooDeep line) failures = (refl, refl)
+refusal_stays U (InlineTooDeep line) failures = (refl, refl)
+refusal_stays U EditNoMemory failures = (refl, refl)
+refusal_stays U (OutOfRange count) failures = (refl, refl)
+refusal_stays U (BreakInLine index) failures = (refl, refl)
+refusal_stays U (NotDefinitions line) failures = (refl, refl)
 
-pub page_feed_refused : {U : Type 0} (answer : Result U ToolFault) (tool : ToolFault) (failures : ℕ) → IsErrAnd answer (λ f. f ≡ tool) → IsRefusal tool → failures ≡ failures_after answer failures
-page_feed_refused {U} answer tool failures failed (fault, is) =
+pub page_refusal_stays : {U : Type 0} (answer : Result U ToolFault) (tool : ToolFault) (failures : ℕ) → IsErrAnd answer (λ f. f ≡ tool) → IsRefusal tool
+    → NoDeviceFailed answer failures
+page_refusal_stays {U} answer tool failures failed (fault, is) =
     let p = err_from_is_err_and answer failed in
-    rw (p.1, p.2) (sym (ap (λ t. failures_after {T = U} (Err t) failures) is ∙ (page_refusal_stays U fault failures).0))
-
-pub page_out_refused : {U : Type 0} (answer : Result U ToolFault) (tool : ToolFault) (failures : ℕ) → IsErrAnd answer (λ f. f ≡ tool) → IsRefusal tool → failures ≡ out_failures_after answer failures
-page_out_refused {U} answer tool failures failed (fault, is) =
-    let p = err_from_is_err_and answer failed in
-    rw (p.1, p.2) (sym (ap (λ t. out_failures_after {T = U} (Err t) failures) is ∙ (page_refusal_stays U fault failures).1))
+    rw (p.1, p.2, is) (refusal_stays U fault failures)

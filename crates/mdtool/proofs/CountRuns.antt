@@ -123,10 +123,12 @@ counts_beside (Err (Refused fault)) old held lines left left' written written' s
 counts_beside (Err (Table fault)) old held lines left left' written written' set end = absurd end
 
 -- where the prelude is refused, or memory is, nothing was read or written
-pub prelude_ends_counts : {U : Type 0} (answer : Result U ToolFault) (fault : ToolFault) (old : Document) (lines : List (List ℕ)) → IsErrAnd answer (λ f. f ≡ fault)
-    → PreludeSet (λ (held : Document). held) (Err fault) old lines → (left written : Option (List ℕ)) → CountsBeside answer old lines left left written written
+pub prelude_ends_counts : {U : Type 0} (answer : Result U ToolFault) (fault : ToolFault) (old : Document) (lines : List (List ℕ))
+    → IsErrAnd answer (λ f. f ≡ fault) → PreludeSet (λ (held : Document). held) (Err fault) old lines → (left written : Option (List ℕ))
+    → CountsBeside answer old lines left left written written
 prelude_ends_counts answer fault old lines failed end left written =
-    prelude_ends answer fault old lines failed end (λ r. CountsBeside r old lines left left written written) (λ why end. record { refused = end; unread = refl; unwritten = refl }) (inl (refl, refl))
+    prelude_ends answer fault old lines failed end (λ r. CountsBeside r old lines left left written written)
+    (λ why end. record { refused = end; unread = refl; unwritten = refl }) (inl (refl, refl))
 
 -- a call that was answered so, for which a counter that stood at 0 has counted so much
 pub counting : (old new : Document) (call : Call) (answer : Result ChangedPieces EditFault) (lines lines' inlines inlines' : ℕ) → (answer_of answer, new) ≡ outcome_of (is_starved answer) old call

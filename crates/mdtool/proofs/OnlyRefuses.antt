@@ -6,6 +6,12 @@ use Rattle.mdtext.specs.declared.entity_file.TableFault.{TableFault}
 use Rattle.mdsource.specs.declared.fault.EditFault.{EditFault}
 use Rattle.mdtool.specs.declared.fault.ToolFault.{ToolFault}
 use Rattle.mdtool.specs.declared.fault.ToolFault.TheVariants.{Read, Write, Refused, BadCommand, Truncated, Table, NoMemory}
+use Rattle.mdtool.specs.Serve.{out_failures_after}
+use Rattle.mdtool.specs.Steps.{failures_after}
+
+-- neither device failed once more
+abbrev pub NoDeviceFailed : {U : Type 0} → Result U ToolFault → (failures : ℕ) → Type 0
+NoDeviceFailed answer failures = (failures ≡ failures_after answer failures) × (failures ≡ out_failures_after answer failures)
 
 -- the step says this at each fault, and has no other than these two
 pub record OnlyRefuses (Says : ToolFault → Type 0) : Type 0 where
@@ -16,7 +22,8 @@ pub record OnlyRefuses (Says : ToolFault → Type 0) : Type 0 where
   pub table : (fault : TableFault) → Says (Table fault) → ⊥
 
 module _ {U : Type 0} (Says : ToolFault → Type 0) (only : OnlyRefuses Says) (P : Result U ToolFault → Type 0) where
-  at_fault : (fault : ToolFault) → Says fault → ((why : EditFault) → Says (Refused why) → P (Err (Refused why))) → (Says NoMemory → P (Err NoMemory)) → P (Err fault)
+  at_fault : (fault : ToolFault) → Says fault → ((why : EditFault) → Says (Refused why) → P (Err (Refused why))) → (Says NoMemory → P (Err NoMemory))
+      → P (Err fault)
   at_fault (Refused why) says refused starved = refused why says
   at_fault NoMemory says refused starved = starved says
   at_fault Read says refused starved = absurd (only.read says)

@@ -13,10 +13,9 @@ use Rattle.mdtool.specs.declared.fault.ToolFault.{ToolFault}
 use Rattle.mdtool.specs.declared.fault.ToolFault.TheVariants.{Read, Write, Refused, BadCommand, Truncated, Table, NoMemory}
 use Rattle.mdwords.specs.declared.reply_forms.ReplyForm.{ReplyForm}
 use Rattle.mdtool.specs.PreludeSet.{PreludeSet, RefusesLines, Sets}
-use Rattle.mdtool.specs.Serve.{Served, ServedBeside, out_failures_after}
-use Rattle.mdtool.specs.Steps.{failures_after}
+use Rattle.mdtool.specs.Serve.{Served, ServedBeside}
 use Rattle.mdtool.specs.ToolRefusals.{refusal_of}
-use Rattle.mdtool.proofs.OnlyRefuses.{handed_on}
+use Rattle.mdtool.proofs.OnlyRefuses.{NoDeviceFailed, handed_on}
 
 -- the end of the script beside a prelude that is held
 pub serves_beside : {T : Type 0} (form : ReplyForm) (r : Result T ToolFault) (old held : Document) (lines : List (List ℕ)) (left left' written written' : Option (List ℕ)) → Sets old lines held
@@ -35,18 +34,17 @@ module _ {U : Type 0} (answer : Result U ToolFault) (fault : ToolFault) (old : D
     (end : PreludeSet (λ (held : Document). held) (Err fault) old lines) where
   pub prelude_ends : (P : Result U ToolFault → Type 0) → ((why : EditFault) → RefusesLines old lines why → P (Err (Refused why))) → P (Err NoMemory) → P answer
   prelude_ends P refused starved =
-      handed_on (λ f. PreludeSet (λ (held : Document). held) (Err f) old lines) (record { read = λ e. e; write = λ e. e; bad = λ line e. e; short = λ line e. e; table = λ why e. e }) P
-      answer fault failed end refused (λ e. starved)
+      handed_on (λ f. PreludeSet (λ (held : Document). held) (Err f) old lines)
+      (record { read = λ e. e; write = λ e. e; bad = λ line e. e; short = λ line e. e; table = λ why e. e })
+      P answer fault failed end refused (λ e. starved)
 
   pub prelude_ends_script : (form : ReplyForm) (left written : Option (List ℕ)) → ServedBeside form answer old lines left left written written
   prelude_ends_script form left written =
-      prelude_ends (λ r. ServedBeside form r old lines left left written written) (λ why end. record { refused = end; unread = refl; unwritten = refl }) (inl (refl, refl))
+      prelude_ends (λ r. ServedBeside form r old lines left left written written)
+      (λ why end. record { refused = end; unread = refl; unwritten = refl }) (inl (refl, refl))
 
-  pub no_feed_failed : (failures : ℕ) → failures ≡ failures_after answer failures
-  no_feed_failed failures = prelude_ends (λ r. failures ≡ failures_after r failures) (λ why end. refl) refl
-
-  pub no_out_failed : (failures : ℕ) → failures ≡ out_failures_after answer failures
-  no_out_failed failures = prelude_ends (λ r. failures ≡ out_failures_after r failures) (λ why end. refl) refl
+  pub no_device_failed : (failures : ℕ) → NoDeviceFailed answer failures
+  no_device_failed failures = prelude_ends (λ r. NoDeviceFailed r failures) (λ why end. (refl, refl)) (refl, refl)
 
 -- a preview's answer to a new prelude, as an engine tells it
 pub sets : (answer : Result ChangedPieces EditFault) (old new : Document) (lines : List (List ℕ)) (patch : ChangedPieces) → answer ≡ Ok patch

@@ -1,7 +1,7 @@
 use Rattle.std.proofs.Common.{ap, ◌∙◌, string_bytes}
 use Rattle.std.specs.Prelude.{not}
 use Rattle.std.proofs.lemmas.Result.{err_from_is_err_and}
-use Rattle.mdtool.proofs.Conversions.{page_feed_refused, page_no_html, page_out_refused, page_reads, page_unread}
+use Rattle.mdtool.proofs.Conversions.{page_no_html, page_reads, page_refusal_stays, page_unread}
 use Rattle.mdtool.proofs.converting.convert_beside.Goals as goal
 
 pub returns-in_err-text-clause-converted : goal.returns-in_err-text-clause-converted
@@ -16,11 +16,12 @@ returns-in_err-html-clause-converted g c = λ given is.
 
 pub returns-in_err-html-clause-feed : goal.returns-in_err-html-clause-feed
 returns-in_err-html-clause-feed g c =
-    c.in_ok-text.ensures.failures ∙ page_feed_refused c.from_residual-in_err-html.result c.in_err-html.field-0.0 _ c.from_residual-in_err-html.ensures.1 c.in_err-html.ensures.refusal
+    c.in_ok-text.ensures.failures
+    ∙ (page_refusal_stays c.from_residual-in_err-html.result c.in_err-html.field-0.0 _ c.from_residual-in_err-html.ensures.1 c.in_err-html.ensures.refusal).0
 
 pub returns-in_err-html-clause-out : goal.returns-in_err-html-clause-out
 returns-in_err-html-clause-out g c =
-    page_out_refused c.from_residual-in_err-html.result c.in_err-html.field-0.0 _ c.from_residual-in_err-html.ensures.1 c.in_err-html.ensures.refusal
+    (page_refusal_stays c.from_residual-in_err-html.result c.in_err-html.field-0.0 _ c.from_residual-in_err-html.ensures.1 c.in_err-html.ensures.refusal).1
 
 pub returns-then-is_err-clause-converted : goal.returns-then-is_err-clause-converted
 returns-then-is_err-clause-converted g c = λ given is.

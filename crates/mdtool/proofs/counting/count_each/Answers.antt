@@ -31,7 +31,8 @@ returns-in_err-line-clause-counts g c =
 pub returns-then-is_err-clause-counts : goal.returns-then-is_err-clause-counts
 returns-then-is_err-clause-counts g c =
     let read = rw c.in-Some.is at c.in_ok-command.ensures.next in
-    let front = rw (c.is_err.ensures.negation ∙ ap not c.if-is_err.true, c.as_bytes.ensures.value, c.as_str.ensures.value, c.in_ok-line.ensures) at c.send.ensures in
+    let front =
+    rw (c.is_err.ensures.negation ∙ ap not c.if-is_err.true, c.as_bytes.ensures.value, c.as_str.ensures.value, c.in_ok-line.ensures) at c.send.ensures in
     counts_break _ _ _ _ _ _ _ _ _ _ _ _ _ _ c.loop-script.invariant.run read c.in_ok-count.ensures front.0
 
 -- the line was sent, and the script goes on

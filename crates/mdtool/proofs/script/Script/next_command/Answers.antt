@@ -12,7 +12,8 @@ use Rattle.mdtool.proofs.script.Script.next_command.Goals.{After-use_line, In-So
 use Rattle.mdtool.proofs.script.Script.next_command.Goals as goal
 
 -- the line of the head
-line_read : (g : Over) (c : After-use_line g) → Reads (g.R.Feed.left c.args.feed.now) c.args.self.now (c.front.result.now ∷ []) (g.R.Feed.left c.find_line.new.feed) c.use_line.new.self
+line_read : (g : Over) (c : After-use_line g)
+    → Reads (g.R.Feed.left c.args.feed.now) c.args.self.now (c.front.result.now ∷ []) (g.R.Feed.left c.find_line.new.feed) c.use_line.new.self
 line_read g c =
     let found = rw c.in-Some.is at c.in_ok-len.ensures.steps in
     head_read _ _ _ _ _ _ c.front.result.now found.0 found.1 c.use_line.ensures c.front.ensures
@@ -57,7 +58,8 @@ returns-in_default-3-clause-next g c =
     let at = goal.at.returns-in_default-3-clause-next g c in
     let few = rw c.in_default-3.is at c.in_ok-add-in-Edit.ensures.steps in
     rw (line_number g at.After-use_line _ c.self.view_is)
-    (few_stops _ _ _ _ _ _ _ _ (edit c.in-Edit.at c.in-Edit.del) _ true (line_read g at.After-use_line) (line_head g at.In-Some-head _ c.in-Edit.is) (λ _. refl) few)
+    (few_stops _ _ _ _ _ _ _ _ (edit c.in-Edit.at c.in-Edit.del) _ true
+    (line_read g at.After-use_line) (line_head g at.In-Some-head _ c.in-Edit.is) (λ _. refl) few)
 
 pub returns-in-Html-clause-next : goal.returns-in-Html-clause-next
 returns-in-Html-clause-next g c =
@@ -68,7 +70,8 @@ pub returns-in-Some-3-clause-next : goal.returns-in-Some-3-clause-next
 returns-in-Some-3-clause-next g c =
     let at = goal.at.returns-in-Some-3-clause-next g c in
     let texts = rw c.in-Some-3.is at c.in_ok-add-in-Edit.ensures.steps in
-    texts_read _ _ _ _ _ _ _ _ (edit c.in-Edit.at c.in-Edit.del) _ c.in-Some-3.add (line_read g at.After-use_line) (line_head g at.In-Some-head _ c.in-Edit.is) (λ _. refl) texts
+    texts_read _ _ _ _ _ _ _ _ (edit c.in-Edit.at c.in-Edit.del) _ c.in-Some-3.add
+    (line_read g at.After-use_line) (line_head g at.In-Some-head _ c.in-Edit.is) (λ _. refl) texts
 
 pub returns-in_err-lines-in-Prelude-clause-next : goal.returns-in_err-lines-in-Prelude-clause-next
 returns-in_err-lines-in-Prelude-clause-next g c =
@@ -85,10 +88,12 @@ returns-in_default-2-clause-next g c =
     let at = goal.at.returns-in_default-2-clause-next g c in
     let few = rw c.in_default-2.is at c.in_ok-lines-in-Prelude.ensures.steps in
     rw (line_number g at.After-use_line _ c.self.view_is)
-    (few_stops _ _ _ _ _ _ _ _ set_prelude _ true (line_read g at.After-use_line) (line_head g at.In-Some-head _ c.in-Prelude.is) (λ _. refl) few)
+    (few_stops _ _ _ _ _ _ _ _ set_prelude _ true
+    (line_read g at.After-use_line) (line_head g at.In-Some-head _ c.in-Prelude.is) (λ _. refl) few)
 
 pub returns-in-Some-2-clause-next : goal.returns-in-Some-2-clause-next
 returns-in-Some-2-clause-next g c =
     let at = goal.at.returns-in-Some-2-clause-next g c in
     let texts = rw c.in-Some-2.is at c.in_ok-lines-in-Prelude.ensures.steps in
-    texts_read _ _ _ _ _ _ _ _ set_prelude _ c.in-Some-2.lines (line_read g at.After-use_line) (line_head g at.In-Some-head _ c.in-Prelude.is) (λ _. refl) texts
+    texts_read _ _ _ _ _ _ _ _ set_prelude _ c.in-Some-2.lines
+    (line_read g at.After-use_line) (line_head g at.In-Some-head _ c.in-Prelude.is) (λ _. refl) texts
