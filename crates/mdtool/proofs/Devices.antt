@@ -1,8 +1,10 @@
 -- Bytes that a device takes or gives in several calls.
 use Rattle.std.proofs.Common.{◌≡◌, ℕ, ◌+◌, ◌-◌, List, [], ◌++◌, take, drop, length, length-drop, Option, Some, None, refl, ap, sym, subst, ◌∙◌, append_assoc, arith}
 use Rattle.std.proofs.Math.Seq.{take-add}
+use Rattle.std.proofs.lemmas.Result.{err_from_is_err_and}
 use Rattle.std.proofs.lemmas.List.{take_all}
-use Rattle.std.specs.Prelude.{Bool, true, false}
+use Rattle.std.specs.Prelude.{Bool, Result, true, false}
+use Rattle.std.specs.Result.{IsErrAnd, is_ok}
 use Rattle.mdtool.specs.Bytes.{Gains, GainsFront, Takes, Puts}
 
 gains_on : (a b c : Option (List ℕ)) (front more : List ℕ) → Gains a front b → Gains b more c → Gains a (front ++ more) c
@@ -71,5 +73,8 @@ puts_less a b f g front more first = (front_of_first a b front more first.0, fir
 pub puts_then : (a b c : Option (List ℕ)) (f g h : ℕ) (whole : Bool) (front more text : List ℕ) → text ≡ front ++ more → Puts a f front true b g → Puts b g more whole c h → Puts a f text whole c h
 puts_then a b c f g h whole front more text e first second = rw e (puts_more a b c f g h front more whole first second)
 
-pub puts_part : (a b : Option (List ℕ)) (f g : ℕ) (whole : Bool) (front more text : List ℕ) → whole ≡ false → text ≡ front ++ more → Puts a f front false b g → Puts a f text whole b g
-puts_part a b f g whole front more text part e first = rw (part, e) (puts_less a b f g front more first)
+pub puts_part : {T E : Type 0} (a b : Option (List ℕ)) (f g : ℕ) (result : Result T E) (fault : E) (front more text : List ℕ) → IsErrAnd result (λ e. e ≡ fault)
+    → text ≡ front ++ more → Puts a f front false b g → Puts a f text (is_ok result) b g
+puts_part a b f g result fault front more text failed is first =
+    let p = err_from_is_err_and result failed in
+    rw (p.1, is) (puts_less a b f g front more first)

@@ -1,13 +1,10 @@
-use Rattle.std.proofs.Common.{decimal, ap, refl, ◌∙◌}
-use Rattle.std.specs.Result.{is_ok}
-use Rattle.std.proofs.lemmas.Result.{err_from_is_err_and}
+use Rattle.std.proofs.Common.{decimal, refl, ◌∙◌}
 use Rattle.mdtool.proofs.Devices.{puts_then, puts_part}
 use Rattle.mdtool.proofs.endings.put_numbered.Goals as goal
 
 pub returns-in_err-put_all : goal.returns-in_err-put_all
 returns-in_err-put_all g c =
-    let p = err_from_is_err_and c.from_residual.result c.from_residual.ensures.1 in
-    (puts_part _ _ _ _ _ c.args.text.now (decimal c.args.number) _ (ap is_ok p.1) refl c.in_err-put_all.ensures)
+    (puts_part _ _ _ _ _ _ c.args.text.now (decimal c.args.number) _ c.from_residual.ensures.1 refl c.in_err-put_all.ensures)
 
 pub returns : goal.returns
 returns g c =

@@ -1,13 +1,11 @@
-use Rattle.std.proofs.Common.{codes, ap, refl, string_bytes}
-use Rattle.std.specs.Result.{is_ok}
-use Rattle.std.proofs.lemmas.Result.{err_from_is_err_and}
+use Rattle.std.proofs.Common.{codes, refl, string_bytes}
 use Rattle.mdtool.proofs.Devices.{puts_then, puts_part}
 use Rattle.mdtool.proofs.endings.put_reason.Goals as goal
 
 pub returns-in_err-put_all-in-NotOpened : goal.returns-in_err-put_all-in-NotOpened
 returns-in_err-put_all-in-NotOpened g c =
-    let p = err_from_is_err_and c.from_residual.result c.from_residual.ensures.1 in
-    rw c.in-NotOpened.is (puts_part _ _ _ _ _ (codes "cannot open ") (string_bytes c.in-NotOpened.name) _ (ap is_ok p.1) refl c.in_err-put_all-in-NotOpened.ensures)
+    rw c.in-NotOpened.is
+    (puts_part _ _ _ _ _ _ (codes "cannot open ") (string_bytes c.in-NotOpened.name) _ c.from_residual.ensures.1 refl c.in_err-put_all-in-NotOpened.ensures)
 
 pub returns-in_ok-put_all-in-NotOpened : goal.returns-in_ok-put_all-in-NotOpened
 returns-in_ok-put_all-in-NotOpened g c =

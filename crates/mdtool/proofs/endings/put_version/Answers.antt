@@ -1,6 +1,4 @@
-use Rattle.std.proofs.Common.{List, ℕ, ◌++◌, ◌∷◌, [], ap, refl}
-use Rattle.std.specs.Result.{is_ok}
-use Rattle.std.proofs.lemmas.Result.{err_from_is_err_and}
+use Rattle.std.proofs.Common.{List, ℕ, ◌++◌, ◌∷◌, [], refl}
 use Rattle.mdtool.proofs.Devices.{puts_then, puts_part}
 use Rattle.mdwords.specs.ToolWords.{version}
 use Rattle.mdtool.proofs.endings.put_version.Goals as goal
@@ -14,21 +12,18 @@ of_space = 32 ∷ of_version
 
 pub returns-in_err-put_all : goal.returns-in_err-put_all
 returns-in_err-put_all g c =
-    let p = err_from_is_err_and c.from_residual.result c.from_residual.ensures.1 in
-    puts_part _ _ _ _ _ c.args.program.now of_space _ (ap is_ok p.1) refl (rw c.as_bytes.ensures.value at c.in_err-put_all.ensures)
+    puts_part _ _ _ _ _ _ c.args.program.now of_space _ c.from_residual.ensures.1 refl (rw c.as_bytes.ensures.value at c.in_err-put_all.ensures)
 
 pub returns-in_err-put_all-2 : goal.returns-in_err-put_all-2
 returns-in_err-put_all-2 g c =
-    let p = err_from_is_err_and c.from_residual-in_err-put_all-2.result c.from_residual-in_err-put_all-2.ensures.1 in
     puts_then _ _ _ _ _ _ _ c.args.program.now of_space _ refl (rw c.as_bytes.ensures.value at c.in_ok-put_all.ensures)
-    (puts_part _ _ _ _ _ (32 ∷ []) of_version _ (ap is_ok p.1) refl c.in_err-put_all-2.ensures)
+    (puts_part _ _ _ _ _ _ (32 ∷ []) of_version _ c.from_residual-in_err-put_all-2.ensures.1 refl c.in_err-put_all-2.ensures)
 
 pub returns-in_err-put_all-3 : goal.returns-in_err-put_all-3
 returns-in_err-put_all-3 g c =
-    let p = err_from_is_err_and c.from_residual-in_err-put_all-3.result c.from_residual-in_err-put_all-3.ensures.1 in
     puts_then _ _ _ _ _ _ _ c.args.program.now of_space _ refl (rw c.as_bytes.ensures.value at c.in_ok-put_all.ensures)
     (puts_then _ _ _ _ _ _ _ (32 ∷ []) of_version _ refl c.in_ok-put_all-2.ensures
-    (puts_part _ _ _ _ _ version (10 ∷ []) _ (ap is_ok p.1) refl (rw c.as_bytes-2.ensures.value at c.in_err-put_all-3.ensures)))
+    (puts_part _ _ _ _ _ _ version (10 ∷ []) _ c.from_residual-in_err-put_all-3.ensures.1 refl (rw c.as_bytes-2.ensures.value at c.in_err-put_all-3.ensures)))
 
 pub returns : goal.returns
 returns g c =
