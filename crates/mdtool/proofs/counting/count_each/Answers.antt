@@ -37,11 +37,11 @@ returns-then-is_err-clause-counts g c =
 
 -- the line was sent, and the script goes on
 goes_on : (g : Over) (c : After-is_err g) → c.is_err.result ≡ false → record {
-    run : CountRun c.args.preview.now (g.R.Feed.left c.args.feed.now) (g.R.Feed.left c.next_command.new.feed) c.next_command.new.self
-        (g.W.Out.written c.args.out.now) (g.W.Out.written c.send.new.out) c.counted.new.preview;
-    feed : g.R.Feed.failures c.next_command.new.feed ≡ g.R.Feed.failures c.args.feed.now;
-    out : g.W.Out.failures c.send.new.out ≡ g.W.Out.failures c.args.out.now;
-  }
+  run : CountRun c.args.preview.now (g.R.Feed.left c.args.feed.now) (g.R.Feed.left c.next_command.new.feed) c.next_command.new.self
+      (g.W.Out.written c.args.out.now) (g.W.Out.written c.send.new.out) c.counted.new.preview;
+  feed : g.R.Feed.failures c.next_command.new.feed ≡ g.R.Feed.failures c.args.feed.now;
+  out : g.W.Out.failures c.send.new.out ≡ g.W.Out.failures c.args.out.now;
+}
 goes_on g c sent =
     let read = rw c.in-Some.is at c.in_ok-command.ensures.next in
     let gained = rw (c.is_err.ensures.negation ∙ ap not sent, c.as_bytes.ensures.value, c.as_str.ensures.value, c.in_ok-line.ensures) at c.send.ensures in

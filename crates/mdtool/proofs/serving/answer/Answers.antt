@@ -31,11 +31,11 @@ returns-then-is_err-clause-served g c =
 
 -- the reply was sent, and the script goes on
 goes_on : (g : Over) (c : After-is_err g) → c.is_err.result ≡ false → record {
-    run : Run c.args.form c.args.preview.now (g.R.Feed.left c.args.feed.now) (g.R.Feed.left c.next_command.new.feed) c.next_command.new.self
-        (g.W.Out.written c.args.out.now) (g.W.Out.written c.send.new.out) c.reply_to.new.preview;
-    feed : g.R.Feed.failures c.next_command.new.feed ≡ g.R.Feed.failures c.args.feed.now;
-    out : g.W.Out.failures c.send.new.out ≡ g.W.Out.failures c.args.out.now;
-  }
+  run : Run c.args.form c.args.preview.now (g.R.Feed.left c.args.feed.now) (g.R.Feed.left c.next_command.new.feed) c.next_command.new.self
+      (g.W.Out.written c.args.out.now) (g.W.Out.written c.send.new.out) c.reply_to.new.preview;
+  feed : g.R.Feed.failures c.next_command.new.feed ≡ g.R.Feed.failures c.args.feed.now;
+  out : g.W.Out.failures c.send.new.out ≡ g.W.Out.failures c.args.out.now;
+}
 goes_on g c sent =
     let read = rw c.in-Some.is at c.in_ok-command.ensures.next in
     let gained = rw (c.is_err.ensures.negation ∙ ap not sent, c.as_bytes.ensures.value, c.as_str.ensures.value) at c.send.ensures in
