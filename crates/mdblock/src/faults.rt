@@ -44,6 +44,7 @@ impl LineFault {
     /// The fault as a reader tells it.
     pub(crate) fn told(self) -> BlockFault
         ensures deep { result ≡ BlockFault.NestedTooDeep → self ≡ LineFault.TooDeep }
+        ensures too_deep { self ≡ LineFault.TooDeep → result ≡ BlockFault.NestedTooDeep }
         ensures going { result ≡ BlockFault.Failed → ⊥ }
     {
         match self {
