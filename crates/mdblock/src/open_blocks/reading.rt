@@ -16,10 +16,17 @@ use crate::gathering::Gathering;
 use crate::lines::Line;
 use crate::open_blocks::{Continuation, Level, OpenBlock, deeper};
 
+/// How the reading of a line inside a level ends: a word, since of a `Result` the compiler makes no loop, and each level is a call.
+#[derive(Clone, Copy, Debug, PartialEq, Eq)]
+enum LineRead {
+    /// It is read.
+    Done,
+    TooDeep,
+    NoMemory,
+}
+
 impl Level {
-    /// Reads one line more, where at most `room` containers may be open inside one another. It ends with the reading inside the open container, of which the
-    /// compiler makes a loop.
-    #[tactic(auto, using(crate::proofs::Within::growing))]
+    /// Reads one line more, where at most `room` containers may be open inside one another.
     pub(crate) fn read(
         &mut self,
         line: &mut Line,
@@ -32,6 +39,22 @@ impl Level {
         ensures adds { OnOk result (AddsLine room self.old gathering.old line.old self.new gathering.new) }
         ensures deep { IsErrOf result TooDeep → SinksLine room self.old gathering.old line.old }
     {
+        match self.read_inside(line, room, gathering) {
+            LineRead::Done => Ok(()),
+            LineRead::TooDeep => Err(LineFault::TooDeep),
+            LineRead::NoMemory => Err(LineFault::NoMemory),
+        }
+    }
+
+    /// Reads one line more, and tells by a word how that ends: it ends with the reading inside the open container, of which the compiler makes a loop.
+    #[tactic(auto, using(crate::proofs::Within::growing))]
+    fn read_inside(&mut self, line: &mut Line, room: usize, gathering: &mut Gathering) -> LineRead
+        requires { LevelIn (length gathering.old.texts.items) self.old }
+        ensures within { result ≡ LineRead.Done → LevelIn (length gathering.new.texts.items) self.new }
+        ensures grows { Grows gathering.old gathering.new }
+        ensures adds { result ≡ LineRead.Done → AddsLine room self.old gathering.old line.old self.new gathering.new }
+        ensures deep { result ≡ LineRead.TooDeep → SinksLine room self.old gathering.old line.old }
+    {
         match &mut self.last {
             OpenBlock::Shut => self.read_unfollowed(line, room, gathering),
             OpenBlock::Leaf(_) => self.read_unfollowed(line, room, gathering),
@@ -40,22 +63,22 @@ impl Level {
                     return self.read_unfollowed(line, room, gathering);
                 }
                 if room < 1 {
-                    return Err(LineFault::TooDeep);
+                    return LineRead::TooDeep;
                 }
                 block_quotes::take_marker(line);
                 self.blank = false;
-                inner.read(line, room - 1, gathering)
+                inner.read_inside(line, room - 1, gathering)
             }
             OpenBlock::List(inner, list) => {
                 if !list.matches(line) {
                     return self.read_unfollowed(line, room, gathering);
                 }
                 if room < 1 {
-                    return Err(LineFault::TooDeep);
+                    return LineRead::TooDeep;
                 }
                 list.enter(line);
                 self.blank = false;
-                inner.read(line, room - 1, gathering)
+                inner.read_inside(line, room - 1, gathering)
             }
         }
     }
@@ -67,16 +90,20 @@ impl Level {
         line: &mut Line,
         room: usize,
         gathering: &mut Gathering,
-    ) -> Result<(), LineFault>
+    ) -> LineRead
         requires level { LevelIn (length gathering.old.texts.items) self.old }
         requires unfollowed { IsUnfollowed self.old.last line.old }
-        ensures within { OnOk result (LevelIn (length gathering.new.texts.items) self.new) }
+        ensures within { result ≡ LineRead.Done → LevelIn (length gathering.new.texts.items) self.new }
         ensures grows { Grows gathering.old gathering.new }
-        ensures adds { OnOk result (AddsLine room self.old gathering.old line.old self.new gathering.new) }
-        ensures deep { IsErrOf result TooDeep → SinksLine room self.old gathering.old line.old }
+        ensures adds { result ≡ LineRead.Done → AddsLine room self.old gathering.old line.old self.new gathering.new }
+        ensures deep { result ≡ LineRead.TooDeep → SinksLine room self.old gathering.old line.old }
     {
         let continuation = self.continuation(line);
-        self.add(line, continuation, room, gathering)
+        match self.add(line, continuation, room, gathering) {
+            Ok(()) => LineRead::Done,
+            Err(LineFault::TooDeep) => LineRead::TooDeep,
+            Err(LineFault::NoMemory) => LineRead::NoMemory,
+        }
     }
 
     /// Reads one line more, which continues what is open so, where at most `room` containers may be open inside one another.
