@@ -1,4 +1,5 @@
 pub mod BatchHtml
+pub mod CleanText
 pub mod GatheredUnits
 pub mod TextLabels
 pub mod ViewHtml

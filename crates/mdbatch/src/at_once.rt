@@ -1,73 +1,57 @@
 //! The HTML of a text that defines no label: each unit is written as it is found.
-ghost use Rattle.std.specs.Prelude.{◌≡◌, ◌≤◌, ◌∷◌, [], IfErr, IfOk, IfSome, None, length, string_bytes, true};
-ghost use Rattle.mdtext.specs.Lines.{split_lines};
-ghost use Rattle.blockspec.specs.BlockUnits.{units};
-ghost use Rattle.blockspec.specs.Nesting.{first_too_deep};
+ghost use Rattle.std.specs.Prelude.{◌≡◌, ◌∷◌, [], IfErr, IfOk, IfSome, None, string_bytes, true};
 ghost use Rattle.mdblock.specs.FoundLists.{found_unit};
 ghost use Rattle.mdhtml.specs.BlockHtml.{ends_line};
-ghost use Rattle.mdhtml.specs.Limits.{HasLimits};
-ghost use Rattle.mdsource.specs.SourceLimits.{size_of};
 ghost use Rattle.mdbatch.specs.BatchHtml.{IsReadFault, WritesPage};
+ghost use Rattle.mdbatch.specs.CleanText.{lines_in, nested_in, setting_for, units_in};
 ghost use Rattle.mdbatch.specs.GatheredUnits.{setting_of};
 ghost use Rattle.mdbatch.specs.TextLabels.{target_on_page};
 ghost use Rattle.mdbatch.specs.UnitsAtOnce.{AddsUnits};
 
+use crate::clean_text::CleanText;
 use crate::page_labels::PageLabels;
 use crate::units::{UnitSink, read_units};
 use mdblock::Found;
-use mdhtml::{Options, UnitWriter};
+use mdhtml::UnitWriter;
 use mdinline::{InlineFault, LabelTable};
 use mdsource::{EditFault, Prelude};
-use mdtext::{Entities, NoMemory};
-use std::alloc::{AllocError, Global};
+use mdtext::NoMemory;
+use std::alloc::AllocError;
 
-/// The HTML of a text in which no U+0000 stands and which defines no label: so where labels lead is known before its first line. Nothing where a unit
+/// The HTML of a text that defines no label: so where labels lead is known before its first line. Nothing where a unit
 /// defines one, or where spans lie too deep: a container may begin too deep further on, which is the answer then.
 pub(crate) fn html_at_once(
-    alloc: Global,
-    text: &str,
-    entities: &Entities,
-    options: &Options,
+    clean: CleanText<'_>,
     prelude: &Prelude,
 ) -> Result<Option<String>, EditFault>
-    requires limits { HasLimits options.now }
-    requires few { length (split_lines text.now) ≤ 1000000 }
-    requires small { size_of (split_lines text.now) ≤ 16777216 }
-    ensures html { IfOk result (λ html. IfSome html (λ html.
-        WritesPage (record { entities = entities.now; options = options.now }) prelude.now (split_lines text.now) (string_bytes html))) }
-    ensures nesting { IfOk result (λ html. IfSome html (λ _. first_too_deep options.now.max_containers (split_lines text.now) ≡ None)) }
-    ensures fault { IfErr result (IsReadFault (first_too_deep options.now.max_containers (split_lines text.now))) }
+    ensures html { IfOk result (λ html. IfSome html (λ html. WritesPage (setting_for clean.entry) prelude.now (lines_in clean.entry) (string_bytes html))) }
+    ensures nesting { IfOk result (λ html. IfSome html (λ _. nested_in clean.entry ≡ None)) }
+    ensures fault { IfErr result (IsReadFault (nested_in clean.entry)) }
 {
-    let no_labels = LabelTable::new(alloc);
+    let no_labels = LabelTable::new(clean.alloc);
     let labels = PageLabels {
         own: &no_labels,
         prelude,
     };
-    written_units(alloc, text, entities, options, &labels)
+    written_units(clean, &labels)
 }
 
 /// The HTML of the units of such a text, where labels lead so.
 fn written_units<'a>(
-    alloc: Global,
-    text: &str,
-    entities: &'a Entities,
-    options: &Options,
+    clean: CleanText<'a>,
     labels: &'a PageLabels<'a>,
 ) -> Result<Option<String>, EditFault>
-    requires limits { HasLimits options.now }
-    requires few { length (split_lines text.now) ≤ 1000000 }
-    requires small { size_of (split_lines text.now) ≤ 16777216 }
-    ensures adds { IfOk result (λ html. IfSome html (λ html. AddsUnits (record { entities = entities.now; options = options.now }) (target_on_page labels.now)
-        (units entities.now (split_lines text.now)) [] (string_bytes html))) }
-    ensures nesting { IfOk result (λ html. IfSome html (λ _. first_too_deep options.now.max_containers (split_lines text.now) ≡ None)) }
-    ensures fault { IfErr result (IsReadFault (first_too_deep options.now.max_containers (split_lines text.now))) }
+    ensures adds { IfOk result (λ html. IfSome html (λ html.
+        AddsUnits (setting_for clean.entry) (target_on_page labels.now) (units_in clean.entry) [] (string_bytes html))) }
+    ensures nesting { IfOk result (λ html. IfSome html (λ _. nested_in clean.entry ≡ None)) }
+    ensures fault { IfErr result (IsReadFault (nested_in clean.entry)) }
 {
     let mut written = UnitsAtOnce {
-        writer: UnitWriter::new(alloc, entities, options),
+        writer: UnitWriter::new(clean.alloc, clean.entities, clean.options),
         labels,
-        html: String::with_capacity(alloc, text.len())?,
+        html: String::with_capacity(clean.alloc, clean.text.len())?,
     };
-    if read_units(alloc, text, entities, options, &mut written)? {
+    if read_units(clean, &mut written)? {
         Ok(Some(written.html))
     } else {
         Ok(None)

@@ -1,13 +1,12 @@
 //! From a whole text to its HTML.
-ghost use Rattle.std.specs.Prelude.{ℕ, List, [], ◌≡◌, ◌++◌, ◌≤◌, true, None, IfErr, IfOk, OnOk, length, string_bytes};
+ghost use Rattle.std.specs.Prelude.{ℕ, List, [], ◌≡◌, ◌++◌, true, None, IfErr, IfOk, OnOk, string_bytes};
 ghost use Rattle.std.specs.List.{All};
 ghost use Rattle.blockspec.specs.UnitTree.{FoundUnit};
-ghost use Rattle.mdtext.specs.Lines.{split_lines, text_lines};
-ghost use Rattle.blockspec.specs.Nesting.{first_too_deep};
+ghost use Rattle.mdtext.specs.Lines.{text_lines};
 ghost use Rattle.mdhtml.specs.Limits.{HasLimits};
 ghost use Rattle.mdhtml.specs.BlockHtml.{ends_line};
-ghost use Rattle.mdsource.specs.SourceLimits.{size_of};
 ghost use Rattle.mdsource.specs.Preludes.{IsDefinedBy};
+ghost use Rattle.mdbatch.specs.CleanText.{lines_in, nested_in, setting_for};
 ghost use Rattle.mdbatch.specs.BatchHtml.{IsFaultOf, TextHtml, WritesPage, WritesUnits, deep_line, deep_on_page};
 ghost use Rattle.mdsource.specs.TextFaults.{IsTextFault};
 ghost use Rattle.mdbatch.specs.GatheredUnits.{EndsLine, Gathers, HasGathered, IsWoven, IsWrittenTo, setting_of};
@@ -15,6 +14,7 @@ ghost use Rattle.mdbatch.specs.TextLabels.{page_table, target_on_page};
 ghost use Rattle.mdbatch.specs.ViewHtml.{ViewHtml};
 
 use crate::at_once::html_at_once;
+use crate::clean_text::CleanText;
 use crate::gathered::{Gathered, Waiting, gathered_units};
 use crate::guesses::is_written_at_once;
 use crate::limits::within_limits;
@@ -45,51 +45,49 @@ pub fn to_html(
     let text = after_mark(text);
     within_limits(text)?;
     if is_clean(text) {
-        return clean_html(alloc, text, entities, options, prelude);
+        let clean = CleanText {
+            alloc,
+            text,
+            entities,
+            options,
+        };
+        return clean_html(clean, prelude);
     }
-    let clean = clean_line(alloc, text)?;
-    clean_html(alloc, &clean, entities, options, prelude)
+    let cleaned = clean_line(alloc, text)?;
+    let clean = CleanText {
+        alloc,
+        text: &cleaned,
+        entities,
+        options,
+    };
+    clean_html(clean, prelude)
 }
 
-/// The HTML of a text in which no U+0000 stands.
-fn clean_html(
-    alloc: Global,
-    text: &str,
-    entities: &Entities,
-    options: &Options,
-    prelude: &Prelude,
-) -> Result<String, EditFault>
-    requires limits { HasLimits options.now }
-    requires few { length (split_lines text.now) ≤ 1000000 }
-    requires small { size_of (split_lines text.now) ≤ 16777216 }
-    ensures html { IfOk result (λ html. WritesPage (record { entities = entities.now; options = options.now }) prelude.now (split_lines text.now) (string_bytes html)) }
-    ensures nesting { OnOk result (first_too_deep options.now.max_containers (split_lines text.now) ≡ None) }
-    ensures fault { IfErr result (IsFaultOf (first_too_deep options.now.max_containers (split_lines text.now))
-        (deep_on_page (record { entities = entities.now; options = options.now }) prelude.now (split_lines text.now))) }
+fn clean_html(clean: CleanText<'_>, prelude: &Prelude) -> Result<String, EditFault>
+    ensures html { IfOk result (λ html. WritesPage (setting_for clean.entry) prelude.now (lines_in clean.entry) (string_bytes html)) }
+    ensures nesting { OnOk result (nested_in clean.entry ≡ None) }
+    ensures fault { IfErr result (IsFaultOf (nested_in clean.entry) (deep_on_page (setting_for clean.entry) prelude.now (lines_in clean.entry))) }
 {
-    if is_written_at_once(text, options.max_containers) {
-        if let Some(html) = html_at_once(alloc, text, entities, options, prelude)? {
+    if is_written_at_once(clean.text, clean.options.max_containers) {
+        if let Some(html) = html_at_once(clean, prelude)? {
             return Ok(html);
         }
     }
-    let gathered = gathered_units(alloc, text, entities, options)?;
-    gathered_html(alloc, gathered, entities, options, prelude)
+    let gathered = gathered_units(clean)?;
+    gathered_html(clean, gathered, prelude)
 }
 
 /// Writes the units that wait, each at its place, under the labels of the whole text.
 fn gathered_html(
-    alloc: Global,
+    clean: CleanText<'_>,
     gathered: Gathered,
-    entities: &Entities,
-    options: &Options,
     prelude: &Prelude,
 ) -> Result<String, EditFault>
-    requires limits { HasLimits options.now }
-    requires gathered { HasGathered (record { entities = entities.now; options = options.now }) gathered }
-    ensures html { (all : List FoundUnit) → Gathers (record { entities = entities.now; options = options.now }) all gathered
-        → IfOk result (λ html. WritesUnits (record { entities = entities.now; options = options.now }) (page_table all prelude.now) all [] (string_bytes html)) }
-    ensures fault { (all : List FoundUnit) → Gathers (record { entities = entities.now; options = options.now }) all gathered
-        → IfErr result (IsTextFault (deep_line (record { entities = entities.now; options = options.now }) (page_table all prelude.now) all)) }
+    requires { HasGathered (setting_for clean) gathered }
+    ensures html { (all : List FoundUnit) → Gathers (setting_for clean.entry) all gathered
+        → IfOk result (λ html. WritesUnits (setting_for clean.entry) (page_table all prelude.now) all [] (string_bytes html)) }
+    ensures fault { (all : List FoundUnit) → Gathers (setting_for clean.entry) all gathered
+        → IfErr result (IsTextFault (deep_line (setting_for clean.entry) (page_table all prelude.now) all)) }
 {
     let Gathered {
         waiting,
@@ -101,8 +99,8 @@ fn gathered_html(
         own: &labels,
         prelude,
     };
-    let mut writer = UnitWriter::new(alloc, entities, options);
-    let mut out = String::new(alloc);
+    let mut writer = UnitWriter::new(clean.alloc, clean.entities, clean.options);
+    let mut out = String::new(clean.alloc);
     append_waiting(&mut writer, waiting, &labels, &mut out)?;
     if let Some(line) = too_deep {
         return Err(EditFault::InlineTooDeep { line });

@@ -1,26 +1,23 @@
 //! What is read of a whole text before all its labels are known.
-ghost use Rattle.std.specs.Prelude.{List, ◌≡◌, ◌≤◌, ◌++◌, ◌∷◌, [], IfErr, IfOk, None, OnOk, false, length, string_bytes};
+ghost use Rattle.std.specs.Prelude.{List, ◌≡◌, ◌++◌, ◌∷◌, [], IfErr, IfOk, None, OnOk, false, string_bytes};
 ghost use Rattle.std.specs.List.{list_any};
-ghost use Rattle.mdtext.specs.Lines.{split_lines};
-ghost use Rattle.blockspec.specs.BlockUnits.{units};
-ghost use Rattle.blockspec.specs.Nesting.{first_too_deep};
 ghost use Rattle.blockspec.specs.UnitTree.{FoundUnit};
 ghost use Rattle.mdblock.specs.FoundLists.{found_unit};
-ghost use Rattle.mdhtml.specs.Limits.{HasLimits};
 ghost use Rattle.mdsource.specs.Setting.{Setting};
-ghost use Rattle.mdsource.specs.SourceLimits.{size_of};
 ghost use Rattle.mdbatch.specs.BatchHtml.{IsReadFault};
+ghost use Rattle.mdbatch.specs.CleanText.{nested_in, setting_for, units_in};
 ghost use Rattle.mdsource.specs.declared.fault.EditFault.TheVariants.{NoMemory};
 ghost use Rattle.mdbatch.specs.GatheredUnits.{Gathers, HasGathered, closes_bracket, setting_of};
 ghost use Rattle.mdbatch.specs.declared.gathered.Waiting.{Waiting};
 
+use crate::clean_text::CleanText;
 use crate::labels::add_definitions;
 use crate::units::{UnitSink, read_units};
 use mdblock::{Found, Unit};
-use mdhtml::{Options, UnitWriter};
+use mdhtml::UnitWriter;
 use mdinline::{InlineFault, LabelTable};
 use mdsource::EditFault;
-use mdtext::{Entities, NoMemory};
+use mdtext::NoMemory;
 use memchr::memchr;
 use std::alloc::Global;
 use std::mem::replace;
@@ -153,28 +150,20 @@ impl<'a> UnitSink for UnitGatherer<'a> {
     ghost alike_both = { gather_all_alike };
 }
 
-/// Reads a text in which no U+0000 stands: most of its units are written as they are found.
-pub(crate) fn gathered_units(
-    alloc: Global,
-    text: &str,
-    entities: &Entities,
-    options: &Options,
-) -> Result<Gathered, EditFault>
-    requires limits { HasLimits options.now }
-    requires few { length (split_lines text.now) ≤ 1000000 }
-    requires small { size_of (split_lines text.now) ≤ 16777216 }
-    ensures gathers { IfOk result (Gathers (record { entities = entities.now; options = options.now }) (units entities.now (split_lines text.now))) }
-    ensures nesting { OnOk result (first_too_deep options.now.max_containers (split_lines text.now) ≡ None) }
-    ensures fault { IfErr result (IsReadFault (first_too_deep options.now.max_containers (split_lines text.now))) }
+/// Reads a text: most of its units are written as they are found.
+pub(crate) fn gathered_units(clean: CleanText<'_>) -> Result<Gathered, EditFault>
+    ensures gathers { IfOk result (Gathers (setting_for clean.entry) (units_in clean.entry)) }
+    ensures nesting { OnOk result (nested_in clean.entry ≡ None) }
+    ensures fault { IfErr result (IsReadFault (nested_in clean.entry)) }
 {
-    let no_labels = LabelTable::new(alloc);
+    let no_labels = LabelTable::new(clean.alloc);
     let mut gatherer = UnitGatherer {
-        alloc,
-        gathered: Gathered::new(alloc, text.len())?,
-        writer: UnitWriter::new(alloc, entities, options),
+        alloc: clean.alloc,
+        gathered: Gathered::new(clean.alloc, clean.text.len())?,
+        writer: UnitWriter::new(clean.alloc, clean.entities, clean.options),
         no_labels: &no_labels,
     };
-    if !read_units(alloc, text, entities, options, &mut gatherer)? {
+    if !read_units(clean, &mut gatherer)? {
         // It takes all units (`may_stop`).
         unreachable!();
     }

@@ -3,6 +3,7 @@
 
 mod at_once;
 mod batch;
+mod clean_text;
 mod gathered;
 mod guesses;
 mod labels;

@@ -1,22 +1,18 @@
 //! The units of a whole text, each handed to what takes it as soon as it is found.
-ghost use Rattle.std.specs.Prelude.{List, [], ◌≡◌, ◌<◌, ◌≤◌, ◌∷◌, ◌++◌, IfErr, IfOk, None, false, length, true};
+ghost use Rattle.std.specs.Prelude.{List, [], ◌≡◌, ◌<◌, ◌∷◌, ◌++◌, IfErr, IfOk, None, false, length, true};
 ghost use Rattle.std.specs.Option.{option_map, option_to_list};
 ghost use Rattle.std.specs.Str.{IsUtf8};
 ghost use Rattle.mdtext.specs.Lines.{split_lines};
-ghost use Rattle.blockspec.specs.BlockUnits.{units};
-ghost use Rattle.blockspec.specs.Nesting.{first_too_deep};
 ghost use Rattle.blockspec.specs.UnitTree.{FoundUnit};
 ghost use Rattle.mdblock.specs.FoundLists.{found_unit};
-ghost use Rattle.mdhtml.specs.Limits.{HasLimits};
-ghost use Rattle.mdsource.specs.SourceLimits.{size_of};
 ghost use Rattle.mdsource.specs.declared.fault.EditFault.TheVariants.{NoMemory};
 ghost use Rattle.mdbatch.specs.BatchHtml.{IsReadFault};
+ghost use Rattle.mdbatch.specs.CleanText.{nested_in, units_in};
 
+use crate::clean_text::CleanText;
 use mdblock::{Found, Reader};
-use mdhtml::Options;
 use mdsource::{EditFault, fault_in_line};
-use mdtext::{Entities, Tally, split_line};
-use std::alloc::Global;
+use mdtext::{Tally, split_line};
 
 /// Takes the units of a text in order. After a fault, and where it needs no more, it is of no use.
 pub(crate) trait UnitSink {
@@ -47,28 +43,19 @@ pub(crate) trait UnitSink {
     ghost alike_both: { (a b c : Self) → alike a b → alike b c → alike a c };
 }
 
-/// Hands the units of a text in which no U+0000 stands to a sink, in order; each line is read where it lies in the text. The answer is false where the sink
-/// needs no more: no line is read from there on.
-pub(crate) fn read_units<S: UnitSink>(
-    alloc: Global,
-    text: &str,
-    entities: &Entities,
-    options: &Options,
-    sink: &mut S,
-) -> Result<bool, EditFault>
-    requires limits { HasLimits options.now }
-    requires few { length (split_lines text.now) ≤ 1000000 }
-    requires small { size_of (split_lines text.now) ≤ 16777216 }
+/// Hands the units of a text to a sink, in order; each line is read where it lies in the text. The answer is false where the sink needs no more: no line is
+/// read from there on.
+pub(crate) fn read_units<S: UnitSink>(clean: CleanText<'_>, sink: &mut S) -> Result<bool, EditFault>
     requires none { S.took sink.old [] }
-    ensures took { IfOk result (λ goes_on. goes_on ≡ true → S.took sink.new (units entities.now (split_lines text.now))) }
+    ensures took { IfOk result (λ goes_on. goes_on ≡ true → S.took sink.new (units_in clean.entry)) }
     ensures alike { S.alike sink.old sink.new }
-    ensures nesting { IfOk result (λ goes_on. goes_on ≡ true → first_too_deep options.now.max_containers (split_lines text.now) ≡ None) }
+    ensures nesting { IfOk result (λ goes_on. goes_on ≡ true → nested_in clean.entry ≡ None) }
     ensures stops { IfOk result (λ goes_on. goes_on ≡ false → S.may_stop sink.new) }
-    ensures fault { IfErr result (IsReadFault (first_too_deep options.now.max_containers (split_lines text.now))) }
+    ensures fault { IfErr result (IsReadFault (nested_in clean.entry)) }
 {
-    let mut reader = Reader::new(alloc, entities, options.max_containers);
+    let mut reader = Reader::new(clean.alloc, clean.entities, clean.options.max_containers);
     let mut count = Tally::new();
-    let mut rest = text;
+    let mut rest = clean.as_str();
     while !rest.is_empty() {
         let (line, after) = next_line(rest);
         match reader.line(line, &mut count) {

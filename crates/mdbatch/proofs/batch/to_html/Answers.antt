@@ -8,18 +8,18 @@ use Rattle.mdbatch.proofs.SplitText.{lines_of_clean}
 use Rattle.mdbatch.proofs.WholeTexts.{text_html}
 use Rattle.mdbatch.proofs.batch.to_html.Goals as goal
 
-pub clean_html-requires-clause-small : goal.clean_html-requires-clause-small
-clean_html-requires-clause-small c =
+pub invariant_of-clean-clause-small : goal.invariant_of-clean-clause-small
+invariant_of-clean-clause-small c =
     let text = c.after_mark-text.result.now in
     (clean_within text text (sym (c.is_clean.ensures c.if-is_clean.true)) c.in_ok-within_limits.ensures.within).1
 
-pub clean_html-requires-2-clause-few : goal.clean_html-requires-2-clause-few
-clean_html-requires-2-clause-few c =
-    (clean_within c.after_mark-text.result.now c.deref.result.now (c.deref.ensures ∙ c.in_ok-clean.ensures) c.in_ok-within_limits.ensures.within).0
+pub invariant_of-clean-2-clause-few : goal.invariant_of-clean-2-clause-few
+invariant_of-clean-2-clause-few c =
+    (clean_within c.after_mark-text.result.now c.deref.result.now (c.deref.ensures ∙ c.in_ok-cleaned.ensures) c.in_ok-within_limits.ensures.within).0
 
-pub clean_html-requires-2-clause-small : goal.clean_html-requires-2-clause-small
-clean_html-requires-2-clause-small c =
-    (clean_within c.after_mark-text.result.now c.deref.result.now (c.deref.ensures ∙ c.in_ok-clean.ensures) c.in_ok-within_limits.ensures.within).1
+pub invariant_of-clean-2-clause-small : goal.invariant_of-clean-2-clause-small
+invariant_of-clean-2-clause-small c =
+    (clean_within c.after_mark-text.result.now c.deref.result.now (c.deref.ensures ∙ c.in_ok-cleaned.ensures) c.in_ok-within_limits.ensures.within).1
 
 pub returns-then-is_clean-clause-html : goal.returns-then-is_clean-clause-html
 returns-then-is_clean-clause-html c =
@@ -38,7 +38,7 @@ pub returns-clause-html : goal.returns-clause-html
 returns-clause-html c =
     let text = c.after_mark-text.result.now in
     let clean = c.deref.result.now in
-    let lines = ap split_lines (c.deref.ensures ∙ c.in_ok-clean.ensures) ∙ lines_of_clean text in
+    let lines = ap split_lines (c.deref.ensures ∙ c.in_ok-cleaned.ensures) ∙ lines_of_clean text in
     subst (λ ls. TextHtml c.clean_html-2.result (record { entities = c.args.entities.now; options = c.args.options.now }) c.args.prelude.now ls) (lines ∙ ap (λ t. map without_nul (split_lines t)) c.after_mark-text.ensures)
     (text_html c.clean_html-2.result (record { entities = c.args.entities.now; options = c.args.options.now }) c.args.prelude.now (split_lines clean) (ap refusal lines ∙ c.in_ok-within_limits.ensures.within)
     c.clean_html-2.ensures.html c.clean_html-2.ensures.nesting c.clean_html-2.ensures.fault)

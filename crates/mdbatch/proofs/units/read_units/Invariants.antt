@@ -13,8 +13,8 @@ invariant-loop-rest g l = record {
   few : l.reader.fed + length (split_lines l.rest) ≤ 1000000;
   small : size_of (split_lines l.rest) ≤ 16777216;
   alike : g.S.UnitSink.alike l.fn.sink l.sink;
-  took : (lines : List (List ℕ)) × (split_lines l.text ≡ lines ++ split_lines l.rest) × Reads l.options.max_containers l.entities l.reader lines
-      × g.S.UnitSink.took l.sink (handed l.entities lines);
+  took : (lines : List (List ℕ)) × (split_lines l.fn.clean.text.now ≡ lines ++ split_lines l.rest) × Reads l.fn.clean.options.now.max_containers l.fn.clean.entities.now l.reader lines
+      × g.S.UnitSink.took l.sink (handed l.fn.clean.entities.now lines);
 }
 
 abbrev pub decreases-loop-rest : goal.decreases-loop-rest
