@@ -1,19 +1,16 @@
 -- What is held after an exchange.
-use Rattle.std.proofs.Common.{◌≡◌, ℕ, suc, [], ◌∷◌, ◌+◌, ◌-◌, ◌^◌, ◌≤◌, ◌<◌, true, false, List, ◌++◌, length, map, take, drop, slice_get, refl, ap, ◌∙◌, sym, arith, nat_lt, option_map}
+use Rattle.std.proofs.Common.{◌≡◌, ℕ, ◌+◌, ◌-◌, ◌^◌, ◌≤◌, ◌<◌, true, false, List, length, map, slice_get, refl, ap, ◌∙◌, sym, arith, nat_lt, option_map}
 use Rattle.std.specs.Prelude.{◌==◌, sum_by}
 use Rattle.std.specs.List.{All}
 use Rattle.std.proofs.lemmas.Bool.{eqb-true, eq-eqb}
 use Rattle.std.proofs.lemmas.Bool.Decides.{nat_tests}
 use Rattle.std.proofs.lemmas.List.{length-map}
-use Rattle.std.specs.List.{take-map}
-use Rattle.std.proofs.lemmas.List.{take-take, take_all}
-use Rattle.std.proofs.lemmas.List.Sums.{sum_by-append, sum_by-cons, sum_by-take-drop}
 use Rattle.std.proofs.lemmas.Option.{slice_get-map}
 use Rattle.blockspec.specs.UnitTree.{UnitTree}
 use Rattle.mdhtml.specs.declared.options.Options.{Options}
 use Rattle.mdview.specs.declared.inlines.concerned_texts.Again.{Again}
 use Rattle.mdview.specs.declared.update.Update.{Update}
-use Rattle.mdview.specs.HeldUnit.{HeldUnit, ReadUnit, IsRendered, unit_in, piece_of, read_of, texts_before, texts_in, texts_of, unit_piece}
+use Rattle.mdview.specs.HeldUnit.{HeldUnit, IsRendered, unit_in, texts_in}
 use Rattle.mdview.specs.Lists.{replaced}
 use Rattle.mdsource.specs.Patch.{Brings}
 use Rattle.mdview.specs.Update.{IsPatchOf, IsFitFor, all_renewed, number_after}

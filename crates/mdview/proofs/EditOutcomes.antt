@@ -1,5 +1,5 @@
 -- What an accepted edit leaves and answers, from what was read and what was put in the place of what was held.
-use Rattle.std.proofs.Common.{◌≡◌, ℕ, ◌+◌, ◌-◌, ◌^◌, ◌<◌, ◌≤◌, List, ◌++◌, None, String, Global, arith, drop, length, map, min, nat_lt, string_bytes, take, refl, sym, subst, ◌∙◌, ap, true, false}
+use Rattle.std.proofs.Common.{◌≡◌, ℕ, ◌+◌, ◌-◌, ◌^◌, ◌<◌, ◌≤◌, List, ◌++◌, None, String, Global, arith, drop, length, map, min, nat_lt, string_bytes, take, sym, subst, ◌∙◌, ap, true, false}
 use Rattle.std.specs.Prelude.{if◌then◌else◌}
 use Rattle.std.specs.List.{All, take-map, drop-map}
 use Rattle.std.proofs.lemmas.Bool.Decides.{nat_tests}

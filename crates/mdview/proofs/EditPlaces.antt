@@ -1,5 +1,5 @@
 -- Where an edit begins and ends, in the words of what a call means; and what the accessors of a preview lend.
-use Rattle.std.proofs.Common.{◌≡◌, ℕ, zero, suc, ◌+◌, ◌-◌, ◌^◌, ◌<◌, ◌≤◌, Bool, true, false, List, [], ◌∷◌, Some, None, length, map, take, drop, refl, ap, ◌∙◌, sym, arith, nat_lt, option_map, if◌then◌else◌}
+use Rattle.std.proofs.Common.{◌≡◌, ℕ, zero, suc, ◌+◌, ◌-◌, ◌^◌, ◌<◌, ◌≤◌, Bool, true, false, List, [], ◌∷◌, Some, None, length, map, take, drop, refl, ap, ◌∙◌, sym, arith, nat_lt, if◌then◌else◌}
 use Rattle.std.specs.Prelude.{slice_get, sum_by}
 use Rattle.std.specs.List.{All}
 use Rattle.std.specs.Option.{unwrap_or}
@@ -7,15 +7,12 @@ use Rattle.std.proofs.lemmas.Bool.Decides.{nat_tests}
 use Rattle.std.proofs.lemmas.List.{length-map}
 use Rattle.std.proofs.lemmas.List.Sums.{sum_by-cons}
 use Rattle.std.proofs.lemmas.List.Elements.{All-head, All-tail}
-use Rattle.std.proofs.lemmas.Option.{slice_get-map, slice_get_past}
+use Rattle.std.proofs.lemmas.Option.{slice_get_past}
 use Rattle.mdtext.specs.EntityTable.{EntityTable}
 use Rattle.blockspec.specs.BlockUnits.{begins, units}
 use Rattle.blockspec.specs.UnitTree.{FoundUnit, UnitTree}
 use Rattle.mdsource.specs.Calls.{edit, put}
-use Rattle.mdsource.specs.Changes.{patch_of, places, texts_due, texts_read}
-use Rattle.mdsource.specs.LabelTable.{table}
-use Rattle.mdsource.specs.View.{view}
-use Rattle.mdhtml.specs.declared.options.Options.{Options}
+use Rattle.mdsource.specs.Changes.{patch_of, places}
 use Rattle.mdsource.specs.ChangedPieces.{ChangedPieces}
 use Rattle.mdsource.specs.Setting.{Setting, Source}
 use Rattle.mdsource.specs.Stretch.{Places, units_added, units_before, units_removed, from_line, meeting_line}

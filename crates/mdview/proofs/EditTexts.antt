@@ -35,14 +35,13 @@ use Rattle.mdsource.proofs.ReadingsUnder.{all_under, asking_texts_under, asking_
 use Rattle.mdsource.proofs.Splices.{MeetsBehind, from_above, meets_behind}
 use Rattle.mdsource.proofs.UnitTiles.{units_end}
 use Rattle.mdsource.specs.LaterTexts.{asking_of}
-use Rattle.mdsource.proofs.StopTexts.{asking_few}
 use Rattle.mdblock.specs.FoundLists.{found_unit}
 use Rattle.mdsource.specs.declared.fault.EditFault.{EditFault}
 use Rattle.mdsource.specs.declared.fault.EditFault.TheVariants.{OutOfRange, BreakInLine, TooManyLines, TooLarge, NestedTooDeep, InlineTooDeep, NoMemory, NotDefinitions}
 use Rattle.mdview.specs.declared.source.new_text.NewText.{NewText}
 use Rattle.mdview.specs.declared.inlines.concerned_texts.Again.{Again}
 use Rattle.mdview.specs.declared.blocks.reparse.Reparsed.{Reparsed}
-use Rattle.mdview.specs.HeldBlocks.{HoldsUnits, IsDeepAt, IsReread as IsReadStretch, held_tile, lines_in, old_lines, places_of, tile_in}
+use Rattle.mdview.specs.HeldBlocks.{HoldsUnits, IsReread as IsReadStretch, held_tile, lines_in, old_lines, places_of, tile_in}
 use Rattle.mdview.specs.HeldTexts.{IsReadUnder, IsRefusedBy, IsReread, IsShallow, asking_in_parts, between, deep_in_parts, head_read, line_on, texts_in_parts}
 use Rattle.mdsource.specs.TextFaults.{IsTextFault}
 use Rattle.mdview.specs.HeldUnit.{HeldUnit, read_of, texts_in, unit_in}
@@ -50,7 +49,6 @@ use Rattle.mdview.specs.KeptTexts.{kept_texts, number_kept, texts_with_kept}
 use Rattle.mdview.specs.LabelTargets.{led_by}
 use Rattle.mdview.specs.NewText.{lines_of as new_lines}
 use Rattle.mdsource.specs.Preludes.{HeldPrelude, IsDefinedBy, target_beside}
-use Rattle.mdsource.specs.BlockFaults.{OfBlocks}
 use Rattle.mdview.proofs.KeptTexts.{kept_within, none_read}
 use Rattle.mdview.proofs.ReadStretches.{is_edit}
 use Rattle.mdview.proofs.Replacing.{head_behind}

@@ -1,11 +1,11 @@
 -- The later items of lists that are held, by the lines in which they begin.
-use Rattle.std.proofs.Common.{◌≡◌, ℕ, zero, suc, ◌+◌, ◌-◌, ◌^◌, ◌<◌, ◌≤◌, Bool, true, false, List, [], ◌∷◌, ◌++◌, Option, Some, None, length, map, take, drop, min, refl, ap, ◌∙◌, sym, subst, arith, option_map, get_or, nat_lt, inl, inr}
+use Rattle.std.proofs.Common.{◌≡◌, ℕ, zero, suc, ◌+◌, ◌-◌, ◌<◌, ◌≤◌, Bool, true, false, List, [], ◌∷◌, ◌++◌, Option, Some, None, length, map, take, drop, refl, ap, ◌∙◌, sym, subst, arith, option_map, get_or, nat_lt}
 use Rattle.std.specs.Prelude.{Contains, nat_eq, slice_get, sum_by}
 use Rattle.std.specs.List.{All, list_any}
 use Rattle.std.specs.List.Sorted.{IsNonDecreasing}
 use Rattle.std.proofs.lemmas.Bool.Decides.{nat_tests}
 use Rattle.std.proofs.lemmas.Bool.{eqb-true}
-use Rattle.std.proofs.lemmas.List.{drop-take, length-map, length-take-le, map-append}
+use Rattle.std.proofs.lemmas.List.{drop-take, length-take-le, map-append}
 use Rattle.std.proofs.lemmas.List.Elements.{All-contains, All-get_or, All-weaker, Contains-append_left, Contains-append_right, Contains-push}
 use Rattle.std.proofs.lemmas.List.Folds.{list_any_none}
 use Rattle.std.proofs.lemmas.List.Sorted.{IsNonDecreasingBy-from_default, IsNonDecreasingBy-short}
@@ -13,18 +13,17 @@ use Rattle.std.proofs.lemmas.Map.Views.{Contains-from_any}
 use Rattle.std.proofs.lemmas.Option.{slice_get-map, slice_get_within}
 use Rattle.mdtext.specs.EntityTable.{EntityTable}
 use Rattle.blockspec.specs.BlockLine.{document_line}
-use Rattle.blockspec.specs.BlockUnits.{begins, units}
+use Rattle.blockspec.specs.BlockUnits.{units}
 use Rattle.blockspec.specs.UnitTree.{FoundUnit, UnitTree}
-use Rattle.blockspec.specs.ItemMarks.{ItemMark, list_marks}
+use Rattle.blockspec.specs.ItemMarks.{list_marks}
 use Rattle.blockspec.specs.Joins.{joins}
 use Rattle.mdblock.specs.FoundLists.{FoundList, StandsForUnit}
-use Rattle.mdsource.specs.StoppedInside.{HoldsLine}
 use Rattle.mdsource.specs.UnitItems.{own_joins, own_lines}
 use Rattle.mdsource.proofs.NearStretch.{never_both}
 use Rattle.mdsource.proofs.PartedLists.{joins_ascend, joins_within}
 use Rattle.mdsource.specs.MetInside.{first_line}
 use Rattle.mdsource.proofs.UnitCuts.{split_behind, unit_ends}
-use Rattle.mdsource.proofs.UnitJoins.{front_tells, unit_marks, unit_tells}
+use Rattle.mdsource.proofs.UnitJoins.{unit_marks, unit_tells}
 use Rattle.mdsource.proofs.Cuts.{begins_in}
 use Rattle.mdsource.proofs.StretchReadings.{Ascends}
 use Rattle.mdsource.specs.UnitTiles.{tile_of}

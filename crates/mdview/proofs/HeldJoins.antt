@@ -1,10 +1,10 @@
 -- A later item of a list that is held, as the list's joins tell it.
-use Rattle.std.proofs.Common.{◌≡◌, ℕ, ◌<◌, List, length, map, get_or, ap, sym, subst, ◌∙◌, arith}
+use Rattle.std.proofs.Common.{◌≡◌, ℕ, ◌<◌, List, length, map, get_or, ap, sym, ◌∙◌}
 use Rattle.std.proofs.Math.ListN.{get_or-map}
 use Rattle.std.proofs.lemmas.List.{get_or_default}
 use Rattle.std.proofs.lemmas.Option.{unwrap_or-slice_get}
 use Rattle.blockspec.specs.ItemMarks.{ItemMark}
-use Rattle.mdblock.specs.FoundLists.{FoundList, join_mark}
+use Rattle.mdblock.specs.FoundLists.{join_mark}
 use Rattle.mdblock.specs.declared.units.Join.{Join}
 use Rattle.mdblock.specs.Spliced.{mark_at, no_mark}
 

@@ -1,7 +1,7 @@
 -- What is held of labels and texts, where nothing is held, where room is made for labels, behind an edit, and behind a new prelude.
-use Rattle.std.proofs.Common.{◌≡◌, ℕ, suc, Bool, true, false, cond, ◌+◌, ◌-◌, ◌^◌, ◌<◌, ◌≤◌, List, [], ◌∷◌, ◌++◌, None, length, map, take, option_map, sym, ◌∙◌, ap, arith}
+use Rattle.std.proofs.Common.{◌≡◌, ℕ, ◌+◌, ◌-◌, ◌^◌, ◌<◌, ◌≤◌, List, [], ◌++◌, None, length, map, take, option_map, sym, ◌∙◌, ap, arith}
 use Rattle.std.specs.Prelude.{sum_by}
-use Rattle.std.specs.List.{All, filter}
+use Rattle.std.specs.List.{All}
 use Rattle.mdtext.specs.EntityTable.{EntityTable}
 use Rattle.blockspec.specs.BlockUnits.{units as text_units}
 use Rattle.blockspec.specs.Nesting.{first_too_deep}
@@ -9,21 +9,18 @@ use Rattle.inlinespec.specs.LinkTails.{Table}
 use Rattle.mdsource.specs.LabelTable.{table, with_units}
 use Rattle.mdsource.specs.Refusals.{inline_refusal, inline_too_deep, nesting_refusal}
 use Rattle.mdsource.specs.Setting.{Setting, Source}
-use Rattle.mdsource.specs.UnitTexts.{asking_in, asking_texts, asking_units, deep_found, deep_from, readings_under}
-use Rattle.mdsource.specs.Changes.{asks_changed}
-use Rattle.mdsource.specs.View.{reading_of}
-use Rattle.std.proofs.lemmas.List.Sums.{sum_by-cons}
+use Rattle.mdsource.specs.UnitTexts.{asking_units, deep_found, deep_from}
 use Rattle.mdsource.specs.UnitTiles.{tile_of}
 use Rattle.mdsource.proofs.Cuts.{no_units}
 use Rattle.mdsource.proofs.DeepUnits.{deep_of_text, refused_for_spans}
 use Rattle.mdsource.proofs.ReadingsUnder.{deep_found_under}
-use Rattle.std.proofs.lemmas.List.{length-map, take_all}
+use Rattle.std.proofs.lemmas.List.{take_all}
 use Rattle.mdview.specs.declared.held.labels.HeldLabels.{HeldLabels}
 use Rattle.mdview.specs.declared.labels.changes.LabelChanges.{LabelChanges}
 use Rattle.mdview.specs.declared.inlines.concerned_texts.Again.{Again}
 use Rattle.mdview.specs.HeldBlocks.{HoldsUnits, held_tile, lines_in}
 use Rattle.mdview.specs.HeldTexts.{HoldsTexts, IsReadUnder, IsReread, IsShallow, asking_in_parts, between, number_again}
-use Rattle.mdview.specs.HeldUnit.{HeldUnit, ReadUnit, read_of, texts_in, texts_of, unit_in}
+use Rattle.mdview.specs.HeldUnit.{HeldUnit, read_of, unit_in}
 use Rattle.mdview.specs.LabelTargets.{at, changed, led_after, led_by, target_held}
 use Rattle.mdview.specs.Lists.{replaced}
 use Rattle.mdsource.specs.Preludes.{HeldPrelude, IsDefinedBy}

@@ -22,13 +22,15 @@ use Rattle.mdsource.specs.LaterTexts.{asking_of}
 use Rattle.mdsource.specs.declared.fault.EditFault.{EditFault}
 use Rattle.mdview.specs.declared.inlines.kept_texts.KeptReadings.{KeptReadings}
 use Rattle.mdview.specs.declared.blocks.reparse.KeptTexts.{KeptTexts}
-use Rattle.mdview.specs.HeldTexts.{IsReadUnder, IsShallow, line_on}
+use Rattle.mdview.specs.HeldTexts.{line_on}
 use Rattle.mdsource.specs.TextFaults.{IsTextFault, text_fault_in}
-use Rattle.mdview.specs.HeldUnit.{HeldUnit, texts_in}
-use Rattle.mdview.specs.KeptTexts.{AreReadingsOf, IsKept, kept_texts, last_texts, number_kept, number_read, texts_with_kept}
+use Rattle.mdview.specs.HeldUnit.{HeldUnit, IsRendered, texts_in}
+use Rattle.mdview.specs.KeptTexts.{IsKept, kept_texts, last_texts, number_kept, number_read, texts_with_kept}
 use Rattle.mdview.proofs.CommittedTexts.{read_member}
 use Rattle.mdview.proofs.FoundTexts.{deep_first, deep_later}
+use Rattle.mdview.specs.TextSetting.{DidReadIn, DidReadLast, TextSetting}
 use Rattle.mdview.proofs.ReadParts.{fault_in_front}
+use Rattle.mdview.proofs.ToldTexts.{none_deep as none_deep_in}
 
 -- ---- how many
 
@@ -112,6 +114,10 @@ module _ {A : Type 0} (f : List ℕ → A) (texts : List (String Global)) (all :
 
 -- ---- units found, with one more behind them
 
+pub none_mapped : {A B : Type 0} (f : A → B) (o : Option A) → option_map f o ≡ None → o ≡ None
+none_mapped f None h = refl
+none_mapped f (Some x) h = absurd (let z : ⊥ = cc in z)
+
 either_line : (f : ℕ → ℕ) (a b : Option ℕ) → option_map f (option_or a b) ≡ option_or (option_map f a) (option_map f b)
 either_line f None b = refl
 either_line f (Some a) b = refl
@@ -157,31 +163,35 @@ number_or : ℕ → Option ℕ → ℕ
 number_or n None = n
 number_or n (Some k) = k
 
-module _ (limit : ℕ) (e : EntityTable) (labels : Table) (units : List HeldUnit) (trees : List UnitTree) (read : All (IsReadUnder e labels) units) (shallow : All (IsShallow limit e labels) units) where
+module _ (s : TextSetting) (units : List HeldUnit) (trees : List UnitTree) (did : All (DidReadIn s) units) (rendered : All (IsRendered s.options) units) where
   kept_by : (part : KeptTexts) (readings : KeptReadings) → IsKept units trees part → readings.at ≡ part.at
       → ((unit : HeldUnit) → slice_get units part.unit ≡ Some unit → readings.readings.now ≡ drop part.from unit.read.readings) → slice_get units part.unit ≡ Some readings.unit.now
-      → AreReadingsOf limit e labels (last_texts trees) readings
+      → DidReadLast s (last_texts trees) readings
   kept_by part readings w at is like =
-      let here = read_member (IsReadUnder e labels) units part.unit w.unit w.held read in
-      let none = read_member (IsShallow limit e labels) units part.unit w.unit w.held shallow in
+      let read = reading_of s.entities s.before in
+      let deep = is_deep s.options.max_spans in
+      let here = read_member (DidReadIn s) units part.unit w.unit w.held did in
+      let there = read_member (DidReadIn s) units part.unit readings.unit.now like did in
       let texts = w.unit.read.unit.texts in
       let all = readings.unit.now.read.readings in
       let held_part : readings.readings.now ≡ drop part.from all = is readings.unit.now like in
       record {
-        at = subst (λ n. n ≤ length (last_texts trees)) (sym at) w.at;
-        readings = is w.unit w.held ∙ ap (drop part.from) here ∙ drop-map (reading_of e labels) part.from texts ∙ ap (map (reading_of e labels)) (sym w.texts)
-            ∙ ap (λ n. map (reading_of e labels) (drop n (last_texts trees))) (sym at);
-        shallow = ap (list_any (is_deep limit)) (is w.unit w.held) ∙ none_dropped (is_deep limit) part.from w.unit.read.readings (ap (list_any (is_deep limit)) here ∙ none);
-        part = held_part ∙ sym (drop_end part.from all) ∙ ap (λ (z : List ParsedText). drop (length all - length z) all) (sym held_part);
-        within = subst (λ (z : List ParsedText). length z ≤ length all) (sym held_part) (let z = length-drop part.from all in omega (arith, z));
-        like = read_member (IsReadUnder e labels) units part.unit readings.unit.now like read;
-        like_shallow = read_member (IsShallow limit e labels) units part.unit readings.unit.now like shallow;
+        readings = record {
+          at = subst (λ n. n ≤ length (last_texts trees)) (sym at) w.at;
+          readings = is w.unit w.held ∙ ap (drop part.from) here.read ∙ drop-map read part.from texts ∙ ap (map read) (sym w.texts) ∙ ap (λ n. map read (drop n (last_texts trees))) (sym at);
+          shallow = ap (list_any deep) (is w.unit w.held) ∙ none_dropped deep part.from w.unit.read.readings (none_deep_in s w.unit here);
+          part = held_part ∙ sym (drop_end part.from all) ∙ ap (λ (z : List ParsedText). drop (length all - length z) all) (sym held_part);
+          within = subst (λ (z : List ParsedText). length z ≤ length all) (sym held_part) (let z = length-drop part.from all in omega (arith, z));
+          like = there.read;
+          like_shallow = there.shallow;
+        };
+        rendered = read_member (IsRendered s.options) units part.unit readings.unit.now like rendered;
       }
 
   -- Readings of the kept texts are those that the held unit has of them.
   pub kept_read : (kept : Option KeptTexts) (result : Option KeptReadings) → IfSome kept (IsKept units trees) → option_map number_read result ≡ option_map number_kept kept
       → IfSome result (λ readings. IfSome kept (λ part. (unit : HeldUnit) → slice_get units part.unit ≡ Some unit → readings.readings.now ≡ drop part.from unit.read.readings))
-      → IfSome result (λ readings. IfSome kept (λ part. slice_get units part.unit ≡ Some readings.unit.now)) → IfSome result (AreReadingsOf limit e labels (last_texts trees))
+      → IfSome result (λ readings. IfSome kept (λ part. slice_get units part.unit ≡ Some readings.unit.now)) → IfSome result (DidReadLast s (last_texts trees))
   unfolding number_or
   kept_read kept None w at is like = tt
   kept_read None (Some readings) w at is like = cc

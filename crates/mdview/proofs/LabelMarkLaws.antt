@@ -1,6 +1,6 @@
 -- A unit that shares no mark with some labels names none of them.
-use Rattle.std.proofs.Common.{◌≡◌, ℕ, zero, suc, ◌+◌, ◌<◌, ◌≤◌, Bool, true, false, ◌||◌, List, [], ◌∷◌, ◌++◌, Option, Some, None, length, map, drop, get_or, is_some, option_copied, cond, refl, ap, sym, ◌∙◌, arith, subst}
-use Rattle.std.specs.Prelude.{slice_get, ◌^◌}
+use Rattle.std.proofs.Common.{◌≡◌, ℕ, zero, suc, ◌+◌, ◌<◌, Bool, true, false, ◌||◌, List, [], ◌∷◌, length, drop, refl, ap, sym, ◌∙◌, arith}
+use Rattle.std.specs.Prelude.{slice_get}
 use Rattle.std.specs.Int.RustNames.{bit_and, bit_or}
 use Rattle.std.specs.Int.Bits.{and_self}
 use Rattle.std.specs.BTreeMap.{is_at}
@@ -8,12 +8,10 @@ use Rattle.std.specs.Cmp.Lexicographic.{slice_cmp}
 use Rattle.std.specs.List.{list_any}
 use Rattle.std.specs.Option.{option_to_list}
 use Rattle.std.specs.Ordering.{nat_cmp}
-use Rattle.std.specs.Str.{bytes_eq}
 use Rattle.std.proofs.lemmas.Nat.{and_comm, pow_pos}
-use Rattle.std.proofs.lemmas.Map.Text.{is_eq-slice_cmp}
 use Rattle.mdchunks.proofs.MarkSums.{apart_left, apart_right}
 use Rattle.mdinline.specs.ParsedText.{ParsedText}
-use Rattle.mdview.specs.LabelMarks.{label_mark, marks_after, marks_asked, place_from, unit_marks}
+use Rattle.mdview.specs.LabelMarks.{label_mark, marks_after, marks_asked, place_from}
 use Rattle.mdview.proofs.Elsewhere.{key_is}
 
 -- ---- marks of several labels

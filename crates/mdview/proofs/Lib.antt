@@ -12,6 +12,7 @@ pub mod Targets
 pub mod Texts
 pub mod ReadTexts
 pub mod Concerns
+pub mod ToldTexts
 pub mod ReadParts
 pub mod EditTexts
 pub mod CommittedTexts

@@ -1,5 +1,5 @@
 -- What is known of a line that an edit reads: where it stands, what the reader makes of it, and what the cursor over the units that are held says.
-use Rattle.std.proofs.Common.{◌≡◌, ℕ, ◌+◌, ◌-◌, ◌<◌, ◌≤◌, Bool, true, false, ◌&&◌, List, [], ◌∷◌, ◌++◌, Option, None, inl, inr, ap, length, map, take, drop, get_or}
+use Rattle.std.proofs.Common.{◌≡◌, ℕ, ◌-◌, ◌<◌, ◌≤◌, Bool, true, false, ◌&&◌, List, [], ◌∷◌, ◌++◌, Option, None, inl, inr, ap, length, map, take, drop, get_or}
 use Rattle.std.specs.Prelude.{Contains}
 use Rattle.std.specs.Option.{option_map, option_to_list}
 use Rattle.mdtext.specs.EntityTable.{EntityTable}

@@ -1,19 +1,19 @@
 -- What an edit reads that stops inside a list.
-use Rattle.std.proofs.Common.{◌≡◌, ℕ, ◌+◌, ◌-◌, ◌^◌, ◌<◌, ◌≤◌, List, [], ◌∷◌, ◌++◌, Option, Some, None, Result, Ok, Err, length, map, take, drop, min, refl, ap, ◌∙◌, sym, subst, arith}
-use Rattle.std.specs.Prelude.{IfOk, IfSome, OnOk, fold, option_map, slice_get, sum_by}
+use Rattle.std.proofs.Common.{◌≡◌, ℕ, ◌+◌, ◌-◌, ◌^◌, ◌<◌, ◌≤◌, List, [], ◌∷◌, ◌++◌, Some, None, Result, Ok, Err, length, map, take, drop, min, refl, ap, ◌∙◌, sym, subst, arith}
+use Rattle.std.specs.Prelude.{IfOk, IfSome, OnOk, fold, option_map, sum_by}
 use Rattle.std.specs.List.{All}
 use Rattle.std.proofs.lemmas.List.{drop-append-le, length-drop, length-take-le, map-append, take-append-drop, take-take}
 use Rattle.std.proofs.lemmas.List.Sums.{sum_by-cons}
 use Rattle.std.proofs.lemmas.Option.{slice_get_within}
 use Rattle.mdtext.specs.EntityTable.{EntityTable}
-use Rattle.blockspec.specs.BlockUnits.{begins, units}
+use Rattle.blockspec.specs.BlockUnits.{units}
 use Rattle.blockspec.specs.Nesting.{first_too_deep}
 use Rattle.blockspec.specs.UnitTree.{FoundUnit, UnitTree}
 use Rattle.mdblock.specs.FoundLists.{FoundList, found_unit}
 use Rattle.mdblock.specs.held.ReaderState.{ReaderState}
 use Rattle.mdblock.specs.held.Reads.{Reads, handed}
-use Rattle.mdsource.specs.Stops.{Stops, near_line, stop_line}
-use Rattle.mdsource.specs.Stretch.{Places, from_line, meeting_line, units_before, units_removed}
+use Rattle.mdsource.specs.Stops.{stop_line}
+use Rattle.mdsource.specs.Stretch.{Places, from_line, meeting_line, units_before}
 use Rattle.mdsource.specs.UnitTexts.{trees_in}
 use Rattle.mdview.specs.HeldBlocks.{IsReread, old_lines, places_of}
 use Rattle.mdview.specs.HeldItems.{IsItemOf, IsSpliced, kept_of, mark_in}

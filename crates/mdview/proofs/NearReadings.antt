@@ -1,16 +1,14 @@
 -- Where the reading of an edit stops inside a list: the held list goes on behind what was read.
-use Rattle.std.proofs.Common.{◌≡◌, ℕ, suc, ◌+◌, ◌-◌, ◌<◌, ◌≤◌, List, [], ◌∷◌, ◌++◌, Option, Some, None, length, map, take, drop, get_or, refl, ap, ◌∙◌, sym, subst, arith, true}
-use Rattle.std.specs.Prelude.{Contains, sum_by}
-use Rattle.std.specs.List.{All}
+use Rattle.std.proofs.Common.{◌≡◌, ℕ, ◌+◌, ◌-◌, ◌<◌, ◌≤◌, List, [], ◌∷◌, ◌++◌, None, length, map, take, drop, get_or, ap, ◌∙◌, sym, subst, arith, true}
+use Rattle.std.specs.Prelude.{sum_by}
 use Rattle.std.proofs.lemmas.List.Sums.{sum_by-append, sum_by-cons}
 use Rattle.mdtext.specs.EntityTable.{EntityTable}
 use Rattle.blockspec.specs.BlockLine.{document_line}
 use Rattle.blockspec.specs.BlockUnits.{units}
 use Rattle.blockspec.specs.Meetings.{joins_list}
 use Rattle.blockspec.specs.Nesting.{first_too_deep}
-use Rattle.blockspec.specs.UnitTree.{FoundUnit, UnitTree}
+use Rattle.blockspec.specs.UnitTree.{FoundUnit}
 use Rattle.blockspec.proofs.NestingLaws.{moved_on}
-use Rattle.blockspec.specs.Joins.{joins}
 use Rattle.mdblock.specs.FoundLists.{FoundList, StandsForUnit, found_unit}
 use Rattle.mdblock.specs.held.ReaderState.{ReaderState}
 use Rattle.mdblock.specs.held.Reads.{Reads, handed}
@@ -19,17 +17,14 @@ use Rattle.mdsource.specs.Stops.{Stops, near_line}
 use Rattle.mdsource.specs.UnitItems.{own_lines}
 use Rattle.mdsource.proofs.NearDepths.{near_deep}
 use Rattle.mdsource.proofs.NearLines.{IsStop}
-use Rattle.mdsource.proofs.NearStretch.{joins_told, line_more, near_above, near_there, near_within}
+use Rattle.mdsource.proofs.NearStretch.{joins_told, line_more, near_above, near_there}
 use Rattle.mdsource.proofs.StoppedLists.{stopped_in}
 use Rattle.mdsource.specs.Stretch.{Places, from_line, meeting_line, old_line, units_before, units_removed}
 use Rattle.mdsource.proofs.ReadLines.{none_deep}
-use Rattle.mdsource.specs.UnitTiles.{lines_of}
 use Rattle.mdview.specs.HeldItems.{IsSpliced}
-use Rattle.mdview.specs.HeldLists.{StandsAt}
 use Rattle.mdview.specs.HeldUnit.{texts_in}
 use Rattle.mdblock.specs.Spliced.{MeetsAt, mark_at}
-use Rattle.mdview.proofs.JoinedTexts.{TextsJoined, texts_joined}
-use Rattle.mdview.proofs.ListsStand.{stands_long, stands_pushed}
+use Rattle.mdview.proofs.JoinedTexts.{texts_joined}
 
 last_line : (xs : List (List ℕ)) (a b : List ℕ) → xs ++ a ∷ [] ≡ xs ++ b ∷ [] → a ≡ b
 last_line [] a b h = cc

@@ -1,28 +1,25 @@
 -- Where an edit reads up to a line, whether it stops there inside a list, and which item of a held list that is.
-use Rattle.std.proofs.Common.{◌≡◌, ℕ, zero, suc, ◌+◌, ◌-◌, ◌<◌, ◌≤◌, ◌⊎◌, inl, inr, Bool, true, false, ◌&&◌, List, [], ◌∷◌, ◌++◌, Option, Some, None, length, map, take, drop, get_or, refl, ap, ◌∙◌, sym, subst, arith, nat_eq, nat_lt}
+use Rattle.std.proofs.Common.{◌≡◌, ℕ, ◌+◌, ◌-◌, ◌<◌, ◌≤◌, inl, inr, Bool, true, false, ◌&&◌, List, [], ◌∷◌, ◌++◌, Some, length, map, take, drop, get_or, refl, ap, ◌∙◌, sym, subst, arith, nat_eq}
 use Rattle.std.specs.Prelude.{Contains, IfSome, if◌then◌else◌, nat_le, slice_get, sum_by}
-use Rattle.std.specs.List.{All, list_any}
+use Rattle.std.specs.List.{list_any}
 use Rattle.std.proofs.lemmas.Bool.Decides.{nat_tests}
 use Rattle.std.proofs.lemmas.List.{length-drop, length-map, length-take, map-append}
 use Rattle.std.proofs.lemmas.List.Elements.{All-contains, All-get_or, Contains-append_left, Contains-append_right, Contains-push}
-use Rattle.std.proofs.lemmas.List.Sums.{sum_by-append, sum_by-cons}
+use Rattle.std.proofs.lemmas.List.Sums.{sum_by-cons}
 use Rattle.std.proofs.lemmas.Option.{slice_get_within, unwrap_or-slice_get}
 use Rattle.std.proofs.Math.ListN.{get_or-map}
 use Rattle.mdtext.specs.EntityTable.{EntityTable}
 use Rattle.blockspec.specs.BlockUnits.{begins, units}
-use Rattle.blockspec.specs.UnitTree.{FoundUnit, UnitTree}
-use Rattle.blockspec.specs.ItemMarks.{ItemMark}
+use Rattle.blockspec.specs.UnitTree.{FoundUnit}
 use Rattle.blockspec.specs.Joins.{is_joined, joins}
-use Rattle.mdblock.specs.FoundLists.{FoundList, found_unit}
 use Rattle.mdblock.specs.held.ReaderState.{ReaderState}
-use Rattle.mdsource.specs.StoppedInside.{HoldsLine}
 use Rattle.mdsource.specs.Stops.{Stops, is_near, lines_to_stop, near_line, stop_line}
-use Rattle.mdsource.specs.UnitItems.{own_joins, own_lines}
+use Rattle.mdsource.specs.UnitItems.{own_lines}
 use Rattle.mdsource.proofs.NearLines.{IsStop}
 use Rattle.mdsource.proofs.NearStretch.{near_before, near_told, stop_high}
 use Rattle.mdsource.proofs.PartedLists.{joins_within}
 use Rattle.mdsource.proofs.UnitJoins.{unit_marks}
-use Rattle.mdsource.specs.Stretch.{Places, from_line, is_meeting, meeting_line, old_line}
+use Rattle.mdsource.specs.Stretch.{Places, from_line, meeting_line, old_line}
 use Rattle.mdsource.specs.UnitTexts.{trees_in}
 use Rattle.mdsource.proofs.Cuts.{begins_in, begins_within}
 use Rattle.mdsource.proofs.Splices.{IsEdit, MeetsBehind, meets_behind}
@@ -39,7 +36,6 @@ use Rattle.mdview.proofs.HeldItems.{HeldOne, held_one, own_items}
 use Rattle.mdview.proofs.HeldLines.{begin_of_held}
 use Rattle.mdview.proofs.ListsStand.{stands_long}
 use Rattle.mdview.proofs.NearReadings.{HoldsItem}
-use Rattle.mdview.proofs.PassedItems.{mark_line}
 use Rattle.mdview.proofs.ReadStretches.{is_edit, meets_later}
 use Rattle.mdview.proofs.Reparses.{ReadAbove}
 

@@ -1,5 +1,5 @@
 -- What a new prelude leaves and answers, from what was read again.
-use Rattle.std.proofs.Common.{◌≡◌, ℕ, ◌+◌, ◌-◌, ◌^◌, ◌<◌, List, [], None, Err, arith, length, map, min, nat_lt, option_map, refl, sym, subst, ◌∙◌, ap, false}
+use Rattle.std.proofs.Common.{◌≡◌, ℕ, ◌+◌, ◌-◌, ◌^◌, ◌<◌, List, [], None, arith, length, map, min, nat_lt, option_map, refl, sym, subst, ◌∙◌, ap, false}
 use Rattle.std.specs.Prelude.{if◌then◌else◌}
 use Rattle.std.specs.List.{All}
 use Rattle.std.specs.Option.{option_or}
@@ -10,7 +10,7 @@ use Rattle.mdtext.specs.EntityTable.{EntityTable}
 use Rattle.mdtext.specs.Lines.{without_nul}
 use Rattle.blockspec.specs.BlockUnits.{units as text_units}
 use Rattle.mdhtml.specs.declared.options.Options.{Options}
-use Rattle.mdsource.specs.Calls.{put, set_prelude}
+use Rattle.mdsource.specs.Calls.{set_prelude}
 use Rattle.mdsource.specs.ChangedPieces.{ChangedPieces}
 use Rattle.mdsource.specs.Changes.{asking_from, patch_of, texts_due, texts_read}
 use Rattle.mdsource.specs.LabelTable.{table}
@@ -22,26 +22,24 @@ use Rattle.mdsource.specs.UnitTexts.{asking_texts, asking_units, deep_from}
 use Rattle.mdsource.proofs.AskingUnits.{asking_all, asking_renumbered, texts_all}
 use Rattle.mdsource.proofs.ReadingsUnder.{asking_texts_under, asking_units_under}
 use Rattle.mdsource.specs.declared.fault.EditFault.{EditFault}
-use Rattle.mdsource.specs.declared.fault.EditFault.TheVariants.{OutOfRange, BreakInLine, TooManyLines, TooLarge, NestedTooDeep, InlineTooDeep, NoMemory, NotDefinitions}
 use Rattle.mdview.specs.declared.held.labels.HeldLabels.{HeldLabels}
 use Rattle.mdview.specs.declared.inlines.concerned_texts.Again.{Again}
 use Rattle.mdview.specs.declared.update.Update.{Update}
-use Rattle.mdview.specs.Document.{Document, pieces_of, readings_of, setting_of, source_of}
+use Rattle.mdview.specs.Document.{pieces_of, readings_of}
 use Rattle.mdview.specs.HeldBlocks.{HoldsUnits, held_tile}
 use Rattle.mdview.specs.HeldTexts.{HoldsTexts, IsRefusedBy, IsReread, number_again}
 use Rattle.mdsource.specs.TextFaults.{IsTextFault}
 use Rattle.mdview.specs.HeldUnit.{HeldUnit, IsRendered, piece_of, read_of, shown_in, unit_in}
 use Rattle.mdview.specs.LabelTargets.{led_after, led_by, target_held}
 use Rattle.mdview.specs.Lists.{replaced}
-use Rattle.mdview.specs.Outcome.{answer_of, is_starved, outcome_of}
-use Rattle.mdsource.specs.Preludes.{HeldPrelude, IsDefinedBy, IsUndefiningAt, RefusesPrelude}
+use Rattle.mdsource.specs.Preludes.{HeldPrelude, IsDefinedBy}
 use Rattle.mdview.specs.Update.{IsFitFor, IsPatchOf, all_renewed, number_after}
 use Rattle.mdview.proofs.Committed.{committed_brings, committed_rendered}
 use Rattle.mdview.proofs.EditTexts.{texts_refused, trees_are}
 use Rattle.mdview.proofs.HeldReadings.{holds_texts_still, led_by_held, spans_by_units}
 use Rattle.mdview.proofs.HeldTiles.{holds_still}
 use Rattle.mdview.proofs.HeldViews.{pieces_are_viewed, readings_are_viewed}
-use Rattle.mdview.proofs.Outcomes.{refused_at_once, refused_by_reading, same_patch, starves}
+use Rattle.mdview.proofs.Outcomes.{same_patch}
 
 -- ---- why the lines of a prelude are refused
 

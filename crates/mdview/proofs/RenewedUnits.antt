@@ -1,12 +1,12 @@
 -- What stays, and what holds, where units are read again.
-use Rattle.std.proofs.Common.{◌≡◌, ℕ, zero, suc, Bool, true, false, List, [], ◌∷◌, map, slice_get, refl, ap, ◌∙◌, sym, arith, subst}
+use Rattle.std.proofs.Common.{◌≡◌, ℕ, zero, suc, Bool, true, false, List, [], ◌∷◌, map, slice_get, refl, ◌∙◌, sym, arith, subst}
 use Rattle.std.specs.Prelude.{◌==◌, ◌||◌, IfSome}
 use Rattle.std.specs.List.{All, list_any}
 use Rattle.std.proofs.lemmas.Bool.{true≢false, eq-eqb}
 use Rattle.blockspec.specs.UnitTree.{UnitTree}
 use Rattle.mdhtml.specs.declared.options.Options.{Options}
 use Rattle.mdview.specs.declared.inlines.concerned_texts.Again.{Again}
-use Rattle.mdview.specs.HeldUnit.{HeldUnit, ReadUnit, IsRendered, read_of, unit_in}
+use Rattle.mdview.specs.HeldUnit.{HeldUnit, IsRendered, unit_in}
 use Rattle.mdview.specs.Update.{map_at, renewed, all_renewed, IsWritten}
 use Rattle.mdview.proofs.MemberChanges.{map_changed, others_stay, all_first, all_rest}
 

@@ -1,18 +1,17 @@
 -- Where texts of a list are kept from the line on at which reading stops, an edit reads as many texts as the definition says.
-use Rattle.std.proofs.Common.{◌≡◌, ℕ, ◌+◌, ◌-◌, List, [], ◌∷◌, ◌++◌, Option, Some, None, length, length-append, map, take, drop, refl, sym, ◌∙◌, ap, append_assoc, arith}
-use Rattle.std.specs.Prelude.{fold, option_map, sum_by}
+use Rattle.std.proofs.Common.{◌≡◌, ℕ, ◌+◌, List, [], ◌∷◌, ◌++◌, Option, Some, None, length, length-append, map, take, drop, refl, sym, ◌∙◌, ap, append_assoc, arith}
+use Rattle.std.specs.Prelude.{fold, option_map}
 use Rattle.std.proofs.lemmas.List.{append-nil, take-append-drop}
 use Rattle.std.proofs.lemmas.List.Concat.{flat_map-cons}
 use Rattle.std.proofs.lemmas.List.Sums.{sum_by-cons}
 use Rattle.std.proofs.Math.Seq.{drop-append_seam}
 use Rattle.mdtext.specs.EntityTable.{EntityTable}
 use Rattle.blockspec.specs.BlockTree.{no_blocks}
-use Rattle.blockspec.specs.BlockUnits.{units}
 use Rattle.blockspec.specs.UnitTree.{UnitTree}
 use Rattle.inlinespec.specs.LinkTails.{Table}
 use Rattle.mdsource.specs.LabelTable.{table}
 use Rattle.mdsource.specs.Setting.{Setting, Source}
-use Rattle.mdsource.specs.Stretch.{from_line, meeting_line}
+use Rattle.mdsource.specs.Stretch.{meeting_line}
 use Rattle.mdsource.specs.UnitTexts.{asking_in, trees_in}
 use Rattle.mdsource.proofs.ReadingsUnder.{asking_texts_under}
 use Rattle.mdsource.specs.SoonTexts.{texts_of_read, units_read}
@@ -26,7 +25,7 @@ use Rattle.mdview.specs.declared.source.new_text.NewText.{NewText}
 use Rattle.mdview.specs.declared.blocks.reparse.Reparsed.{Reparsed}
 use Rattle.mdview.specs.HeldBlocks.{HoldsUnits, IsReread as IsReadLines, old_lines}
 use Rattle.mdview.specs.HeldTexts.{texts_in_parts}
-use Rattle.mdview.specs.HeldUnit.{HeldUnit, read_of, texts_in}
+use Rattle.mdview.specs.HeldUnit.{HeldUnit, read_of}
 use Rattle.mdview.specs.KeptTexts.{kept_texts, last_texts, number_kept}
 use Rattle.mdview.specs.NewText.{lines_of as new_lines}
 use Rattle.mdsource.specs.Preludes.{HeldPrelude}

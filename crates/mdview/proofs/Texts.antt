@@ -1,17 +1,10 @@
 -- How many texts units have, and what fits a unit.
-use Rattle.std.proofs.Common.{◌≡◌, ℕ, ◌+◌, ◌<◌, List, [], ◌∷◌, ◌++◌, length, map, get_or, refl, ap, ◌∙◌, sym, arith, option_map, Some, string_bytes}
+use Rattle.std.proofs.Common.{◌≡◌, ℕ, ◌+◌, ◌<◌, List, [], ◌∷◌, ◌++◌, length, map, get_or, refl, ap, ◌∙◌, arith, option_map, Some}
 use Rattle.std.specs.Prelude.{slice_get, sum_by}
 use Rattle.std.proofs.lemmas.List.{map-append}
 use Rattle.std.proofs.lemmas.List.Sums.{sum_by-append, sum_by-cons}
 use Rattle.std.proofs.lemmas.Option.{slice_get-map, slice_get-get_or}
-use Rattle.mdhtml.specs.declared.options.Options.{Options}
-use Rattle.mdview.specs.declared.inlines.concerned_texts.Again.{Again}
-use Rattle.mdview.specs.HeldUnit.{HeldUnit, ReadUnit, unit_in, read_of, texts_in, texts_of, html_of}
-use Rattle.mdtext.specs.EntityTable.{EntityTable}
-use Rattle.inlinespec.specs.LinkTails.{Table}
-use Rattle.mdsource.specs.UnitTexts.{readings_under}
-use Rattle.mdview.specs.HeldTexts.{IsReread}
-use Rattle.mdview.specs.Update.{Fits, IsWritten}
+use Rattle.mdview.specs.HeldUnit.{HeldUnit, ReadUnit, unit_in, read_of, texts_in, texts_of}
 
 pub texts_more : (units : List HeldUnit) (u : HeldUnit) → texts_of (map read_of (units ++ u ∷ [])) ≡ texts_of (map read_of units) + texts_in u.read.unit
 texts_more units u =

@@ -14,6 +14,7 @@ pub mod Run
 pub mod NewText
 pub mod LabelTargets
 pub mod ToldLabels
+pub mod TextSetting
 pub mod Update
 pub mod BroughtPieces
 pub mod LabelMarks

@@ -1,11 +1,8 @@
 //! What inline texts read as after an edit: each is read under the labels of the text that the edit leaves.
 
-ghost use Rattle.std.specs.Prelude.{◌≡◌, IfOk, IsErrOf, OnOk, false, true};
+ghost use Rattle.std.specs.Prelude.{◌≡◌};
 ghost use Rattle.mdhtml.specs.Limits.{HasLimits};
-ghost use Rattle.mdinline.specs.declared.faults.InlineFault.TheVariants.{TooDeep};
 ghost use Rattle.mdtext.specs.Counted.{counted};
-ghost use Rattle.mdsource.specs.Refusals.{is_deep};
-ghost use Rattle.mdsource.specs.View.{reading_of};
 ghost use Rattle.mdview.specs.LabelTargets.{IsElsewhere};
 
 mod alike_texts;
@@ -32,7 +29,7 @@ pub(crate) struct UnitTextReader<'a> {
 }
 
 impl<'a> UnitTextReader<'a> {
-    ghost use Rattle.mdview.specs.HeldTexts.{entities_in, labels_behind};
+    ghost use Rattle.mdview.specs.TextSetting.{Reads, Stays, texts_under};
 
     pub(crate) fn read_text<C: Count>(
         &self,
@@ -40,11 +37,8 @@ impl<'a> UnitTextReader<'a> {
         room: &mut TextRoom<'a>,
         count: &mut C,
     ) -> Result<Parsed, InlineFault>
-        ensures reading { IfOk result (λ parsed. parsed ≡ reading_of (entities_in room.old) (labels_behind self.now) text.now) }
-        ensures shallow { OnOk result (is_deep self.now.options.now.max_spans (reading_of (entities_in room.old) (labels_behind self.now) text.now) ≡ false) }
-        ensures deep { IsErrOf result TooDeep → is_deep self.now.options.now.max_spans (reading_of (entities_in room.old) (labels_behind self.now) text.now) ≡ true }
-        ensures room { entities_in room.new ≡ entities_in room.old }
-        ensures lines { C.lines count.new ≡ C.lines count.old }
+        ensures reading { Reads (texts_under self.now room.old) text.now result }
+        ensures stays { Stays room.old room.new (C.lines count.old) (C.lines count.new) }
         ensures inlines { C.inlines count.new ≡ counted (C.inlines count.old) }
     {
         room.reader

@@ -1,14 +1,11 @@
 //! What the inline texts of a unit read as where a held unit has the same ones.
 
-ghost use Rattle.std.specs.Prelude.{◌≡◌, ◌+◌, ◌<◌, ◌≤◌, ◌++◌, ℕ, Bool, List, if◌then◌else◌, IfOk, IfSome, IsErrOf, OnOk, Some, false, is_some, length, map, slice_get, string_bytes, take, true, None};
+ghost use Rattle.std.specs.Prelude.{◌≡◌, ◌+◌, ◌<◌, ◌≤◌, ℕ, Bool, List, if◌then◌else◌, IfOk, IfSome, Some, false, is_some, length, map, slice_get, string_bytes, take, true, None};
 ghost use Rattle.std.specs.List.{list_any};
 ghost use Rattle.mdinline.specs.ParsedText.{ParsedText};
-ghost use Rattle.mdinline.specs.declared.faults.InlineFault.TheVariants.{TooDeep};
 ghost use Rattle.mdtext.specs.Counted.{counted};
-ghost use Rattle.mdsource.specs.Refusals.{is_deep};
-ghost use Rattle.mdsource.specs.View.{reading_of};
-ghost use Rattle.mdview.specs.HeldTexts.{IsReadUnder, IsShallow, entities_in, labels_before, labels_behind};
 ghost use Rattle.mdview.specs.LabelTargets.{at};
+ghost use Rattle.mdview.specs.TextSetting.{Appends, DidRead, DidReadIn, Reads, Stays, texts_under};
 
 use crate::held::units::HeldUnit;
 use crate::inlines::UnitTextReader;
@@ -73,17 +70,10 @@ impl<'a> UnitTextReader<'a> {
         room: &mut TextRoom<'a>,
         count: &mut C,
     ) -> Result<usize, InlineFault>
-        requires held { IfSome held (λ u. IsReadUnder (entities_in room.old) (labels_before self.now) u.now) }
-        requires held_shallow { IfSome held (λ u. IsShallow self.now.options.now.max_spans (entities_in room.old) (labels_before self.now) u.now) }
-        ensures readings { OnOk result (inlines.new.items
-            ≡ inlines.old.items ++ map (reading_of (entities_in room.old) (labels_behind self.now)) (map string_bytes texts.now)) }
-        ensures shallow { OnOk result (list_any (is_deep self.now.options.now.max_spans)
-            (map (reading_of (entities_in room.old) (labels_behind self.now)) (map string_bytes texts.now)) ≡ false) }
-        ensures deep { IsErrOf result TooDeep → list_any (is_deep self.now.options.now.max_spans)
-            (map (reading_of (entities_in room.old) (labels_behind self.now)) (map string_bytes texts.now)) ≡ true }
+        requires held { IfSome held (λ u. DidReadIn (texts_under self.now room.old) u.now) }
+        ensures readings { Appends (texts_under self.now room.old) (map string_bytes texts.now) inlines.old.items inlines.new.items result }
         ensures front { IfOk result (λ front. (front ≤ length texts.now) × IfSome held.entry (λ u. take front (map string_bytes texts.now) ≡ take front u.now.read.unit.texts)) }
-        ensures room { entities_in room.new ≡ entities_in room.old }
-        ensures lines { C.lines count.new ≡ C.lines count.old }
+        ensures stays { Stays room.old room.new (C.lines count.old) (C.lines count.new) }
         ensures inlines { C.inlines count.new ≤ C.inlines count.old + length texts.now }
     {
         let mut in_front = true;
@@ -116,13 +106,9 @@ impl<'a> UnitTextReader<'a> {
         room: &mut TextRoom<'a>,
         count: &mut C,
     ) -> Result<Parsed, InlineFault>
-        requires kept { IfSome kept (λ r. r.now ≡ reading_of (entities_in room.old) (labels_before self.now) text.now) }
-        requires shallow { IfSome kept (λ r. is_deep self.now.options.now.max_spans r.now ≡ false) }
-        ensures reading { IfOk result (λ parsed. parsed ≡ reading_of (entities_in room.old) (labels_behind self.now) text.now) }
-        ensures shallow { OnOk result (is_deep self.now.options.now.max_spans (reading_of (entities_in room.old) (labels_behind self.now) text.now) ≡ false) }
-        ensures deep { IsErrOf result TooDeep → is_deep self.now.options.now.max_spans (reading_of (entities_in room.old) (labels_behind self.now) text.now) ≡ true }
-        ensures room { entities_in room.new ≡ entities_in room.old }
-        ensures lines { C.lines count.new ≡ C.lines count.old }
+        requires kept { IfSome kept (λ r. DidRead (texts_under self.now room.old) text.now r.now) }
+        ensures reading { Reads (texts_under self.now room.old) text.now result }
+        ensures stays { Stays room.old room.new (C.lines count.old) (C.lines count.new) }
         ensures inlines { C.inlines count.new ≡ counted (C.inlines count.old) }
     {
         match kept {
@@ -139,13 +125,9 @@ impl<'a> UnitTextReader<'a> {
         room: &mut TextRoom<'a>,
         count: &mut C,
     ) -> Result<Parsed, InlineFault>
-        requires held { held.now ≡ reading_of (entities_in room.old) (labels_before self.now) text.now }
-        requires shallow { is_deep self.now.options.now.max_spans held.now ≡ false }
-        ensures reading { IfOk result (λ parsed. parsed ≡ reading_of (entities_in room.old) (labels_behind self.now) text.now) }
-        ensures shallow { OnOk result (is_deep self.now.options.now.max_spans (reading_of (entities_in room.old) (labels_behind self.now) text.now) ≡ false) }
-        ensures deep { IsErrOf result TooDeep → is_deep self.now.options.now.max_spans (reading_of (entities_in room.old) (labels_behind self.now) text.now) ≡ true }
-        ensures room { entities_in room.new ≡ entities_in room.old }
-        ensures lines { C.lines count.new ≡ C.lines count.old }
+        requires held { DidRead (texts_under self.now room.old) text.now held.now }
+        ensures reading { Reads (texts_under self.now room.old) text.now result }
+        ensures stays { Stays room.old room.new (C.lines count.old) (C.lines count.new) }
         ensures inlines { C.inlines count.new ≡ counted (C.inlines count.old) }
     {
         if self.labels.changes.concern(held.asked()) {

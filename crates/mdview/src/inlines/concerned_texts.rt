@@ -1,19 +1,13 @@
 //! The texts of held units that asked for a label which leads elsewhere after an edit: they are read again.
 
-ghost use Rattle.std.specs.Prelude.{◌≡◌, ◌+◌, ◌≤◌, ◌<◌, ◌^◌, ◌++◌, ◌∷◌, List, [], None, Some, IfOk, IfErr, IsErrOf, OnOk, false, if◌then◌else◌, length, map, slice_get, string_bytes, sum_by, true};
+ghost use Rattle.std.specs.Prelude.{◌≡◌, ◌+◌, ◌≤◌, ◌<◌, ◌^◌, ◌++◌, ◌∷◌, List, [], Some, IfOk, OnOk, false, if◌then◌else◌, length, map, slice_get, string_bytes, sum_by, true};
 ghost use Rattle.std.specs.List.{All, list_any};
 ghost use Rattle.blockspec.specs.UnitTree.{UnitTree};
-ghost use Rattle.mdinline.specs.declared.faults.InlineFault.TheVariants.{TooDeep};
 ghost use Rattle.mdsource.specs.Changes.{asks_changed};
-ghost use Rattle.mdsource.specs.Refusals.{is_deep};
-ghost use Rattle.mdsource.specs.View.{reading_of};
-ghost use Rattle.mdsource.specs.UnitTexts.{asking_in, asking_texts, asking_units, deep_from, is_deep_under, readings_under};
-ghost use Rattle.mdsource.specs.LaterTexts.{asking_of};
-ghost use Rattle.mdview.specs.HeldUnit.{AreEnds, html_of, unit_in};
-ghost use Rattle.mdview.specs.Update.{Fits, IsWritten};
-ghost use Rattle.mdview.specs.HeldBlocks.{held_tile, lines_in};
-ghost use Rattle.mdview.specs.HeldTexts.{IsReadUnder, IsReread, IsShallow, between, entities_in, labels_before, labels_behind, number_again};
-ghost use Rattle.mdsource.specs.TextFaults.{IsTextFault};
+ghost use Rattle.mdview.specs.HeldUnit.{unit_in};
+ghost use Rattle.mdview.specs.HeldBlocks.{lines_in};
+ghost use Rattle.mdview.specs.HeldTexts.{between, labels_before, labels_behind, number_again};
+ghost use Rattle.mdview.specs.TextSetting.{Appends, DidRead, DidReadAll, DidReadIn, IsOneReadAgain, IsReadAgain, ReadSo, Reads, Stays, TellsDeep, TellsLine, are_deep, asking, asking_numbers, asking_texts_of, deep_line, texts_under};
 
 use crate::held::marked_units::{line_from, next_marked};
 use crate::held::pieces::Piece;
@@ -62,23 +56,15 @@ impl<'a> UnitTextReader<'a> {
     ) -> Result<(), EditFault>
         requires order { first ≤ next }
         requires within { next ≤ length units.now.items }
-        requires read { All (IsReadUnder (entities_in room.old) (labels_before self.now)) units.now.items }
-        requires shallow { All (IsShallow self.now.options.now.max_spans (entities_in room.old) (labels_before self.now)) units.now.items }
+        requires read { All (DidReadIn (texts_under self.now room.old)) units.now.items }
         requires near { begin + sum_by lines_in (between first next units.now.items) < 2 ^ 64 }
-        requires reread { All (IsReread (entities_in room.old) (labels_behind self.now) (map unit_in units.now.items)) again.old.items }
-        requires fits { All (Fits (map unit_in units.now.items)) again.old.items }
-        requires written { All (IsWritten self.now.options.now (map unit_in units.now.items)) again.old.items }
-        ensures fits { OnOk result (All (Fits (map unit_in units.now.items)) again.new.items) }
-        ensures written { OnOk result (All (IsWritten self.now.options.now (map unit_in units.now.items)) again.new.items) }
+        requires again { All (IsOneReadAgain (texts_under self.now room.old) (map unit_in units.now.items)) again.old.items }
+        ensures again { OnOk result (All (IsOneReadAgain (texts_under self.now room.old) (map unit_in units.now.items)) again.new.items) }
         ensures numbers { OnOk result (map number_again again.new.items ≡ map number_again again.old.items
-            ++ asking_units (entities_in room.old) (labels_before self.now) (labels_behind self.now) first (map unit_in (between first next units.now.items))) }
-        ensures reread { OnOk result (All (IsReread (entities_in room.old) (labels_behind self.now) (map unit_in units.now.items)) again.new.items) }
-        ensures shallow { OnOk result (deep_from self.now.options.now.max_spans (entities_in room.old) (labels_behind self.now) begin (map held_tile (between first next units.now.items)) ≡ None) }
-        ensures deep { IfErr result (IsTextFault (deep_from self.now.options.now.max_spans (entities_in room.old) (labels_behind self.now) begin (map held_tile (between first next units.now.items)))) }
-        ensures room { entities_in room.new ≡ entities_in room.old }
-        ensures lines { C.lines count.new ≡ C.lines count.old }
-        ensures inlines { C.inlines count.new ≤ C.inlines count.old
-            + asking_texts (entities_in room.old) (labels_before self.now) (labels_behind self.now) (map unit_in (between first next units.now.items)) }
+            ++ asking_numbers (texts_under self.now room.old) first (between first next units.now.items)) }
+        ensures deep { TellsLine result (deep_line (texts_under self.now room.old) begin (between first next units.now.items)) }
+        ensures stays { Stays room.old room.new (C.lines count.old) (C.lines count.new) }
+        ensures inlines { C.inlines count.new ≤ C.inlines count.old + asking_texts_of (texts_under self.now room.old) (between first next units.now.items) }
     {
         if self.labels.changes.is_empty() {
             return Ok(());
@@ -105,21 +91,15 @@ impl<'a> UnitTextReader<'a> {
         again: &mut Vec<Again>,
         count: &mut C,
     ) -> Result<(), InlineFault>
-        requires read { IsReadUnder (entities_in room.old) (labels_before self.now) unit.now }
-        requires shallow { IsShallow self.now.options.now.max_spans (entities_in room.old) (labels_before self.now) unit.now }
+        requires read { DidReadIn (texts_under self.now room.old) unit.now }
         // Of any units of which this one has this number.
-        ensures fits { OnOk result ((trees : List UnitTree) → slice_get trees number ≡ Some unit.now.read.unit → All (Fits trees) again.old.items → All (Fits trees) again.new.items) }
-        ensures written { OnOk result ((trees : List UnitTree) → slice_get trees number ≡ Some unit.now.read.unit
-            → All (IsWritten self.now.options.now trees) again.old.items → All (IsWritten self.now.options.now trees) again.new.items) }
-        ensures reread { OnOk result ((trees : List UnitTree) → slice_get trees number ≡ Some unit.now.read.unit
-            → All (IsReread (entities_in room.old) (labels_behind self.now) trees) again.old.items → All (IsReread (entities_in room.old) (labels_behind self.now) trees) again.new.items) }
+        ensures again { OnOk result ((trees : List UnitTree) → slice_get trees number ≡ Some unit.now.read.unit
+            → All (IsOneReadAgain (texts_under self.now room.old) trees) again.old.items → All (IsOneReadAgain (texts_under self.now room.old) trees) again.new.items) }
         ensures numbers { OnOk result (map number_again again.new.items ≡ map number_again again.old.items
-            ++ asking_units (entities_in room.old) (labels_before self.now) (labels_behind self.now) number (unit.now.read.unit ∷ [])) }
-        ensures shallow { OnOk result (IsShallow self.now.options.now.max_spans (entities_in room.old) (labels_behind self.now) unit.now) }
-        ensures deep { IsErrOf result TooDeep → is_deep_under self.now.options.now.max_spans (entities_in room.old) (labels_behind self.now) unit.now.read.unit ≡ true }
-        ensures room { entities_in room.new ≡ entities_in room.old }
-        ensures lines { C.lines count.new ≡ C.lines count.old }
-        ensures inlines { C.inlines count.new ≤ C.inlines count.old + asking_in (entities_in room.old) (labels_before self.now) (labels_behind self.now) unit.now.read.unit }
+            ++ asking_numbers (texts_under self.now room.old) number (unit.now ∷ [])) }
+        ensures deep { TellsDeep result (are_deep (texts_under self.now room.old) unit.now.read.unit.texts) }
+        ensures stays { Stays room.old room.new (C.lines count.old) (C.lines count.new) }
+        ensures inlines { C.inlines count.new ≤ C.inlines count.old + asking (texts_under self.now room.old) unit.now.read.unit.texts }
     {
         if !self.is_concerned(unit) {
             return Ok(());
@@ -148,18 +128,12 @@ impl<'a> UnitTextReader<'a> {
         room: &mut TextRoom<'a>,
         count: &mut C,
     ) -> Result<Again, InlineFault>
-        requires read { IsReadUnder (entities_in room.old) (labels_before self.now) unit.now }
-        requires shallow { IsShallow self.now.options.now.max_spans (entities_in room.old) (labels_before self.now) unit.now }
+        requires read { DidReadIn (texts_under self.now room.old) unit.now }
         ensures unit { IfOk result (λ again. again.unit ≡ number) }
-        ensures all { IfOk result (λ again. length again.inlines.items ≡ length unit.now.read.unit.texts) }
-        ensures piece { IfOk result (λ again. again.piece.html ≡ html_of self.now.options.now unit.now.read.unit again.inlines.items) }
-        ensures ends { IfOk result (λ again. AreEnds self.now.options.now again.inlines.items unit.now.read.unit.blocks again.piece.ends) }
-        ensures readings { IfOk result (λ again. again.inlines.items ≡ readings_under (entities_in room.old) (labels_behind self.now) unit.now.read.unit) }
-        ensures shallow { OnOk result (IsShallow self.now.options.now.max_spans (entities_in room.old) (labels_behind self.now) unit.now) }
-        ensures deep { IsErrOf result TooDeep → is_deep_under self.now.options.now.max_spans (entities_in room.old) (labels_behind self.now) unit.now.read.unit ≡ true }
-        ensures room { entities_in room.new ≡ entities_in room.old }
-        ensures lines { C.lines count.new ≡ C.lines count.old }
-        ensures inlines { C.inlines count.new ≤ C.inlines count.old + asking_in (entities_in room.old) (labels_before self.now) (labels_behind self.now) unit.now.read.unit }
+        ensures again { IfOk result (IsReadAgain (texts_under self.now room.old) unit.now.read.unit) }
+        ensures deep { TellsDeep result (are_deep (texts_under self.now room.old) unit.now.read.unit.texts) }
+        ensures stays { Stays room.old room.new (C.lines count.old) (C.lines count.new) }
+        ensures inlines { C.inlines count.new ≤ C.inlines count.old + asking (texts_under self.now room.old) unit.now.read.unit.texts }
     {
         let inlines = self.read_some(unit, room, count)?;
         let like = unit.piece().len();
@@ -178,15 +152,11 @@ impl<'a> UnitTextReader<'a> {
         room: &mut TextRoom<'a>,
         count: &mut C,
     ) -> Result<Vec<Parsed>, InlineFault>
-        requires read { IsReadUnder (entities_in room.old) (labels_before self.now) unit.now }
-        requires shallow { IsShallow self.now.options.now.max_spans (entities_in room.old) (labels_before self.now) unit.now }
-        ensures all { IfOk result (λ inlines. length inlines.items ≡ length unit.now.read.unit.texts) }
-        ensures readings { IfOk result (λ inlines. inlines.items ≡ readings_under (entities_in room.old) (labels_behind self.now) unit.now.read.unit) }
-        ensures shallow { OnOk result (IsShallow self.now.options.now.max_spans (entities_in room.old) (labels_behind self.now) unit.now) }
-        ensures deep { IsErrOf result TooDeep → is_deep_under self.now.options.now.max_spans (entities_in room.old) (labels_behind self.now) unit.now.read.unit ≡ true }
-        ensures room { entities_in room.new ≡ entities_in room.old }
-        ensures lines { C.lines count.new ≡ C.lines count.old }
-        ensures inlines { C.inlines count.new ≤ C.inlines count.old + asking_in (entities_in room.old) (labels_before self.now) (labels_behind self.now) unit.now.read.unit }
+        requires read { DidReadIn (texts_under self.now room.old) unit.now }
+        ensures readings { IfOk result (λ inlines. ReadSo (texts_under self.now room.old) unit.now.read.unit.texts inlines.items) }
+        ensures deep { TellsDeep result (are_deep (texts_under self.now room.old) unit.now.read.unit.texts) }
+        ensures stays { Stays room.old room.new (C.lines count.old) (C.lines count.new) }
+        ensures inlines { C.inlines count.new ≤ C.inlines count.old + asking (texts_under self.now room.old) unit.now.read.unit.texts }
     {
         let texts = unit.unit().texts();
         let mut inlines = Vec::with_capacity(self.alloc, texts.len())?;
@@ -203,18 +173,10 @@ impl<'a> UnitTextReader<'a> {
         room: &mut TextRoom<'a>,
         count: &mut C,
     ) -> Result<(), InlineFault>
-        requires held { held.now ≡ map (reading_of (entities_in room.old) (labels_before self.now)) (map string_bytes texts.now) }
-        requires shallow { list_any (is_deep self.now.options.now.max_spans) held.now ≡ false }
-        ensures readings { OnOk result (inlines.new.items
-            ≡ inlines.old.items ++ map (reading_of (entities_in room.old) (labels_behind self.now)) (map string_bytes texts.now)) }
-        ensures shallow { OnOk result (list_any (is_deep self.now.options.now.max_spans)
-            (map (reading_of (entities_in room.old) (labels_behind self.now)) (map string_bytes texts.now)) ≡ false) }
-        ensures deep { IsErrOf result TooDeep → list_any (is_deep self.now.options.now.max_spans)
-            (map (reading_of (entities_in room.old) (labels_behind self.now)) (map string_bytes texts.now)) ≡ true }
-        ensures room { entities_in room.new ≡ entities_in room.old }
-        ensures lines { C.lines count.new ≡ C.lines count.old }
-        ensures inlines { C.inlines count.new ≤ C.inlines count.old
-            + asking_of (entities_in room.old) (labels_before self.now) (labels_behind self.now) (map string_bytes texts.now) }
+        requires held { DidReadAll (texts_under self.now room.old) (map string_bytes texts.now) held.now }
+        ensures readings { Appends (texts_under self.now room.old) (map string_bytes texts.now) inlines.old.items inlines.new.items result }
+        ensures stays { Stays room.old room.new (C.lines count.old) (C.lines count.new) }
+        ensures inlines { C.inlines count.new ≤ C.inlines count.old + asking (texts_under self.now room.old) (map string_bytes texts.now) }
     {
         for i in 0..texts.len() {
             inlines.push(self.read_one(&texts[i], &held[i], room, count)?)?;
@@ -229,13 +191,9 @@ impl<'a> UnitTextReader<'a> {
         room: &mut TextRoom<'a>,
         count: &mut C,
     ) -> Result<Parsed, InlineFault>
-        requires held { held.now ≡ reading_of (entities_in room.old) (labels_before self.now) text.now }
-        requires shallow { is_deep self.now.options.now.max_spans held.now ≡ false }
-        ensures reading { IfOk result (λ parsed. parsed ≡ reading_of (entities_in room.old) (labels_behind self.now) text.now) }
-        ensures shallow { OnOk result (is_deep self.now.options.now.max_spans (reading_of (entities_in room.old) (labels_behind self.now) text.now) ≡ false) }
-        ensures deep { IsErrOf result TooDeep → is_deep self.now.options.now.max_spans (reading_of (entities_in room.old) (labels_behind self.now) text.now) ≡ true }
-        ensures room { entities_in room.new ≡ entities_in room.old }
-        ensures lines { C.lines count.new ≡ C.lines count.old }
+        requires held { DidRead (texts_under self.now room.old) text.now held.now }
+        ensures reading { Reads (texts_under self.now room.old) text.now result }
+        ensures stays { Stays room.old room.new (C.lines count.old) (C.lines count.new) }
         ensures inlines { C.inlines count.new ≤ C.inlines count.old + (if asks_changed (labels_before self.now) (labels_behind self.now) held.now then 1 else 0) }
     {
         if self.labels.changes.concern(held.asked()) {

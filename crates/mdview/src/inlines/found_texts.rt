@@ -1,14 +1,12 @@
 //! What the inline texts of found units read as, and the pieces of these units.
 
-ghost use Rattle.std.specs.Prelude.{◌≡◌, ◌+◌, ◌≤◌, ◌∷◌, None, take, IfOk, IfSome, IfErr, IsErrOf, OnOk, false, length, map, option_map, sum_by, true, MatchOption};
+ghost use Rattle.std.specs.Prelude.{◌≡◌, ◌+◌, ◌≤◌, ◌∷◌, None, take, IfOk, IfSome, length, map, option_map, sum_by, MatchOption};
 ghost use Rattle.std.specs.List.{All};
 ghost use Rattle.mdblock.specs.FoundLists.{found_unit};
-ghost use Rattle.mdinline.specs.declared.faults.InlineFault.TheVariants.{TooDeep};
-ghost use Rattle.mdsource.specs.UnitTexts.{deep_found, is_deep_under, readings_under, trees_in};
+ghost use Rattle.mdsource.specs.UnitTexts.{trees_in};
 ghost use Rattle.mdview.specs.HeldUnit.{IsRendered, texts_in};
-ghost use Rattle.mdview.specs.HeldLists.{list_in, unplaced};
-ghost use Rattle.mdview.specs.HeldTexts.{IsReadUnder, IsShallow, entities_in, labels_before, labels_behind, line_on};
-ghost use Rattle.mdsource.specs.TextFaults.{IsTextFault};
+ghost use Rattle.mdview.specs.HeldTexts.{line_on};
+ghost use Rattle.mdview.specs.TextSetting.{AreReadFrom, DidReadIn, IsReadFrom, ReadSo, Stays, TellsDeep, TellsLine, are_deep, deep_place, texts_under};
 
 use crate::held::SPLICE_ROOM;
 use crate::held::units::HeldUnit;
@@ -34,17 +32,11 @@ impl<'a> UnitTextReader<'a> {
         count: &mut C,
     ) -> Result<Vec<HeldUnit>, EditFault>
         requires first { first ≤ length held.now.items }
-        requires held { All (IsReadUnder (entities_in room.old) (labels_before self.now)) held.now.items }
-        requires held_shallow { All (IsShallow self.now.options.now.max_spans (entities_in room.old) (labels_before self.now)) held.now.items }
+        requires held { All (DidReadIn (texts_under self.now room.old)) held.now.items }
         requires rendered { All (IsRendered self.now.options.now) held.now.items }
-        ensures all { IfOk result (λ units. length units.items ≡ length found.items) }
-        ensures lists { IfOk result (λ units. map list_in units.items ≡ map unplaced found.items) }
-        ensures pieces { IfOk result (λ units. All (IsRendered self.now.options.now) units.items) }
-        ensures read { IfOk result (λ units. All (IsReadUnder (entities_in room.old) (labels_behind self.now)) units.items) }
-        ensures shallow { OnOk result (deep_found self.now.options.now.max_spans (entities_in room.old) (labels_behind self.now) (map found_unit found.items) ≡ None) }
-        ensures deep { IfErr result (IsTextFault (option_map (line_on from) (deep_found self.now.options.now.max_spans (entities_in room.old) (labels_behind self.now) (map found_unit found.items)))) }
-        ensures room { entities_in room.new ≡ entities_in room.old }
-        ensures lines { C.lines count.new ≡ C.lines count.old }
+        ensures units { IfOk result (λ units. AreReadFrom (texts_under self.now room.old) found.items units.items) }
+        ensures deep { TellsLine result (option_map (line_on from) (deep_place (texts_under self.now room.old) (map found_unit found.items))) }
+        ensures stays { Stays room.old room.new (C.lines count.old) (C.lines count.new) }
         ensures inlines { C.inlines count.new ≤ C.inlines count.old + sum_by texts_in (trees_in (map found_unit found.items)) }
     {
         // Where nothing is found no memory is asked for.
@@ -74,17 +66,11 @@ impl<'a> UnitTextReader<'a> {
         room: &mut TextRoom<'a>,
         count: &mut C,
     ) -> Result<HeldUnit, InlineFault>
-        requires held { IfSome held (λ u. IsReadUnder (entities_in room.old) (labels_before self.now) u.now) }
-        requires held_shallow { IfSome held (λ u. IsShallow self.now.options.now.max_spans (entities_in room.old) (labels_before self.now) u.now) }
+        requires held { IfSome held (λ u. DidReadIn (texts_under self.now room.old) u.now) }
         requires rendered { IfSome held (λ u. IsRendered self.now.options.now u.now) }
-        ensures unit { IfOk result (λ unit. unit.read.unit ≡ found.unit) }
-        ensures list { IfOk result (λ unit. list_in unit ≡ unplaced found) }
-        ensures piece { IfOk result (IsRendered self.now.options.now) }
-        ensures read { IfOk result (IsReadUnder (entities_in room.old) (labels_behind self.now)) }
-        ensures shallow { OnOk result (is_deep_under self.now.options.now.max_spans (entities_in room.old) (labels_behind self.now) found.unit ≡ false) }
-        ensures deep { IsErrOf result TooDeep → is_deep_under self.now.options.now.max_spans (entities_in room.old) (labels_behind self.now) found.unit ≡ true }
-        ensures room { entities_in room.new ≡ entities_in room.old }
-        ensures lines { C.lines count.new ≡ C.lines count.old }
+        ensures unit { IfOk result (IsReadFrom (texts_under self.now room.old) found) }
+        ensures deep { TellsDeep result (are_deep (texts_under self.now room.old) found.unit.texts) }
+        ensures stays { Stays room.old room.new (C.lines count.old) (C.lines count.new) }
         ensures inlines { C.inlines count.new ≤ C.inlines count.old + texts_in found.unit }
     {
         let (inlines, same) = self.read_texts(found.unit(), held, room, count)?;
@@ -110,15 +96,11 @@ impl<'a> UnitTextReader<'a> {
         room: &mut TextRoom<'a>,
         count: &mut C,
     ) -> Result<(Vec<Parsed>, usize), InlineFault>
-        requires held { IfSome held (λ u. IsReadUnder (entities_in room.old) (labels_before self.now) u.now) }
-        requires held_shallow { IfSome held (λ u. IsShallow self.now.options.now.max_spans (entities_in room.old) (labels_before self.now) u.now) }
-        ensures all { IfOk result (λ read. length read.0.items ≡ length unit.now.texts) }
-        ensures readings { IfOk result (λ read. read.0.items ≡ readings_under (entities_in room.old) (labels_behind self.now) unit.now) }
+        requires held { IfSome held (λ u. DidReadIn (texts_under self.now room.old) u.now) }
+        ensures readings { IfOk result (λ read. ReadSo (texts_under self.now room.old) unit.now.texts read.0.items) }
         ensures front { IfOk result (λ read. (read.1 ≤ length unit.now.texts) × IfSome held.entry (λ u. take read.1 unit.now.texts ≡ take read.1 u.now.read.unit.texts)) }
-        ensures shallow { OnOk result (is_deep_under self.now.options.now.max_spans (entities_in room.old) (labels_behind self.now) unit.now ≡ false) }
-        ensures deep { IsErrOf result TooDeep → is_deep_under self.now.options.now.max_spans (entities_in room.old) (labels_behind self.now) unit.now ≡ true }
-        ensures room { entities_in room.new ≡ entities_in room.old }
-        ensures lines { C.lines count.new ≡ C.lines count.old }
+        ensures deep { TellsDeep result (are_deep (texts_under self.now room.old) unit.now.texts) }
+        ensures stays { Stays room.old room.new (C.lines count.old) (C.lines count.new) }
         ensures inlines { C.inlines count.new ≤ C.inlines count.old + length unit.now.texts }
     {
         let texts = unit.texts();

@@ -1,17 +1,13 @@
 //! What the inline texts of found units read as, where the last of these units has texts of a held one.
 
-ghost use Rattle.std.specs.Prelude.{◌≡◌, ◌+◌, ◌≤◌, ◌++◌, ◌∷◌, ℕ, List, [], None, Some, IfErr, IfOk, IfSome, IsErrOf, OnOk, drop, false, length, map, option_map, slice_get, take, true};
+ghost use Rattle.std.specs.Prelude.{◌≡◌, ◌+◌, ◌≤◌, Some, IfOk, IfSome, drop, length, map, option_map, slice_get, take};
 ghost use Rattle.std.specs.List.{All};
-ghost use Rattle.blockspec.specs.UnitTree.{UnitTree};
 ghost use Rattle.mdblock.specs.FoundLists.{found_unit};
-ghost use Rattle.mdinline.specs.declared.faults.InlineFault.TheVariants.{TooDeep};
-ghost use Rattle.mdsource.specs.UnitTexts.{deep_found, is_deep_under, readings_under, trees_in};
-ghost use Rattle.mdsource.specs.LaterTexts.{asking_of};
-ghost use Rattle.mdview.specs.HeldLists.{list_in, unplaced};
+ghost use Rattle.mdsource.specs.UnitTexts.{trees_in};
 ghost use Rattle.mdview.specs.HeldUnit.{HeldUnit, IsRendered};
-ghost use Rattle.mdview.specs.HeldTexts.{IsReadUnder, IsShallow, entities_in, labels_before, labels_behind, line_on};
-ghost use Rattle.mdsource.specs.TextFaults.{IsTextFault};
-ghost use Rattle.mdview.specs.KeptTexts.{AreReadingsOf, IsHeldPart, last_texts, number_kept, number_read, texts_with_kept};
+ghost use Rattle.mdview.specs.HeldTexts.{line_on};
+ghost use Rattle.mdview.specs.KeptTexts.{IsHeldPart, last_texts, number_kept, number_read};
+ghost use Rattle.mdview.specs.TextSetting.{AreReadFrom, DidReadIn, DidReadLast, DidReadRest, IsReadFrom, ReadSo, Stays, TellsDeep, TellsLine, are_deep, asking, deep_place, texts_beside, texts_under};
 
 use crate::blocks::reparse::KeptTexts;
 use crate::held::units::HeldUnit;
@@ -66,21 +62,14 @@ impl<'a> UnitTextReader<'a> {
         count: &mut C,
     ) -> Result<Vec<HeldUnit>, EditFault>
         requires first { first ≤ length held.now.items }
-        requires held { All (IsReadUnder (entities_in room.old) (labels_before self.now)) held.now.items }
-        requires held_shallow { All (IsShallow self.now.options.now.max_spans (entities_in room.old) (labels_before self.now)) held.now.items }
+        requires held { All (DidReadIn (texts_under self.now room.old)) held.now.items }
         requires rendered { All (IsRendered self.now.options.now) held.now.items }
-        requires kept_rendered { IfSome kept (λ k. IsRendered self.now.options.now k.unit.now) }
-        requires kept { IfSome kept (AreReadingsOf self.now.options.now.max_spans (entities_in room.old) (labels_before self.now) (last_texts (trees_in (map found_unit found.items)))) }
-        ensures all { IfOk result (λ units. length units.items ≡ length found.items) }
-        ensures lists { IfOk result (λ units. map list_in units.items ≡ map unplaced found.items) }
-        ensures pieces { IfOk result (λ units. All (IsRendered self.now.options.now) units.items) }
-        ensures read { IfOk result (λ units. All (IsReadUnder (entities_in room.old) (labels_behind self.now)) units.items) }
-        ensures shallow { OnOk result (deep_found self.now.options.now.max_spans (entities_in room.old) (labels_behind self.now) (map found_unit found.items) ≡ None) }
-        ensures deep { IfErr result (IsTextFault (option_map (line_on from) (deep_found self.now.options.now.max_spans (entities_in room.old) (labels_behind self.now) (map found_unit found.items)))) }
-        ensures room { entities_in room.new ≡ entities_in room.old }
-        ensures lines { C.lines count.new ≡ C.lines count.old }
+        requires kept { IfSome kept (DidReadLast (texts_under self.now room.old) (last_texts (trees_in (map found_unit found.items)))) }
+        ensures units { IfOk result (λ units. AreReadFrom (texts_under self.now room.old) found.items units.items) }
+        ensures deep { TellsLine result (option_map (line_on from) (deep_place (texts_under self.now room.old) (map found_unit found.items))) }
+        ensures stays { Stays room.old room.new (C.lines count.old) (C.lines count.new) }
         ensures inlines { C.inlines count.new ≤ C.inlines count.old
-            + texts_with_kept (entities_in room.old) (labels_before self.now) (labels_behind self.now) (option_map number_read kept.entry) (trees_in (map found_unit found.items)) }
+            + texts_beside (texts_under self.now room.old) (option_map number_read kept.entry) (trees_in (map found_unit found.items)) }
     {
         let Some(kept) = kept else {
             return self.read_units(found, held, first, next, from, room, count);
@@ -105,18 +94,11 @@ impl<'a> UnitTextReader<'a> {
         room: &mut TextRoom<'a>,
         count: &mut C,
     ) -> Result<HeldUnit, InlineFault>
-        requires kept { AreReadingsOf self.now.options.now.max_spans (entities_in room.old) (labels_before self.now) found.unit.texts kept }
-        requires rendered { IsRendered self.now.options.now kept.unit.now }
-        ensures unit { IfOk result (λ unit. unit.read.unit ≡ found.unit) }
-        ensures list { IfOk result (λ unit. list_in unit ≡ unplaced found) }
-        ensures piece { IfOk result (IsRendered self.now.options.now) }
-        ensures read { IfOk result (IsReadUnder (entities_in room.old) (labels_behind self.now)) }
-        ensures shallow { OnOk result (is_deep_under self.now.options.now.max_spans (entities_in room.old) (labels_behind self.now) found.unit ≡ false) }
-        ensures deep { IsErrOf result TooDeep → is_deep_under self.now.options.now.max_spans (entities_in room.old) (labels_behind self.now) found.unit ≡ true }
-        ensures room { entities_in room.new ≡ entities_in room.old }
-        ensures lines { C.lines count.new ≡ C.lines count.old }
-        ensures inlines { C.inlines count.new ≤ C.inlines count.old
-            + (kept.entry.at + asking_of (entities_in room.old) (labels_before self.now) (labels_behind self.now) (drop kept.entry.at found.unit.texts)) }
+        requires kept { DidReadLast (texts_under self.now room.old) found.unit.texts kept }
+        ensures unit { IfOk result (IsReadFrom (texts_under self.now room.old) found) }
+        ensures deep { TellsDeep result (are_deep (texts_under self.now room.old) found.unit.texts) }
+        ensures stays { Stays room.old room.new (C.lines count.old) (C.lines count.new) }
+        ensures inlines { C.inlines count.new ≤ C.inlines count.old + (kept.entry.at + asking (texts_under self.now room.old) (drop kept.entry.at found.unit.texts)) }
     {
         let (inlines, same) = self.read_part(found.unit(), kept, room, count)?;
         let like = Alike {
@@ -137,16 +119,12 @@ impl<'a> UnitTextReader<'a> {
         room: &mut TextRoom<'a>,
         count: &mut C,
     ) -> Result<(Vec<Parsed>, usize), InlineFault>
-        requires kept { AreReadingsOf self.now.options.now.max_spans (entities_in room.old) (labels_before self.now) unit.now.texts kept }
+        requires kept { DidReadRest (texts_under self.now room.old) unit.now.texts kept }
         ensures front { IfOk result (λ read. (read.1 ≤ length unit.now.texts) × (take read.1 unit.now.texts ≡ take read.1 kept.entry.unit.now.read.unit.texts)) }
-        ensures all { IfOk result (λ read. length read.0.items ≡ length unit.now.texts) }
-        ensures readings { IfOk result (λ read. read.0.items ≡ readings_under (entities_in room.old) (labels_behind self.now) unit.now) }
-        ensures shallow { OnOk result (is_deep_under self.now.options.now.max_spans (entities_in room.old) (labels_behind self.now) unit.now ≡ false) }
-        ensures deep { IsErrOf result TooDeep → is_deep_under self.now.options.now.max_spans (entities_in room.old) (labels_behind self.now) unit.now ≡ true }
-        ensures room { entities_in room.new ≡ entities_in room.old }
-        ensures lines { C.lines count.new ≡ C.lines count.old }
-        ensures inlines { C.inlines count.new ≤ C.inlines count.old
-            + (kept.entry.at + asking_of (entities_in room.old) (labels_before self.now) (labels_behind self.now) (drop kept.entry.at unit.now.texts)) }
+        ensures readings { IfOk result (λ read. ReadSo (texts_under self.now room.old) unit.now.texts read.0.items) }
+        ensures deep { TellsDeep result (are_deep (texts_under self.now room.old) unit.now.texts) }
+        ensures stays { Stays room.old room.new (C.lines count.old) (C.lines count.new) }
+        ensures inlines { C.inlines count.new ≤ C.inlines count.old + (kept.entry.at + asking (texts_under self.now room.old) (drop kept.entry.at unit.now.texts)) }
     {
         let texts = unit.texts();
         let mut inlines = Vec::with_capacity(self.alloc, texts.len())?;

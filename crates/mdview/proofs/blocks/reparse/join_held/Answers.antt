@@ -1,4 +1,4 @@
-use Rattle.std.proofs.Common.{rules, false, [], ◌∷◌, ℕ, List, ◌≡◌, ◌<◌, ◌+◌, ◌-◌, ◌++◌, length, min, Some, get_or, drop, refl, ap, ◌∙◌, sym, subst, arith}
+use Rattle.std.proofs.Common.{false, ◌∷◌, ℕ, List, ◌≡◌, ◌+◌, ◌-◌, ◌++◌, length, min, Some, get_or, drop, refl, ap, ◌∙◌, sym, subst, arith}
 use Rattle.std.specs.Prelude.{string_bytes}
 use Rattle.std.proofs.lemmas.List.{length-map}
 use Rattle.blockspec.specs.UnitTree.{UnitTree}
@@ -9,7 +9,6 @@ use Rattle.mdview.specs.HeldItems.{mark_in}
 use Rattle.mdblock.specs.Spliced.{MeetsAt, mark_at}
 use Rattle.mdview.proofs.HeldJoins.{joined_mark}
 use Rattle.mdview.proofs.ListsStand.{stands_placed}
-use Rattle.mdview.proofs.NearStops.{stops_at}
 use Rattle.mdview.proofs.blocks.reparse.join_held.Goals as goal
 
 abbrev no_join : Join

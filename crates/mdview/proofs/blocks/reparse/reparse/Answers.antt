@@ -1,18 +1,17 @@
-use Rattle.std.proofs.Common.{rules, ◌&&◌, nat_eq, ◌≡◌, ◌≤◌, ◌<◌, ◌+◌, ◌-◌, ◌++◌, ◌∷◌, ℕ, List, Some, None, [], Err, false, true, inl, inr, ap, arith, drop, get_or, length, map, refl, subst, sym, take, ◌∙◌}
-use Rattle.std.specs.Prelude.{Contains}
+use Rattle.std.proofs.Common.{rules, ◌&&◌, nat_eq, ◌≡◌, ◌≤◌, ◌<◌, ◌+◌, ◌++◌, ◌∷◌, ℕ, List, Some, None, [], Err, false, true, ap, arith, drop, length, map, refl, subst, sym, take, ◌∙◌}
 use Rattle.std.specs.List.{All}
 use Rattle.std.specs.Option.{option_map, option_to_list}
 use Rattle.std.proofs.lemmas.List.Elements.{All-nil}
-use Rattle.blockspec.specs.BlockUnits.{begins, units}
+use Rattle.blockspec.specs.BlockUnits.{units}
 use Rattle.blockspec.specs.Nesting.{first_too_deep}
 use Rattle.mdblock.specs.FoundLists.{found_unit}
-use Rattle.mdblock.specs.held.Reads.{Reads, handed, open_begin}
+use Rattle.mdblock.specs.held.Reads.{Reads, handed}
 use Rattle.mdtext.specs.EntityTable.{EntityTable}
 use Rattle.mdsource.specs.Stretch.{from_line, is_meeting, meeting_line}
 use Rattle.mdsource.specs.UnitTiles.{IsAhead}
 use Rattle.mdsource.proofs.ReadLines.{none_deep}
 use Rattle.mdsource.proofs.UnitPlaces.{ahead_later}
-use Rattle.mdview.specs.HeldBlocks.{IsDeepAt, is_at, line_before, lines_in, old_lines, places_of}
+use Rattle.mdview.specs.HeldBlocks.{IsDeepAt, line_before, lines_in, old_lines, places_of}
 use Rattle.mdview.specs.NewText.{lines_of}
 use Rattle.mdchunks.specs.Sequences.{Sequence}
 use Rattle.mdview.specs.HeldLists.{StandsAt}

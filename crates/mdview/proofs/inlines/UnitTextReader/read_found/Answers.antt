@@ -1,11 +1,12 @@
 use Rattle.std.proofs.Common.{◌≡◌, ◌++◌, ◌∷◌, [], Err, ap, map, option_map, ◌∙◌}
 use Rattle.std.proofs.lemmas.List.{map-append}
 use Rattle.mdblock.specs.FoundLists.{found_unit}
-use Rattle.mdsource.specs.UnitTexts.{deep_found}
-use Rattle.mdview.specs.HeldTexts.{entities_in, labels_behind, line_on}
 use Rattle.mdsource.specs.TextFaults.{IsTextFault}
-use Rattle.mdview.proofs.KeptTexts.{fault_before, fault_last, none_deep}
+use Rattle.mdview.specs.HeldTexts.{line_on}
+use Rattle.mdview.specs.TextSetting.{deep_place, texts_under}
+use Rattle.mdview.proofs.KeptTexts.{fault_before, fault_last, none_deep, none_mapped}
 use Rattle.mdview.proofs.ReadParts.{returned}
+use Rattle.mdview.proofs.ToldTexts.{on_err, read_behind}
 use Rattle.mdview.proofs.inlines.UnitTextReader.read_found.Given.{Over}
 use Rattle.mdview.proofs.inlines.UnitTextReader.read_found.Goals.{In-Some-pop}
 use Rattle.mdview.proofs.inlines.UnitTextReader.read_found.Goals as goal
@@ -16,26 +17,38 @@ parted g c = ap (map found_unit) c.in-Some-pop.ensures.items ∙ map-append foun
 
 pub returns-in_err-units-clause-deep : goal.returns-in_err-units-clause-deep
 returns-in_err-units-clause-deep g c =
-    let limit = c.args.self.now.options.now.max_spans in
-    let e = entities_in c.args.room.now in
-    let L = labels_behind c.args.self.now in
+    let s = texts_under c.args.self.now c.args.room.now in
     let front = map found_unit c.pop.new.self.items in
     let last = found_unit c.in-Some-pop.last in
     let fault = c.in_err-units.field-0.0 in
-    rw (parted g (goal.at.returns-in_err-units-clause-deep g c).In-Some-pop)
-    (returned c.from_residual.result fault (IsTextFault (option_map (line_on c.args.from) (deep_found limit e L (front ++ last ∷ []))))
-    c.from_residual.ensures.1 (fault_before limit e L front last c.args.from fault c.in_err-units.ensures.deep))
+    rw (parted g (goal.at.returns-in_err-units-clause-deep g c).In-Some-pop) (
+      on_err _ c.from_residual.result _ c.from_residual.ensures.1,
+      returned c.from_residual.result fault (IsTextFault (option_map (line_on c.args.from) (deep_place s (front ++ last ∷ []))))
+          c.from_residual.ensures.1 (fault_before s.options.max_spans s.entities s.behind front last c.args.from fault c.in_err-units.ensures.deep.1),
+    )
 
 pub returns-in-Err-clause-deep : goal.returns-in-Err-clause-deep
 returns-in-Err-clause-deep g c =
-    rw (parted g (goal.at.returns-in-Err-clause-deep g c).In-Some-pop, c.fault_in_unit.ensures, c.saturating_add-begin.ensures, c.begin.ensures)
-    (fault_last c.args.self.now.options.now.max_spans (entities_in c.args.room.now) (labels_behind c.args.self.now)
-    (map found_unit c.pop.new.self.items) (found_unit c.in-Some-pop.last) c.args.from c.in-Err.fault c.in_ok-units.ensures.shallow
-    (λ is. rw c.read_units-2.ensures.room at (c.in-Err.ensures.deep (ap Err is))))
+    let s = texts_under c.args.self.now c.args.room.now in
+    rw (parted g (goal.at.returns-in-Err-clause-deep g c).In-Some-pop, c.fault_in_unit.ensures, c.saturating_add-begin.ensures, c.begin.ensures) (
+      tt,
+      fault_last s.options.max_spans s.entities s.behind
+          (map found_unit c.pop.new.self.items) (found_unit c.in-Some-pop.last) c.args.from c.in-Err.fault (none_mapped _ _ c.in_ok-units.ensures.deep.0)
+          (λ is. rw c.read_units-2.ensures.stays.0 at (c.in-Err.ensures.deep.1 (ap Err is))),
+    )
 
-pub returns-clause-shallow : goal.returns-clause-shallow
-returns-clause-shallow g c =
-    rw (parted g (goal.at.returns-clause-shallow g c).In-Some-pop)
-    (none_deep c.args.self.now.options.now.max_spans (entities_in c.args.room.now) (labels_behind c.args.self.now)
-    (map found_unit c.pop.new.self.items) (found_unit c.in-Some-pop.last) c.in_ok-units.ensures.shallow
-    (rw c.read_units-2.ensures.room at c.in-Ok.ensures.shallow))
+pub returns-clause-units : goal.returns-clause-units
+returns-clause-units g c =
+    let one = rw c.read_units-2.ensures.stays.0 at c.in-Ok.ensures.unit in
+    rw (c.in-Some-pop.ensures.items, c.in_ok-push-in-Ok.ensures.items)
+    (read_behind _ c.pop.new.self.items c.in-Some-pop.last c.in_ok-units.units.items c.in-Ok.unit c.in_ok-units.ensures.units one)
+
+pub returns-clause-deep : goal.returns-clause-deep
+returns-clause-deep g c =
+    let s = texts_under c.args.self.now c.args.room.now in
+    rw (parted g (goal.at.returns-clause-deep g c).In-Some-pop) (
+      ap (option_map (line_on c.args.from)) (none_deep s.options.max_spans s.entities s.behind
+          (map found_unit c.pop.new.self.items) (found_unit c.in-Some-pop.last) (none_mapped _ _ c.in_ok-units.ensures.deep.0)
+          (rw c.read_units-2.ensures.stays.0 at c.in-Ok.ensures.deep.0)),
+      tt,
+    )

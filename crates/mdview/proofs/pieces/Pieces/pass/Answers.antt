@@ -1,4 +1,4 @@
-use Rattle.std.proofs.Common.{◌≡◌, ◌∙◌, sym, ap, drop, map}
+use Rattle.std.proofs.Common.{◌∙◌, sym, ap, drop, map}
 use Rattle.std.proofs.lemmas.List.{drop-map}
 use Rattle.mdview.specs.HeldUnit.{piece_of}
 use Rattle.mdview.proofs.pieces.Pieces.pass.Goals as goal

@@ -1,10 +1,6 @@
-use Rattle.std.proofs.Common.{Some, slice_get, min, ◌≡◌, ◌<◌, ◌≤◌, ◌+◌, ◌∷◌, false, List, drop, map, length, arith, ap, sym, ◌∙◌, subst, nat_eq}
-use Rattle.std.specs.List.{list_any}
-use Rattle.std.proofs.lemmas.Bool.Decides.{nat_tests}
-use Rattle.std.proofs.lemmas.List.{length-map}
-use Rattle.blockspec.specs.BlockUnits.{begins}
+use Rattle.std.proofs.Common.{Some, slice_get, min, ◌≡◌, ◌<◌, ◌+◌, ◌∷◌, List, drop, map, length, arith, ap, sym, ◌∙◌, subst}
 use Rattle.mdchunks.specs.Sequences.{Sequence}
-use Rattle.mdsource.proofs.UnitPlaces.{ahead_next, none_left, unit_tells}
+use Rattle.mdsource.proofs.UnitPlaces.{ahead_next}
 use Rattle.mdview.specs.HeldBlocks.{lines_in}
 use Rattle.mdview.specs.HeldUnit.{HeldUnit}
 use Rattle.mdview.proofs.Ahead.{first_comes, first_left, left_at, left_behind, something_comes}

@@ -1,4 +1,4 @@
-use Rattle.std.proofs.Common.{◌≡◌, ◌+◌, ◌-◌, ◌<◌, ◌∷◌, ℕ, None, List, ap, arith, drop, length, map, refl, sym, take, ◌∙◌}
+use Rattle.std.proofs.Common.{◌≡◌, ◌+◌, ◌-◌, ◌<◌, ◌∷◌, ℕ, None, List, ap, arith, drop, length, map, sym, take, ◌∙◌}
 use Rattle.blockspec.specs.UnitTree.{UnitTree}
 use Rattle.mdview.specs.HeldTexts.{between}
 use Rattle.mdview.specs.HeldUnit.{HeldUnit, unit_in}

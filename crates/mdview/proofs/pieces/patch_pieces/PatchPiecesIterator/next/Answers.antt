@@ -1,4 +1,4 @@
-use Rattle.std.proofs.Common.{◌≡◌, ◌∷◌, ◌+◌, ◌∙◌, [], List, ℕ, suc, ap, arith, length, subst, sym}
+use Rattle.std.proofs.Common.{◌≡◌, ◌∷◌, ◌+◌, ◌∙◌, [], List, ℕ, ap, arith, length, subst, sym}
 use Rattle.mdview.specs.BroughtPieces.{changed, changed_pieces}
 use Rattle.mdview.proofs.BroughtLaws.{brought_last, brought_next}
 use Rattle.mdview.proofs.pieces.patch_pieces.PatchPiecesIterator.next.Goals as goal
