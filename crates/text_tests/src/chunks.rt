@@ -6,7 +6,7 @@ use std::process::Abort;
 use std::test::Fail;
 
 /// A number, which weighs as much as it is.
-#[derive(Clone, Copy, Debug, PartialEq, Eq)]
+#[derive(Clone, Copy, PartialEq, Eq)]
 struct Number(u32);
 
 impl Weighed for Number {
@@ -57,32 +57,33 @@ static EDITS: [(usize, usize, u32); 16] = [
     (0, 0, 3),
 ];
 
-/// What stands at a place: the member, the weight in front of it, and how many members there are from it on.
-fn at_place(chunks: &Chunks<Number>, i: usize) -> Option<(Number, usize, usize)> {
+/// Whether this weight stands in front of a place, and so many members from it on.
+fn is_between(chunks: &Chunks<Number>, i: usize, front: usize, count: usize) -> bool {
     if i >= chunks.len() {
-        return None;
+        return false;
     }
-    let member = *chunks.get(i)?;
-    Some((member, chunks.weight_before(i), chunks.iter_from(i).count()))
+    chunks.weight_before(i) == front && chunks.iter_from(i).count() == count
 }
 
 /// Each member by its place.
 fn compare(rt: &impl Abort, chunks: &Chunks<Number>, list: &[Number]) {
     assert_eq!(rt; chunks.len(), list.len());
     let mut front: usize = 0;
-    for i in 0..list.len() {
-        let want = Some((list[i], front, list.len() - i));
-        assert_eq!(rt; at_place(chunks, i), want);
-        front = front.saturating_add(list[i].0 as usize);
+    for (i, member) in list.iter().enumerate() {
+        assert!(rt; chunks.get(i) == Some(member), "at {i}");
+        assert!(rt; is_between(chunks, i, front, list.len() - i), "at {i}");
+        front = front.saturating_add(member.0 as usize);
     }
     assert!(rt; chunks.get(list.len()).is_none());
 }
 
 /// The members in turn.
 fn compare_in_turn(rt: &impl Abort, chunks: &Chunks<Number>, list: &[Number]) {
-    for (member, wanted) in chunks.iter_from(0).zip(list.iter()) {
-        assert_eq!(rt; *member, *wanted);
+    let mut members = chunks.iter_from(0);
+    for (i, wanted) in list.iter().enumerate() {
+        assert!(rt; members.next() == Some(wanted), "at {i}");
     }
+    assert!(rt; members.next().is_none());
 }
 
 /// So many numbers, that follow this one.
@@ -122,11 +123,11 @@ fn splice(
     mut added: Vec<Number>,
 ) -> Result<bool, AllocError> {
     chunks.reserve_splice(&mut added)?;
-    let is_within = at <= chunks.len() && removed <= chunks.len() - at;
-    if is_within {
-        chunks.splice(at, removed, added);
+    if at > chunks.len() || removed > chunks.len() - at {
+        return Ok(false);
     }
-    Ok(is_within)
+    chunks.splice(at, removed, added);
+    Ok(true)
 }
 
 #[test]
@@ -156,8 +157,10 @@ fn weighed_members(alloc: Global) -> Result<Vec<Number>, AllocError> {
 }
 
 fn found(chunks: &Chunks<Number>, weight: usize) -> Option<(usize, usize)> {
-    let place = chunks.find(weight)?;
-    Some((place.member, place.front))
+    match chunks.find(weight) {
+        Some(place) => Some((place.member, place.front)),
+        None => None,
+    }
 }
 
 fn weight_before(chunks: &Chunks<Number>, i: usize) -> Option<usize> {
@@ -196,22 +199,31 @@ static PLACES: [(usize, usize, usize); 6] = [
     (1000, 99, 99),
 ];
 
+fn check_places(rt: &impl Abort, chunks: &Chunks<Number>) {
+    for &(weight, member, front) in &PLACES {
+        assert!(rt; found(chunks, weight) == Some((member, front)), "{weight}");
+    }
+    assert_eq!(rt; chunks.len(), 100);
+}
+
+/// Other weights in the places of two members.
+fn check_changes(rt: &impl Abort, chunks: &mut Chunks<Number>) {
+    assert!(rt; exchanged(chunks, 50, Number(7)) == Some(Number(2)));
+    // it was 51
+    assert_eq!(rt; weight_before(chunks, 51), Some(56));
+    assert_eq!(rt; chunks.len(), 100);
+    assert!(rt; changed(chunks, 51, Number(9)) == Some(Number(9)));
+    assert_eq!(rt; chunks.len(), 100);
+    assert_eq!(rt; weight_before(chunks, 52), Some(65));
+}
+
 #[test]
 fn finds_by_weight(rt: HostRuntime) -> Result<(), Fail> {
     let mut chunks: Chunks<Number> = Chunks::new(rt.alloc());
-    assert_eq!(rt; found(&chunks, 0), None);
+    assert!(rt; found(&chunks, 0).is_none());
     let members = weighed_members(rt.alloc())?;
     assert!(rt; splice(&mut chunks, 0, 0, members)?);
-    for &(weight, member, front) in &PLACES {
-        assert_eq!(rt; found(&chunks, weight), Some((member, front)));
-    }
-    assert_eq!(rt; chunks.len(), 100);
-    assert_eq!(rt; exchanged(&mut chunks, 50, Number(7)), Some(Number(2)));
-    // it was 51
-    assert_eq!(rt; weight_before(&chunks, 51), Some(56));
-    assert_eq!(rt; chunks.len(), 100);
-    assert_eq!(rt; changed(&mut chunks, 51, Number(9)), Some(Number(9)));
-    assert_eq!(rt; chunks.len(), 100);
-    assert_eq!(rt; weight_before(&chunks, 52), Some(65));
+    check_places(&rt, &chunks);
+    check_changes(&rt, &mut chunks);
     Ok(())
 }

@@ -8,16 +8,22 @@ use std::alloc::{AllocError, Global};
 use std::process::Abort;
 use std::test::Fail;
 
+/// The run at a byte that is not before this end of another.
+fn run_behind(text: &str, at: usize, end: usize) -> Option<DelimiterRun> {
+    if at < end {
+        return None;
+    }
+    delimiter_run(text, at)
+}
+
 /// The delimiter runs of a text without brackets, escapes and code.
 fn runs_of(alloc: Global, text: &str) -> Result<Vec<DelimiterRun>, AllocError> {
     let mut runs = Vec::new(alloc);
     let mut end = 0;
     for at in 0..text.len() {
-        if at >= end
-            && let Some(run) = delimiter_run(text, at)
-        {
+        if let Some(run) = run_behind(text, at, end) {
             runs.push(run)?;
-            end = at + run.length;
+            end = at.saturating_add(run.length);
         }
     }
     Ok(runs)
@@ -96,8 +102,10 @@ fn runs_are_paired(rt: HostRuntime) -> Result<(), Fail> {
 
 /// The length of the run at a byte, and whether it can open and can close.
 fn run_at(text: &str, at: usize) -> Option<(usize, bool, bool)> {
-    let run = delimiter_run(text, at)?;
-    Some((run.length, run.can_open, run.can_close))
+    match delimiter_run(text, at) {
+        Some(run) => Some((run.length, run.can_open, run.can_close)),
+        None => None,
+    }
 }
 
 /// Texts, and a byte of each at which no run begins.

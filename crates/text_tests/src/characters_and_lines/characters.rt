@@ -1,6 +1,9 @@
 //! Classes of characters, the first special one of a text, and the counter.
 
+ghost use Rattle.std.specs.Prelude.{◌<◌, ◌≡◌, length};
+
 use mdtext::{Class, Count, Tally, first_special, is_punct, is_white};
+use std::process::Abort;
 
 static WHITE: [char; 9] = [
     '\t', '\n', '\u{C}', '\r', ' ', '\u{A0}', '\u{1680}', '\u{2003}', '\u{3000}',
@@ -52,14 +55,47 @@ fn punctuation_is_p_and_s(rt: HostRuntime) {
     }
 }
 
+/// The place of the first of these bytes in a text, if a class can have so many.
+fn first_of(text: &[u8], members: &[u8]) -> Option<usize> {
+    if members.len() > 16 {
+        return None;
+    }
+    Some(first_special(text, &Class::of(members)))
+}
+
+static FIRST_PLACES: [(&str, &str, usize); 5] = [
+    ("", "&<", 0),
+    ("abc", "&<", 3),
+    ("a<&", "&<", 1),
+    ("a<&", "", 3),
+    ("xyz0", "0123456789abcdef", 3),
+];
+
 #[test]
 fn first_special_byte(rt: HostRuntime) {
-    let class = Class::of(b"&<");
-    assert_eq!(rt; first_special(b"", &class), 0);
-    assert_eq!(rt; first_special(b"abc", &class), 3);
-    assert_eq!(rt; first_special(b"a<&", &class), 1);
-    assert_eq!(rt; first_special(b"a<&", &Class::of(b"")), 3);
-    assert_eq!(rt; first_special(b"xyz0", &Class::of(b"0123456789abcdef")), 3);
+    for &(text, members, want) in &FIRST_PLACES {
+        let place = first_of(text.as_bytes(), members.as_bytes());
+        assert!(rt; place == Some(want), "{text:?}");
+    }
+}
+
+/// Where the one special byte of a text of letters is found.
+fn found_in(text: &mut [u8], place: usize, class: &Class) -> usize
+    requires { place < length text.old }
+    ensures { length text.new ≡ length text.old }
+{
+    text[place] = b'<';
+    let found = first_special(text, class);
+    text[place] = b'a';
+    found
+}
+
+/// A special byte at each place of a text of letters.
+fn check_places(rt: &impl Abort, text: &mut [u8], class: &Class) {
+    assert_eq!(rt; first_special(text, class), text.len());
+    for place in 0..text.len() {
+        assert_eq!(rt; found_in(text, place, class), place);
+    }
 }
 
 #[test]
@@ -67,12 +103,7 @@ fn first_special_at_each_place(rt: HostRuntime) {
     let class = Class::of(b"&<>\"");
     let mut bytes = [b'a'; 100];
     for len in 0..101 {
-        assert_eq!(rt; first_special(&bytes[..len], &class), len);
-        for place in 0..len {
-            bytes[place] = b'<';
-            assert_eq!(rt; first_special(&bytes[..len], &class), place);
-            bytes[place] = b'a';
-        }
+        check_places(&rt, &mut bytes[..len], &class);
     }
 }
 

@@ -2,24 +2,27 @@
 
 use mdtext::Cursor;
 
+/// Skips so many columns, where the indentation has them.
+fn skip(cursor: &mut Cursor, columns: usize) {
+    if cursor.indent() >= columns {
+        cursor.skip_columns(columns);
+    }
+}
+
+/// Whether this is the indentation, so much of a tab is left, and this text stands behind that.
+fn is_at(cursor: &Cursor, indent: usize, left: usize, rest: &str) -> bool {
+    cursor.indent() == indent && cursor.left() == left && cursor.rest() == rest
+}
+
 #[test]
 fn marker_and_tabs(rt: HostRuntime) {
     let mut cursor = Cursor::new(">\t\tfoo");
     cursor.skip_mark(1);
-    assert_eq!(rt; cursor.indent(), 7);
-    assert_eq!(rt; cursor.left(), 0);
-    if cursor.indent() >= 1 {
-        cursor.skip_columns(1);
-    }
-    assert_eq!(rt; cursor.indent(), 6);
-    assert_eq!(rt; cursor.left(), 2);
-    assert_eq!(rt; cursor.rest(), "\tfoo");
-    if cursor.indent() >= 4 {
-        cursor.skip_columns(4);
-    }
-    assert_eq!(rt; cursor.indent(), 2);
-    assert_eq!(rt; cursor.left(), 2);
-    assert_eq!(rt; cursor.rest(), "foo");
+    assert!(rt; is_at(&cursor, 7, 0, "\t\tfoo"));
+    skip(&mut cursor, 1);
+    assert!(rt; is_at(&cursor, 6, 2, "\tfoo"));
+    skip(&mut cursor, 4);
+    assert!(rt; is_at(&cursor, 2, 2, "foo"));
 }
 
 static INDENTS: [(&str, usize); 8] = [

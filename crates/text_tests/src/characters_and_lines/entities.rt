@@ -21,7 +21,7 @@ pub(super) fn check_names(
     file: &str,
 ) {
     for &(name, want) in names {
-        assert_eq!(rt; entities.get(name), want, "{name:?} in {file:?}");
+        assert!(rt; entities.get(name) == want, "{name:?} in {file:?}");
     }
 }
 
@@ -37,15 +37,18 @@ fn check_file(
     Ok(())
 }
 
-/// A file's entities as they are printed: on one line, or on many.
+/// Entities as they are printed: on one line, or on many.
+fn printed(alloc: Global, entities: &Entities, is_long: bool) -> Result<String, AllocError> {
+    if is_long {
+        return format!(in alloc; "{entities:#?}");
+    }
+    format!(in alloc; "{entities:?}")
+}
+
+/// A file's entities as they are printed.
 fn shown_of(alloc: Global, file: &str, is_long: bool) -> Result<String, Fail> {
     let entities = Entities::from_json(alloc, file.as_bytes())?;
-    let shown = if is_long {
-        format!(in alloc; "{entities:#?}")?
-    } else {
-        format!(in alloc; "{entities:?}")?
-    };
-    Ok(shown)
+    Ok(printed(alloc, &entities, is_long)?)
 }
 
 /// Prints a file's entities, and compares that.
@@ -165,13 +168,17 @@ fn number_at(place: usize, flipped: usize) -> usize {
     (place ^ flipped).saturating_add(10_000)
 }
 
+/// A member of a file, behind another.
+fn member_of(alloc: Global, number: usize) -> Result<String, AllocError> {
+    format!(in alloc; ",\"&n{number};\":{{\"characters\":\"{number}\"}}")
+}
+
 /// A file of so many names. They rise where no bits are flipped, and fall in blocks of the size of the flipped bits.
 fn file_of(alloc: Global, count: usize, flipped: usize) -> Result<String, AllocError> {
     let mut file = String::from_str(alloc, "{\"\":0")?;
     for place in 0..count {
         let number = number_at(place, flipped);
-        let member = format!(in alloc; ",\"&n{number};\":{{\"characters\":\"{number}\"}}")?;
-        file.push_str(&member)?;
+        file.push_str(&member_of(alloc, number)?)?;
     }
     file.push_str("}")?;
     Ok(file)
@@ -282,14 +289,17 @@ static NAMES_OF_HTML: [(&str, Option<&str>); 17] = [
     ("", None),
 ];
 
+/// How many names have a text, as they are printed.
+fn count_of_names(alloc: Global, entities: &Entities) -> Result<usize, AllocError> {
+    let shown = printed(alloc, entities, false)?;
+    Ok(shown.matches("\": \"").count())
+}
+
 #[test]
 fn names_of_html(rt: HostRuntime) -> Result<(), Fail> {
     let entities = Entities::html(rt.alloc())?;
-    for &(name, want) in &NAMES_OF_HTML {
-        assert_eq!(rt; entities.get(name), want, "{name:?}");
-    }
-    let shown = format!(in rt.alloc(); "{entities:?}")?;
-    assert_eq!(rt; shown.matches("\": \"").count(), 2125);
+    check_names(&rt, &entities, &NAMES_OF_HTML, "HTML");
+    assert_eq!(rt; count_of_names(rt.alloc(), &entities)?, 2125);
     Ok(())
 }
 

@@ -1,6 +1,8 @@
 //! Labels as they are matched, and their order.
 
 use mdtext::{Label, Target, fold_label};
+use std::alloc::{AllocError, Global};
+use std::process::Abort;
 use std::test::Fail;
 
 fn folded(rt: &HostRuntime, inside: &str) -> Result<Option<Label>, Fail> {
@@ -107,13 +109,28 @@ fn labels_are_shown_by_their_text(rt: HostRuntime) -> Result<(), Fail> {
 
 static REFUSED: [&str; 5] = ["", " ", "a]", "[", "a\n["];
 
+/// Whether a text is no label, and leaves one with this text as it was.
+fn is_left(alloc: Global, label: &mut Label, inside: &str, text: &str) -> Result<bool, AllocError> {
+    let is_label = label.fold(alloc, inside)?;
+    Ok(!is_label && label.as_str() == text)
+}
+
+fn check_left(
+    rt: &impl Abort,
+    alloc: Global,
+    label: &mut Label,
+    text: &str,
+) -> Result<(), AllocError> {
+    for &inside in &REFUSED {
+        assert!(rt; is_left(alloc, label, inside, text)?, "{inside:?}");
+    }
+    Ok(())
+}
+
 #[test]
 fn what_is_no_label_leaves_a_label_as_it_was(rt: HostRuntime) -> Result<(), Fail> {
     let mut label = Label::new(rt.alloc());
     assert!(rt; label.fold(rt.alloc(), "Foo bar")?);
-    for &inside in &REFUSED {
-        assert!(rt; !label.fold(rt.alloc(), inside)?, "{inside:?}");
-        assert_eq!(rt; label.as_str(), "foo bar", "{inside:?}");
-    }
+    check_left(&rt, rt.alloc(), &mut label, "foo bar")?;
     Ok(())
 }

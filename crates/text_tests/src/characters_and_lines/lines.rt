@@ -48,12 +48,16 @@ static NULS: [(&str, &str); 4] = [
     ("a\u{0}\u{0}b\u{E4}", "a\u{FFFD}\u{FFFD}b\u{E4}"),
 ];
 
+/// Whether a line becomes this one without U+0000, of that length.
+fn is_cleaned(alloc: Global, line: &str, want: &str) -> Result<bool, AllocError> {
+    let clean = clean_line(alloc, line)?;
+    Ok(clean.as_str() == want && clean_len(line) == want.len())
+}
+
 #[test]
 fn nul_in_a_line(rt: HostRuntime) -> Result<(), Fail> {
     for &(line, want) in &NULS {
-        let clean = clean_line(rt.alloc(), line)?;
-        assert_eq!(rt; clean.as_str(), want, "{line:?}");
-        assert_eq!(rt; clean_len(line), want.len(), "{line:?}");
+        assert!(rt; is_cleaned(rt.alloc(), line, want)?, "{line:?}");
     }
     Ok(())
 }

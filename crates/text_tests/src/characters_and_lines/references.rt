@@ -44,7 +44,8 @@ fn builtin_names(rt: HostRuntime) -> Result<(), Fail> {
 
 /// What a text becomes, behind a backslash that stands before it.
 fn unescaped(alloc: Global, text: &str, entities: &Entities) -> Result<String, AllocError> {
-    let mut out = String::from_str(alloc, "\\")?;
+    let mut out = String::new(alloc);
+    out.push('\\')?;
     unescape(text, entities, &mut out)?;
     Ok(out)
 }

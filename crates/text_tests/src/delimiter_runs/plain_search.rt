@@ -16,12 +16,20 @@ struct Left {
     run: DelimiterRun,
 }
 
+/// Whether a length is a multiple of three.
+fn is_multiple(length: usize) -> bool {
+    length % 3 == 0
+}
+
 /// Whether the sum of the lengths keeps two runs from being paired (rules 9 and 10).
 fn has_wrong_sum(opener: &DelimiterRun, closer: &DelimiterRun) -> bool {
-    let opens_and_closes = opener.can_close || closer.can_open;
-    let is_multiple = opener.length.saturating_add(closer.length) % 3 == 0;
-    let are_multiples = opener.length % 3 == 0 && closer.length % 3 == 0;
-    opens_and_closes && is_multiple && !are_multiples
+    if !opener.can_close && !closer.can_open {
+        return false;
+    }
+    if is_multiple(opener.length) && is_multiple(closer.length) {
+        return false;
+    }
+    is_multiple(opener.length.saturating_add(closer.length))
 }
 
 fn fits(opener: &DelimiterRun, closer: &DelimiterRun) -> bool {
@@ -96,18 +104,22 @@ fn search(alloc: Global, runs: &[DelimiterRun]) -> Result<Vec<Match>, AllocError
     Ok(matches)
 }
 
+/// The character that the last of a number's digits of four kinds stands for.
+fn character_of(number: usize) -> char {
+    match number % 4 {
+        0 => '*',
+        1 => '_',
+        2 => 'a',
+        _ => ' ',
+    }
+}
+
 /// The text of so many characters that a number stands for.
 fn text_of(alloc: Global, number: usize, len: usize) -> Result<String, AllocError> {
     let mut text = String::new(alloc);
     let mut rest = number;
     for _ in 0..len {
-        let piece = match rest % 4 {
-            0 => "*",
-            1 => "_",
-            2 => "a",
-            _ => " ",
-        };
-        text.push_str(piece)?;
+        text.push(character_of(rest))?;
         rest /= 4;
     }
     Ok(text)

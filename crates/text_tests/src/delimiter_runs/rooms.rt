@@ -7,7 +7,21 @@ use std::test::Fail;
 
 static SIDES: [bool; 2] = [true, false];
 
-/// So many runs that open, and as many that close. Tildes are of many lengths, each of which is a kind of its own.
+/// A run that opens or closes. Tildes are of many lengths, each of which is a kind of its own.
+fn run_at(delimiter: DelimiterChar, place: usize, opens: bool) -> DelimiterRun {
+    let length = match delimiter {
+        DelimiterChar::Tilde => place.saturating_add(1),
+        _ => 1,
+    };
+    DelimiterRun {
+        delimiter,
+        length,
+        can_open: opens,
+        can_close: !opens,
+    }
+}
+
+/// So many runs that open, and as many that close.
 fn runs_of(
     alloc: Global,
     delimiter: DelimiterChar,
@@ -16,16 +30,7 @@ fn runs_of(
     let mut runs = Vec::new(alloc);
     for &opens in &SIDES {
         for place in 0..count {
-            let length = match delimiter {
-                DelimiterChar::Tilde => place + 1,
-                _ => 1,
-            };
-            runs.push(DelimiterRun {
-                delimiter,
-                length,
-                can_open: opens,
-                can_close: !opens,
-            })?;
+            runs.push(run_at(delimiter, place, opens))?;
         }
     }
     Ok(runs)
