@@ -3,7 +3,6 @@
 use mdleaf::{Definition, Leading, is_only_definitions, leading_definitions};
 use mdtext::Entities;
 use std::alloc::{AllocError, Global};
-use std::process::Abort;
 use std::test::Fail;
 
 static FRONTS: [(&str, &[(&str, &str, &str)], usize); 52] = [
@@ -109,9 +108,10 @@ static FRONTS: [(&str, &[(&str, &str, &str)], usize); 52] = [
     ("[a]: /u  \t\n  \"t\"  \nx", &[("a", "/u", "t")], 19),
 ];
 
-fn lead(rt: &HostRuntime, text: &str) -> Result<Leading, Fail> {
-    let entities = Entities::builtin(rt.alloc())?;
-    Ok(leading_definitions(rt.alloc(), text, &entities)?)
+/// What a text gives, with the names that are built in.
+fn lead(alloc: Global, text: &str) -> Result<Leading, AllocError> {
+    let entities = Entities::builtin(alloc)?;
+    leading_definitions(alloc, text, &entities)
 }
 
 /// Whether the definitions that were found have these labels, URLs and titles.
@@ -130,23 +130,27 @@ fn is_defined(found: &Definition, label: &str, url: &str, title: &str) -> bool {
         && found.target.title.as_str() == title
 }
 
-fn check_front(
-    rt: &impl Abort,
-    leading: &Leading,
+/// Whether these definitions are given, and the rest begins there.
+fn is_leading(leading: &Leading, defined: &[(&str, &str, &str)], rest: usize) -> bool {
+    leading.rest == rest && are_defined(&leading.definitions, defined)
+}
+
+/// Whether a text gives these definitions, and the rest begins there.
+fn is_led(
+    alloc: Global,
+    text: &str,
     defined: &[(&str, &str, &str)],
     rest: usize,
-    text: &str,
-) {
-    assert_eq!(rt; leading.rest, rest, "at {text}");
-    assert!(rt; are_defined(&leading.definitions, defined), "at {text}");
+) -> Result<bool, AllocError> {
+    let leading = lead(alloc, text)?;
+    Ok(is_leading(&leading, defined, rest))
 }
 
 /// The paragraphs of the standard's section, and borders: what is defined, and where the rest begins.
 #[test]
 fn definitions_at_the_front(rt: HostRuntime) -> Result<(), Fail> {
     for &(text, defined, rest) in &FRONTS {
-        let leading = lead(&rt, text)?;
-        check_front(&rt, &leading, defined, rest, text);
+        assert!(rt; is_led(rt.alloc(), text, defined, rest)?, "at {text}");
         assert_eq!(rt; is_only_definitions(text), rest == text.len(), "at {text}");
     }
     Ok(())
@@ -167,7 +171,7 @@ fn a_thousand_definitions(rt: HostRuntime) -> Result<(), Fail> {
     let mut text = thousand(rt.alloc())?;
     assert!(rt; is_only_definitions(text.as_str()));
     text.push_str("b")?;
-    let leading = lead(&rt, text.as_str())?;
+    let leading = lead(rt.alloc(), text.as_str())?;
     assert_eq!(rt; leading.definitions.len(), 1000);
     assert_eq!(rt; leading.rest, 12000);
     assert!(rt; !is_only_definitions(text.as_str()));

@@ -7,7 +7,7 @@ use std::process::Abort;
 /// A place, and the start and the end of the inside of what stands there, and its own end.
 type Part = (usize, Option<(usize, usize, usize)>);
 
-static LINKS: [(&str, &[Part]); 88] = [
+static INLINE_LINKS: [(&str, &[Part]); 29] = [
     ("[link](/uri \"title\")", &[(7, Some((7, 11, 11)))]),
     ("[link](/uri)", &[(7, Some((7, 11, 11)))]),
     ("[](./target.md)", &[(3, Some((3, 14, 14)))]),
@@ -70,6 +70,9 @@ static LINKS: [(&str, &[Part]); 88] = [
         "[link](   /uri\n  \"title\"  )",
         &[(10, Some((10, 14, 14)))],
     ),
+];
+
+static LINK_TEXTS: [(&str, &[Part]); 14] = [
     ("[link [foo [bar]]](/uri)", &[(19, Some((19, 23, 23)))]),
     ("[link] bar](/uri)", &[(12, Some((12, 16, 16)))]),
     ("[link [bar](/uri)", &[(12, Some((12, 16, 16)))]),
@@ -110,6 +113,9 @@ static LINKS: [(&str, &[Part]); 88] = [
         "[foo<https://example.com/?search=](uri)>",
         &[(35, Some((35, 38, 38)))],
     ),
+];
+
+static REFERENCES: [(&str, &[Part]); 26] = [
     (
         "[foo][bar]\n\n[bar]: /url \"title\"",
         &[(19, Some((19, 23, 23)))],
@@ -187,6 +193,9 @@ static LINKS: [(&str, &[Part]); 88] = [
     ("[bar\\\\]: /uri\n\n[bar\\\\]", &[(9, Some((9, 13, 13)))]),
     ("[]\n\n[]: /uri", &[(8, Some((8, 12, 12)))]),
     ("[\n ]\n\n[\n ]: /uri", &[(12, Some((12, 16, 16)))]),
+];
+
+static SHORTCUTS: [(&str, &[Part]); 19] = [
     (
         "[foo][]\n\n[foo]: /url \"title\"",
         &[(16, Some((16, 20, 20)))],
@@ -405,7 +414,10 @@ fn compare(rt: &impl Abort, rows: &[(&str, &[Part])]) {
 
 #[test]
 fn destination_examples(rt: HostRuntime) {
-    compare(&rt, &LINKS);
+    compare(&rt, &INLINE_LINKS);
+    compare(&rt, &LINK_TEXTS);
+    compare(&rt, &REFERENCES);
+    compare(&rt, &SHORTCUTS);
     compare(&rt, &IMAGES);
     compare(&rt, &DEFINITIONS);
 }

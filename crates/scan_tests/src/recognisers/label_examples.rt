@@ -7,7 +7,7 @@ use std::process::Abort;
 /// A place, and the end of the inside of the label there.
 type Label = (usize, Option<usize>);
 
-static LINKS: [(&str, &[Label]); 90] = [
+static INLINE_LINKS: [(&str, &[Label]); 30] = [
     ("[link](/uri \"title\")", &[(0, Some(5))]),
     ("[link](/uri)", &[(0, Some(5))]),
     ("[](./target.md)", &[(0, None)]),
@@ -47,6 +47,9 @@ static LINKS: [(&str, &[Label]); 90] = [
     ("[link](/url 'title \"and\" title')", &[(0, Some(5))]),
     ("[link](   /uri\n  \"title\"  )", &[(0, Some(5))]),
     ("[link] (/uri)", &[(0, Some(5))]),
+];
+
+static LINK_TEXTS: [(&str, &[Label]); 15] = [
     (
         "[link [foo [bar]]](/uri)",
         &[(0, None), (6, None), (11, Some(15))],
@@ -71,6 +74,9 @@ static LINKS: [(&str, &[Label]); 90] = [
     ("[foo <bar attr=\"](baz)\">", &[(0, Some(16))]),
     ("[foo`](/uri)`", &[(0, Some(5))]),
     ("[foo<https://example.com/?search=](uri)>", &[(0, Some(33))]),
+];
+
+static REFERENCES: [(&str, &[Label]); 26] = [
     (
         "[foo][bar]\n\n[bar]: /url \"title\"",
         &[(0, Some(4)), (5, Some(9)), (12, Some(16))],
@@ -197,6 +203,9 @@ static LINKS: [(&str, &[Label]); 90] = [
     ),
     ("[]\n\n[]: /uri", &[(0, None), (4, None)]),
     ("[\n ]\n\n[\n ]: /uri", &[(0, None), (6, None)]),
+];
+
+static SHORTCUTS: [(&str, &[Label]); 19] = [
     (
         "[foo][]\n\n[foo]: /url \"title\"",
         &[(0, Some(4)), (5, None), (9, Some(13))],
@@ -449,7 +458,10 @@ fn compare(rt: &impl Abort, rows: &[(&str, &[Label])]) {
 
 #[test]
 fn label_examples(rt: HostRuntime) {
-    compare(&rt, &LINKS);
+    compare(&rt, &INLINE_LINKS);
+    compare(&rt, &LINK_TEXTS);
+    compare(&rt, &REFERENCES);
+    compare(&rt, &SHORTCUTS);
     compare(&rt, &IMAGES);
     compare(&rt, &DEFINITIONS);
 }
