@@ -1,36 +1,34 @@
 //! Copies of readings.
 
 use super::rows::{Definition, parsed_of};
-use std::alloc::Global;
-use std::process::Abort;
+use mdinline::Parsed;
+use std::alloc::{AllocError, Global};
 use std::test::Fail;
 
-/// A reading, as it is printed.
-fn shown_of(
-    alloc: Global,
-    text: &str,
-    definitions: &[Definition],
-    is_copied: bool,
-) -> Result<String, Fail> {
-    let parsed = parsed_of(alloc, text, definitions)?;
-    if is_copied {
-        let copy = parsed.copy(alloc)?;
-        drop(parsed);
-        return Ok(format!(in alloc; "{copy:?}")?);
-    }
-    Ok(format!(in alloc; "{parsed:?}")?)
+static DEFINITIONS: [Definition; 1] = [("k", "/k", "")];
+
+/// A copy of a reading that is let go.
+fn copied(alloc: Global, parsed: Parsed) -> Result<Parsed, AllocError> {
+    parsed.copy(alloc)
 }
 
-fn check_reading(
-    rt: &impl Abort,
-    alloc: Global,
-    text: &str,
-    want: &str,
-    is_copied: bool,
-) -> Result<(), Fail> {
-    let shown = shown_of(alloc, text, &[("k", "/k", "")], is_copied)?;
-    assert_eq!(rt; shown.as_str(), want, "in {text:?}");
-    Ok(())
+/// A reading, as it is printed.
+pub(super) fn printed(alloc: Global, parsed: &Parsed) -> Result<String, AllocError> {
+    format!(in alloc; "{parsed:?}")
+}
+
+/// Whether the reading of a text is printed so.
+fn is_printed(alloc: Global, text: &str, want: &str) -> Result<bool, Fail> {
+    let parsed = parsed_of(alloc, text, &DEFINITIONS)?;
+    let shown = printed(alloc, &parsed)?;
+    Ok(shown.as_str() == want)
+}
+
+/// Whether a copy of it is printed so.
+fn is_copy_printed(alloc: Global, text: &str, want: &str) -> Result<bool, Fail> {
+    let copy = copied(alloc, parsed_of(alloc, text, &DEFINITIONS)?)?;
+    let shown = printed(alloc, &copy)?;
+    Ok(shown.as_str() == want)
 }
 
 static READINGS: [(&str, &str); 7] = [
@@ -65,8 +63,11 @@ static READINGS: [(&str, &str); 7] = [
 #[test]
 fn readings_are_copied_whole(rt: HostRuntime) -> Result<(), Fail> {
     for &(text, want) in &READINGS {
-        check_reading(&rt, rt.alloc(), text, want, false)?;
-        check_reading(&rt, rt.alloc(), text, want, true)?;
+        assert!(rt; is_printed(rt.alloc(), text, want)?, "in {text:?}");
+        assert!(rt;
+            is_copy_printed(rt.alloc(), text, want)?,
+            "in a copy of {text:?}"
+        );
     }
     Ok(())
 }
@@ -76,11 +77,15 @@ fn across_threads<T: Send + Sync>(value: T) -> T {
     value
 }
 
+/// How many inlines a copy of a reading has, where both may cross threads.
+fn inlines_across(alloc: Global, text: &str) -> Result<usize, Fail> {
+    let parsed = across_threads(parsed_of(alloc, text, &[])?);
+    let copy = across_threads(parsed.copy(alloc)?);
+    Ok(copy.tree().len())
+}
+
 #[test]
 fn readings_may_cross_threads(rt: HostRuntime) -> Result<(), Fail> {
-    let alloc = rt.alloc();
-    let parsed = across_threads(parsed_of(alloc, "`c`", &[])?);
-    let copy = across_threads(parsed.copy(alloc)?);
-    assert_eq!(rt; copy.tree().len(), 1);
+    assert_eq!(rt; inlines_across(rt.alloc(), "`c`")?, 1);
     Ok(())
 }

@@ -3,7 +3,7 @@
 use super::rows::check_texts;
 use std::test::Fail;
 
-static SIMPLE: [(&str, &str); 70] = [
+static EMPHASIS: [(&str, &str); 29] = [
     ("*foo bar*", "[Emph([Text(\"foo bar\")])]"),
     ("a * foo bar*", "[Text(\"a * foo bar*\")]"),
     ("a*\"foo\"*", "[Text(\"a*\\\"foo\\\"*\")]"),
@@ -39,6 +39,9 @@ static SIMPLE: [(&str, &str); 70] = [
     ("_пристаням_стремятся", "[Text(\"_пристаням_стремятся\")]"),
     ("_foo_bar_baz_", "[Emph([Text(\"foo_bar_baz\")])]"),
     ("_(bar)_.", "[Emph([Text(\"(bar)\")]), Text(\".\")]"),
+];
+
+static STRONG: [(&str, &str); 26] = [
     ("**foo bar**", "[Strong([Text(\"foo bar\")])]"),
     ("** foo bar**", "[Text(\"** foo bar**\")]"),
     ("a**\"foo\"**", "[Text(\"a**\\\"foo\\\"**\")]"),
@@ -90,6 +93,9 @@ static SIMPLE: [(&str, &str); 70] = [
     ),
     ("__foo__bar__baz__", "[Strong([Text(\"foo__bar__baz\")])]"),
     ("__(bar)__.", "[Strong([Text(\"(bar)\")]), Text(\".\")]"),
+];
+
+static SPANS_IN_EMPHASIS: [(&str, &str); 15] = [
     (
         "*foo [bar](/url)*",
         "[Emph([Text(\"foo \"), Link(Target { url: \"/url\", title: \"\" }, [Text(\"bar\")])])]",
@@ -148,5 +154,7 @@ static SIMPLE: [(&str, &str); 70] = [
 
 #[test]
 fn emphasis_is_read(rt: HostRuntime) -> Result<(), Fail> {
-    check_texts(&rt, rt.alloc(), &SIMPLE)
+    check_texts(&rt, rt.alloc(), &EMPHASIS)?;
+    check_texts(&rt, rt.alloc(), &STRONG)?;
+    check_texts(&rt, rt.alloc(), &SPANS_IN_EMPHASIS)
 }

@@ -3,7 +3,7 @@
 use super::rows::check_texts;
 use std::test::Fail;
 
-static LINKS: [(&str, &str); 65] = [
+static DESTINATIONS_AND_TITLES: [(&str, &str); 31] = [
     (
         "[link](/uri \"title\")",
         "[Link(Target { url: \"/uri\", title: \"title\" }, [Text(\"link\")])]",
@@ -114,6 +114,9 @@ static LINKS: [(&str, &str); 65] = [
         "[Link(Target { url: \"/uri\", title: \"title\" }, [Text(\"link\")])]",
     ),
     ("[link] (/uri)", "[Text(\"[link] (/uri)\")]"),
+];
+
+static LINK_TEXTS: [(&str, &str); 15] = [
     (
         "[link [foo [bar]]](/uri)",
         "[Link(Target { url: \"/uri\", title: \"\" }, [Text(\"link [foo [bar]]\")])]",
@@ -168,6 +171,9 @@ static LINKS: [(&str, &str); 65] = [
         "[foo<https://example.com/?search=](uri)>",
         "[Text(\"[foo\"), Link(Target { url: \"https://example.com/?search=](uri)\", title: \"\" }, [Text(\"https://example.com/?search=](uri)\")])]",
     ),
+];
+
+static BRACKETS: [(&str, &str); 10] = [
     ("[foo][ref[]", "[Text(\"[foo][ref[]\")]"),
     ("[ref[]: /uri", "[Text(\"[ref[]: /uri\")]"),
     ("[foo][ref[bar]]", "[Text(\"[foo][ref[bar]]\")]"),
@@ -178,6 +184,9 @@ static LINKS: [(&str, &str); 65] = [
     ("[]: /uri", "[Text(\"[]: /uri\")]"),
     ("[\n]", "[Text(\"[\"), Soft, Text(\"]\")]"),
     ("[\n]: /uri", "[Text(\"[\"), Soft, Text(\"]: /uri\")]"),
+];
+
+static IMAGES: [(&str, &str); 9] = [
     (
         "![foo](/url \"title\")",
         "[Image(Target { url: \"/url\", title: \"title\" }, [Text(\"foo\")])]",
@@ -215,5 +224,8 @@ static LINKS: [(&str, &str); 65] = [
 
 #[test]
 fn links_are_read(rt: HostRuntime) -> Result<(), Fail> {
-    check_texts(&rt, rt.alloc(), &LINKS)
+    check_texts(&rt, rt.alloc(), &DESTINATIONS_AND_TITLES)?;
+    check_texts(&rt, rt.alloc(), &LINK_TEXTS)?;
+    check_texts(&rt, rt.alloc(), &BRACKETS)?;
+    check_texts(&rt, rt.alloc(), &IMAGES)
 }

@@ -3,7 +3,7 @@
 use super::rows::check_texts;
 use std::test::Fail;
 
-static NESTED: [(&str, &str); 68] = [
+static SPANS_IN_STRONG: [(&str, &str); 17] = [
     (
         "*foo [*bar*](/url)*",
         "[Emph([Text(\"foo \"), Link(Target { url: \"/url\", title: \"\" }, [Emph([Text(\"bar\")])])])]",
@@ -72,6 +72,9 @@ static NESTED: [(&str, &str); 68] = [
         "____ is not an empty strong emphasis",
         "[Text(\"____ is not an empty strong emphasis\")]",
     ),
+];
+
+static MARKS_AS_TEXT: [(&str, &str); 24] = [
     ("foo ***", "[Text(\"foo ***\")]"),
     ("foo *\\**", "[Text(\"foo \"), Emph([Text(\"*\")])]"),
     ("foo *_*", "[Text(\"foo \"), Emph([Text(\"_\")])]"),
@@ -96,6 +99,9 @@ static NESTED: [(&str, &str); 68] = [
     ("____foo_", "[Text(\"___\"), Emph([Text(\"foo\")])]"),
     ("__foo___", "[Strong([Text(\"foo\")]), Text(\"_\")]"),
     ("_foo____", "[Emph([Text(\"foo\")]), Text(\"___\")]"),
+];
+
+static DOUBLED: [(&str, &str); 9] = [
     ("**foo**", "[Strong([Text(\"foo\")])]"),
     ("*_foo_*", "[Emph([Emph([Text(\"foo\")])])]"),
     ("__foo__", "[Strong([Text(\"foo\")])]"),
@@ -111,6 +117,9 @@ static NESTED: [(&str, &str); 68] = [
         "_____foo_____",
         "[Emph([Strong([Strong([Text(\"foo\")])])])]",
     ),
+];
+
+static OVERLAPPING: [(&str, &str); 13] = [
     (
         "*foo _bar* baz_",
         "[Emph([Text(\"foo _bar\")]), Text(\" baz_\")]",
@@ -157,6 +166,9 @@ static NESTED: [(&str, &str); 68] = [
         "__a<https://foo.bar/?q=__>",
         "[Text(\"__a\"), Link(Target { url: \"https://foo.bar/?q=__\", title: \"\" }, [Text(\"https://foo.bar/?q=__\")])]",
     ),
+];
+
+static STRIKETHROUGH: [(&str, &str); 5] = [
     (
         "~~Hi~~ Hello, ~there~ world!",
         "[Strike([Text(\"Hi\")]), Text(\" Hello, \"), Strike([Text(\"there\")]), Text(\" world!\")]",
@@ -175,5 +187,9 @@ static NESTED: [(&str, &str); 68] = [
 
 #[test]
 fn nested_emphasis_is_read(rt: HostRuntime) -> Result<(), Fail> {
-    check_texts(&rt, rt.alloc(), &NESTED)
+    check_texts(&rt, rt.alloc(), &SPANS_IN_STRONG)?;
+    check_texts(&rt, rt.alloc(), &MARKS_AS_TEXT)?;
+    check_texts(&rt, rt.alloc(), &DOUBLED)?;
+    check_texts(&rt, rt.alloc(), &OVERLAPPING)?;
+    check_texts(&rt, rt.alloc(), &STRIKETHROUGH)
 }

@@ -3,7 +3,7 @@
 use super::rows::check_texts;
 use std::test::Fail;
 
-static OTHERS: [(&str, &str); 97] = [
+static ESCAPES: [(&str, &str); 8] = [
     (
         "\\!\\\"\\#\\$\\%\\&\\'\\(\\)\\*\\+\\,\\-\\.\\/\\:\\;\\<\\=\\>\\?\\@\\[\\\\\\]\\^\\_\\`\\{\\|\\}\\~",
         "[Text(\"!\\\"#$%&'()*+,-./:;<=>?@[\\\\]^_`{|}~\")]",
@@ -33,6 +33,9 @@ static OTHERS: [(&str, &str); 97] = [
         "[foo](/bar\\* \"ti\\*tle\")",
         "[Link(Target { url: \"/bar*\", title: \"ti*tle\" }, [Text(\"foo\")])]",
     ),
+];
+
+static REFERENCES: [(&str, &str); 13] = [
     ("&#35; &#1234; &#992; &#0;", "[Text(\"# Ӓ Ϡ �\")]"),
     ("&#X22; &#XD06; &#xcab;", "[Text(\"\\\" ആ ಫ\")]"),
     (
@@ -58,6 +61,9 @@ static OTHERS: [(&str, &str); 97] = [
         "[a](url &quot;tit&quot;)",
         "[Text(\"[a](url \\\"tit\\\")\")]",
     ),
+];
+
+static CODE_SPANS: [(&str, &str); 20] = [
     ("`foo`", "[Code(\"foo\")]"),
     ("`` foo ` bar ``", "[Code(\"foo ` bar\")]"),
     ("` `` `", "[Code(\"``\")]"),
@@ -93,6 +99,9 @@ static OTHERS: [(&str, &str); 97] = [
     ("```foo``", "[Text(\"```foo``\")]"),
     ("`foo", "[Text(\"`foo\")]"),
     ("`foo``bar``", "[Text(\"`foo\"), Code(\"bar\")]"),
+];
+
+static AUTOLINKS: [(&str, &str); 19] = [
     (
         "<http://foo.bar.baz>",
         "[Link(Target { url: \"http://foo.bar.baz\", title: \"\" }, [Text(\"http://foo.bar.baz\")])]",
@@ -151,6 +160,9 @@ static OTHERS: [(&str, &str); 97] = [
     ("<foo.bar.baz>", "[Text(\"<foo.bar.baz>\")]"),
     ("https://example.com", "[Text(\"https://example.com\")]"),
     ("foo@bar.example.com", "[Text(\"foo@bar.example.com\")]"),
+];
+
+static RAW_HTML: [(&str, &str); 21] = [
     (
         "<a><bab><c2c>",
         "[Html(\"<a>\"), Html(\"<bab>\"), Html(\"<c2c>\")]",
@@ -217,6 +229,9 @@ static OTHERS: [(&str, &str); 97] = [
         "[Text(\"foo \"), Html(\"<a href=\\\"\\\\*\\\">\")]",
     ),
     ("<a href=\"\\\"\">", "[Text(\"<a href=\\\"\\\"\\\">\")]"),
+];
+
+static LINE_BREAKS: [(&str, &str); 16] = [
     ("foo  \nbaz", "[Text(\"foo\"), Hard, Text(\"baz\")]"),
     ("foo\\\nbaz", "[Text(\"foo\"), Hard, Text(\"baz\")]"),
     ("foo       \nbaz", "[Text(\"foo\"), Hard, Text(\"baz\")]"),
@@ -249,5 +264,10 @@ static OTHERS: [(&str, &str); 97] = [
 
 #[test]
 fn other_inlines_are_read(rt: HostRuntime) -> Result<(), Fail> {
-    check_texts(&rt, rt.alloc(), &OTHERS)
+    check_texts(&rt, rt.alloc(), &ESCAPES)?;
+    check_texts(&rt, rt.alloc(), &REFERENCES)?;
+    check_texts(&rt, rt.alloc(), &CODE_SPANS)?;
+    check_texts(&rt, rt.alloc(), &AUTOLINKS)?;
+    check_texts(&rt, rt.alloc(), &RAW_HTML)?;
+    check_texts(&rt, rt.alloc(), &LINE_BREAKS)
 }

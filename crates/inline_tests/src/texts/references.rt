@@ -3,7 +3,7 @@
 use super::rows::{Defined, check_defined};
 use std::test::Fail;
 
-static REFERENCES: [Defined; 55] = [
+static FULL: [Defined; 21] = [
     (
         "[foo][bar]",
         &[("bar", "/url", "title")],
@@ -111,6 +111,9 @@ static REFERENCES: [Defined; 55] = [
         &[("bar\\\\", "/uri", "")],
         "[Link(Target { url: \"/uri\", title: \"\" }, [Text(\"bar\\\\\")])]",
     ),
+];
+
+static COLLAPSED_AND_SHORTCUT: [Defined; 21] = [
     (
         "[foo][]",
         &[("foo", "/url", "title")],
@@ -203,6 +206,19 @@ static REFERENCES: [Defined; 55] = [
         "[Text(\"[foo]\"), Link(Target { url: \"/url1\", title: \"\" }, [Text(\"bar\")])]",
     ),
     (
+        "[foo]",
+        &[("foo", "/bar*", "ti*tle")],
+        "[Link(Target { url: \"/bar*\", title: \"ti*tle\" }, [Text(\"foo\")])]",
+    ),
+    (
+        "[foo]",
+        &[("foo", "/föö", "föö")],
+        "[Link(Target { url: \"/föö\", title: \"föö\" }, [Text(\"foo\")])]",
+    ),
+];
+
+static IMAGES: [Defined; 13] = [
+    (
         "![foo *bar*]",
         &[("foo *bar*", "train.jpg", "train & tracks")],
         "[Image(Target { url: \"train.jpg\", title: \"train & tracks\" }, [Text(\"foo \"), Emph([Text(\"bar\")])])]",
@@ -267,19 +283,11 @@ static REFERENCES: [Defined; 55] = [
         &[("foo", "/url", "title")],
         "[Text(\"!\"), Link(Target { url: \"/url\", title: \"title\" }, [Text(\"foo\")])]",
     ),
-    (
-        "[foo]",
-        &[("foo", "/bar*", "ti*tle")],
-        "[Link(Target { url: \"/bar*\", title: \"ti*tle\" }, [Text(\"foo\")])]",
-    ),
-    (
-        "[foo]",
-        &[("foo", "/föö", "föö")],
-        "[Link(Target { url: \"/föö\", title: \"föö\" }, [Text(\"foo\")])]",
-    ),
 ];
 
 #[test]
 fn references_are_read(rt: HostRuntime) -> Result<(), Fail> {
-    check_defined(&rt, rt.alloc(), &REFERENCES)
+    check_defined(&rt, rt.alloc(), &FULL)?;
+    check_defined(&rt, rt.alloc(), &COLLAPSED_AND_SHORTCUT)?;
+    check_defined(&rt, rt.alloc(), &IMAGES)
 }
