@@ -2,7 +2,7 @@
 
 use crate::calls::html_of;
 use mdhtml::{Breaks, Options};
-use std::alloc::Global;
+use std::alloc::{AllocError, Global};
 use std::process::Abort;
 use std::test::Fail;
 
@@ -20,6 +20,19 @@ fn with_breaks(breaks: Breaks) -> Options {
     }
 }
 
+/// A text is a unit with this HTML.
+fn check_one(
+    rt: &impl Abort,
+    alloc: Global,
+    text: &str,
+    options: &Options,
+    want: &str,
+) -> Result<(), Fail> {
+    let html = html_of(alloc, text, options)?;
+    assert_eq!(rt; html.as_str(), want);
+    Ok(())
+}
+
 /// Each text is a unit with this HTML.
 fn check(
     rt: &impl Abort,
@@ -28,8 +41,7 @@ fn check(
     options: &Options,
 ) -> Result<(), Fail> {
     for &(text, want) in rows {
-        let html = html_of(alloc, text, options)?;
-        assert_eq!(rt; html.as_str(), want);
+        check_one(rt, alloc, text, options, want)?;
     }
     Ok(())
 }
@@ -85,6 +97,22 @@ static DESTINATIONS: [(&str, &str); 9] = [
     ("/javascript:x", "/javascript:x"),
 ];
 
+/// The HTML of a link to this destination.
+fn written(alloc: Global, url: &str) -> Result<String, AllocError> {
+    format!(in alloc; "<p><a href=\"{url}\">a</a></p>\n")
+}
+
+fn check_written(
+    rt: &impl Abort,
+    alloc: Global,
+    text: &str,
+    options: &Options,
+    want: &str,
+) -> Result<(), Fail> {
+    let want = written(alloc, want)?;
+    check_one(rt, alloc, text, options, &want)
+}
+
 /// A link to this destination is written with that one.
 fn check_destination(
     rt: &impl Abort,
@@ -94,10 +122,7 @@ fn check_destination(
     want: &str,
 ) -> Result<(), Fail> {
     let text = format!(in alloc; "[a]({url})")?;
-    let html = html_of(alloc, &text, options)?;
-    let want = format!(in alloc; "<p><a href=\"{want}\">a</a></p>\n")?;
-    assert_eq!(rt; html.as_str(), want.as_str());
-    Ok(())
+    check_written(rt, alloc, &text, options, want)
 }
 
 #[test]

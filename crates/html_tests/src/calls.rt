@@ -4,39 +4,69 @@ ghost use Rattle.std.specs.Prelude.{IfSome, length};
 ghost use Rattle.mdblock.specs.BlockView.{blocks_view};
 ghost use Rattle.mdblock.specs.Positions.{BlocksIn};
 
-use mdblock::{Block, Found, Reader, Unit};
+use mdblock::{Block, BlockFault, Found, Reader, Unit};
 use mdhtml::{Options, unit_html};
 use mdinline::{LabelTable, Parsed, read};
 use mdtext::{Entities, Tally};
 use std::alloc::Global;
 use std::test::Fail;
 
-/// The first unit of a text.
-pub(crate) fn found(alloc: Global, text: &str) -> Result<Option<Found>, Fail> {
-    let entities = Entities::builtin(alloc)?;
-    let mut reader = Reader::new(alloc, &entities, 64);
+/// Reads a line. One that is longer than any that a test has is a fault.
+fn read_line(
+    reader: &mut Reader<'_>,
+    line: &str,
+    count: &mut Tally,
+) -> Result<Option<Found>, BlockFault> {
+    if reader.fed() == usize::MAX || line.len() > usize::MAX / 4 {
+        return Err(BlockFault::Failed);
+    }
+    reader.line(line, count)
+}
+
+/// The first unit that the lines of a text hand out.
+fn first_unit(reader: &mut Reader<'_>, text: &str) -> Result<Option<Found>, BlockFault> {
     let mut count = Tally::new();
     for line in text.lines() {
-        if reader.fed() == usize::MAX || line.len() > usize::MAX / 4 {
-            return Ok(None);
-        }
-        let found = reader.line(line, &mut count)?;
-        if found.is_some() {
-            return Ok(found);
+        if let Some(found) = read_line(reader, line, &mut count)? {
+            return Ok(Some(found));
         }
     }
-    Ok(reader.finish()?)
+    Ok(None)
+}
+
+fn first_or_last(mut reader: Reader<'_>, text: &str) -> Result<Option<Found>, BlockFault> {
+    match first_unit(&mut reader, text)? {
+        Some(found) => Ok(Some(found)),
+        None => reader.finish(),
+    }
+}
+
+/// The first unit of a text.
+pub(crate) fn found(alloc: Global, text: &str) -> Result<Found, Fail> {
+    let entities = Entities::builtin(alloc)?;
+    Ok(first_or_last(Reader::new(alloc, &entities, 64), text)?.ok_or("no unit")?)
+}
+
+fn push_readings(
+    alloc: Global,
+    of: &[String],
+    labels: &LabelTable,
+    entities: &Entities,
+    texts: &mut Vec<Parsed>,
+) -> Result<(), Fail> {
+    let mut tally = Tally::new();
+    for s in of {
+        texts.push(read(alloc, s, labels, entities, 64, &mut tally)?)?;
+    }
+    Ok(())
 }
 
 /// The readings of texts.
 pub(crate) fn readings(alloc: Global, of: &[String]) -> Result<Vec<Parsed>, Fail> {
     let labels = LabelTable::new(alloc);
     let entities = Entities::builtin(alloc)?;
-    let mut tally = Tally::new();
     let mut texts = Vec::new(alloc);
-    for s in of {
-        texts.push(read(alloc, s, &labels, &entities, 64, &mut tally)?)?;
-    }
+    push_readings(alloc, of, &labels, &entities, &mut texts)?;
     Ok(texts)
 }
 
@@ -50,12 +80,16 @@ pub(crate) fn blocks_of<'a>(unit: &'a Unit, texts: &[Parsed]) -> Option<&'a [Blo
     Some(unit.blocks())
 }
 
-/// The HTML of the first unit of a text.
-pub(crate) fn html_of(alloc: Global, text: &str, options: &Options) -> Result<String, Fail> {
-    let found = found(alloc, text)?.ok_or("no unit")?;
-    let texts = readings(alloc, found.unit().texts())?;
-    match blocks_of(found.unit(), &texts) {
+fn html_in(alloc: Global, unit: &Unit, options: &Options) -> Result<String, Fail> {
+    let texts = readings(alloc, unit.texts())?;
+    match blocks_of(unit, &texts) {
         Some(blocks) => Ok(unit_html(alloc, blocks, &texts, options)?),
         None => Err(Fail::from("other texts")),
     }
+}
+
+/// The HTML of the first unit of a text.
+pub(crate) fn html_of(alloc: Global, text: &str, options: &Options) -> Result<String, Fail> {
+    let found = found(alloc, text)?;
+    html_in(alloc, found.unit(), options)
 }

@@ -8,7 +8,7 @@ ghost use Rattle.mdhtml.specs.Limits.{plain};
 ghost use Rattle.mdhtml.specs.ListEnds.{unit_ends};
 
 use crate::calls::{blocks_of, found, readings};
-use mdblock::{Block, Found};
+use mdblock::{Block, Unit};
 use mdhtml::{Like, Options, append_unit_ends, append_unit_like};
 use mdinline::Parsed;
 use std::alloc::Global;
@@ -34,49 +34,50 @@ fn anew(alloc: Global, blocks: &[Block], texts: &[Parsed]) -> Result<Written, Fa
     Ok(Written { html, ends })
 }
 
-/// Blocks that are made from others, where so many of their texts at the front and at the end read the same.
-fn made_like(
+/// What was made is what is written anew. How many bytes were taken over, if any were looked for: for these room is made behind the list's tag, of 5 bytes, and
+/// for 1,000 more.
+fn check_made(
+    rt: &impl Abort,
     alloc: Global,
     blocks: &[Block],
     texts: &[Parsed],
-    old: &[Block],
-    old_texts: &[Parsed],
-    front: usize,
-    behind: usize,
-) -> Result<Written, Fail>
-    requires within { BlocksIn (length texts.now) (blocks_view blocks.now) }
-    requires old_within { BlocksIn (length old_texts.now) (blocks_view old.now) }
-    requires front_within { front ≤ length texts.now }
-    requires front_within_old { front ≤ length old_texts.now }
-    requires front { take front texts.now ≡ take front old_texts.now }
-    requires behind_within { behind ≤ length texts.now }
-    requires behind_within_old { behind ≤ length old_texts.now }
-    requires behind { drop (length texts.now - behind) texts.now ≡ drop (length old_texts.now - behind) old_texts.now }
+    html: &String,
+    ends: &Vec<usize>,
+) -> Result<Option<usize>, Fail>
+    requires { BlocksIn (length texts.now) (blocks_view blocks.now) }
 {
-    let before = anew(alloc, old, old_texts)?;
-    let like = Like {
-        blocks: old,
-        texts: old_texts,
-        html: &before.html,
-        ends: &before.ends,
-        front,
-        behind,
-    };
-    let mut html = String::new(alloc);
-    let mut ends = Vec::new(alloc);
-    append_unit_like(
-        blocks,
-        texts,
-        &Options::plain(),
-        &like,
-        &mut html,
-        &mut ends,
-    )?;
-    Ok(Written { html, ends })
+    let want = anew(alloc, blocks, texts)?;
+    assert!(rt; *html == want.html);
+    assert!(rt; *ends == want.ends);
+    Ok(html.capacity().checked_sub(1_005))
 }
 
-/// Blocks are written the same way from others as anew. How many bytes are taken over, if any are looked for: for these room is made behind the list's tag, of
-/// 5 bytes, and for 1,000 more.
+/// Blocks are written the same way from others as anew. How many bytes are taken over, if any are looked for.
+fn taken_from(
+    rt: &impl Abort,
+    alloc: Global,
+    blocks: &[Block],
+    texts: &[Parsed],
+    like: &Like<'_>,
+) -> Result<Option<usize>, Fail>
+    requires within { BlocksIn (length texts.now) (blocks_view blocks.now) }
+    requires old_within { BlocksIn (length like.now.texts.now) (blocks_view like.now.blocks.now) }
+    requires old_html { like.now.html.now ≡ blocks_html plain (texts_html plain like.now.texts.now) false (blocks_view like.now.blocks.now) [] }
+    requires old_ends { like.now.ends.now ≡ unit_ends plain (texts_html plain like.now.texts.now) (blocks_view like.now.blocks.now) }
+    requires front_within { like.now.front ≤ length texts.now }
+    requires front_within_old { like.now.front ≤ length like.now.texts.now }
+    requires front { take like.now.front texts.now ≡ take like.now.front like.now.texts.now }
+    requires behind_within { like.now.behind ≤ length texts.now }
+    requires behind_within_old { like.now.behind ≤ length like.now.texts.now }
+    requires behind { drop (length texts.now - like.now.behind) texts.now ≡ drop (length like.now.texts.now - like.now.behind) like.now.texts.now }
+{
+    let mut html = String::new(alloc);
+    let mut ends = Vec::new(alloc);
+    append_unit_like(blocks, texts, &Options::plain(), like, &mut html, &mut ends)?;
+    check_made(rt, alloc, blocks, texts, &html, &ends)
+}
+
+/// The same, where the others are written first, and so many texts at the front and at the end are those of both.
 fn taken_over(
     rt: &impl Abort,
     alloc: Global,
@@ -96,86 +97,127 @@ fn taken_over(
     requires behind_within_old { behind ≤ length old_texts.now }
     requires behind { drop (length texts.now - behind) texts.now ≡ drop (length old_texts.now - behind) old_texts.now }
 {
-    let made = made_like(alloc, blocks, texts, old, old_texts, front, behind)?;
-    let want = anew(alloc, blocks, texts)?;
-    assert!(rt; made.html == want.html);
-    assert!(rt; made.ends == want.ends);
-    Ok(made.html.capacity().checked_sub(1_005))
+    let before = anew(alloc, old, old_texts)?;
+    let like = Like {
+        blocks: old,
+        texts: old_texts,
+        html: &before.html,
+        ends: &before.ends,
+        front,
+        behind,
+    };
+    taken_from(rt, alloc, blocks, texts, &like)
 }
 
-/// The first unit of a text, and the readings of its texts.
-fn unit_of(alloc: Global, text: &str) -> Result<(Found, Vec<Parsed>), Fail> {
-    let found = found(alloc, text)?.ok_or("no unit")?;
-    let texts = readings(alloc, found.unit().texts())?;
-    Ok((found, texts))
-}
-
-/// Two units with as many texts: those of the new one are taken for both.
-fn check_same(
+/// The same of units, where these have so many texts.
+fn check_units(
     rt: &impl Abort,
     alloc: Global,
-    new: &str,
-    old: &str,
+    new: &Unit,
+    texts: &[Parsed],
+    old: &Unit,
+    old_texts: &[Parsed],
+    front: usize,
+    behind: usize,
+) -> Result<Option<usize>, Fail>
+    requires front_within { front ≤ length texts.now }
+    requires front_within_old { front ≤ length old_texts.now }
+    requires front { take front texts.now ≡ take front old_texts.now }
+    requires behind_within { behind ≤ length texts.now }
+    requires behind_within_old { behind ≤ length old_texts.now }
+    requires behind { drop (length texts.now - behind) texts.now ≡ drop (length old_texts.now - behind) old_texts.now }
+{
+    match (blocks_of(new, texts), blocks_of(old, old_texts)) {
+        (Some(blocks), Some(others)) => {
+            taken_over(rt, alloc, blocks, texts, others, old_texts, front, behind)
+        }
+        _ => Err(Fail::from("other texts")),
+    }
+}
+
+/// How many texts of a unit at the front and at the end read as those of another.
+#[derive(Clone, Copy)]
+enum Same {
+    /// So many each, where both have as many texts: those of the new one are taken for both.
+    Both { front: usize, behind: usize },
+    /// So many at the front, where the new one begins with the texts of the old one.
+    Front(usize),
+    /// So many at the end, where the new one ends with the texts of the old one.
+    Behind(usize),
+}
+
+fn check_both(
+    rt: &impl Abort,
+    alloc: Global,
+    new: &Unit,
+    texts: &[Parsed],
+    old: &Unit,
     front: usize,
     behind: usize,
 ) -> Result<Option<usize>, Fail> {
-    let (new, texts) = unit_of(alloc, new)?;
-    let old = found(alloc, old)?.ok_or("no unit")?;
-    let texts = texts.as_slice();
-    let (Some(blocks), Some(others)) = (blocks_of(new.unit(), texts), blocks_of(old.unit(), texts))
-    else {
-        return Err(Fail::from("other texts"));
-    };
     if front > texts.len() || behind > texts.len() {
         return Err(Fail::from("few texts"));
     }
-    taken_over(rt, alloc, blocks, texts, others, texts, front, behind)
+    check_units(rt, alloc, new, texts, old, texts, front, behind)
 }
 
-/// Two units, of which the new one begins with the texts of the old one.
-fn check_longer(
+fn check_front(
     rt: &impl Abort,
     alloc: Global,
-    new: &str,
-    old: &str,
+    new: &Unit,
+    texts: &[Parsed],
+    old: &Unit,
     front: usize,
 ) -> Result<Option<usize>, Fail> {
-    let (new, texts) = unit_of(alloc, new)?;
-    let old = found(alloc, old)?.ok_or("no unit")?;
-    let texts = texts.as_slice();
-    let count = old.unit().texts().len();
+    let count = old.texts().len();
     if front > count || count > texts.len() {
         return Err(Fail::from("few texts"));
     }
-    let begun = &texts[..count];
-    let (Some(blocks), Some(others)) = (blocks_of(new.unit(), texts), blocks_of(old.unit(), begun))
-    else {
-        return Err(Fail::from("other texts"));
-    };
-    taken_over(rt, alloc, blocks, texts, others, begun, front, 0)
+    check_units(rt, alloc, new, texts, old, &texts[..count], front, 0)
 }
 
-/// Two units, of which the new one ends with the texts of the old one.
-fn check_begun_before(
+fn check_behind(
     rt: &impl Abort,
     alloc: Global,
-    new: &str,
-    old: &str,
+    new: &Unit,
+    texts: &[Parsed],
+    old: &Unit,
     behind: usize,
 ) -> Result<Option<usize>, Fail> {
-    let (new, texts) = unit_of(alloc, new)?;
-    let old = found(alloc, old)?.ok_or("no unit")?;
-    let texts = texts.as_slice();
-    let count = old.unit().texts().len();
+    let count = old.texts().len();
     if behind > count || count > texts.len() {
         return Err(Fail::from("few texts"));
     }
     let ended = &texts[texts.len() - count..];
-    let (Some(blocks), Some(others)) = (blocks_of(new.unit(), texts), blocks_of(old.unit(), ended))
-    else {
-        return Err(Fail::from("other texts"));
-    };
-    taken_over(rt, alloc, blocks, texts, others, ended, 0, behind)
+    check_units(rt, alloc, new, texts, old, ended, 0, behind)
+}
+
+fn check_found(
+    rt: &impl Abort,
+    alloc: Global,
+    new: &Unit,
+    old: &Unit,
+    same: Same,
+) -> Result<Option<usize>, Fail> {
+    let texts = readings(alloc, new.texts())?;
+    match same {
+        Same::Both { front, behind } => check_both(rt, alloc, new, &texts, old, front, behind),
+        Same::Front(front) => check_front(rt, alloc, new, &texts, old, front),
+        Same::Behind(behind) => check_behind(rt, alloc, new, &texts, old, behind),
+    }
+}
+
+/// The first unit of a text, made from that of another. How many bytes are taken over, if any are looked for.
+fn check(
+    rt: &impl Abort,
+    alloc: Global,
+    new: &str,
+    old: &str,
+    same: Same,
+) -> Result<Option<usize>, Fail> {
+    let new = found(alloc, new)?;
+    let old = found(alloc, old)?;
+    check_found(rt, alloc, new.unit(), old.unit(), same)
 }
 
 /// Lists with as many texts, each with one that it is made like.
@@ -201,111 +243,116 @@ static CHANGED: [(&str, &str); 14] = [
 
 #[test]
 fn changed_items_are_written(rt: HostRuntime) -> Result<(), Fail> {
-    let a = rt.alloc();
     for &(new, old) in &CHANGED {
         for front in 0..4 {
-            check_same(&rt, a, new, old, front, 3 - front)?;
+            let behind = 3 - front;
+            check(&rt, rt.alloc(), new, old, Same::Both { front, behind })?;
         }
-        check_same(&rt, a, new, old, 3, 3)?;
+        let all = Same::Both {
+            front: 3,
+            behind: 3,
+        };
+        check(&rt, rt.alloc(), new, old, all)?;
     }
     Ok(())
 }
 
-/// Lists that go on behind others, each with how many texts at the front are taken to be the same.
-static LONGER: [(&str, &str, usize); 5] = [
-    ("- a\n- b\n- c\n", "- a\n- b", 2),
-    ("- a\n- b\n- c\n", "- a\n- b", 1),
-    ("- a\n\n- b\n\n- c\n", "- a\n\n- b", 2),
-    ("* a\n* b\n* c\n", "- a\n- b", 2),
+/// Lists that go on behind others or begin before them, each with how many texts at the front or at the end are taken to be the same.
+static LONGER: [(&str, &str, Same); 10] = [
+    ("- a\n- b\n- c\n", "- a\n- b", Same::Front(2)),
+    ("- a\n- b\n- c\n", "- a\n- b", Same::Front(1)),
+    ("- a\n\n- b\n\n- c\n", "- a\n\n- b", Same::Front(2)),
+    ("* a\n* b\n* c\n", "- a\n- b", Same::Front(2)),
     (
         "1. a\n\n   |b|\n   |-|\n   |c|\n2. d",
         "1. a\n\n   |b|\n   |-|\n   |c|",
-        3,
+        Same::Front(3),
     ),
-];
-
-/// Lists that begin before others, each with how many texts at the end are taken to be the same.
-static BEGUN_BEFORE: [(&str, &str, usize); 5] = [
-    ("- c\n- a\n- b\n", "- a\n- b", 2),
-    ("- c\n- a\n- b\n", "- a\n- b", 1),
-    ("- c\n  - d\n- a\n- > b\n", "- a\n- > b", 2),
-    ("1. c\n2. a\n3. b\n", "2. a\n3. b", 2),
+    ("- c\n- a\n- b\n", "- a\n- b", Same::Behind(2)),
+    ("- c\n- a\n- b\n", "- a\n- b", Same::Behind(1)),
+    ("- c\n  - d\n- a\n- > b\n", "- a\n- > b", Same::Behind(2)),
+    ("1. c\n2. a\n3. b\n", "2. a\n3. b", Same::Behind(2)),
     (
         "- d\n\n- |a|\n  |-|\n  |b|\n  |c|",
         "- |a|\n  |-|\n  |b|\n  |c|\n\n- \n",
-        3,
+        Same::Behind(3),
     ),
 ];
 
 #[test]
 fn items_that_are_put_in_are_written(rt: HostRuntime) -> Result<(), Fail> {
-    let a = rt.alloc();
-    for &(new, old, front) in &LONGER {
-        check_longer(&rt, a, new, old, front)?;
-    }
-    for &(new, old, behind) in &BEGUN_BEFORE {
-        check_begun_before(&rt, a, new, old, behind)?;
+    for &(new, old, same) in &LONGER {
+        check(&rt, rt.alloc(), new, old, same)?;
     }
     Ok(())
 }
 
-/// Lists with as many texts, how many of these are taken to be the same at the front and at the end, and how many bytes of the old list are taken over. Of a
-/// paragraph of N bytes these are N and 10, the tags and a line ending; of the table with one row 106.
-static TAKEN_OVER: [(&str, &str, usize, usize, usize); 6] = [
+/// Lists, how many of their texts are taken to be the same, and how many bytes of the old list are taken over. Of a paragraph of N bytes these are N and 10, the
+/// tags and a line ending; of the table with one row 106.
+static TAKEN_OVER: [(&str, &str, Same, usize); 8] = [
     (
         "- a\n- bb\n- xyz\n- ccccc\n- d",
         "- a\n- bb\n- xyz\n- ccccc\n- d",
-        2,
-        2,
+        Same::Both {
+            front: 2,
+            behind: 2,
+        },
         49,
     ),
     (
         "- a\n- bb\n- xyz\n- ccccc\n- ddd",
         "- a\n- bb\n- xyz\n- ccccc\n- ddd",
-        1,
-        1,
+        Same::Both {
+            front: 1,
+            behind: 1,
+        },
         24,
     ),
     (
         "- a\n- bb\n- ccccc\n- d",
         "- a\n- bb\n- ccccc\n- d",
-        2,
-        1,
+        Same::Both {
+            front: 2,
+            behind: 1,
+        },
         34,
     ),
     (
         "- a\n- # bb\n- [ ] ccccc\n- ddd",
         "- a\n- bb\n- ccccc\n- ddd",
-        4,
-        4,
+        Same::Both {
+            front: 4,
+            behind: 4,
+        },
         24,
     ),
     (
         "- |a|\n  |-|\n  |b|\n- x\n- cc",
         "- |a|\n  |-|\n  |b|\n- x\n- cc",
-        2,
-        1,
+        Same::Both {
+            front: 2,
+            behind: 1,
+        },
         118,
     ),
     (
         "- |a|\n  |-|\n  |b|\n- x\n- cc",
         "- |a|\n  |-|\n  |b|\n- x\n- cc",
-        1,
-        1,
+        Same::Both {
+            front: 1,
+            behind: 1,
+        },
         12,
     ),
+    ("- a\n- bb\n- c", "- a\n- bb", Same::Front(2), 23),
+    ("- c\n- a\n- bb", "- a\n- bb", Same::Behind(2), 23),
 ];
 
 #[test]
 fn same_items_are_found(rt: HostRuntime) -> Result<(), Fail> {
-    let a = rt.alloc();
-    for &(new, old, front, behind, bytes) in &TAKEN_OVER {
-        let taken = check_same(&rt, a, new, old, front, behind)?;
+    for &(new, old, same, bytes) in &TAKEN_OVER {
+        let taken = check(&rt, rt.alloc(), new, old, same)?;
         assert!(rt; taken == Some(bytes), "{taken:?}");
     }
-    let taken = check_longer(&rt, a, "- a\n- bb\n- c", "- a\n- bb", 2)?;
-    assert!(rt; taken == Some(23), "{taken:?}");
-    let taken = check_begun_before(&rt, a, "- c\n- a\n- bb", "- a\n- bb", 2)?;
-    assert!(rt; taken == Some(23), "{taken:?}");
     Ok(())
 }
