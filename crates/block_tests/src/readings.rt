@@ -64,10 +64,14 @@ pub(crate) fn quoted(alloc: Global, quotes: usize) -> Result<String, AllocError>
     Ok(line)
 }
 
+fn is_at(found: &Found, begin: usize, lines: usize) -> bool {
+    found.begin() == begin && found.lines() == lines
+}
+
 /// Whether a unit is handed out that begins in this line and has so many.
 fn is_unit(outcome: Result<Option<Found>, BlockFault>, begin: usize, lines: usize) -> bool {
     match outcome {
-        Ok(Some(found)) => found.begin() == begin && found.lines() == lines,
+        Ok(Some(found)) => is_at(&found, begin, lines),
         _ => false,
     }
 }
@@ -107,6 +111,10 @@ fn is_so(
     }
 }
 
+fn check_step(rt: &impl Abort, is_so: bool, number: usize) {
+    assert!(rt; is_so, "step {number}");
+}
+
 fn take(
     rt: &impl Abort,
     alloc: Global,
@@ -115,7 +123,7 @@ fn take(
 ) -> Result<(), AllocError> {
     let mut count = Tally::new();
     for (number, step) in steps.iter().enumerate() {
-        assert!(rt; is_so(alloc, reader, &mut count, step)?, "step {number}");
+        check_step(rt, is_so(alloc, reader, &mut count, step)?, number);
     }
     Ok(())
 }
@@ -140,9 +148,11 @@ pub(crate) fn run(rt: &impl Abort, alloc: Global, steps: &[Step], end: End) -> R
 /// Whether each of these lines is read, by a reader that has read nothing, and no unit is handed out.
 fn hand_nothing(reader: &mut Reader<'_>, lines: &[&str]) -> bool {
     let mut count = Tally::new();
-    let mut is_new = reader.fed() == 0;
+    let is_new = reader.fed() == 0;
     for line in lines {
-        is_new = is_new && hands_nothing(reader, line, &mut count);
+        if !hands_nothing(reader, line, &mut count) {
+            return false;
+        }
     }
     is_new
 }

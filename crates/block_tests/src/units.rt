@@ -20,14 +20,44 @@ fn name(fault: BlockFault) -> &'static str {
     }
 }
 
-/// Appends the unit that was handed out, or the name of the fault. Answers whether there was none.
-fn show_outcome(
+/// What is told of a text whose lines end at LF.
+#[derive(Clone, Copy)]
+enum Told {
+    /// Its units.
+    Units,
+    /// Which of its lines begin a later item of a top-level list, as `x`, and which don't, as `.`.
+    Marks,
+    /// The later items of each unit, as the number of its lines before each and that of the inline texts; units are parted by `|`.
+    Joins,
+}
+
+fn show_joins(found: &Option<Found>, out: &mut String) -> Result<(), AllocError> {
+    let Some(found) = found else {
+        return Ok(());
+    };
+    for join in found.joins() {
+        write!(out, "{}/{} ", join.line, join.texts)?;
+    }
+    out.push_str("|")
+}
+
+fn tell_found(told: Told, found: &Option<Found>, out: &mut String) -> Result<(), AllocError> {
+    match told {
+        Told::Units => show(found, out),
+        Told::Marks => Ok(()),
+        Told::Joins => show_joins(found, out),
+    }
+}
+
+/// Appends what is told of the unit that was handed out, or the name of the fault. Answers whether there was none.
+fn tell_outcome(
+    told: Told,
     outcome: Result<Option<Found>, BlockFault>,
     out: &mut String,
 ) -> Result<bool, AllocError> {
     match outcome {
         Ok(found) => {
-            show(&found, out)?;
+            tell_found(told, &found, out)?;
             Ok(true)
         }
         Err(fault) => {
@@ -37,45 +67,74 @@ fn show_outcome(
     }
 }
 
-/// Appends the units that the lines of a text hand out, up to a fault. Answers whether there was none.
-fn show_lines(reader: &mut Reader<'_>, text: &str, out: &mut String) -> Result<bool, AllocError> {
+fn mark(told: Told, joined: bool) -> &'static str {
+    match told {
+        Told::Marks => if joined { "x" } else { "." },
+        _ => "",
+    }
+}
+
+/// Appends what is told of the lines of a text, up to a fault. Answers whether there was none.
+fn tell_lines(
+    told: Told,
+    reader: &mut Reader<'_>,
+    text: &str,
+    out: &mut String,
+) -> Result<bool, AllocError> {
     let mut count = Tally::new();
     for line in text.lines() {
-        if !show_outcome(read_line(reader, line, &mut count), out)? {
+        if !tell_outcome(told, read_line(reader, line, &mut count), out)? {
             return Ok(false);
         }
+        out.push_str(mark(told, reader.joined()))?;
     }
     Ok(true)
 }
 
-fn show_units(mut reader: Reader<'_>, text: &str, out: &mut String) -> Result<(), AllocError> {
-    if show_lines(&mut reader, text, out)? {
-        show_outcome(finish(reader), out)?;
+fn tell_all(
+    told: Told,
+    mut reader: Reader<'_>,
+    text: &str,
+    out: &mut String,
+) -> Result<(), AllocError> {
+    if tell_lines(told, &mut reader, text, out)? {
+        tell_outcome(told, finish(reader), out)?;
     }
     Ok(())
 }
 
-/// The units of a text whose lines end at LF, or the name of its fault.
-fn units(alloc: Global, text: &str, limit: usize) -> Result<String, AllocError>
+/// What is told of a text, up to the name of a fault.
+fn tell(alloc: Global, told: Told, text: &str, limit: usize) -> Result<String, AllocError>
     requires some { 1 ≤ limit }
     requires few { limit ≤ 256 }
 {
     let entities = Entities::builtin(alloc)?;
     let mut out = String::new(alloc);
-    show_units(new_reader(alloc, &entities, limit), text, &mut out)?;
+    tell_all(told, new_reader(alloc, &entities, limit), text, &mut out)?;
     Ok(out)
 }
 
-fn check(rt: &impl Abort, alloc: Global, text: &str, want: &str) -> Result<(), AllocError> {
-    let out = units(alloc, text, LIMIT)?;
+fn check(
+    rt: &impl Abort,
+    alloc: Global,
+    told: Told,
+    text: &str,
+    want: &str,
+) -> Result<(), AllocError> {
+    let out = tell(alloc, told, text, LIMIT)?;
     assert_eq!(rt; out.as_str(), want);
     Ok(())
 }
 
-/// Texts, each with its units.
-fn check_all(rt: &impl Abort, alloc: Global, rows: &[(&str, &str)]) -> Result<(), Fail> {
+/// Texts, each with what is told of it.
+fn check_all(
+    rt: &impl Abort,
+    alloc: Global,
+    told: Told,
+    rows: &[(&str, &str)],
+) -> Result<(), Fail> {
     for &(text, want) in rows {
-        check(rt, alloc, text, want)?;
+        check(rt, alloc, told, text, want)?;
     }
     Ok(())
 }
@@ -102,7 +161,7 @@ static LEAVES: [(&str, &str); 10] = [
 
 #[test]
 fn leaves_are_read(rt: HostRuntime) -> Result<(), Fail> {
-    check_all(&rt, rt.alloc(), &LEAVES)
+    check_all(&rt, rt.alloc(), Told::Units, &LEAVES)
 }
 
 /// Texts of containers.
@@ -127,7 +186,7 @@ static CONTAINERS: [(&str, &str); 10] = [
 
 #[test]
 fn containers_are_read(rt: HostRuntime) -> Result<(), Fail> {
-    check_all(&rt, rt.alloc(), &CONTAINERS)
+    check_all(&rt, rt.alloc(), Told::Units, &CONTAINERS)
 }
 
 /// Texts of tables and task items.
@@ -148,7 +207,7 @@ static TABLES: [(&str, &str); 6] = [
 
 #[test]
 fn tables_and_tasks_are_read(rt: HostRuntime) -> Result<(), Fail> {
-    check_all(&rt, rt.alloc(), &TABLES)
+    check_all(&rt, rt.alloc(), Told::Units, &TABLES)
 }
 
 /// What a line of so many markers of block quotes is read as, under a limit.
@@ -157,7 +216,7 @@ fn nested(alloc: Global, quotes: usize, limit: usize) -> Result<String, AllocErr
     requires few { limit ≤ 256 }
 {
     let line = quoted(alloc, quotes)?;
-    units(alloc, &line, limit)
+    tell(alloc, Told::Units, &line, limit)
 }
 
 fn is_read(alloc: Global, quotes: usize, limit: usize) -> Result<bool, AllocError>
@@ -193,7 +252,7 @@ fn are_units(alloc: Global, text: &str, limit: usize, want: &str) -> Result<bool
     requires some { 1 ≤ limit }
     requires few { limit ≤ 256 }
 {
-    Ok(units(alloc, text, limit)?.as_str() == want)
+    Ok(tell(alloc, Told::Units, text, limit)?.as_str() == want)
 }
 
 #[test]
@@ -263,38 +322,6 @@ fn units_say_where_they_begin(rt: HostRuntime) -> Result<(), Fail> {
     )
 }
 
-/// How a line is marked: by `!` where it is not read, and by `x` where it begins a later item of a top-level list.
-fn mark(reader: &mut Reader<'_>, line: &str, count: &mut Tally) -> &'static str {
-    match (read_line(reader, line, count).is_ok(), reader.joined()) {
-        (true, true) => "x",
-        (true, false) => ".",
-        (false, true) => "!x",
-        (false, false) => "!.",
-    }
-}
-
-fn push_marks(reader: &mut Reader<'_>, text: &str, out: &mut String) -> Result<(), AllocError> {
-    let mut count = Tally::new();
-    for line in text.lines() {
-        out.push_str(mark(reader, line, &mut count))?;
-    }
-    Ok(())
-}
-
-/// Which lines of a text begin a later item of a top-level list, as `x`, and which don't, as `.`.
-fn joined(alloc: Global, text: &str) -> Result<String, AllocError> {
-    let entities = Entities::builtin(alloc)?;
-    let mut out = String::new(alloc);
-    push_marks(&mut new_reader(alloc, &entities, LIMIT), text, &mut out)?;
-    Ok(out)
-}
-
-fn check_joined(rt: &impl Abort, alloc: Global, text: &str, want: &str) -> Result<(), AllocError> {
-    let joined = joined(alloc, text)?;
-    assert_eq!(rt; joined.as_str(), want);
-    Ok(())
-}
-
 /// Texts, with which of their lines begin a later item.
 static LATER: [(&str, &str); 6] = [
     ("- a\n- b\n* c\n* d", ".x.x"),
@@ -322,59 +349,8 @@ static TWO_ITEMS: [Step; 6] = [
 
 #[test]
 fn later_items_are_told(rt: HostRuntime) -> Result<(), Fail> {
-    for &(text, want) in &LATER {
-        check_joined(&rt, rt.alloc(), text, want)?;
-    }
+    check_all(&rt, rt.alloc(), Told::Marks, &LATER)?;
     run(&rt, rt.alloc(), &TWO_ITEMS, End::Open)
-}
-
-/// Appends the later items of a unit that was handed out.
-fn push_joins(
-    outcome: Result<Option<Found>, BlockFault>,
-    out: &mut String,
-) -> Result<(), AllocError> {
-    match outcome {
-        Ok(Some(found)) => show_joins(&found, out),
-        _ => Ok(()),
-    }
-}
-
-fn push_line_joins(
-    reader: &mut Reader<'_>,
-    text: &str,
-    out: &mut String,
-) -> Result<(), AllocError> {
-    let mut count = Tally::new();
-    for line in text.lines() {
-        push_joins(read_line(reader, line, &mut count), out)?;
-    }
-    Ok(())
-}
-
-fn push_all_joins(mut reader: Reader<'_>, text: &str, out: &mut String) -> Result<(), AllocError> {
-    push_line_joins(&mut reader, text, out)?;
-    push_joins(finish(reader), out)
-}
-
-/// The later items of each unit of a text, as the number of its lines before each and that of the inline texts; units are parted by `|`.
-fn joins(alloc: Global, text: &str) -> Result<String, AllocError> {
-    let entities = Entities::builtin(alloc)?;
-    let mut out = String::new(alloc);
-    push_all_joins(new_reader(alloc, &entities, LIMIT), text, &mut out)?;
-    Ok(out)
-}
-
-fn show_joins(found: &Found, out: &mut String) -> Result<(), AllocError> {
-    for join in found.joins() {
-        write!(out, "{}/{} ", join.line, join.texts)?;
-    }
-    out.push_str("|")
-}
-
-fn check_joins(rt: &impl Abort, alloc: Global, text: &str, want: &str) -> Result<(), AllocError> {
-    let joins = joins(alloc, text)?;
-    assert_eq!(rt; joins.as_str(), want);
-    Ok(())
 }
 
 /// Texts, with the joins of their units.
@@ -389,10 +365,7 @@ static JOINS: [(&str, &str); 6] = [
 
 #[test]
 fn units_have_their_later_items(rt: HostRuntime) -> Result<(), Fail> {
-    for &(text, want) in &JOINS {
-        check_joins(&rt, rt.alloc(), text, want)?;
-    }
-    Ok(())
+    check_all(&rt, rt.alloc(), Told::Joins, &JOINS)
 }
 
 fn reason<E: Error>(alloc: Global, fault: &E) -> Result<String, AllocError> {
