@@ -4,6 +4,7 @@ use crate::calls::{Form, html_of, previewed};
 use crate::texts::Draws;
 use mdbatch::Breaks;
 use std::alloc::Global;
+use std::process::Abort;
 use std::test::Fail;
 
 /// Labels that the texts ask for, and some of which they define.
@@ -22,19 +23,25 @@ fn agree(alloc: Global, text: &str, form: Form, prelude: &[&str]) -> Result<bool
     Ok(html == wanted)
 }
 
+fn check_same(rt: &impl Abort, same: bool, number: i32, text: &str) {
+    assert!(rt; same, "text {number}: {text}");
+}
+
+/// Compares both ways on the next text.
+fn check_next(rt: &impl Abort, alloc: Global, draws: &mut Draws, number: i32) -> Result<(), Fail> {
+    let text = draws.text(alloc)?;
+    let form = draws.form();
+    let known = draws.below(PRELUDE.len().saturating_add(1));
+    let prelude = PRELUDE.get(..known).unwrap_or(PRELUDE);
+    check_same(rt, agree(alloc, &text, form, prelude)?, number, &text);
+    Ok(())
+}
+
 #[test]
 fn agrees_with_the_preview_on_texts_by_chance(rt: HostRuntime) -> Result<(), Fail> {
-    let alloc = rt.alloc();
     let mut draws = Draws { state: 20 };
     for number in 0..3000 {
-        let text = draws.text(alloc)?;
-        let form = draws.form();
-        let known = draws.below(PRELUDE.len().saturating_add(1));
-        let prelude = PRELUDE.get(..known).unwrap_or(PRELUDE);
-        assert!(rt;
-            agree(alloc, &text, form, prelude)?,
-            "text {number}: {text}"
-        );
+        check_next(&rt, rt.alloc(), &mut draws, number)?;
     }
     Ok(())
 }
@@ -75,23 +82,41 @@ static WORKED: &[&str] = &[
     "***\n[foo]: /a\n===\n***\n[foo]\n",
 ];
 
-static BREAKS: [Breaks; 3] = [Breaks::Soft, Breaks::Hard, Breaks::Space];
+static FORMS: [Form; 6] = [
+    Form {
+        unsafe_html: false,
+        breaks: Breaks::Soft,
+    },
+    Form {
+        unsafe_html: true,
+        breaks: Breaks::Soft,
+    },
+    Form {
+        unsafe_html: false,
+        breaks: Breaks::Hard,
+    },
+    Form {
+        unsafe_html: true,
+        breaks: Breaks::Hard,
+    },
+    Form {
+        unsafe_html: false,
+        breaks: Breaks::Space,
+    },
+    Form {
+        unsafe_html: true,
+        breaks: Breaks::Space,
+    },
+];
 
 /// Whether both ways end alike in each form.
 fn agree_in_all_forms(alloc: Global, text: &str) -> Result<bool, Fail> {
-    let mut same = true;
-    for &breaks in &BREAKS {
-        let safe = Form {
-            unsafe_html: false,
-            breaks,
-        };
-        let raw = Form {
-            unsafe_html: true,
-            breaks,
-        };
-        same = same && agree(alloc, text, safe, PRELUDE)? && agree(alloc, text, raw, PRELUDE)?;
+    for &form in &FORMS {
+        if !agree(alloc, text, form, PRELUDE)? {
+            return Ok(false);
+        }
     }
-    Ok(same)
+    Ok(true)
 }
 
 #[test]

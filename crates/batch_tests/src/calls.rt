@@ -3,7 +3,7 @@
 ghost use Rattle.mdhtml.specs.Limits.{HasLimits};
 
 use mdbatch::{Breaks, EditFault, Entities, Options, Prelude, to_html};
-use mdtext::{Tally, lines_of};
+use mdtext::{NoMemory, Tally, lines_of};
 use mdview::Preview;
 use std::alloc::Global;
 use std::test::Fail;
@@ -44,6 +44,31 @@ pub(crate) fn html_of(
     Ok(to_html(alloc, text, &entities, &options, &read))
 }
 
+/// Gives a preview of nothing a prelude and lines.
+fn fill(preview: &mut Preview, lines: &[&str], prelude: &[&str]) -> Result<(), EditFault> {
+    preview.set_prelude(prelude, &mut Tally::new())?;
+    preview.edit(0, 0, lines, &mut Tally::new())?;
+    Ok(())
+}
+
+fn filled(
+    alloc: Global,
+    lines: &[&str],
+    form: Form,
+    prelude: &[&str],
+) -> Result<Preview, EditFault> {
+    let mut preview = Preview::new(alloc, Entities::builtin(alloc)?, options(form));
+    fill(&mut preview, lines, prelude)?;
+    Ok(preview)
+}
+
+fn push_lent<'a>(lines: &'a [String], lent: &mut Vec<&'a str>) -> Result<(), NoMemory> {
+    for line in lines {
+        lent.push(line.as_str())?;
+    }
+    Ok(())
+}
+
 /// A preview of the lines of a text, or why it refuses them.
 fn preview_of(
     alloc: Global,
@@ -52,14 +77,16 @@ fn preview_of(
     prelude: &[&str],
 ) -> Result<Preview, EditFault> {
     let lines = lines_of(alloc, text)?;
-    let mut lent = Vec::with_capacity(alloc, lines.len())?;
-    for line in &lines {
-        lent.push(line.as_str())?;
+    let mut lent: Vec<&str> = Vec::new(alloc);
+    push_lent(&lines, &mut lent)?;
+    filled(alloc, &lent, form, prelude)
+}
+
+fn push_pieces(preview: &Preview, html: &mut String) -> Result<(), NoMemory> {
+    for piece in preview.pieces() {
+        html.push_str(piece)?;
     }
-    let mut preview = Preview::new(alloc, Entities::builtin(alloc)?, options(form));
-    preview.set_prelude(prelude, &mut Tally::new())?;
-    preview.edit(0, 0, &lent, &mut Tally::new())?;
-    Ok(preview)
+    Ok(())
 }
 
 /// What a preview shows after the edit that brings the lines of the text, or why it refuses it.
@@ -71,8 +98,6 @@ pub(crate) fn previewed(
 ) -> Result<String, EditFault> {
     let preview = preview_of(alloc, text, form, prelude)?;
     let mut html = String::new(alloc);
-    for piece in preview.pieces() {
-        html.push_str(piece)?;
-    }
+    push_pieces(&preview, &mut html)?;
     Ok(html)
 }

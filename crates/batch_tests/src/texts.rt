@@ -183,37 +183,51 @@ impl Draws {
 
     pub(crate) fn text(&mut self, alloc: Global) -> Result<String, NoMemory> {
         let mut text = String::new(alloc);
+        self.push_text(&mut text)?;
+        Ok(text)
+    }
+
+    fn push_text(&mut self, text: &mut String) -> Result<(), NoMemory> {
+        self.push_beginning(text)?;
+        for _ in 0..self.below(40).saturating_add(1) {
+            self.push_part(text)?;
+        }
+        Ok(())
+    }
+
+    fn push_beginning(&mut self, text: &mut String) -> Result<(), NoMemory> {
         if self.below(12) == 0 {
             text.push_str("\u{FEFF}")?;
         }
         for _ in 0..self.below(8) {
-            push_at(TEXTLESS, self.below(TEXTLESS.len()), &mut text)?;
+            push_at(TEXTLESS, self.below(TEXTLESS.len()), text)?;
         }
-        for _ in 0..self.below(40).saturating_add(1) {
-            if self.below(60) == 0 {
-                self.push_deep(&mut text)?;
-            } else {
-                push_at(PARTS, self.below(PARTS.len()), &mut text)?;
-            }
+        Ok(())
+    }
+
+    fn push_part(&mut self, text: &mut String) -> Result<(), NoMemory> {
+        if self.below(60) == 0 {
+            self.push_deep(text)
+        } else {
+            push_at(PARTS, self.below(PARTS.len()), text)
         }
-        Ok(text)
     }
 
     /// A text that lies in 60 to 69 others, or in twice as many.
     fn push_deep(&mut self, text: &mut String) -> Result<(), NoMemory> {
         let depth = self.below(10).saturating_add(60);
-        let (before, behind) = match DEEP.get(self.below(DEEP.len())) {
-            Some((before, behind)) => (*before, *behind),
-            None => ("*", "*"),
-        };
-        for _ in 0..depth {
-            text.push_str(before)?;
-        }
+        let (before, behind) = deep_at(self.below(DEEP.len()));
+        push_times(before, depth, text)?;
         text.push_str("x")?;
-        for _ in 0..depth {
-            text.push_str(behind)?;
-        }
-        Ok(())
+        push_times(behind, depth, text)
+    }
+}
+
+/// What is repeated before and behind the middle of a text that lies deep.
+fn deep_at(i: usize) -> (&'static str, &'static str) {
+    match DEEP.get(i) {
+        Some(&sides) => sides,
+        None => ("*", "*"),
     }
 }
 
@@ -224,18 +238,35 @@ fn push_at(parts: &[&str], i: usize, text: &mut String) -> Result<(), NoMemory> 
     }
 }
 
-/// A text of this many times the same part.
-pub(crate) fn repeated(alloc: Global, part: &str, count: usize) -> Result<String, NoMemory> {
-    let mut many = String::new(alloc);
-    for _ in 0..1000 {
-        many.push_str(part)?;
-    }
-    let mut text = String::new(alloc);
-    for _ in 0..count / 1000 {
-        text.push_str(&many)?;
-    }
-    for _ in 0..count % 1000 {
+fn push_times(part: &str, count: usize, text: &mut String) -> Result<(), NoMemory> {
+    for _ in 0..count {
         text.push_str(part)?;
     }
+    Ok(())
+}
+
+/// A text of this many times the same part, put together one by one.
+fn some_times(alloc: Global, part: &str, count: usize) -> Result<String, NoMemory> {
+    let mut text = String::new(alloc);
+    push_times(part, count, &mut text)?;
+    Ok(text)
+}
+
+/// Appends this many times the same part.
+pub(crate) fn push_repeated(
+    alloc: Global,
+    part: &str,
+    count: usize,
+    text: &mut String,
+) -> Result<(), NoMemory> {
+    let many = some_times(alloc, part, 1000)?;
+    push_times(&many, count / 1000, text)?;
+    push_times(part, count % 1000, text)
+}
+
+/// A text of this many times the same part.
+pub(crate) fn repeated(alloc: Global, part: &str, count: usize) -> Result<String, NoMemory> {
+    let mut text = String::new(alloc);
+    push_repeated(alloc, part, count, &mut text)?;
     Ok(text)
 }
