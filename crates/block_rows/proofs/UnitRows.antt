@@ -5,7 +5,7 @@ use Rattle.mdscan.specs.declared.delimiter_rows.Align.TheVariants.{Plain}
 use Rattle.blockspec.specs.BlockTree.{Block, bullet, paragraph, heading, code_block, block_quote, list, table, blocks_of, items_of}
 use Rattle.block_rows.proofs.ReadText.{units_read, deep_line, found, defines}
 use Rattle.blockspec.specs.BlockUnits.{definitions_of}
-use Rattle.blockspec.specs.FirstDefinitions.{first_definition}
+use Rattle.blockspec.specs.LinkDefinitions.{first_definition}
 
 -- no line
 empty : units_read [] ≡ []

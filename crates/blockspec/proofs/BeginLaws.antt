@@ -3,12 +3,13 @@ use Rattle.std.proofs.Common.{◌≡◌, ℕ, suc, ◌+◌, ◌≤◌, ◌<◌, 
 use Rattle.std.proofs.lemmas.List.{map-append, append-nil}
 use Rattle.std.specs.Prelude.{Contains, if◌then◌else◌}
 use Rattle.mdtext.specs.EntityTable.{EntityTable}
-use Rattle.blockspec.specs.BlockLine.{BlockLine, document_line, is_blank_line}
+use Rattle.blockspec.specs.BlockLine.{BlockLine, document_line}
+use Rattle.blockspec.specs.BlankLines.{is_blank_line}
 use Rattle.blockspec.specs.BlockStart.{begun}
 use Rattle.blockspec.specs.BlockTree.{ListKind}
 use Rattle.blockspec.specs.BlockUnits.{group_of, groups_within, found_units, visible_in, depth_of, groups, units, begins}
 use Rattle.blockspec.specs.Laziness.{Tip}
-use Rattle.blockspec.specs.ListGroups.{Part, Leaves, Quoted, Listed, Group, is_same_list, joined_where, joined_list, joined, grouped}
+use Rattle.blockspec.specs.Lists.{Part, Leaves, Quoted, Listed, Group, is_same_list, joined_where, joined_list, joined, grouped}
 use Rattle.blockspec.specs.Stretches.{Stretch, Step, Continues, IsLastLine, IsOverBefore, step, Tail, Empty, Going, Over, Cut, no_lines, all_of, stretches, begin_where, grown, after_step, add_at, add, cut_from, cut_by, tip_within}
 use Rattle.blockspec.specs.LineSummary.{part_mark}
 use Rattle.blockspec.specs.Meetings.{IsBeginning}

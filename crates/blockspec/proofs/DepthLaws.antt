@@ -1,10 +1,12 @@
 -- Any depth that suffices gives the same blocks: a container holds fewer characters than its lines have.
 use Rattle.std.proofs.Common.{◌≡◌, ℕ, zero, suc, ◌+◌, ◌-◌, ◌≤◌, ◌<◌, Bool, true, false, not, ◌&&◌, List, [], ◌∷◌, ◌++◌, map, Option, Some, None, refl, sym, ◌∙◌, ap, subst, arith}
 use Rattle.std.specs.Prelude.{nat_lt}
-use Rattle.blockspec.specs.BlockLine.{BlockLine, is_blank_line}
-use Rattle.blockspec.specs.BlockStart.{Inside, Container, Kind, Paragraph, SetextHeading, Table, AtxHeading, ThematicBreak, FencedCode, IndentedCode, HtmlBlock, Holds, start, begun}
+use Rattle.blockspec.specs.BlockLine.{BlockLine}
+use Rattle.blockspec.specs.BlankLines.{is_blank_line}
+use Rattle.blockspec.specs.BlockKinds.{Inside, Container, Kind, Paragraph, SetextHeading, Table, AtxHeading, ThematicBreak, FencedCode, IndentedCode, HtmlBlock, Holds}
+use Rattle.blockspec.specs.BlockStart.{start, begun}
 use Rattle.blockspec.specs.BlockUnits.{visible, visible_in, depth_of, container_part, part_at, group_of, groups_within, groups}
-use Rattle.blockspec.specs.ListGroups.{grouped}
+use Rattle.blockspec.specs.Lists.{grouped}
 use Rattle.blockspec.specs.UnitBegin.{is_stop, is_apart, list_mark, same_mark, tail_mark, begins_behind, begins_unit}
 use Rattle.mdtext.specs.EntityTable.{EntityTable}
 use Rattle.blockspec.specs.ContainerLines.{inner, is_bare}

@@ -7,7 +7,7 @@ use Rattle.blockspec.specs.BlockLine.{document_line}
 use Rattle.blockspec.specs.Meetings.{gap_after}
 use Rattle.blockspec.proofs.DocumentLaws.{map_length}
 use Rattle.blockspec.specs.Joins.{joins}
-use Rattle.blockspec.specs.ListItems.{joined_blocks, top_blocks}
+use Rattle.blockspec.specs.TopBlocks.{joined_blocks, top_blocks}
 use Rattle.blockspec.proofs.ItemsMeet.{lists_meet}
 use Rattle.blockspec.proofs.JoinLines.{document_joins_only}
 use Rattle.blockspec.proofs.UnitsMeet.{DocumentMeets, document_meets_inside}

@@ -1,7 +1,7 @@
 -- How groups are joined to lists that stand behind others.
 use Rattle.std.proofs.Common.{◌≡◌, ℕ, ◌+◌, ◌-◌, Bool, true, false, not, ◌&&◌, List, [], ◌∷◌, ◌++◌, map, refl, sym, ◌∙◌, ap, arith}
 use Rattle.blockspec.specs.BlockTree.{ListKind}
-use Rattle.blockspec.specs.ListGroups.{Part, Leaves, Quoted, Listed, Group, is_same_list, items_before, joined_where, joined_list, joined, grouped, part_before}
+use Rattle.blockspec.specs.Lists.{Part, Leaves, Quoted, Listed, Group, is_same_list, items_before, joined_where, joined_list, joined, grouped, part_before}
 use Rattle.blockspec.specs.NodeTree.{no_nodes, ItemNodes, unit_of}
 use Rattle.blockspec.specs.BlockUnits.{next_begin, found_units}
 use Rattle.blockspec.specs.Meetings.{shift_group, shift_group_first, shift_groups}

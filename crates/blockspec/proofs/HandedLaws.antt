@@ -3,8 +3,7 @@ use Rattle.std.proofs.Common.{◌≡◌, ℕ, suc, ◌+◌, Bool, true, false, L
 use Rattle.std.proofs.lemmas.List.{map-append, append-nil}
 use Rattle.std.specs.Prelude.{if◌then◌else◌}
 use Rattle.mdtext.specs.EntityTable.{EntityTable}
-use Rattle.blockspec.specs.BlockLine.{BlockLine}
-use Rattle.blockspec.specs.LeafContents.{without_last}
+use Rattle.blockspec.specs.BlockLine.{BlockLine, without_last}
 use Rattle.blockspec.specs.LineSummary.{Summary, no_summary, line_added, summary_of, begins_after}
 use Rattle.blockspec.specs.Nesting.{deep_within}
 use Rattle.blockspec.specs.SummaryDepth.{sinks}

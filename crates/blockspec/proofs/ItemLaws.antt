@@ -4,11 +4,12 @@ use Rattle.std.proofs.Common.{◌≡◌, ℕ, suc, ◌<◌, Bool, true, false, n
 use Rattle.std.proofs.lemmas.Bool.{eqb-true}
 use Rattle.std.proofs.lemmas.List.{map-append}
 use Rattle.mdtext.specs.EntityTable.{EntityTable}
-use Rattle.blockspec.specs.BlockLine.{BlockLine, is_blank_line}
+use Rattle.blockspec.specs.BlockLine.{BlockLine}
+use Rattle.blockspec.specs.BlankLines.{is_blank_line}
 use Rattle.blockspec.specs.BlockStart.{begun}
 use Rattle.blockspec.specs.BlockTree.{ListKind, bullet, ordered}
 use Rattle.blockspec.specs.BlockUnits.{group_of, groups_within, groups, visible_in, depth_of}
-use Rattle.blockspec.specs.ListGroups.{Part, Leaves, Quoted, Listed, Group, is_same_list, items_before, joined_where, joined_list, joined, grouped, merged}
+use Rattle.blockspec.specs.Lists.{Part, Leaves, Quoted, Listed, Group, is_same_list, items_before, joined_where, joined_list, joined, grouped, merged}
 use Rattle.blockspec.specs.NodeTree.{ItemNodes, no_item_nodes, item_node}
 use Rattle.blockspec.specs.Stretches.{Cut, stretches, gap_behind, cut_by, cut_within, tip_within}
 use Rattle.blockspec.specs.Meetings.{shift_groups, joins_behind, joins_list, gap_after}

@@ -2,12 +2,13 @@
 use Rattle.std.proofs.Common.{◌≡◌, ℕ, suc, ◌≤◌, ◌<◌, Bool, true, false, not, ◌&&◌, List, [], ◌∷◌, ◌++◌, length, map, Option, Some, None, refl, sym, ◌∙◌, ap, subst, append_assoc, arith}
 use Rattle.std.proofs.lemmas.List.{map-append}
 use Rattle.mdtext.specs.EntityTable.{EntityTable}
-use Rattle.blockspec.specs.BlockLine.{BlockLine, is_blank_line}
+use Rattle.blockspec.specs.BlockLine.{BlockLine}
+use Rattle.blockspec.specs.BlankLines.{is_blank_line}
 use Rattle.blockspec.specs.BlockStart.{begun}
 use Rattle.blockspec.specs.BlockTree.{ListKind}
 use Rattle.blockspec.specs.BlockUnits.{group_of, part_at, groups_within, groups, visible_in, depth_of}
 use Rattle.blockspec.specs.LineSummary.{part_mark}
-use Rattle.blockspec.specs.ListGroups.{Part, Leaves, Quoted, Listed, Group, is_same_list}
+use Rattle.blockspec.specs.Lists.{Part, Leaves, Quoted, Listed, Group, is_same_list}
 use Rattle.blockspec.specs.Meetings.{shift_groups, joins_behind, joins_list, gap_after}
 use Rattle.blockspec.specs.NodeTree.{ItemNodes}
 use Rattle.blockspec.specs.Stretches.{Stretch, Tail, Empty, Going, Over, Cut, no_lines, all_of, stretches, gap_behind, cut_by, cut_within, tip_within}
@@ -16,7 +17,7 @@ use Rattle.blockspec.proofs.CutLaws.{shift_all}
 use Rattle.blockspec.proofs.DepthLaws.{groups_agree, map_agrees, tips_agree, cut_agrees, cut_light, all_light, CutLight, at_depth, apart_deep, gap_deep, cut_deep}
 use Rattle.blockspec.proofs.UnitLaws.{IsHeadedBy, first_headed, stretches_meet, group_shift, mark_of_part}
 use Rattle.blockspec.proofs.VisibleLaws.{visible_append}
-use Rattle.blockspec.specs.ListItems.{ListItem, TopBlock, ItemList, top_group, tops_of, single_groups, top_blocks, moved_item, item_behind, items_behind, moved_top, joined_blocks}
+use Rattle.blockspec.specs.TopBlocks.{ListItem, TopBlock, ItemList, top_group, tops_of, single_groups, top_blocks, moved_item, item_behind, items_behind, moved_top, joined_blocks}
 use Rattle.blockspec.proofs.TopLaws.{tops_grouped, goes_on, first_item}
 
 -- ---- every depth that suffices

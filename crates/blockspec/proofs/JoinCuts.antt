@@ -4,7 +4,8 @@ use Rattle.std.proofs.lemmas.List.{map-append}
 use Rattle.std.specs.List.{All}
 use Rattle.std.proofs.lemmas.List.Elements.{All-nil, All-cons}
 use Rattle.mdtext.specs.EntityTable.{EntityTable}
-use Rattle.blockspec.specs.BlockLine.{BlockLine, document_line, is_blank_line}
+use Rattle.blockspec.specs.BlockLine.{BlockLine, document_line}
+use Rattle.blockspec.specs.BlankLines.{is_blank_line}
 use Rattle.blockspec.specs.BlockStart.{begun}
 use Rattle.blockspec.specs.BlockUnits.{visible_in, depth_of}
 use Rattle.blockspec.specs.Laziness.{Tip}

@@ -4,13 +4,14 @@ use Rattle.std.proofs.lemmas.List.{map-append, append-nil}
 use Rattle.std.specs.Prelude.{Contains}
 use Rattle.std.specs.List.{flat_map}
 use Rattle.mdtext.specs.EntityTable.{EntityTable}
-use Rattle.blockspec.specs.BlockLine.{BlockLine, document_line, is_blank_line}
+use Rattle.blockspec.specs.BlockLine.{BlockLine, document_line}
+use Rattle.blockspec.specs.BlankLines.{is_blank_line}
 use Rattle.blockspec.specs.BlockStart.{begun}
 use Rattle.blockspec.specs.BlockTree.{ListKind}
 use Rattle.blockspec.specs.BlockUnits.{group_of, groups_within, visible_in, depth_of}
 use Rattle.blockspec.specs.Laziness.{Tip}
 use Rattle.blockspec.specs.LineSummary.{part_mark}
-use Rattle.blockspec.specs.ListGroups.{Part, Leaves, Quoted, Listed, Group, is_same_list}
+use Rattle.blockspec.specs.Lists.{Part, Leaves, Quoted, Listed, Group, is_same_list}
 use Rattle.blockspec.specs.Meetings.{joins_behind, joins_list}
 use Rattle.blockspec.specs.Stretches.{Stretch, Cut, no_lines, all_of, stretches, add, cut_from, cut_by, cut_within, tip_within}
 use Rattle.blockspec.specs.UnitBegin.{is_apart, list_mark, same_mark, tail_mark}
@@ -22,7 +23,7 @@ use Rattle.blockspec.proofs.Outlines.{Mark, outline, last_mark, stays, blank_out
 use Rattle.blockspec.proofs.UnitLaws.{IsWhole, cut_whole, cut_lines, mark_of_part}
 use Rattle.blockspec.proofs.VisibleLaws.{visible_append}
 use Rattle.blockspec.specs.Joins.{later_lines, joins}
-use Rattle.blockspec.specs.ListItems.{ListItem, TopBlock, ItemList, with_item_where, with_item, item_of_group, with_part, tops_of, top_blocks}
+use Rattle.blockspec.specs.TopBlocks.{ListItem, TopBlock, ItemList, with_item_where, with_item, item_of_group, with_part, tops_of, top_blocks}
 use Rattle.blockspec.proofs.ItemsMeet.{singles_at, singles_deep}
 use Rattle.blockspec.proofs.TopLaws.{item_first}
 

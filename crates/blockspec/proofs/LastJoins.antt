@@ -6,7 +6,8 @@ use Rattle.std.proofs.lemmas.List.Folds.{list_any-append}
 use Rattle.std.specs.List.{list_any}
 use Rattle.std.specs.Prelude.{◌==◌, if◌then◌else◌}
 use Rattle.mdtext.specs.EntityTable.{EntityTable}
-use Rattle.blockspec.specs.BlockLine.{BlockLine, document_line, is_blank_line}
+use Rattle.blockspec.specs.BlockLine.{BlockLine, document_line}
+use Rattle.blockspec.specs.BlankLines.{is_blank_line}
 use Rattle.blockspec.specs.BlockStart.{begun}
 use Rattle.blockspec.specs.BlockUnits.{depth_of, groups_within}
 use Rattle.blockspec.specs.LineSummary.{last_of, summary_within, summary_of, is_apart_after}

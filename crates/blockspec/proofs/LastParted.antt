@@ -2,20 +2,21 @@
 use Rattle.std.proofs.Common.{◌≡◌, ℕ, suc, Bool, true, false, not, ◌&&◌, List, [], ◌∷◌, ◌++◌, map, refl, sym, ◌∙◌, ap, arith}
 use Rattle.std.proofs.lemmas.List.{map-append}
 use Rattle.mdtext.specs.EntityTable.{EntityTable}
-use Rattle.blockspec.specs.BlockLine.{BlockLine, is_blank_line}
-use Rattle.blockspec.specs.BlockStart.{Kind, Paragraph, SetextHeading, Table, AtxHeading, ThematicBreak, FencedCode, IndentedCode, HtmlBlock, Holds, begun}
+use Rattle.blockspec.specs.BlockLine.{BlockLine}
+use Rattle.blockspec.specs.BlankLines.{is_blank_line}
+use Rattle.blockspec.specs.BlockKinds.{Kind, Paragraph, SetextHeading, Table, AtxHeading, ThematicBreak, FencedCode, IndentedCode, HtmlBlock, Holds}
+use Rattle.blockspec.specs.BlockStart.{begun}
 use Rattle.blockspec.specs.BlockTree.{ListKind}
 use Rattle.blockspec.specs.BlockUnits.{container_part, part_at, group_of, groups_within, visible_in, depth_of}
 use Rattle.blockspec.specs.Laziness.{Tip, is_verbatim}
-use Rattle.blockspec.specs.LineSummary.{Summary, last_tip, summary_tip, last_groups, last_at, last_of, summary_within, summary_of}
-use Rattle.blockspec.specs.ListGroups.{Part, Leaves, Quoted, Listed, Group, is_same_list}
+use Rattle.blockspec.specs.LineSummary.{summary_tip, last_groups, last_at, last_of, summary_within, summary_of}
+use Rattle.blockspec.specs.Lists.{Part, Leaves, Quoted, Listed, Group, is_same_list}
 use Rattle.blockspec.specs.Meetings.{gap_after}
-use Rattle.blockspec.specs.Stretches.{Stretch, Step, Continues, IsLastLine, IsOverBefore, step, is_single, Tail, Empty, Going, Over, Cut, no_lines, all_of, stretches, gap_behind, first_of, tail_of, begin_where, after_step, add_at, add, cut_from, cut_by, cut_within, tip_of, tip_within}
-use Rattle.blockspec.proofs.DepthLaws.{gap_deep}
+use Rattle.blockspec.specs.Stretches.{Stretch, Step, Continues, IsLastLine, IsOverBefore, step, is_single, Tail, Empty, Going, Over, Cut, no_lines, all_of, stretches, gap_behind, first_of, tail_of, begin_where, after_step, add_at, add, cut_from, cut_within, tip_within}
 use Rattle.blockspec.proofs.ReaderLaws.{summary_deep}
 use Rattle.blockspec.proofs.SummaryLaws.{laws}
-use Rattle.blockspec.specs.ItemMarks.{is_parted_block, is_parted}
-use Rattle.blockspec.specs.ListItems.{ListItem, TopBlock, Other, ItemList, with_item_where, with_item, item_of_group, with_part, tops_of, single_groups, top_blocks}
+use Rattle.blockspec.specs.ItemMarks.{is_parted}
+use Rattle.blockspec.specs.TopBlocks.{ListItem, TopBlock, Other, ItemList, with_item_where, with_item, item_of_group, with_part, tops_of, single_groups, top_blocks}
 use Rattle.blockspec.specs.SummaryJoins.{is_parted_part, is_parted_first, is_parted_after, gap_in}
 use Rattle.blockspec.proofs.TopLaws.{item_first}
 

@@ -1,8 +1,10 @@
 -- What is known of the leaves of a cut, line by line.
 use Rattle.std.proofs.Common.{◌≡◌, ℕ, ◌≤◌, Bool, true, false, List, [], ◌∷◌, ◌++◌, length, Option, Some, None, refl, arith, nat_lt}
 use Rattle.std.proofs.lemmas.List.{length-append}
-use Rattle.blockspec.specs.BlockLine.{BlockLine, is_blank_line}
-use Rattle.blockspec.specs.BlockStart.{Mode, Free, Inside, is_inside, Container, Kind, Paragraph, SetextHeading, Table, AtxHeading, ThematicBreak, FencedCode, IndentedCode, HtmlBlock, Holds, start, begun}
+use Rattle.blockspec.specs.BlockLine.{BlockLine}
+use Rattle.blockspec.specs.BlankLines.{is_blank_line}
+use Rattle.blockspec.specs.BlockKinds.{Mode, Free, Inside, is_inside, Container, Kind, Paragraph, SetextHeading, Table, AtxHeading, ThematicBreak, FencedCode, IndentedCode, HtmlBlock, Holds}
+use Rattle.blockspec.specs.BlockStart.{start, begun}
 use Rattle.blockspec.specs.Laziness.{Tip}
 use Rattle.blockspec.specs.ContainerLines.{inner, is_bare}
 use Rattle.blockspec.specs.Stretches.{Stretch, Step, Continues, IsLastLine, IsOverBefore, continues_if, goes_on, closes, ends_html, is_row, is_code, fence_step, html_step, interrupted, paragraph_step, step, is_single, Tail, Empty, Going, Over, Cut, ended, gap_behind, first_of, tail_of, begin_where, after_step, add_at, add, cut_from}

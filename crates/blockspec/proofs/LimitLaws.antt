@@ -4,12 +4,14 @@ use Rattle.std.proofs.lemmas.List.{append-nil, length-append}
 use Rattle.std.specs.Option.{option_or}
 use Rattle.std.specs.Prelude.{if◌then◌else◌}
 use Rattle.mdtext.specs.EntityTable.{EntityTable}
-use Rattle.blockspec.specs.BlockLine.{BlockLine, is_blank_line}
-use Rattle.blockspec.specs.BlockStart.{Container, Kind, Holds, begun}
+use Rattle.blockspec.specs.BlockLine.{BlockLine}
+use Rattle.blockspec.specs.BlankLines.{is_blank_line}
+use Rattle.blockspec.specs.BlockKinds.{Container, Kind, Holds}
+use Rattle.blockspec.specs.BlockStart.{begun}
 use Rattle.blockspec.specs.BlockUnits.{visible_in, depth_of, groups_within}
 use Rattle.blockspec.specs.ContainerLines.{opened, inside, inner}
 use Rattle.blockspec.specs.LineSummary.{Summary, summary, Last, nothing_yet, ended_block, open_leaf, open_container, no_summary, summary_tip, last_groups, new_last, summary_gap, begin_after, last_grown, leaf_after, container_after, last_after, line_added, last_at, last_of, summary_within, summary_of, is_apart_after}
-use Rattle.blockspec.specs.ListGroups.{Group, merged}
+use Rattle.blockspec.specs.Lists.{Group, merged}
 use Rattle.blockspec.specs.Nesting.{deep_at, first_deep, deep_within}
 use Rattle.blockspec.specs.OpenLeaf.{OpenLeaf, NextLeaf, ContinuesAs, EndsAs, EndedBefore, next_leaf, is_parted}
 use Rattle.blockspec.specs.Stretches.{Stretch, goes_on, is_single, Tail, Empty, Going, Over, Cut, all_of, cut_from, cut_by, tip_within}

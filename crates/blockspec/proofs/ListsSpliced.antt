@@ -1,5 +1,5 @@
 -- A line that begins a later item of two lists, of which each is the last one of its lines: the items from it on stand behind those of either.
-use Rattle.std.proofs.Common.{◌≡◌, ℕ, zero, suc, ◌+◌, ◌-◌, Bool, true, false, not, ◌&&◌, ◌||◌, List, [], ◌∷◌, ◌++◌, length, map, refl, sym, ◌∙◌, ap, append_assoc, arith}
+use Rattle.std.proofs.Common.{◌≡◌, ℕ, suc, ◌+◌, ◌-◌, Bool, true, false, not, ◌&&◌, ◌||◌, List, [], ◌∷◌, ◌++◌, length, map, refl, sym, ◌∙◌, ap, append_assoc, arith}
 use Rattle.std.proofs.lemmas.List.{append-nil}
 use Rattle.std.proofs.Math.Seq.{drop-append-add}
 use Rattle.std.specs.List.{flat_map, list_any}
@@ -7,8 +7,8 @@ use Rattle.std.specs.Prelude.{drop}
 use Rattle.mdtext.specs.EntityTable.{EntityTable}
 use Rattle.blockspec.specs.BlockLine.{BlockLine}
 use Rattle.blockspec.specs.BlockTree.{ListKind}
-use Rattle.blockspec.specs.BlockUnits.{groups, found_units}
-use Rattle.blockspec.specs.ListGroups.{Group, Listed, items_before, part_before}
+use Rattle.blockspec.specs.BlockUnits.{found_units}
+use Rattle.blockspec.specs.Lists.{Group, Listed, items_before, part_before}
 use Rattle.blockspec.specs.Meetings.{joins_list, gap_after}
 use Rattle.blockspec.specs.NodeTree.{no_nodes, unit_of}
 use Rattle.blockspec.specs.UnitBegin.{units_of}
@@ -16,9 +16,9 @@ use Rattle.blockspec.specs.UnitTree.{FoundUnit}
 use Rattle.blockspec.proofs.BeginLaws.{begins_in}
 use Rattle.blockspec.proofs.UnitReaderLaws.{IsOne}
 use Rattle.blockspec.specs.ItemMarks.{ItemMark, last_item, is_parted, item_marks, block_marks, list_marks, mark_behind}
-use Rattle.blockspec.specs.ListItems.{ListItem, TopBlock, ItemList, is_tight_list, nodes_of_items, top_group, top_blocks, moved_item, item_behind, items_behind, moved_top}
+use Rattle.blockspec.specs.TopBlocks.{ListItem, TopBlock, ItemList, is_tight_list, nodes_of_items, top_group, top_blocks, moved_item, item_behind, items_behind, moved_top}
 use Rattle.blockspec.proofs.ItemsMeet.{blocks_are, ItemsMeet, items_meet_at}
-use Rattle.blockspec.proofs.MarkLines.{SameInside, item_mark, texts_of, definitions_of, behind_is, marks_behind, marks_more, stands_alone}
+use Rattle.blockspec.proofs.MarkLines.{SameInside, item_mark, texts_of, definitions_of, behind_is, marks_behind, stands_alone}
 use Rattle.blockspec.proofs.UnitsMeet.{list_together}
 
 -- an item behind `to` that stood behind `from`

@@ -1,16 +1,17 @@
 -- The later items of lists with what stands before each, line by line: a line adds one exactly where it begins an item of the list that stands last.
-use Rattle.std.proofs.Common.{◌≡◌, ℕ, suc, ◌+◌, ◌-◌, ◌<◌, ◌≤◌, Bool, true, false, not, ◌&&◌, ◌||◌, List, [], ◌∷◌, ◌++◌, length, map, Option, Some, None, refl, sym, ◌∙◌, ap, subst, arith, length-append}
+use Rattle.std.proofs.Common.{◌≡◌, ℕ, suc, ◌+◌, ◌-◌, ◌≤◌, Bool, true, false, not, ◌&&◌, ◌||◌, List, [], ◌∷◌, ◌++◌, length, map, refl, sym, ◌∙◌, ap, subst, arith, length-append}
 use Rattle.std.proofs.lemmas.List.{map-append, append-nil}
 use Rattle.std.specs.List.{flat_map}
 use Rattle.std.specs.Prelude.{if◌then◌else◌}
 use Rattle.mdtext.specs.EntityTable.{EntityTable}
-use Rattle.blockspec.specs.BlockLine.{BlockLine, is_blank_line}
+use Rattle.blockspec.specs.BlockLine.{BlockLine}
+use Rattle.blockspec.specs.BlankLines.{is_blank_line}
 use Rattle.blockspec.specs.BlockStart.{begun}
 use Rattle.blockspec.specs.BlockTree.{ListKind}
 use Rattle.blockspec.specs.BlockUnits.{group_of, groups_within, groups, visible_in, found_units}
 use Rattle.blockspec.specs.Laziness.{Tip}
 use Rattle.blockspec.specs.LineSummary.{part_mark}
-use Rattle.blockspec.specs.ListGroups.{Part, Leaves, Quoted, Listed, Group, is_same_list, part_before, nodes_of}
+use Rattle.blockspec.specs.Lists.{Part, Leaves, Quoted, Listed, Group, is_same_list, part_before, nodes_of}
 use Rattle.blockspec.specs.Meetings.{joins_behind, joins_list, gap_after}
 use Rattle.blockspec.specs.NodeTree.{ItemNodes, no_nodes, texts_in, texts_in_items, definitions_in, definitions_in_items}
 use Rattle.blockspec.specs.Stretches.{Stretch, Step, Continues, IsLastLine, IsOverBefore, step, is_single, Tail, Empty, Going, Over, Cut, no_lines, all_of, stretches, ended, gap_behind, first_of, tail_of, begin_where, grown, after_step, add_at, add, cut_from, cut_by, cut_within, tip_within}
@@ -23,11 +24,10 @@ use Rattle.blockspec.proofs.HandedLaws.{held_next, held_one}
 use Rattle.blockspec.proofs.UnitLaws.{keeps, step_keeps, mark_of_part}
 use Rattle.blockspec.proofs.UnitReaderLaws.{IsOne}
 use Rattle.blockspec.proofs.VisibleLaws.{visible_append}
-use Rattle.blockspec.specs.ItemMarks.{ItemMark, last_item, is_parted_block, is_parted, item_marks, block_marks, list_marks, mark_behind, marks_next, join_of}
+use Rattle.blockspec.specs.ItemMarks.{ItemMark, last_item, is_parted, item_marks, block_marks, list_marks, mark_behind, marks_next, join_of}
 use Rattle.blockspec.specs.Joins.{item_joins, block_joins}
-use Rattle.blockspec.specs.ListItems.{ListItem, TopBlock, Other, ItemList, is_tight_list, nodes_of_items, top_group, with_item_where, with_item, with_part, tops_of, single_groups, top_blocks, moved_item, item_behind, items_behind, moved_top}
-use Rattle.blockspec.proofs.ItemsMeet.{singles_at, singles_deep, blocks_are, ItemsMeet, items_meet_at}
-use Rattle.blockspec.proofs.JoinCuts.{no_join}
+use Rattle.blockspec.specs.TopBlocks.{ListItem, TopBlock, Other, ItemList, is_tight_list, nodes_of_items, top_group, with_item_where, with_item, with_part, tops_of, top_blocks, moved_item, item_behind, items_behind, moved_top}
+use Rattle.blockspec.proofs.ItemsMeet.{singles_deep, blocks_are, ItemsMeet, items_meet_at}
 use Rattle.blockspec.proofs.JoinLines.{joins_deep}
 use Rattle.blockspec.proofs.UnitsMeet.{texts_together, definitions_together, list_texts, list_definitions}
 

@@ -1,5 +1,5 @@
 -- Where the later items of a list begin: their lines ascend, so each tells which of them it is, and what stands before it.
-use Rattle.std.proofs.Common.{◌≡◌, ℕ, zero, suc, ◌+◌, ◌-◌, ◌≤◌, ◌<◌, Bool, true, false, List, [], ◌∷◌, ◌++◌, length, map, refl, sym, ◌∙◌, ap, subst, append_assoc, arith}
+use Rattle.std.proofs.Common.{◌≡◌, ℕ, suc, ◌+◌, ◌-◌, ◌≤◌, Bool, true, false, List, [], ◌∷◌, ◌++◌, length, map, refl, sym, ◌∙◌, ap, subst, append_assoc, arith}
 use Rattle.std.proofs.lemmas.List.{append-nil, map-append}
 use Rattle.std.specs.List.{flat_map}
 use Rattle.std.specs.Prelude.{Contains}
@@ -15,7 +15,7 @@ use Rattle.blockspec.proofs.BeginLaws.{begins_in}
 use Rattle.blockspec.proofs.UnitReaderLaws.{IsOne}
 use Rattle.blockspec.specs.ItemMarks.{ItemMark, item_marks, block_marks, list_marks, mark_behind}
 use Rattle.blockspec.specs.Joins.{later_lines}
-use Rattle.blockspec.specs.ListItems.{ListItem, TopBlock, Other, ItemList, top_group, tops_of, top_blocks, moved_item, item_behind}
+use Rattle.blockspec.specs.TopBlocks.{ListItem, TopBlock, Other, ItemList, top_group, tops_of, top_blocks, moved_item, item_behind}
 use Rattle.blockspec.proofs.ItemsMeet.{blocks_are, items_meet_at}
 use Rattle.blockspec.proofs.JoinLines.{AreBelow, with_number, joins_in, joins_next, joins_below, joins_only}
 use Rattle.blockspec.proofs.ListsSpliced.{one_parted, marks_parted}

@@ -4,13 +4,15 @@ use Rattle.std.proofs.lemmas.List.{map-append, append-nil, length-append, length
 use Rattle.std.specs.Option.{option_or, option_map}
 use Rattle.std.specs.Prelude.{if◌then◌else◌, unwrap_or}
 use Rattle.mdtext.specs.EntityTable.{EntityTable, usual_table}
-use Rattle.blockspec.specs.BlockLine.{BlockLine, document_line, is_blank_line}
-use Rattle.blockspec.specs.BlockStart.{Free, Container, Kind, Paragraph, SetextHeading, Table, AtxHeading, ThematicBreak, FencedCode, IndentedCode, HtmlBlock, Holds, start_where, start, begun}
+use Rattle.blockspec.specs.BlockLine.{BlockLine, document_line}
+use Rattle.blockspec.specs.BlankLines.{is_blank_line}
+use Rattle.blockspec.specs.BlockKinds.{Free, Container, Kind, Paragraph, SetextHeading, Table, AtxHeading, ThematicBreak, FencedCode, IndentedCode, HtmlBlock, Holds}
+use Rattle.blockspec.specs.BlockStart.{start_where, start, begun}
 use Rattle.blockspec.specs.BlockUnits.{visible, visible_in, groups_within}
 use Rattle.blockspec.specs.ContainerLines.{opened, inside, inner, is_bare}
 use Rattle.blockspec.specs.Laziness.{Tip}
 use Rattle.blockspec.specs.LineSummary.{Summary, no_summary, last_at, last_of, summary_within, is_apart_after}
-use Rattle.blockspec.specs.ListGroups.{grouped}
+use Rattle.blockspec.specs.Lists.{grouped}
 use Rattle.blockspec.specs.Nesting.{deep_at, first_deep, deep_within, first_too_deep}
 use Rattle.blockspec.specs.Stretches.{Stretch, Step, Continues, IsLastLine, IsOverBefore, continues_if, goes_on, step, is_single, Tail, Empty, Going, Over, Cut, no_lines, all_of, stretches, ended, gap_behind, first_of, tail_of, begin_where, grown, after_step, add_at, add, cut_from, cut_by, tip_within, cut_within}
 use Rattle.blockspec.specs.SummaryDepth.{sinks_first, sinks_later, sinks_at, sinks_by, sinks}

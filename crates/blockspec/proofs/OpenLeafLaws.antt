@@ -20,15 +20,26 @@ use Rattle.mdscan.specs.SetextHeading.{underline_level}
 use Rattle.mdscan.specs.Spans.{part}
 use Rattle.mdscan.specs.ThematicBreak.{is_thematic_break}
 use Rattle.mdleaf.specs.ParagraphText.{joined_lines}
-use Rattle.mdleaf.specs.TableRows.{row_aligns, row_texts, begins_table}
-use Rattle.blockspec.specs.BlockLine.{BlockLine, indentation, rest, is_blank_line, behind_marker}
-use Rattle.blockspec.specs.BlockStart.{Mode, Inside, Quote, Kind, Paragraph, SetextHeading, Table, AtxHeading, ThematicBreak, FencedCode, IndentedCode, HtmlBlock, Holds, begins_quote, begins_atx, begins_fence, html_by, begins_html, underlines, begins_break, item_of, may_begin_item, item_by, begins_item, last_text, start_near, start_at, start_where, start}
+use Rattle.mdleaf.specs.Tables.{row_aligns, row_texts, begins_table}
+use Rattle.blockspec.specs.BlockLine.{BlockLine, indentation, rest, behind_marker, without_last}
+use Rattle.blockspec.specs.BlankLines.{is_blank_line}
+use Rattle.blockspec.specs.BlockKinds.{Mode, Inside, Quote, Kind, Paragraph, SetextHeading, Table, AtxHeading, ThematicBreak, FencedCode, IndentedCode, HtmlBlock, Holds}
+use Rattle.blockspec.specs.BlockQuotes.{begins_quote}
+use Rattle.blockspec.specs.AtxHeadings.{begins_atx}
+use Rattle.blockspec.specs.FencedCode.{begins_fence, fenced_lines}
+use Rattle.blockspec.specs.HtmlBlocks.{html_by, begins_html}
+use Rattle.blockspec.specs.SetextHeadings.{underlines, heading_end}
+use Rattle.blockspec.specs.ThematicBreaks.{begins_break}
+use Rattle.blockspec.specs.ListItems.{item_of, may_begin_item, item_by, begins_item}
+use Rattle.blockspec.specs.Tables.{last_text, rows_end, table_end}
+use Rattle.blockspec.specs.BlockStart.{start_near, start_at, start_where, start}
 use Rattle.blockspec.specs.BlockUnits.{part_at}
 use Rattle.blockspec.specs.Laziness.{Tip, Closed}
-use Rattle.blockspec.specs.LeafContents.{without_last, code_text, fenced_lines, without_end_blank_lines, leaves_of}
-use Rattle.blockspec.specs.ListGroups.{Leaves, Group}
+use Rattle.blockspec.specs.LeafContents.{code_text, leaves_of}
+use Rattle.blockspec.specs.IndentedCode.{without_end_blank_lines}
+use Rattle.blockspec.specs.Lists.{Leaves, Group}
 use Rattle.blockspec.specs.OpenLeaf.{open_text, open_table, open_fence, open_code, open_html, done_heading, open_tip, text_leaves, open_leaves, row_of, table_from, end_blank_lines, leaf_from, NextLeaf, ContinuesAs, EndsAs, EndedBefore, continues_as_if, text_more, level_under, next_near, next_text, next_html, code_line, code_more, next_fence, next_leaf, is_parted}
-use Rattle.blockspec.specs.ParagraphEnd.{paragraph_end, heading_end, rows_end, table_end}
+use Rattle.blockspec.specs.Paragraphs.{paragraph_end}
 use Rattle.blockspec.specs.Stretches.{Step, Continues, IsLastLine, IsOverBefore, continues_if, closes, ends_html, fence_step, html_step, interrupted, paragraph_step, is_row, is_code, step, tip_at}
 use Rattle.blockspec.specs.UnitBegin.{is_stop}
 use Rattle.blockspec.proofs.LeafSteps.{IsLeaf, IsMade}

@@ -4,11 +4,11 @@ use Rattle.std.specs.Option.{option_or}
 use Rattle.std.specs.Prelude.{if◌then◌else◌}
 use Rattle.mdtext.specs.EntityTable.{EntityTable}
 use Rattle.blockspec.specs.BlockLine.{BlockLine}
-use Rattle.blockspec.specs.BlockStart.{Kind, Holds}
+use Rattle.blockspec.specs.BlockKinds.{Kind, Holds}
 use Rattle.blockspec.specs.BlockUnits.{visible_in, depth_of, group_of, groups_within, groups}
 use Rattle.blockspec.specs.ContainerLines.{inner, is_bare}
 use Rattle.blockspec.specs.LineSummary.{summary, ended_block, open_container, no_summary, closed, line_added, last_at, last_of, summary_by, summary_within, summary_of, begins_after}
-use Rattle.blockspec.specs.ListGroups.{grouped}
+use Rattle.blockspec.specs.Lists.{grouped}
 use Rattle.blockspec.specs.Nesting.{deep_within}
 use Rattle.blockspec.specs.Stretches.{Stretch, Tail, Empty, Going, Over, Cut, no_lines, cut_by, tip_within}
 use Rattle.blockspec.specs.SummaryDepth.{sinks}

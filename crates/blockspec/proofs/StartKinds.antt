@@ -13,9 +13,19 @@ use Rattle.mdscan.specs.ListMarker.{marker}
 use Rattle.mdscan.specs.SetextHeading.{underline_level}
 use Rattle.mdscan.specs.Spans.{part}
 use Rattle.mdscan.specs.ThematicBreak.{is_thematic_break}
-use Rattle.mdleaf.specs.TableRows.{begins_table}
-use Rattle.blockspec.specs.BlockLine.{BlockLine, indentation, rest, is_blank_line, behind_marker}
-use Rattle.blockspec.specs.BlockStart.{Mode, Free, Quote, Kind, Paragraph, SetextHeading, Table, AtxHeading, ThematicBreak, FencedCode, IndentedCode, HtmlBlock, Holds, is_free, is_inside, underlines, last_text, may_begin_item, begins_quote, begins_atx, begins_fence, html_by, begins_html, begins_underline, begins_break, item_of, item_by, begins_item, start_near, start_at, start_where, start, begun}
+use Rattle.mdleaf.specs.Tables.{begins_table}
+use Rattle.blockspec.specs.BlockLine.{BlockLine, indentation, rest, behind_marker}
+use Rattle.blockspec.specs.BlankLines.{is_blank_line}
+use Rattle.blockspec.specs.BlockKinds.{Mode, Free, Quote, Kind, Paragraph, SetextHeading, Table, AtxHeading, ThematicBreak, FencedCode, IndentedCode, HtmlBlock, Holds, is_free, is_inside}
+use Rattle.blockspec.specs.SetextHeadings.{underlines, begins_underline}
+use Rattle.blockspec.specs.Tables.{last_text}
+use Rattle.blockspec.specs.ListItems.{may_begin_item, item_of, item_by, begins_item}
+use Rattle.blockspec.specs.BlockQuotes.{begins_quote}
+use Rattle.blockspec.specs.AtxHeadings.{begins_atx}
+use Rattle.blockspec.specs.FencedCode.{begins_fence}
+use Rattle.blockspec.specs.HtmlBlocks.{html_by, begins_html}
+use Rattle.blockspec.specs.ThematicBreaks.{begins_break}
+use Rattle.blockspec.specs.BlockStart.{start_near, start_at, start_where, start, begun}
 
 pub record Kinds (P : Kind → Type 0) (mode : Mode) (paragraph : List BlockLine) (l : BlockLine) : Type 0 where
   pub quote : P (Holds Quote)

@@ -2,10 +2,10 @@
 use Rattle.std.proofs.Common.{◌≡◌, ℕ, Bool, true, false, List, [], ◌∷◌, ◌++◌, map, refl, sym, ◌∙◌, ap}
 use Rattle.std.proofs.lemmas.List.{append-nil}
 use Rattle.blockspec.specs.BlockTree.{ListKind}
-use Rattle.blockspec.specs.ListGroups.{Part, Leaves, Quoted, Listed, Group, is_same_list, joined, grouped}
+use Rattle.blockspec.specs.Lists.{Part, Leaves, Quoted, Listed, Group, is_same_list, joined, grouped}
 use Rattle.blockspec.specs.Meetings.{shift_group, shift_groups}
 use Rattle.blockspec.specs.NodeTree.{ItemNodes}
-use Rattle.blockspec.specs.ListItems.{ListItem, TopBlock, Other, ItemList, is_tight_list, nodes_of_items, top_group, with_item_where, with_item, item_of_group, with_part, tops_of, moved_item, item_behind, moved_top}
+use Rattle.blockspec.specs.TopBlocks.{ListItem, TopBlock, Other, ItemList, is_tight_list, nodes_of_items, top_group, with_item_where, with_item, item_of_group, with_part, tops_of, moved_item, item_behind, moved_top}
 
 abbrev of_part : ℕ → Bool → Part → Group
 of_part b gap p = record { begin = b; gap = gap; part = p }

@@ -8,7 +8,7 @@ use Rattle.mdtext.specs.EntityTable.{EntityTable}
 use Rattle.blockspec.specs.BlockLine.{BlockLine, document_line}
 use Rattle.blockspec.specs.BlockUnits.{groups_within, groups, found_units, units}
 use Rattle.blockspec.specs.LineSummary.{no_summary, line_added, summary_of, begins_after}
-use Rattle.blockspec.specs.ListGroups.{grouped}
+use Rattle.blockspec.specs.Lists.{grouped}
 use Rattle.blockspec.specs.Nesting.{deep_within, first_too_deep}
 use Rattle.blockspec.specs.Stretches.{all_of, cut_from}
 use Rattle.blockspec.specs.SummaryDepth.{sinks}

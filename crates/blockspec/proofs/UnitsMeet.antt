@@ -5,14 +5,14 @@ use Rattle.mdtext.specs.EntityTable.{EntityTable}
 use Rattle.blockspec.specs.BlockLine.{BlockLine, document_line}
 use Rattle.blockspec.specs.BlockTree.{ListKind}
 use Rattle.blockspec.specs.BlockUnits.{groups, next_begin, found_units, units}
-use Rattle.blockspec.specs.ListGroups.{Part, Listed, Group, items_before, part_before}
+use Rattle.blockspec.specs.Lists.{Part, Listed, Group, items_before, part_before}
 use Rattle.blockspec.specs.Meetings.{shift_group, joins_list, gap_after}
 use Rattle.blockspec.specs.NodeTree.{no_nodes, ItemNodes, no_item_nodes, item_node, texts_in, texts_in_items, definitions_in, definitions_in_items, unit_of}
 use Rattle.blockspec.specs.UnitBegin.{units_of, shift_found}
 use Rattle.blockspec.specs.UnitTree.{FoundUnit}
 use Rattle.blockspec.proofs.DocumentLaws.{map_length, document_units}
 use Rattle.blockspec.proofs.GroupLaws.{found_append, found_shift}
-use Rattle.blockspec.specs.ListItems.{ListItem, TopBlock, Other, ItemList, is_tight_list, nodes_of_items, top_group, moved_item, item_behind, items_behind, moved_top}
+use Rattle.blockspec.specs.TopBlocks.{ListItem, TopBlock, Other, ItemList, is_tight_list, nodes_of_items, top_group, moved_item, item_behind, items_behind, moved_top}
 use Rattle.blockspec.proofs.ItemsMeet.{blocks_are, ItemsMeet, items_meet_at}
 
 -- ---- one list of two parts

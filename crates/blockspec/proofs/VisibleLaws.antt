@@ -3,15 +3,18 @@ use Rattle.std.proofs.Common.{◌≡◌, ℕ, zero, suc, ◌+◌, ◌-◌, ◌�
 use Rattle.std.specs.Prelude.{nat_le, ◌==◌, min, cond}
 use Rattle.std.specs.Char.{is_ascii_digit}
 use Rattle.std.specs.List.{prefix_len}
-use Rattle.mdtext.specs.Columns.{indent, strip_at, width, is_space_or_tab}
+use Rattle.mdtext.specs.Columns.{indent, strip_at, width, is_space_or_tab, unindented}
 use Rattle.mdscan.specs.Blanks.{is_blank, is_blank_text}
 use Rattle.mdscan.specs.declared.list_markers.Marker.{Marker}
 use Rattle.mdscan.specs.ListMarker.{bullet as bullet_marker, ordered as marker_of, is_ordered, ordered_marker, marker}
-use Rattle.blockspec.specs.BlockLine.{BlockLine, rest, is_blank_line, without_columns, behind_marker}
-use Rattle.blockspec.specs.BlockStart.{Free, Container, Quote, Item, Kind, Paragraph, SetextHeading, Table, AtxHeading, ThematicBreak, FencedCode, IndentedCode, HtmlBlock, Holds, padding, begun}
+use Rattle.blockspec.specs.BlockLine.{BlockLine, rest, without_columns, behind_marker}
+use Rattle.blockspec.specs.BlankLines.{is_blank_line}
+use Rattle.blockspec.specs.BlockKinds.{Free, Container, Quote, Item, Kind, Paragraph, SetextHeading, Table, AtxHeading, ThematicBreak, FencedCode, IndentedCode, HtmlBlock, Holds}
+use Rattle.blockspec.specs.ListItems.{padding}
+use Rattle.blockspec.specs.BlockStart.{begun}
 use Rattle.blockspec.specs.BlockUnits.{visible, visible_in}
-use Rattle.blockspec.specs.ContainerLines.{matches, unquoted, opened, taken_off, inside_where, inside, inner}
-use Rattle.mdtext.specs.Columns.{unindented}
+use Rattle.blockspec.specs.ContainerLines.{matches, opened, taken_off, inside_where, inside, inner}
+use Rattle.blockspec.specs.BlockQuotes.{unquoted}
 use Rattle.blockspec.proofs.StartKinds.{Kinds, begun_kinds}
 
 -- ---- what a container takes off a line

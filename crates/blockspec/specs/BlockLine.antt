@@ -1,8 +1,6 @@
 -- The lines of a container, as blocks are looked for in them (CommonMark 2.2, 3).
-use Rattle.std.specs.Prelude.{ℕ, ◌+◌, Bool, true, false, List, drop}
-use Rattle.mdtext.specs.Columns.{Line, indent, strip}
-use Rattle.mdscan.specs.Blanks.{is_blank_text}
-use Rattle.mdtext.specs.Columns.{unindented}
+use Rattle.std.specs.Prelude.{ℕ, ◌+◌, ◌-◌, Bool, true, false, List, drop, length, take}
+use Rattle.mdtext.specs.Columns.{Line, indent, strip, unindented}
 
 -- What is left of a line where the markers and the indentation of the containers around it are taken off. It is lazy
 -- if it goes on with a paragraph in a container around it that it does not match (CommonMark 5.1): such a line is whole.
@@ -21,10 +19,6 @@ indentation l = indent l.line
 abbrev pub rest : BlockLine → List ℕ
 rest l = unindented l.line.text
 
--- nothing but spaces and tabs (CommonMark 2.1)
-abbrev pub is_blank_line : BlockLine → Bool
-is_blank_line l = is_blank_text l.line.text
-
 -- the line without its first columns of indentation, or without as many as it has
 abbrev pub without_columns : BlockLine → ℕ → BlockLine
 without_columns l columns = record { line = strip l.line columns; lazy = l.lazy }
@@ -36,3 +30,7 @@ as_lazy l = record { line = l.line; lazy = true }
 abbrev pub behind_marker : BlockLine → ℕ → BlockLine
 behind_marker l width =
     record { line = record { column = l.line.column + indentation l + width; text = drop width (rest l) }; lazy = false }
+
+-- all but the last of some lines
+abbrev pub without_last : {A : Type 0} → List A → List A
+without_last xs = take (length xs - 1) xs

@@ -4,15 +4,15 @@ use Rattle.std.specs.Prelude.{ℕ, zero, suc, ◌+◌, ◌-◌, List, [], ◌∷
 use Rattle.std.specs.List.{flat_map}
 use Rattle.mdtext.specs.EntityTable.{EntityTable}
 use Rattle.mdscan.specs.Blanks.{is_blank}
-use Rattle.mdleaf.specs.LinkDefinition.{LinkDefinition}
+use Rattle.mdleaf.specs.DefinedLinks.{LinkDefinition}
 use Rattle.blockspec.specs.BlockLine.{BlockLine, document_line}
-use Rattle.blockspec.specs.BlockStart.{Container, Quote, Item, Kind, Holds}
+use Rattle.blockspec.specs.BlockKinds.{Container, Quote, Item, Kind, Holds}
 use Rattle.blockspec.specs.ContainerLines.{inner}
 use Rattle.blockspec.specs.LeafContents.{leaves_of}
-use Rattle.blockspec.specs.ListGroups.{Part, Leaves, Quoted, Listed, Group, kind_of, grouped, is_tight_inside, nodes_of, part_before}
+use Rattle.blockspec.specs.Lists.{Part, Leaves, Quoted, Listed, Group, kind_of, grouped, is_tight_inside, nodes_of, part_before}
 use Rattle.blockspec.specs.NodeTree.{no_nodes, no_item_nodes, item_node, unit_of}
 use Rattle.blockspec.specs.Stretches.{Stretch, stretches, cut_within}
-use Rattle.blockspec.specs.TaskItem.{with_task}
+use Rattle.blockspec.specs.TaskListItems.{with_task}
 use Rattle.blockspec.specs.UnitTree.{FoundUnit}
 
 -- what a container gives that holds these

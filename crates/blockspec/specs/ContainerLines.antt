@@ -1,22 +1,17 @@
 -- What a container takes of its lines (CommonMark 5.1, 5.2).
 use Rattle.std.specs.Prelude.{Bool, true, false, not, ◌||◌, ◌&&◌, nat_le, List, [], ◌∷◌, map}
 use Rattle.mdscan.specs.BlockQuote.{is_quote_marker}
-use Rattle.blockspec.specs.BlockLine.{BlockLine, indentation, rest, is_blank_line, without_columns, as_lazy, behind_marker}
-use Rattle.blockspec.specs.BlockStart.{Container, Quote, Item, padding}
+use Rattle.blockspec.specs.BlockLine.{BlockLine, indentation, rest, without_columns, as_lazy, behind_marker}
+use Rattle.blockspec.specs.BlankLines.{is_blank_line}
+use Rattle.blockspec.specs.BlockKinds.{Container, Quote, Item}
+use Rattle.blockspec.specs.BlockQuotes.{unquoted}
+use Rattle.blockspec.specs.ListItems.{behind_padding}
 
 -- A later line matches a quote if it has the marker, and an item if it is blank or indented by the needed columns. A
 -- lazy line matches no container.
 unfoldable pub matches : Container → BlockLine → Bool
 matches Quote l = not l.lazy && nat_le (indentation l) 3 && is_quote_marker (rest l)
 matches (Item marker needed) l = not l.lazy && (is_blank_line l || nat_le needed (indentation l))
-
--- a line of a quote without the marker, and without one column of space behind it
-abbrev pub unquoted : BlockLine → BlockLine
-unquoted l = without_columns (behind_marker l 1) 1
-
--- an item's first line without the marker and the columns behind it that belong to the item
-abbrev pub behind_padding : (behind : BlockLine) → BlockLine
-behind_padding behind = without_columns behind (padding behind)
 
 -- what a container's first line holds
 unfoldable pub opened : Container → BlockLine → BlockLine

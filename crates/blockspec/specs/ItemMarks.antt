@@ -4,11 +4,11 @@ use Rattle.std.specs.List.{flat_map}
 use Rattle.mdtext.specs.EntityTable.{EntityTable}
 use Rattle.blockspec.specs.BlockLine.{BlockLine}
 use Rattle.blockspec.specs.BlockUnits.{groups}
-use Rattle.blockspec.specs.ListGroups.{nodes_of}
+use Rattle.blockspec.specs.Lists.{nodes_of}
 use Rattle.blockspec.specs.Meetings.{gap_after}
 use Rattle.blockspec.specs.NodeTree.{texts_in, texts_in_items, definitions_in, definitions_in_items}
 use Rattle.blockspec.specs.Joins.{Join}
-use Rattle.blockspec.specs.ListItems.{ListItem, TopBlock, Other, ItemList, top_blocks}
+use Rattle.blockspec.specs.TopBlocks.{ListItem, TopBlock, Other, ItemList, top_blocks}
 
 -- A later item of a list: its line, counted from the list's first one, how many inline texts and definitions the items before it give, and whether the list
 -- is loose by a gap before it or inside the item before it.

@@ -4,7 +4,7 @@ use Rattle.std.specs.List.{flat_map, list_any}
 use Rattle.mdtext.specs.EntityTable.{EntityTable}
 use Rattle.blockspec.specs.BlockLine.{document_line}
 use Rattle.blockspec.specs.NodeTree.{texts_in_items}
-use Rattle.blockspec.specs.ListItems.{ListItem, TopBlock, Other, ItemList, top_blocks}
+use Rattle.blockspec.specs.TopBlocks.{ListItem, TopBlock, Other, ItemList, top_blocks}
 
 -- the first lines of a list's later items
 abbrev pub later_lines : TopBlock → List ℕ

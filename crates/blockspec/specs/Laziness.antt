@@ -1,7 +1,9 @@
 -- Lazy continuation lines (CommonMark 5.1, 5.2).
 use Rattle.std.specs.Prelude.{Bool, true, false, not, ◌||◌, ◌&&◌, is_none, []}
-use Rattle.blockspec.specs.BlockLine.{BlockLine, is_blank_line}
-use Rattle.blockspec.specs.BlockStart.{Lazy, start}
+use Rattle.blockspec.specs.BlockLine.{BlockLine}
+use Rattle.blockspec.specs.BlankLines.{is_blank_line}
+use Rattle.blockspec.specs.BlockKinds.{Lazy}
+use Rattle.blockspec.specs.BlockStart.{start}
 
 -- The innermost block that is open at the end of some lines: a paragraph; fenced code or an HTML block, whose lines are
 -- content whatever they hold; or another, or none.

@@ -1,29 +1,21 @@
 -- What the lines of a leaf block give (CommonMark 4; GFM Tables (extension)).
-use Rattle.std.specs.Prelude.{ℕ, ◌-◌, Bool, true, false, List, [], ◌∷◌, ◌++◌, length, map, take}
-use Rattle.std.specs.List.{flat_map, suffix_len}
+use Rattle.std.specs.Prelude.{ℕ, List, [], ◌∷◌, ◌++◌, map}
+use Rattle.std.specs.List.{flat_map}
 use Rattle.mdtext.specs.EntityTable.{EntityTable}
 use Rattle.mdleaf.specs.CodeLanguage.{code_language, code_meta}
 use Rattle.mdleaf.specs.ParagraphText.{joined_lines}
-use Rattle.blockspec.specs.BlockLine.{BlockLine, rest, is_blank_line, without_columns}
-use Rattle.blockspec.specs.BlockStart.{Kind, Paragraph, SetextHeading, Table, AtxHeading, ThematicBreak, FencedCode, IndentedCode, HtmlBlock, Holds}
+use Rattle.blockspec.specs.BlockLine.{BlockLine, rest, without_columns, without_last}
+use Rattle.blockspec.specs.BlockKinds.{Kind, Paragraph, SetextHeading, Table, AtxHeading, ThematicBreak, FencedCode, IndentedCode, HtmlBlock, Holds}
 use Rattle.blockspec.specs.NodeTree.{Leaf, heading_leaf, break_leaf, code_leaf, html_leaf}
-use Rattle.blockspec.specs.ParagraphEnd.{paragraph_end, heading_end, table_end}
-
-abbrev pub without_last : {A : Type 0} → List A → List A
-without_last xs = take (length xs - 1) xs
+use Rattle.blockspec.specs.Paragraphs.{paragraph_end}
+use Rattle.blockspec.specs.SetextHeadings.{heading_end}
+use Rattle.blockspec.specs.Tables.{table_end}
+use Rattle.blockspec.specs.FencedCode.{fenced_lines}
+use Rattle.blockspec.specs.IndentedCode.{without_end_blank_lines}
 
 -- the lines of code without their indentation of so many columns, or without as much of it as they have; each with a line ending
 abbrev pub code_text : (columns : ℕ) → List BlockLine → List ℕ
 code_text columns ls = flat_map (λ l. (without_columns l columns).line.text ++ 10 ∷ []) ls
-
--- The content of fenced code (CommonMark 4.5) stands between the opening fence and the closing one, if that came.
-abbrev pub fenced_lines : (closed : Bool) → (later : List BlockLine) → List BlockLine
-fenced_lines true later = without_last later
-fenced_lines false later = later
-
--- lines without the blank ones at their end
-abbrev pub without_end_blank_lines : List BlockLine → List BlockLine
-without_end_blank_lines ls = take (length ls - suffix_len is_blank_line ls) ls
 
 -- the leaf blocks and definitions that a stretch of a kind gives; a container is none
 unfoldable pub leaves_of : EntityTable → Kind → (first : BlockLine) → (later : List BlockLine) → List Leaf

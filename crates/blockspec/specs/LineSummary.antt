@@ -2,13 +2,15 @@
 -- items are joined to lists as they come; and the last one. Of a container nothing is kept but the same of what it holds.
 use Rattle.std.specs.Prelude.{ℕ, zero, suc, Bool, true, false, not, ◌&&◌, List, [], ◌∷◌, map, Option, Some, None}
 use Rattle.mdtext.specs.EntityTable.{EntityTable}
-use Rattle.blockspec.specs.BlockLine.{BlockLine, is_blank_line}
-use Rattle.blockspec.specs.BlockStart.{Container, Kind, Holds, begun}
+use Rattle.blockspec.specs.BlockLine.{BlockLine}
+use Rattle.blockspec.specs.BlankLines.{is_blank_line}
+use Rattle.blockspec.specs.BlockKinds.{Container, Kind, Holds}
+use Rattle.blockspec.specs.BlockStart.{begun}
 use Rattle.blockspec.specs.BlockUnits.{container_part, group_of, groups_within, depth_of}
 use Rattle.blockspec.specs.ContainerLines.{opened, inside, inner, is_bare}
 use Rattle.blockspec.specs.Laziness.{Tip, Closed, is_verbatim}
 use Rattle.blockspec.specs.BlockTree.{ListKind}
-use Rattle.blockspec.specs.ListGroups.{Part, Leaves, Quoted, Listed, Group, grouped, merged}
+use Rattle.blockspec.specs.Lists.{Part, Leaves, Quoted, Listed, Group, grouped, merged}
 use Rattle.blockspec.specs.OpenLeaf.{OpenLeaf, open_tip, open_leaves, leaf_from, NextLeaf, ContinuesAs, EndsAs, EndedBefore, next_leaf, is_parted}
 use Rattle.blockspec.specs.UnitBegin.{list_mark, same_mark}
 use Rattle.blockspec.specs.Stretches.{Stretch, goes_on, is_single, Tail, Empty, Going, Over, Cut, first_of, cut_within}

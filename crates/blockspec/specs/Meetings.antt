@@ -1,10 +1,11 @@
 -- What lines give behind others: the same, so many lines further on; where the two meet one list may go on.
 use Rattle.std.specs.Prelude.{ℕ, ◌+◌, Bool, not, ◌&&◌, List, [], ◌∷◌, map, true, ◌≡◌}
-use Rattle.blockspec.specs.BlockLine.{BlockLine, document_line, is_blank_line}
+use Rattle.blockspec.specs.BlockLine.{BlockLine, document_line}
+use Rattle.blockspec.specs.BlankLines.{is_blank_line}
 use Rattle.blockspec.specs.BlockStart.{begun}
 use Rattle.blockspec.specs.BlockUnits.{depth_of}
 use Rattle.blockspec.specs.Laziness.{Tip}
-use Rattle.blockspec.specs.ListGroups.{Group}
+use Rattle.blockspec.specs.Lists.{Group}
 use Rattle.blockspec.specs.Stretches.{Cut, gap_behind, cut_within, tip_within}
 use Rattle.blockspec.specs.UnitBegin.{is_apart, list_mark, same_mark, tail_mark, begins_unit}
 

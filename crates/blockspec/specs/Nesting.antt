@@ -2,7 +2,7 @@
 use Rattle.std.specs.Prelude.{ℕ, zero, suc, ◌+◌, List, [], ◌∷◌, map, Option, Some, None}
 use Rattle.std.specs.Option.{option_or, option_map}
 use Rattle.blockspec.specs.BlockLine.{BlockLine, document_line}
-use Rattle.blockspec.specs.BlockStart.{Kind, Holds}
+use Rattle.blockspec.specs.BlockKinds.{Kind, Holds}
 use Rattle.blockspec.specs.BlockUnits.{depth_of}
 use Rattle.blockspec.specs.ContainerLines.{inner}
 use Rattle.blockspec.specs.Stretches.{Stretch, stretches, cut_within}

@@ -7,13 +7,23 @@ use Rattle.mdscan.specs.declared.delimiter_rows.Align.{Align}
 use Rattle.mdscan.specs.SetextHeading.{underline_level}
 use Rattle.mdleaf.specs.CodeLanguage.{code_language, code_meta}
 use Rattle.mdleaf.specs.ParagraphText.{joined_lines, without_end_blanks, behind_definitions, is_definitions_alone}
-use Rattle.mdleaf.specs.TableRows.{filled, row_aligns, row_texts, begins_table}
-use Rattle.blockspec.specs.BlockLine.{BlockLine, indentation, rest, is_blank_line, without_columns}
-use Rattle.blockspec.specs.BlockStart.{Inside, Kind, Paragraph, SetextHeading, Table, AtxHeading, ThematicBreak, FencedCode, IndentedCode, HtmlBlock, Holds, begins_quote, begins_atx, begins_fence, begins_html, begins_break, begins_item, last_text}
+use Rattle.mdleaf.specs.Tables.{filled, row_aligns, row_texts, begins_table}
+use Rattle.blockspec.specs.BlockLine.{BlockLine, indentation, rest, without_columns, without_last}
+use Rattle.blockspec.specs.BlankLines.{is_blank_line}
+use Rattle.blockspec.specs.BlockKinds.{Inside, Kind, Paragraph, SetextHeading, Table, AtxHeading, ThematicBreak, FencedCode, IndentedCode, HtmlBlock, Holds}
+use Rattle.blockspec.specs.BlockQuotes.{begins_quote}
+use Rattle.blockspec.specs.AtxHeadings.{begins_atx}
+use Rattle.blockspec.specs.FencedCode.{begins_fence, fenced_lines}
+use Rattle.blockspec.specs.HtmlBlocks.{begins_html}
+use Rattle.blockspec.specs.ThematicBreaks.{begins_break}
+use Rattle.blockspec.specs.ListItems.{begins_item}
+use Rattle.blockspec.specs.Tables.{last_text}
 use Rattle.blockspec.specs.Laziness.{Tip, Text, Verbatim, Closed}
-use Rattle.blockspec.specs.LeafContents.{without_last, code_text, fenced_lines, without_end_blank_lines}
+use Rattle.blockspec.specs.LeafContents.{code_text}
+use Rattle.blockspec.specs.IndentedCode.{without_end_blank_lines}
 use Rattle.blockspec.specs.NodeTree.{Leaf, heading_leaf, break_leaf, code_leaf, html_leaf, table_leaf}
-use Rattle.blockspec.specs.ParagraphEnd.{definitions_at, paragraph_if_any}
+use Rattle.blockspec.specs.LinkDefinitions.{definitions_at}
+use Rattle.blockspec.specs.Paragraphs.{paragraph_if_any}
 use Rattle.blockspec.specs.Stretches.{closes, ends_html, is_row, is_code}
 
 pub data OpenLeaf : Type 0 where

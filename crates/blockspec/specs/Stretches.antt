@@ -2,8 +2,10 @@
 use Rattle.std.specs.Prelude.{ℕ, zero, suc, Bool, true, false, not, ◌||◌, ◌&&◌, nat_lt, nat_le, is_none, List, [], ◌∷◌, ◌++◌, Option, Some, None}
 use Rattle.mdscan.specs.CodeFence.{is_closing_fence}
 use Rattle.mdscan.specs.HtmlBlock.{holds_end}
-use Rattle.blockspec.specs.BlockLine.{BlockLine, indentation, rest, is_blank_line}
-use Rattle.blockspec.specs.BlockStart.{Free, Inside, Container, Kind, Paragraph, SetextHeading, Table, AtxHeading, ThematicBreak, FencedCode, IndentedCode, HtmlBlock, Holds, start, begun}
+use Rattle.blockspec.specs.BlockLine.{BlockLine, indentation, rest}
+use Rattle.blockspec.specs.BlankLines.{is_blank_line}
+use Rattle.blockspec.specs.BlockKinds.{Free, Inside, Container, Kind, Paragraph, SetextHeading, Table, AtxHeading, ThematicBreak, FencedCode, IndentedCode, HtmlBlock, Holds}
+use Rattle.blockspec.specs.BlockStart.{start, begun}
 use Rattle.blockspec.specs.ContainerLines.{matches, inner, is_bare}
 use Rattle.blockspec.specs.Laziness.{Tip, Text, Verbatim, Closed, is_verbatim, continues_lazily}
 

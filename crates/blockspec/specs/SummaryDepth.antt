@@ -3,7 +3,8 @@
 use Rattle.std.specs.Prelude.{ℕ, zero, suc, Bool, true, false, List, [], ◌∷◌, Option, Some, None, if◌then◌else◌}
 use Rattle.mdtext.specs.EntityTable.{EntityTable}
 use Rattle.blockspec.specs.BlockLine.{BlockLine}
-use Rattle.blockspec.specs.BlockStart.{Kind, Holds, begun}
+use Rattle.blockspec.specs.BlockKinds.{Kind, Holds}
+use Rattle.blockspec.specs.BlockStart.{begun}
 use Rattle.blockspec.specs.ContainerLines.{opened, inside}
 use Rattle.blockspec.specs.LineSummary.{Summary, summary, Last, open_container, no_summary, line_added, is_apart_after}
 

@@ -1,10 +1,11 @@
 -- Where a list may be parted, and what makes it loose there, as the summary of the lines before a line tells (CommonMark 5.3).
 use Rattle.std.specs.Prelude.{Bool, false, not, ◌&&◌, List, [], ◌∷◌}
 use Rattle.mdtext.specs.EntityTable.{EntityTable}
-use Rattle.blockspec.specs.BlockLine.{BlockLine, is_blank_line}
+use Rattle.blockspec.specs.BlockLine.{BlockLine}
+use Rattle.blockspec.specs.BlankLines.{is_blank_line}
 use Rattle.blockspec.specs.BlockStart.{begun}
 use Rattle.blockspec.specs.LineSummary.{Summary, summary, last_groups, summary_gap, is_apart_after, mark_of}
-use Rattle.blockspec.specs.ListGroups.{Part, Leaves, Quoted, Listed, Group}
+use Rattle.blockspec.specs.Lists.{Part, Leaves, Quoted, Listed, Group}
 use Rattle.blockspec.specs.UnitBegin.{list_mark, same_mark}
 
 -- whether a line begins a later item of the list that stands last

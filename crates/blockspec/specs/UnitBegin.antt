@@ -1,12 +1,14 @@
 -- Whether a line begins a unit behind others: it goes on with no block, and is no item of the list that stands last.
 use Rattle.std.specs.Prelude.{ℕ, ◌+◌, Bool, true, false, not, ◌&&◌, List, length, Option, Some, None}
 use Rattle.mdtext.specs.EntityTable.{EntityTable}
-use Rattle.blockspec.specs.BlockLine.{BlockLine, is_blank_line}
-use Rattle.blockspec.specs.BlockStart.{Item, Kind, Holds, begun}
+use Rattle.blockspec.specs.BlockLine.{BlockLine}
+use Rattle.blockspec.specs.BlankLines.{is_blank_line}
+use Rattle.blockspec.specs.BlockKinds.{Item, Kind, Holds}
+use Rattle.blockspec.specs.BlockStart.{begun}
 use Rattle.blockspec.specs.BlockTree.{ListKind}
 use Rattle.blockspec.specs.BlockUnits.{depth_of, groups, found_units}
 use Rattle.blockspec.specs.Laziness.{Tip}
-use Rattle.blockspec.specs.ListGroups.{kind_of, is_same_list}
+use Rattle.blockspec.specs.Lists.{kind_of, is_same_list}
 use Rattle.blockspec.specs.Stretches.{Step, Continues, IsLastLine, IsOverBefore, step, Tail, Empty, Going, Over, Cut, cut_within, tip_within}
 use Rattle.blockspec.specs.UnitTree.{FoundUnit}
 

@@ -1,7 +1,7 @@
 -- What a unit is seen as.
 use Rattle.std.specs.Prelude.{ℕ, List, refl}
 use Rattle.std.specs.Coded.{Coded, code_by, coded×, coded_ℕ, coded_list}
-use Rattle.mdleaf.specs.LinkDefinition.{LinkDefinition, definition_code}
+use Rattle.mdleaf.specs.DefinedLinks.{LinkDefinition, definition_code}
 use Rattle.blockspec.specs.BlockTree.{Blocks}
 use Rattle.blockspec.specs.StoredBlocks.{blocks_code}
 

@@ -5,12 +5,12 @@ ghost use Rattle.mdtext.specs.EntityTable.{EntityTable};
 ghost use Rattle.blockspec.specs.BlockLine.{BlockLine, document_line};
 ghost use Rattle.blockspec.specs.BlockTree.{ListKind};
 ghost use Rattle.blockspec.specs.BlockUnits.{groups, units};
-ghost use Rattle.blockspec.specs.ListGroups.{Listed, items_before};
+ghost use Rattle.blockspec.specs.Lists.{Listed, items_before};
 ghost use Rattle.blockspec.specs.Meetings.{gap_after, joins_list};
 ghost use Rattle.blockspec.specs.UnitBegin.{shift_found};
 ghost use Rattle.blockspec.specs.UnitTree.{FoundUnit};
 ghost use Rattle.blockspec.specs.Joins.{joins};
-ghost use Rattle.blockspec.specs.ListItems.{ItemList, ListItem, TopBlock, is_tight_list, items_behind, joined_blocks, nodes_of_items, top_blocks, top_group};
+ghost use Rattle.blockspec.specs.TopBlocks.{ItemList, ListItem, TopBlock, is_tight_list, items_behind, joined_blocks, nodes_of_items, top_blocks, top_group};
 
 /// A document's blocks are the same where its lists keep their items apart.
 pub fn lists_keep_their_items()

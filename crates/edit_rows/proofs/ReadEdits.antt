@@ -2,7 +2,7 @@
 use Rattle.std.specs.Fmt.{digits}
 use Rattle.std.specs.Prelude.{ℕ, List, map, Bool, true, false, Option, Some, None}
 use Rattle.mdtext.specs.EntityTable.{builtin_table}
-use Rattle.mdtext.specs.Escaped.{escaped_byte}
+use Rattle.mdtext.specs.HtmlEscapes.{escaped_byte}
 use Rattle.mdtext.specs.EscapedUrl.{is_url_plain, url_byte}
 use Rattle.percent_encoding.specs.Percent.{percent_encode_byte}
 use Rattle.mdhtml.specs.declared.options.Breaks.TheVariants.{Soft}

@@ -5,7 +5,7 @@ use Rattle.blockspec.specs.BlockLine.{document_line}
 use Rattle.block_rows.proofs.ReadText.{deep_line}
 use Rattle.inline_rows.specs.Opened.{inline_words}
 use Rattle.blockspec.specs.BlockUnits.{units}
-use Rattle.blockspec.specs.ListItems.{with_item, tops_of, top_blocks}
+use Rattle.blockspec.specs.TopBlocks.{with_item, tops_of, top_blocks}
 use Rattle.blockspec.specs.ItemMarks.{ItemMark, item_marks, list_marks}
 use Rattle.blockspec.specs.Joins.{Join, block_joins}
 use Rattle.mdsource.specs.Setting.{Setting, Source}

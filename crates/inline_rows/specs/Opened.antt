@@ -8,12 +8,13 @@ use Rattle.ucd_category.specs.GeneralCategory.{general_category}
 use Rattle.ucd_category.specs.GeneralCategoryRows.{general_category_rows}
 use Rattle.ucd_table.specs.Rows.{value_in}
 use Rattle.mdtext.specs.Labels.{words, has_bare_bracket}
-use Rattle.mdtext.specs.References.{reference, meaning, unescaped_from}
-use Rattle.mdscan.specs.AutoLink.{scheme_length, uri_end, mail_marks, domain_label_length, dotted_label_length, mail_end, autolink_at}
-use Rattle.mdscan.specs.Escapes.{run_before}
+use Rattle.mdtext.specs.CharacterReferences.{reference}
+use Rattle.mdtext.specs.Unescaped.{meaning, unescaped_from}
+use Rattle.mdscan.specs.Autolink.{scheme_length, uri_end, mail_marks, domain_label_length, dotted_label_length, mail_end, autolink_at}
+use Rattle.mdscan.specs.BackslashEscapes.{run_before}
 use Rattle.mdscan.specs.Spacing.{spacing_length}
 use Rattle.mdscan.specs.Tag.{tag_name_length, attribute_name_length, quoted_length, value_length, equals_length, value_part_length, attribute_length, open_end_length, open_tag, closing_tag}
-use Rattle.mdscan.specs.InlineTail.{tail_to, titled_tail, tail_inside, inline_tail_at}
+use Rattle.mdscan.specs.LinkTail.{tail_to, titled_tail, tail_inside, inline_tail_at}
 use Rattle.mdscan.specs.LinkDestination.{angle_destination, bare_end, destination_at}
 use Rattle.mdscan.specs.LinkLabel.{label_at}
 use Rattle.mdscan.specs.LinkTitle.{title_to, title_at}
@@ -21,14 +22,15 @@ use Rattle.mdscan.specs.RawHtml.{place_of, delimited, comment, declaration, raw_
 use Rattle.mdscan.specs.Repeats.{repeats}
 use Rattle.mdpair.specs.Neighbours.{left_flanking, right_flanking, opens_between, closes_between, run_at}
 use Rattle.mdpair.specs.Matches.{matches_in, matches}
-use Rattle.inlinespec.specs.AutolinkText.{without_references}
+use Rattle.inlinespec.specs.CharacterReferences.{without_references}
 use Rattle.inlinespec.specs.CodeSpans.{code_content, code_inside}
 use Rattle.inlinespec.specs.InlineEvents.{rows_of}
-use Rattle.inlinespec.specs.Lexing.{escape_lexeme, lex}
+use Rattle.inlinespec.specs.BackslashEscapes.{escape_lexeme}
+use Rattle.inlinespec.specs.Lexing.{lex}
 use Rattle.inlinespec.specs.LineBreaks.{spaced_break, backslash_break}
 use Rattle.inlinespec.specs.LinkTails.{link_tail_at}
 use Rattle.inlinespec.specs.Nesting.{nest}
-use Rattle.inlinespec.specs.Settled.{settled}
+use Rattle.inlinespec.specs.Emphasis.{settled}
 use Rattle.inlinespec.specs.TextReading.{item_at, items_from, pieces_after, asks_of}
 use Rattle.inlinespec.specs.TextTree.{inl, asked}
 

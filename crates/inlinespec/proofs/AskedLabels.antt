@@ -10,10 +10,12 @@ use Rattle.std.proofs.lemmas.Map.Text.{is_eq-slice_cmp}
 use Rattle.std.proofs.lemmas.Slice.Eq.{bytes_eq-Decides}
 use Rattle.mdtext.specs.EntityTable.{EntityTable}
 use Rattle.inlinespec.specs.LabelMap.{LinkTarget}
-use Rattle.inlinespec.specs.Lexing.{Kind, Leaf, Delimiters, OpenBracket, CloseBracket, lex}
+use Rattle.inlinespec.specs.Lexemes.{Kind, Leaf, Delimiters, OpenBracket, CloseBracket}
+use Rattle.inlinespec.specs.Lexing.{lex}
 use Rattle.inlinespec.specs.LinkTails.{Table, LinkTail, Direct, ByLabel, NoLabel, link_tail_at}
-use Rattle.inlinespec.specs.Settled.{Piece}
-use Rattle.inlinespec.specs.TextReading.{Opened, nearest_opener, is_live, Item, closing_bracket, looked_up, by_link_tail, closing, item_by, item_at, after_deed, items_from, reading, asks_of}
+use Rattle.inlinespec.specs.Pieces.{Piece}
+use Rattle.inlinespec.specs.Links.{Opened, nearest_opener, is_live}
+use Rattle.inlinespec.specs.TextReading.{Item, closing_bracket, looked_up, by_link_tail, closing, item_by, item_at, after_deed, items_from, reading, asks_of}
 use Rattle.inlinespec.specs.TextTree.{events_of, as_set, inl, asked, Agree}
 use Rattle.inlinespec.specs.InlineEvents.{tree_of}
 

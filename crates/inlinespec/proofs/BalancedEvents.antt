@@ -2,7 +2,7 @@
 use Rattle.std.proofs.Common.{◌≡◌, ℕ, suc, ◌+◌, ◌-◌, ◌<◌, ◌≤◌, Bool, true, false, eqb, nat_le, List, [], ◌∷◌, ◌++◌, length, length-append, replicate, refl, sym, ap, ◌∙◌, subst, append_assoc, arith}
 use Rattle.std.specs.Prelude.{if◌then◌else◌, codes}
 use Rattle.std.proofs.lemmas.Bool.Decides.{nat_tests}
-use Rattle.mdpair.specs.declared.runs.DelimiterChar.{DelimiterChar}
+use Rattle.mdpair.specs.declared.delimiter_runs.DelimiterChar.{DelimiterChar}
 use Rattle.mdpair.specs.declared.emphasis.Match.{Match}
 use Rattle.mdpair.specs.Neighbours.{byte_of}
 use Rattle.mdpair.specs.Matches.{matches}
@@ -10,7 +10,8 @@ use Rattle.mdpair.proofs.OrderedMatches.{AreOrdered, matches_ordered}
 use Rattle.inlinespec.specs.InlineTree.{Inlines, inline, code, raw, soft, hard}
 use Rattle.inlinespec.specs.InlineEvents.{InlineSpan, Event, CodeSpan, RawHtml, SoftBreak, HardBreak, Enter, Leave, written, within, in_front, with_byte, closed, rows_of}
 use Rattle.inlinespec.proofs.TreeEvents.{some_more, some_rows}
-use Rattle.inlinespec.specs.Settled.{span_by, Piece, Made, Run, Opening, runs_of, taken, ends, begins, bracket_text, settled_from, settled}
+use Rattle.inlinespec.specs.Emphasis.{span_by, runs_of, taken, ends, begins, settled_from, settled}
+use Rattle.inlinespec.specs.Pieces.{Piece, Made, Run, Opening, bracket_text}
 
 -- how many rows there are
 unfoldable pub rows : List Event → ℕ

@@ -3,9 +3,9 @@ use Rattle.std.proofs.Common.{◌≡◌, ℕ, ◌+◌, ◌-◌, ◌<◌, ◌≤�
 use Rattle.std.specs.List.{prefix_len, slice_range}
 use Rattle.std.proofs.lemmas.List.{drop-drop}
 use Rattle.mdscan.specs.Blanks.{begins_with}
-use Rattle.inlinespec.specs.CodeSpans.{backticks, before_backticks, code_content, code_inside}
+use Rattle.inlinespec.specs.CodeSpans.{backticks, before_backticks, code_content, code_inside, code_lexeme}
 use Rattle.inlinespec.specs.InlineEvents.{CodeSpan, written}
-use Rattle.inlinespec.specs.Lexing.{leaf, as_written, code_lexeme}
+use Rattle.inlinespec.specs.Lexemes.{leaf, as_written}
 use Rattle.inlinespec.proofs.BacktickPlaces.{length_here, behind_string}
 
 inside_is : (text : List ℕ) (at : ℕ) → code_inside (drop at text) ≡ option_map (λ k. take k (drop (at + backticks (drop at text)) text)) (before_backticks false (backticks (drop at text)) (drop (at + backticks (drop at text)) text))

@@ -8,8 +8,9 @@ use Rattle.std.proofs.lemmas.Bool.Decides.{nat_tests}
 use Rattle.mdscan.proofs.Stops.{from_here}
 use Rattle.mdscan.specs.Blanks.{begins_with}
 use Rattle.inlinespec.specs.InlineEvents.{HardBreak, SoftBreak, written}
-use Rattle.inlinespec.specs.Lexing.{leaf, as_written, escape_lexeme, break_or_written}
-use Rattle.inlinespec.specs.LineBreaks.{spaces, spaced_break, backslash_break, break_after}
+use Rattle.inlinespec.specs.Lexemes.{leaf, as_written}
+use Rattle.inlinespec.specs.BackslashEscapes.{escape_lexeme}
+use Rattle.inlinespec.specs.LineBreaks.{break_or_written, spaces, spaced_break, backslash_break, break_after}
 
 two_front : (text : List ℕ) (at b : ℕ) → get_or text at 0 ≡ 92 → at + 1 < length text → get_or text (at + 1) 0 ≡ b → drop at text ≡ 92 ∷ b ∷ drop (at + 2) text
 two_front text at b first inside second =

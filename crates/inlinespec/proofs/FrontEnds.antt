@@ -9,9 +9,9 @@ use Rattle.std.proofs.lemmas.List.{get_or_past}
 use Rattle.std.proofs.lemmas.Bool.Decides.{nat_tests}
 use Rattle.std.proofs.lemmas.Bool.{and_parts}
 use Rattle.mdtext.specs.EntityTable.{EntityTable, entity_text}
-use Rattle.mdtext.specs.References.{Meaning, numeric, named, reference}
+use Rattle.mdtext.specs.CharacterReferences.{Meaning, numeric, named, reference}
 use Rattle.mdscan.specs.declared.autolinks.Auto.{Auto}
-use Rattle.mdscan.specs.AutoLink.{scheme_length, in_uri, in_mail_name, domain_label_length, dotted_label_length, uri_end, mail_end, auto_of, or_auto, autolink_at}
+use Rattle.mdscan.specs.Autolink.{scheme_length, in_uri, in_mail_name, domain_label_length, dotted_label_length, uri_end, mail_end, auto_of, or_auto, autolink_at}
 use Rattle.mdscan.specs.Spacing.{spacing_length}
 use Rattle.mdscan.specs.Repeats.{repeats}
 use Rattle.mdscan.specs.Blanks.{begins_with}

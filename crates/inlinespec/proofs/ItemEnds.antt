@@ -7,30 +7,37 @@ use Rattle.std.proofs.lemmas.Option.{slice_get-get_or}
 use Rattle.std.proofs.lemmas.List.Sums.{prefix_len-le-length}
 use Rattle.std.proofs.lemmas.Bool.{and_parts}
 use Rattle.mdtext.specs.EntityTable.{EntityTable}
-use Rattle.mdtext.specs.References.{Meaning, reference}
+use Rattle.mdtext.specs.CharacterReferences.{Meaning, reference}
 use Rattle.mdscan.specs.declared.autolinks.Auto.{Auto}
 use Rattle.mdscan.specs.declared.spans.Span.{Span}
-use Rattle.mdscan.specs.declared.inline_tails.Tail.{Tail}
-use Rattle.mdscan.specs.AutoLink.{autolink_at}
+use Rattle.mdscan.specs.declared.link_tails.Tail.{Tail}
+use Rattle.mdscan.specs.Autolink.{autolink_at}
 use Rattle.mdscan.specs.Blanks.{begins_with}
-use Rattle.mdscan.specs.Escapes.{begins_escape}
-use Rattle.mdscan.specs.InlineTail.{inline_tail_at}
+use Rattle.mdscan.specs.BackslashEscapes.{begins_escape}
+use Rattle.mdscan.specs.LinkTail.{inline_tail_at}
 use Rattle.mdscan.specs.LinkLabel.{label_at}
 use Rattle.mdscan.specs.RawHtml.{raw_html}
 use Rattle.mdtext.specs.Labels.{label_of}
 use Rattle.mdscan.specs.Spans.{part}
-use Rattle.mdpair.specs.declared.runs.DelimiterChar.{DelimiterChar}
-use Rattle.mdpair.specs.declared.runs.DelimiterChar.TheVariants.{Asterisk, Underscore, Tilde}
-use Rattle.mdpair.specs.declared.runs.DelimiterRun.{DelimiterRun}
+use Rattle.mdpair.specs.declared.delimiter_runs.DelimiterChar.{DelimiterChar}
+use Rattle.mdpair.specs.declared.delimiter_runs.DelimiterChar.TheVariants.{Asterisk, Underscore, Tilde}
+use Rattle.mdpair.specs.declared.delimiter_runs.DelimiterRun.{DelimiterRun}
 use Rattle.mdpair.specs.Neighbours.{delimiter_of, run_length, run_of, run_at}
 use Rattle.inlinespec.specs.LabelMap.{LinkTarget}
 use Rattle.inlinespec.specs.InlineEvents.{written}
-use Rattle.inlinespec.specs.CodeSpans.{backticks, before_backticks, code_inside}
-use Rattle.inlinespec.specs.LineBreaks.{LineBreak, spaces, break_after, spaced_break, backslash_break}
-use Rattle.inlinespec.specs.Lexing.{Kind, Leaf, Delimiters, OpenBracket, CloseBracket, leaf, as_written, Sign, Backslash, Ampersand, Backtick, LessThan, Blank, DelimiterMark, Bracket, Exclamation, ClosingBracket, Other, sign_of, break_or_written, escape_lexeme, reference_lexeme, code_lexeme, angle_lexeme, is_lone_tilde, kept_run, run_lexeme, bracket_lexeme, lexeme_by, lex}
+use Rattle.inlinespec.specs.CodeSpans.{backticks, before_backticks, code_inside, code_lexeme}
+use Rattle.inlinespec.specs.LineBreaks.{LineBreak, spaces, break_after, spaced_break, backslash_break, break_or_written}
+use Rattle.inlinespec.specs.Lexemes.{Kind, Leaf, Delimiters, OpenBracket, CloseBracket, leaf, as_written, bracket_lexeme}
+use Rattle.inlinespec.specs.Lexing.{Sign, Backslash, Ampersand, Backtick, LessThan, Blank, DelimiterMark, Bracket, Exclamation, ClosingBracket, Other, sign_of, lexeme_by, lex}
+use Rattle.inlinespec.specs.BackslashEscapes.{escape_lexeme}
+use Rattle.inlinespec.specs.CharacterReferences.{reference_lexeme}
+use Rattle.inlinespec.specs.RawHtml.{angle_lexeme}
+use Rattle.inlinespec.specs.Strikethrough.{is_lone_tilde, kept_run}
+use Rattle.inlinespec.specs.DelimiterRuns.{run_lexeme}
 use Rattle.inlinespec.specs.LinkTails.{Table, LinkTail, Direct, ByLabel, NoLabel, by_label, empty_brackets_at, link_tail_by, link_tail_at}
-use Rattle.inlinespec.specs.Settled.{Piece}
-use Rattle.inlinespec.specs.TextReading.{Opened, nearest_opener, is_live, closing_bracket, looked_up, by_link_tail, closing, item_by, item_at}
+use Rattle.inlinespec.specs.Pieces.{Piece}
+use Rattle.inlinespec.specs.Links.{Opened, nearest_opener, is_live}
+use Rattle.inlinespec.specs.TextReading.{closing_bracket, looked_up, by_link_tail, closing, item_by, item_at}
 use Rattle.inlinespec.proofs.FrontEnds.{IsSizeIn, IsEndIn, when, mapped, begins_below, behind, autolink_ends, raw_html_size, reference_size}
 use Rattle.inlinespec.proofs.TailEnds.{label_ends, inline_tail_ends}
 

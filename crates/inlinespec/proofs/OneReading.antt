@@ -3,7 +3,7 @@ use Rattle.std.proofs.Common.{◌≡◌, ℕ, zero, suc, ◌+◌, ◌-◌, ◌<�
 use Rattle.std.specs.Prelude.{slice_index}
 use Rattle.mdtext.specs.EntityTable.{EntityTable}
 use Rattle.inlinespec.specs.LinkTails.{Table}
-use Rattle.inlinespec.specs.Settled.{Piece}
+use Rattle.inlinespec.specs.Pieces.{Piece}
 use Rattle.inlinespec.specs.TextReading.{Item, item_at, after_deed, Reads, IsReading, items_from, reading}
 use Rattle.inlinespec.proofs.ItemEnds.{byte_at, item_fits}
 

@@ -3,22 +3,30 @@ use Rattle.std.proofs.Common.{◌≡◌, ℕ, zero, suc, ◌+◌, ◌-◌, Bool,
 use Rattle.std.specs.Prelude.{if◌then◌else◌, slice_index}
 use Rattle.std.proofs.lemmas.Grind.{reverse_onto}
 use Rattle.mdtext.specs.EntityTable.{EntityTable}
-use Rattle.mdtext.specs.References.{Meaning, reference}
+use Rattle.mdtext.specs.CharacterReferences.{Meaning, reference}
 use Rattle.mdscan.specs.declared.autolinks.Auto.{Auto}
-use Rattle.mdscan.specs.AutoLink.{autolink_at}
+use Rattle.mdscan.specs.Autolink.{autolink_at}
 use Rattle.mdscan.specs.Blanks.{begins_with}
-use Rattle.mdscan.specs.Escapes.{begins_escape}
+use Rattle.mdscan.specs.BackslashEscapes.{begins_escape}
 use Rattle.mdscan.specs.RawHtml.{raw_html}
-use Rattle.mdpair.specs.declared.runs.DelimiterRun.{DelimiterRun}
+use Rattle.mdpair.specs.declared.delimiter_runs.DelimiterRun.{DelimiterRun}
 use Rattle.inlinespec.specs.LabelMap.{LinkTarget}
-use Rattle.inlinespec.specs.AutolinkText.{autolink_text, autolink_target}
-use Rattle.inlinespec.specs.CodeSpans.{backticks, code_content, code_inside}
+use Rattle.inlinespec.specs.Autolinks.{autolink_text, autolink_target}
+use Rattle.inlinespec.specs.CodeSpans.{backticks, code_content, code_inside, code_lexeme}
 use Rattle.inlinespec.specs.InlineEvents.{Event, HardBreak, SoftBreak, LinkTo, written, rows_of}
-use Rattle.inlinespec.specs.LineBreaks.{LineBreak, spaced_break, backslash_break}
-use Rattle.inlinespec.specs.Lexing.{Kind, Leaf, Delimiters, OpenBracket, CloseBracket, leaf, as_written, Sign, Backslash, Ampersand, Backtick, LessThan, Blank, DelimiterMark, Bracket, Exclamation, ClosingBracket, Other, sign_of, break_or_written, escape_lexeme, reference_lexeme, code_lexeme, angle_lexeme, delimiters_at, run_lexeme, bracket_lexeme, lexeme_by, lex}
+use Rattle.inlinespec.specs.LineBreaks.{LineBreak, spaced_break, backslash_break, break_or_written}
+use Rattle.inlinespec.specs.Lexemes.{Kind, Leaf, Delimiters, OpenBracket, CloseBracket, leaf, as_written, bracket_lexeme}
+use Rattle.inlinespec.specs.Lexing.{Sign, Backslash, Ampersand, Backtick, LessThan, Blank, DelimiterMark, Bracket, Exclamation, ClosingBracket, Other, sign_of, lexeme_by, lex}
+use Rattle.inlinespec.specs.BackslashEscapes.{escape_lexeme}
+use Rattle.inlinespec.specs.CharacterReferences.{reference_lexeme}
+use Rattle.inlinespec.specs.RawHtml.{angle_lexeme}
+use Rattle.inlinespec.specs.DelimiterRuns.{delimiters_at, run_lexeme}
 use Rattle.inlinespec.specs.LinkTails.{Table, LinkTail, Direct, ByLabel, NoLabel, link_tail_at}
-use Rattle.inlinespec.specs.Settled.{Piece, Made, Run, Opening, settled}
-use Rattle.inlinespec.specs.TextReading.{Opened, opened_with, nearest_opener, is_live, Deed, Adds, Spends, Links, closing_bracket, looked_up, by_link_tail, closing, item_by, item_at, spent, span_to, linked, after_deed, items_from, reading, pieces_after}
+use Rattle.inlinespec.specs.Pieces.{Piece, Made, Run, Opening}
+use Rattle.inlinespec.specs.Emphasis.{settled}
+use Rattle.inlinespec.specs.Links.{Opened, opened_with, nearest_opener, is_live, linked}
+use Rattle.inlinespec.specs.TextReading.{Deed, Adds, Spends, Links, closing_bracket, looked_up, by_link_tail, closing, item_by, item_at, spent, after_deed, items_from, reading, pieces_after}
+use Rattle.inlinespec.specs.Images.{span_to}
 use Rattle.inlinespec.specs.SpanEnds.{EndSpans}
 use Rattle.inlinespec.specs.TextTree.{events_of}
 use Rattle.inlinespec.proofs.TreeEvents.{some_more, some_rows}

@@ -2,8 +2,9 @@
 use Rattle.std.proofs.Common.{◌≡◌, ◌≢◌, ℕ, zero, suc, ◌<◌, eqb, List, [], ◌∷◌, ◌++◌, length, drop, get_or, refl, ap, sym, ◌∙◌, arith, append_assoc, append-nil, false}
 use Rattle.std.proofs.lemmas.Bool.Decides.{nat_tests}
 use Rattle.mdtext.specs.EntityTable.{EntityTable}
-use Rattle.mdtext.specs.References.{added, reference, reference_or}
-use Rattle.inlinespec.specs.AutolinkText.{referred, without_references}
+use Rattle.mdtext.specs.Unescaped.{added}
+use Rattle.mdtext.specs.CharacterReferences.{reference, reference_or}
+use Rattle.inlinespec.specs.CharacterReferences.{referred, without_references}
 
 passed : (table : EntityTable) (skip : ℕ) (text : List ℕ) → without_references table skip text ≡ without_references table 0 (drop skip text)
 unfolding without_references

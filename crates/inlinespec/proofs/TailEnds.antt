@@ -5,11 +5,11 @@ use Rattle.std.proofs.lemmas.Bool.Decides.{nat_tests}
 use Rattle.std.proofs.lemmas.Bool.{and_parts}
 use Rattle.mdscan.specs.declared.spans.Span.{Span}
 use Rattle.mdscan.specs.declared.link_destinations.Dest.{Dest}
-use Rattle.mdscan.specs.declared.inline_tails.Tail.{Tail}
+use Rattle.mdscan.specs.declared.link_tails.Tail.{Tail}
 use Rattle.mdscan.specs.Blanks.{begins_with}
-use Rattle.mdscan.specs.Escapes.{run_before}
+use Rattle.mdscan.specs.BackslashEscapes.{run_before}
 use Rattle.mdscan.specs.Spacing.{past_spacing}
-use Rattle.mdscan.specs.InlineTail.{tail_to, tail_titled, titled_tail, tail_from, tail_inside, inline_tail_at}
+use Rattle.mdscan.specs.LinkTail.{tail_to, tail_titled, titled_tail, tail_from, tail_inside, inline_tail_at}
 use Rattle.mdscan.specs.LinkDestination.{angle_destination, bare_end, bare_dest, destination_at}
 use Rattle.mdscan.specs.LinkLabel.{label_at}
 use Rattle.mdscan.specs.LinkTitle.{title_to, title_at}

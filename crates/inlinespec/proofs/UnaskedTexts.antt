@@ -5,19 +5,24 @@ use Rattle.std.specs.List.{list_any}
 use Rattle.std.proofs.lemmas.Bool.{or_parts}
 use Rattle.std.proofs.lemmas.List.{drop-drop, get_or-drop}
 use Rattle.mdtext.specs.EntityTable.{EntityTable}
-use Rattle.mdtext.specs.References.{Meaning, reference}
+use Rattle.mdtext.specs.CharacterReferences.{Meaning, reference}
 use Rattle.mdscan.specs.declared.autolinks.Auto.{Auto}
-use Rattle.mdscan.specs.AutoLink.{autolink_at}
+use Rattle.mdscan.specs.Autolink.{autolink_at}
 use Rattle.mdscan.specs.Blanks.{begins_with}
-use Rattle.mdscan.specs.Escapes.{begins_escape}
+use Rattle.mdscan.specs.BackslashEscapes.{begins_escape}
 use Rattle.mdscan.specs.RawHtml.{raw_html}
-use Rattle.mdpair.specs.declared.runs.DelimiterRun.{DelimiterRun}
-use Rattle.inlinespec.specs.CodeSpans.{code_inside}
+use Rattle.mdpair.specs.declared.delimiter_runs.DelimiterRun.{DelimiterRun}
+use Rattle.inlinespec.specs.CodeSpans.{code_inside, code_lexeme}
 use Rattle.inlinespec.specs.InlineEvents.{written}
-use Rattle.inlinespec.specs.Lexing.{Kind, Leaf, Delimiters, OpenBracket, CloseBracket, leaf, as_written, Sign, Backslash, Ampersand, Backtick, LessThan, Blank, DelimiterMark, Bracket, Exclamation, ClosingBracket, Other, sign_of, break_or_written, escape_lexeme, reference_lexeme, code_lexeme, angle_lexeme, delimiters_at, run_lexeme, bracket_lexeme, lexeme_by, lex}
-use Rattle.inlinespec.specs.LineBreaks.{LineBreak, spaced_break, backslash_break}
+use Rattle.inlinespec.specs.Lexemes.{Kind, Leaf, Delimiters, OpenBracket, CloseBracket, leaf, as_written, bracket_lexeme}
+use Rattle.inlinespec.specs.Lexing.{Sign, Backslash, Ampersand, Backtick, LessThan, Blank, DelimiterMark, Bracket, Exclamation, ClosingBracket, Other, sign_of, lexeme_by, lex}
+use Rattle.inlinespec.specs.LineBreaks.{break_or_written, LineBreak, spaced_break, backslash_break}
+use Rattle.inlinespec.specs.BackslashEscapes.{escape_lexeme}
+use Rattle.inlinespec.specs.CharacterReferences.{reference_lexeme}
+use Rattle.inlinespec.specs.RawHtml.{angle_lexeme}
+use Rattle.inlinespec.specs.DelimiterRuns.{delimiters_at, run_lexeme}
 use Rattle.inlinespec.specs.LinkTails.{Table}
-use Rattle.inlinespec.specs.Settled.{Piece}
+use Rattle.inlinespec.specs.Pieces.{Piece}
 use Rattle.inlinespec.specs.TextReading.{item_by, item_at, after_deed, items_from, asks_of}
 use Rattle.inlinespec.specs.TextTree.{inl, asked, Agree, as_set}
 use Rattle.inlinespec.proofs.AskedLabels.{same_inl}

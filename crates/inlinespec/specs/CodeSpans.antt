@@ -1,7 +1,9 @@
 -- Code spans (CommonMark 6.1).
-use Rattle.std.specs.Prelude.{ℕ, ◌+◌, ◌-◌, Bool, true, false, not, ◌&&◌, ◌||◌, ◌==◌, List, [], ◌∷◌, length, take, drop, map, slice_index, Option, Some, None, option_map, if◌then◌else◌}
+use Rattle.std.specs.Prelude.{ℕ, ◌+◌, ◌-◌, Bool, true, false, ◌||◌, ◌&&◌, ◌==◌, List, [], ◌∷◌, length, take, drop, slice_index, Option, Some, None, if◌then◌else◌, not, map, option_map}
 use Rattle.std.specs.List.{prefix_len, list_all, slice_range}
 use Rattle.mdscan.specs.Blanks.{begins_with}
+use Rattle.inlinespec.specs.InlineEvents.{CodeSpan}
+use Rattle.inlinespec.specs.Lexemes.{Lexeme, leaf, as_written}
 
 -- the length of the backtick string that a text begins with
 abbrev pub backticks : List ℕ → ℕ
@@ -40,3 +42,8 @@ unfoldable pub code_inside : List ℕ → Option (List ℕ)
 code_inside text =
     let n = backticks text in
     option_map (λ k. take k (drop n text)) (before_backticks false n (drop n text))
+
+-- A backtick string without a closing one of its length is text as a whole.
+abbrev pub code_lexeme : List ℕ → Option (List ℕ) → Lexeme
+code_lexeme text None = as_written (backticks text) text
+code_lexeme text (Some inside) = leaf (backticks text + length inside + backticks text) (CodeSpan (code_content inside) ∷ [])

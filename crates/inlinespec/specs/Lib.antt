@@ -1,4 +1,3 @@
-pub mod AutolinkText
 pub mod BacktickStrings
 pub mod CodeSpans
 pub mod InlineEvents
@@ -9,7 +8,17 @@ pub mod Lexing
 pub mod LineBreaks
 pub mod LinkTails
 pub mod Nesting
-pub mod Settled
 pub mod SpanEnds
 pub mod TextReading
 pub mod TextTree
+pub mod Autolinks
+pub mod BackslashEscapes
+pub mod CharacterReferences
+pub mod DelimiterRuns
+pub mod Emphasis
+pub mod Images
+pub mod Lexemes
+pub mod Links
+pub mod Pieces
+pub mod RawHtml
+pub mod Strikethrough

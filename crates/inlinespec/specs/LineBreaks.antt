@@ -1,7 +1,9 @@
 -- Hard and soft line breaks (CommonMark 6.7, 6.8).
-use Rattle.std.specs.Prelude.{ℕ, ◌+◌, Bool, true, ◌&&◌, ◌==◌, nat_le, List, drop, Option, Some, None, if◌then◌else◌}
+use Rattle.std.specs.Prelude.{ℕ, ◌+◌, Bool, true, ◌&&◌, ◌==◌, List, [], ◌∷◌, drop, Option, Some, None, if◌then◌else◌, nat_le}
 use Rattle.std.specs.List.{prefix_len}
 use Rattle.mdscan.specs.Blanks.{begins_with}
+use Rattle.inlinespec.specs.InlineEvents.{SoftBreak, HardBreak}
+use Rattle.inlinespec.specs.Lexemes.{Lexeme, leaf, as_written}
 
 -- how many spaces a text begins with
 abbrev pub spaces : List ℕ → ℕ
@@ -26,3 +28,8 @@ spaced_break text =
 unfoldable pub backslash_break : List ℕ → Option LineBreak
 backslash_break text =
     if begins_with 92 text && begins_with 10 (drop 1 text) then Some (break_after 1 text true) else None
+
+-- a line break, or a text as it is written (CommonMark 6.7, 6.8)
+abbrev pub break_or_written : List ℕ → Option LineBreak → Lexeme
+break_or_written text None = as_written 1 text
+break_or_written text (Some b) = leaf b.size ((if b.is_hard then HardBreak else SoftBreak) ∷ [])

@@ -2,11 +2,11 @@
 use Rattle.std.specs.Prelude.{ℕ, ◌+◌, Bool, ◌&&◌, List, [], drop, Option, Some, None, if◌then◌else◌}
 use Rattle.mdtext.specs.EntityTable.{EntityTable}
 use Rattle.mdtext.specs.Labels.{label_of}
-use Rattle.mdtext.specs.References.{unescaped}
+use Rattle.mdtext.specs.Unescaped.{unescaped}
 use Rattle.mdscan.specs.declared.spans.Span.{Span}
-use Rattle.mdscan.specs.declared.inline_tails.Tail.{Tail}
+use Rattle.mdscan.specs.declared.link_tails.Tail.{Tail}
 use Rattle.mdscan.specs.Blanks.{begins_with}
-use Rattle.mdscan.specs.InlineTail.{inline_tail_at}
+use Rattle.mdscan.specs.LinkTail.{inline_tail_at}
 use Rattle.mdscan.specs.LinkLabel.{label_at}
 use Rattle.mdscan.specs.Spans.{part}
 use Rattle.inlinespec.specs.LabelMap.{LinkTarget}

@@ -1,38 +1,13 @@
 -- The one reading of a text (CommonMark 6; GFM Strikethrough (extension)): the items that tile it, each with what it does.
-use Rattle.std.specs.Prelude.{◌≡◌, ℕ, zero, suc, ◌+◌, ◌-◌, ◌<◌, Bool, true, false, ◌||◌, not, length, take, drop, List, [], ◌∷◌, ◌++◌, Option, Some, None, if◌then◌else◌}
+use Rattle.std.specs.Prelude.{◌≡◌, ℕ, zero, suc, ◌+◌, ◌-◌, ◌<◌, false, length, take, drop, List, [], ◌∷◌, ◌++◌, Option, Some, None, if◌then◌else◌}
 use Rattle.mdtext.specs.EntityTable.{EntityTable}
 use Rattle.inlinespec.specs.LabelMap.{LinkTarget}
-use Rattle.inlinespec.specs.InlineEvents.{InlineSpan, LinkTo, ImageOf, written, within}
-use Rattle.inlinespec.specs.Lexing.{Kind, Leaf, Delimiters, OpenBracket, CloseBracket, lex}
+use Rattle.inlinespec.specs.InlineEvents.{written}
+use Rattle.inlinespec.specs.Lexemes.{Kind, Leaf, Delimiters, OpenBracket, CloseBracket}
+use Rattle.inlinespec.specs.Lexing.{lex}
 use Rattle.inlinespec.specs.LinkTails.{Table, LinkTail, Direct, ByLabel, NoLabel, link_tail_at}
-use Rattle.inlinespec.specs.Settled.{Piece, Made, Run, Opening, bracket_text, settled}
-
--- Pieces so far are read backwards: the first is the last.
-
--- the nearest opener that no `]` has used, with the pieces behind it (in the text's order) and those before it
-pub record Opened : Type 0 where
-  pub image : Bool
-  pub begin : ℕ
-  pub inside : List Piece
-  pub below : List Piece
-
-abbrev pub opened_with : List Piece → List Piece → Option Opened
-opened_with inside [] = None
-opened_with inside (Opening image begin ∷ below) = Some (record { image = image; begin = begin; inside = inside; below = below })
-opened_with inside (p ∷ below) = opened_with (p ∷ inside) below
-
-abbrev pub nearest_opener : List Piece → Option Opened
-nearest_opener ps = opened_with [] ps
-
--- whether a link that brackets made lies in a piece
-abbrev pub holds_link : List Piece → Bool
-holds_link [] = false
-holds_link (Made has_link es ∷ ps) = has_link || holds_link ps
-holds_link (_ ∷ ps) = holds_link ps
-
--- Links may not contain other links (CommonMark 6.3), but images may (CommonMark 6.4).
-abbrev pub is_live : Opened → Bool
-is_live o = o.image || not (holds_link o.inside)
+use Rattle.inlinespec.specs.Pieces.{Piece, Made, Run, Opening, bracket_text}
+use Rattle.inlinespec.specs.Links.{Opened, nearest_opener, is_live, linked}
 
 -- An item adds a piece; or is a `]` that makes no link, so that it is text and so is the nearest unused opener, if there is one; or is a `]` that makes
 -- a link or an image of what stands between that opener and it.
@@ -91,16 +66,6 @@ abbrev pub spent : List Piece → List Piece
 spent [] = []
 spent (Opening image begin ∷ below) = Made false (bracket_text image) ∷ below
 spent (p ∷ below) = p ∷ spent below
-
-abbrev pub span_to : (image : Bool) → LinkTarget → InlineSpan
-span_to true target = ImageOf target
-span_to false target = LinkTo target
-
--- The inside of a link or an image is paired by itself, before the outside.
-abbrev pub linked : LinkTarget → List Piece → Option Opened → List Piece
-linked target ps None = ps
-linked target ps (Some o) =
-    Made (not o.image || holds_link o.inside) (within (span_to o.image target) (settled o.inside)) ∷ o.below
 
 -- the pieces after an item
 abbrev pub after_deed : Deed → List Piece → List Piece

@@ -7,7 +7,7 @@ use Rattle.mdtext.specs.EntityTable.{EntityTable}
 use Rattle.inlinespec.specs.InlineTree.{Inlines}
 use Rattle.inlinespec.specs.InlineEvents.{Event, tree_of}
 use Rattle.inlinespec.specs.LinkTails.{Table}
-use Rattle.inlinespec.specs.Settled.{settled}
+use Rattle.inlinespec.specs.Emphasis.{settled}
 use Rattle.inlinespec.specs.TextReading.{Item, reading, pieces_after, asks_of}
 
 -- What is left of the pieces after these items, with their delimiter runs paired: openers that were not used are text.

@@ -86,7 +86,8 @@ pub extern "C" fn jirmoans_set_prelude(
     answer(ended, changes)
 }
 
-/// The HTML of a unit. Refused: `NotOpen`, else `NoSuchUnit`, else want of memory; then `piece` is as it was.
+/// The HTML of a unit. Refused: `NotOpen`, else `NoSuchUnit`, else want of memory; then `piece` is as it was, but after want of memory the text that was shown
+/// before is gone.
 #[unsafe(no_mangle)]
 pub extern "C" fn jirmoans_piece(
     alloc: Global,

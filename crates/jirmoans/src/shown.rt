@@ -4,8 +4,11 @@
 #[repr(C)]
 #[derive(Clone, Copy, Drop)]
 pub struct Changes {
+    /// The number of the first piece that gave way, from 0.
     pub first: usize,
+    /// How many pieces went from there on.
     pub removed: usize,
+    /// How many came in their place.
     pub added: usize,
     /// Where the numbers of the pieces lie that were made again.
     pub again: *const usize,
@@ -17,6 +20,8 @@ pub struct Changes {
 #[repr(C)]
 #[derive(Clone, Copy, Drop)]
 pub struct Text {
+    /// Where the bytes lie.
     pub at: *const u8,
+    /// How many there are, without the NUL.
     pub len: usize,
 }

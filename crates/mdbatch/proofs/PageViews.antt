@@ -4,15 +4,14 @@ use Rattle.std.specs.Global.{Global}
 use Rattle.std.specs.List.{concat}
 use Rattle.std.specs.Option.{option_or}
 use Rattle.mdtext.specs.EntityTable.{EntityTable}
-use Rattle.mdleaf.specs.LinkDefinition.{LinkDefinition}
+use Rattle.mdleaf.specs.DefinedLinks.{LinkDefinition}
 use Rattle.blockspec.specs.BlockUnits.{definitions_of, units}
-use Rattle.blockspec.specs.FirstDefinitions.{first_definition}
+use Rattle.blockspec.specs.LinkDefinitions.{first_definition}
 use Rattle.blockspec.specs.Nesting.{first_too_deep}
 use Rattle.blockspec.proofs.DocumentLaws.{first_of_both}
 use Rattle.inlinespec.specs.LabelMap.{target_in}
 use Rattle.mdsource.specs.LabelTable.{table, table_of, target_defined}
-use Rattle.mdsource.specs.Refusals.{nested_too_deep, inline_too_deep, inline_refusal, is_too_deep, nesting_refusal}
-use Rattle.mdsource.specs.Refusals.{refusal as due_refusal}
+use Rattle.mdsource.specs.Refusals.{nested_too_deep, inline_too_deep, inline_refusal, is_too_deep, nesting_refusal, refusal as due_refusal}
 use Rattle.mdsource.specs.Setting.{Setting}
 use Rattle.mdsource.specs.View.{ViewedUnit, view, viewed}
 use Rattle.mdsource.proofs.Cuts.{no_units}

@@ -28,7 +28,7 @@ use std::alloc::Global;
 /// that the text does not define leads where the prelude says.
 ///
 /// Refused as the first edit of a preview with this prelude that brings this text, in this order: `TooManyLines`, `TooLarge`, whatever the memory; then `NestedTooDeep`,
-/// `InlineTooDeep`; `NoMemory` at any point behind the first two. Lines are counted from 0.
+/// `InlineTooDeep`; `NoMemory` at any point behind the first two. Lines are counted from 0. The limits of the options are 1 to 256.
 pub fn to_html(
     alloc: Global,
     text: &str,

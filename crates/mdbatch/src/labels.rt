@@ -1,6 +1,6 @@
 //! The link labels that a text defines.
 ghost use Rattle.std.specs.Prelude.{◌≡◌, OnOk, map};
-ghost use Rattle.mdleaf.specs.LinkDefinition.{definition_of};
+ghost use Rattle.mdleaf.specs.DefinedLinks.{definition_of};
 ghost use Rattle.mdsource.specs.LabelTable.{with_definitions};
 
 use mdblock::Definition;

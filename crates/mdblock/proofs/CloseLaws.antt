@@ -1,8 +1,8 @@
 -- Closing a level gives the blocks of its lines.
 use Rattle.std.proofs.Common.{Box, Global, Result, Ok, Err, IfOk, ◌≡◌, ℕ, ◌+◌, Bool, true, false, not, ◌&&◌, ◌||◌, if◌then◌else◌, List, ◌++◌, length, length-append, refl, sym, ◌∙◌, ap, subst}
 use Rattle.mdtext.specs.EntityTable.{EntityTable}
-use Rattle.mdleaf.specs.LinkDefinition.{LinkDefinition}
-use Rattle.blockspec.specs.BlockStart.{Quote, Item}
+use Rattle.mdleaf.specs.DefinedLinks.{LinkDefinition}
+use Rattle.blockspec.specs.BlockKinds.{Quote, Item}
 use Rattle.blockspec.specs.BlockTree.{block_quote, no_blocks, no_items}
 use Rattle.blockspec.specs.BlockTree as tree
 use Rattle.mdblock.specs.BlockView.{blocks_view, items_view}
@@ -10,7 +10,7 @@ use Rattle.mdblock.specs.held.ClosedViews.{list_view, list_view_with}
 use Rattle.mdblock.specs.held.HeldLevel.{behind_over, StandsFor, StandsForLast, StandsForList, HasGathered, ClosesAll}
 use Rattle.mdblock.specs.held.HeldNodes.{list_of, over_behind, over_nodes, handed_nodes, handed_groups, handed_last, closed_nodes, tasked}
 use Rattle.blockspec.specs.LineSummary.{summary, Last, nothing_yet, ended_block, open_leaf, open_container, closed, last_groups}
-use Rattle.blockspec.specs.ListGroups.{Part, Leaves, Quoted, Listed, kind_of, items_before, is_tight_inside, nodes_of}
+use Rattle.blockspec.specs.Lists.{Part, Leaves, Quoted, Listed, kind_of, items_before, is_tight_inside, nodes_of}
 use Rattle.blockspec.specs.NodeTree.{Nodes, no_nodes, quote_node, no_item_nodes, item_node, texts_in, texts_in_items, definitions_in, definitions_in_items, placed, placed_items}
 use Rattle.mdblock.specs.held.TreesBehind.{nodes_before, blocks_before, placed_before}
 use Rattle.mdblock.specs.declared.blocks.Block.{Block}

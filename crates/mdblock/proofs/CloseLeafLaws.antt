@@ -1,7 +1,8 @@
 -- Closing a level whose last block is an open leaf.
 use Rattle.std.proofs.Common.{◌≡◌, ℕ, ◌+◌, Bool, true, false, List, [], ◌∷◌, ◌++◌, length, length-append, append_assoc, append-nil, map, Option, Some, None, refl, sym, ◌∙◌, ap, subst, arith}
-use Rattle.mdscan.specs.TaskMarker.{task_marker}
-use Rattle.mdleaf.specs.LinkDefinition.{LinkDefinition}
+use Rattle.mdscan.specs.TaskListItem.{task_marker}
+use Rattle.mdleaf.specs.DefinedLinks.{LinkDefinition}
+use Rattle.mdleaf.specs.ParagraphDefinitions.{leading_of}
 use Rattle.blockspec.specs.BlockTree.{Blocks, no_blocks, block}
 use Rattle.blockspec.specs.BlockTree as tree
 use Rattle.std.specs.List.{range_with_len}
@@ -12,16 +13,16 @@ use Rattle.mdblock.specs.held.ClosedViews.{found_view}
 use Rattle.mdblock.specs.held.HandedIn.{taken, left_behind, IsLeafIn, IsHandedIn, gathered_texts, gathered_definitions}
 use Rattle.mdblock.specs.held.HeldLevel.{is_front, behind_over, IsOpenKind, CellsStand, StandsForLast, HasGathered, ClosesAll}
 use Rattle.mdblock.specs.held.HeldNodes.{over_leaves, over_nodes, handed_leaves, handed_groups, handed_last, handed_nodes, closed_nodes, tasked}
-use Rattle.blockspec.specs.LeafContents.{code_text, without_end_blank_lines}
+use Rattle.blockspec.specs.LeafContents.{code_text}
+use Rattle.blockspec.specs.IndentedCode.{without_end_blank_lines}
 use Rattle.mdblock.specs.held.LeafEnds.{IsEndOf, IsTableEnd, end_definitions}
 use Rattle.blockspec.specs.LineSummary.{summary, Last, nothing_yet, ended_block, open_leaf, open_container, closed, last_groups}
 use Rattle.blockspec.specs.OpenLeaf.{OpenLeaf, open_table, leaf_from, open_leaves}
 use Rattle.mdblock.specs.held.OpenLeaves.{IsLeafOf}
 use Rattle.blockspec.specs.BlockLine.{BlockLine, rest}
-use Rattle.blockspec.specs.BlockStart.{Kind, Paragraph, FencedCode, IndentedCode, HtmlBlock}
+use Rattle.blockspec.specs.BlockKinds.{Kind, Paragraph, FencedCode, IndentedCode, HtmlBlock}
 use Rattle.mdtext.specs.EntityTable.{EntityTable}
 use Rattle.mdleaf.specs.CodeLanguage.{code_language, code_meta}
-use Rattle.mdleaf.specs.LeadingDefinitions.{leading_of}
 use Rattle.mdleaf.specs.ParagraphText.{joined_lines, paragraph_text, behind_definitions}
 use Rattle.mdblock.specs.declared.gathering.Gathering.{Gathering}
 use Rattle.mdblock.specs.declared.open_blocks.Level.{Level}
@@ -30,10 +31,10 @@ use Rattle.mdblock.specs.declared.leaf.Leaf as held
 use Rattle.mdblock.specs.declared.leaf.Leaf.TheVariants as leaf
 use Rattle.mdblock.proofs.ClosingLaws.{rest_leaves, closed_leaf}
 use Rattle.mdblock.proofs.HeldNodesLaws.{merged_leaves}
-use Rattle.blockspec.specs.ListGroups.{leaves_before, nodes_of}
+use Rattle.blockspec.specs.Lists.{leaves_before, nodes_of}
 use Rattle.blockspec.specs.NodeTree.{Leaf, definition_leaf, paragraph_leaf, heading_leaf, break_leaf, code_leaf, html_leaf, table_leaf, Nodes, no_nodes, leaf_node, quote_node, list_node, texts_in, definitions_in, leaf_texts, leaf_definitions, row_positions, placed}
-use Rattle.blockspec.specs.ParagraphEnd.{paragraph_if_any}
-use Rattle.blockspec.specs.TaskItem.{with_task, task_paragraph}
+use Rattle.blockspec.specs.Paragraphs.{paragraph_if_any}
+use Rattle.blockspec.specs.TaskListItems.{with_task, task_paragraph}
 use Rattle.mdblock.specs.held.TreesBehind.{nodes_before, blocks_before, has_block}
 use Rattle.mdblock.specs.declared.blocks.Block as b
 use Rattle.mdblock.proofs.PlacedNodes.{task_behind_block, task_behind_definitions, task_has_block, placed_none, texts_before, earlier_definitions, earlier_placed, nodes_nil}

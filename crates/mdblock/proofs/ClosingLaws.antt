@@ -1,17 +1,17 @@
 -- What lines give, and what has been handed in of them: what is over, and then what is open.
 use Rattle.std.proofs.Common.{◌≡◌, ℕ, ◌+◌, Bool, true, false, List, [], ◌∷◌, ◌++◌, length, refl, sym, ◌∙◌, ap, append_assoc, append-nil, length-append}
 use Rattle.mdtext.specs.EntityTable.{EntityTable}
-use Rattle.mdleaf.specs.LinkDefinition.{LinkDefinition}
+use Rattle.mdleaf.specs.DefinedLinks.{LinkDefinition}
 use Rattle.mdscan.specs.declared.list_markers.Marker.{Marker}
-use Rattle.blockspec.specs.BlockStart.{Quote, Item}
+use Rattle.blockspec.specs.BlockKinds.{Quote, Item}
 use Rattle.blockspec.specs.BlockTree.{ListKind, no_blocks, block, block_quote, list, item, no_items}
 use Rattle.blockspec.specs.BlockUnits.{container_part}
 use Rattle.mdblock.specs.held.HeldNodes.{list_of, over_leaves, over_nodes, handed_groups, handed_last, tasked, handed_nodes, closed_nodes}
 use Rattle.blockspec.specs.LineSummary.{Summary, summary, nothing_yet, ended_block, open_leaf, open_container, closed, last_groups}
-use Rattle.blockspec.specs.ListGroups.{Listed, Group, kind_of, items_before, is_tight_inside, leaves_before, nodes_of}
+use Rattle.blockspec.specs.Lists.{Listed, Group, kind_of, items_before, is_tight_inside, leaves_before, nodes_of}
 use Rattle.blockspec.specs.NodeTree.{Leaf, definition_leaf, paragraph_leaf, heading_leaf, break_leaf, code_leaf, html_leaf, table_leaf, Nodes, no_nodes, leaf_node, quote_node, list_node, ItemNodes, no_item_nodes, item_node, texts_in, texts_in_items, definitions_in, definitions_in_items, placed, placed_items}
 use Rattle.blockspec.specs.OpenLeaf.{OpenLeaf, open_text, open_table, open_fence, open_code, open_html, done_heading, done_leaf, open_leaves}
-use Rattle.blockspec.specs.TaskItem.{with_task}
+use Rattle.blockspec.specs.TaskListItems.{with_task}
 use Rattle.mdblock.specs.held.TreesBehind.{nodes_before, blocks_before, placed_before}
 use Rattle.mdblock.proofs.HeldNodesLaws.{list_nodes, merged_list, merged_leaves, merged_quote}
 use Rattle.blockspec.proofs.ItemLaws.{merged_nil}

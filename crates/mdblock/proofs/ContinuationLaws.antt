@@ -3,13 +3,16 @@ use Rattle.std.proofs.Common.{Box, Global, ◌≡◌, ℕ, Bool, true, false, no
 use Rattle.std.specs.Prelude.{is_none, is_some}
 use Rattle.mdtext.specs.EntityTable.{EntityTable}
 use Rattle.mdscan.specs.declared.list_markers.Marker.{Marker}
-use Rattle.blockspec.specs.BlockLine.{BlockLine, is_blank_line, indentation, as_lazy}
-use Rattle.blockspec.specs.BlockStart.{Lazy, Container, Holds, Quote, Item, Kind, Paragraph, Table, FencedCode, IndentedCode, HtmlBlock, start, begun, item_of}
+use Rattle.blockspec.specs.BlockLine.{BlockLine, indentation, as_lazy}
+use Rattle.blockspec.specs.BlankLines.{is_blank_line}
+use Rattle.blockspec.specs.BlockKinds.{Lazy, Container, Holds, Quote, Item, Kind, Paragraph, Table, FencedCode, IndentedCode, HtmlBlock}
+use Rattle.blockspec.specs.BlockStart.{start, begun}
+use Rattle.blockspec.specs.ListItems.{item_of}
 use Rattle.blockspec.specs.BlockTree.{ListKind}
 use Rattle.blockspec.specs.ContainerLines.{inside, inside_where, matches, taken_off}
 use Rattle.blockspec.specs.Laziness.{Tip, Text, Closed, is_text, continues_lazily}
 use Rattle.blockspec.specs.LineSummary.{Summary, summary, Last, nothing_yet, ended_block, open_leaf, open_container, summary_tip, last_tip, is_apart_after, mark_of, part_mark}
-use Rattle.blockspec.specs.ListGroups.{Part, Leaves, Quoted, Listed, Group, kind_of, is_same_list}
+use Rattle.blockspec.specs.Lists.{Part, Leaves, Quoted, Listed, Group, kind_of, is_same_list}
 use Rattle.blockspec.specs.NodeTree.{ItemNodes}
 use Rattle.blockspec.specs.OpenLeaf.{OpenLeaf, open_text, open_table, open_fence, open_code, open_html, done_heading, done_leaf, open_tip, leaf_from, next_text, next_leaf, is_parted}
 use Rattle.blockspec.specs.Stretches.{step}

@@ -3,10 +3,12 @@ use Rattle.std.proofs.Common.{Box, Global, ◌≡◌, ℕ, suc, ◌+◌, Bool, t
 use Rattle.std.specs.Prelude.{is_some, nat_le, ◌||◌}
 use Rattle.mdtext.specs.EntityTable.{EntityTable}
 use Rattle.mdscan.specs.declared.list_markers.Marker.{Marker}
-use Rattle.blockspec.specs.BlockLine.{BlockLine, is_blank_line, indentation}
-use Rattle.blockspec.specs.BlockStart.{begun, Quote, Item}
+use Rattle.blockspec.specs.BlockLine.{BlockLine, indentation}
+use Rattle.blockspec.specs.BlankLines.{is_blank_line}
+use Rattle.blockspec.specs.BlockStart.{begun}
+use Rattle.blockspec.specs.BlockKinds.{Quote, Item}
 use Rattle.blockspec.specs.LineSummary.{Summary, summary, Last, nothing_yet, ended_block, open_leaf, open_container, last_in, last_tip, closed, last_groups, ended_last, summary_gap, begin_after, new_last, line_added, is_apart_after, mark_of, part_mark}
-use Rattle.blockspec.specs.ListGroups.{Part, Leaves, Quoted, Listed, Group, is_tight_inside, merged, nodes_of}
+use Rattle.blockspec.specs.Lists.{Part, Leaves, Quoted, Listed, Group, is_tight_inside, merged, nodes_of}
 use Rattle.blockspec.specs.NodeTree.{texts_in, placed}
 use Rattle.blockspec.specs.Stretches.{is_single, first_of}
 use Rattle.blockspec.specs.SummaryDepth.{sinks}

@@ -12,7 +12,13 @@ use Rattle.mdscan.specs.ListMarker.{marker, ordered_marker}
 use Rattle.mdscan.specs.Tag.{first_is, open_tag, closing_tag}
 use Rattle.mdscan.specs.ThematicBreak.{is_thematic_break, is_break_of}
 use Rattle.blockspec.specs.BlockLine.{BlockLine, rest}
-use Rattle.blockspec.specs.BlockStart.{Mode, Kind, Quote, Holds, begins_quote, begins_atx, begins_fence, begins_html, html_by, is_free, begins_break, begins_item, item_by}
+use Rattle.blockspec.specs.BlockKinds.{Mode, Kind, Quote, Holds, is_free}
+use Rattle.blockspec.specs.BlockQuotes.{begins_quote}
+use Rattle.blockspec.specs.AtxHeadings.{begins_atx}
+use Rattle.blockspec.specs.FencedCode.{begins_fence}
+use Rattle.blockspec.specs.HtmlBlocks.{begins_html, html_by}
+use Rattle.blockspec.specs.ThematicBreaks.{begins_break}
+use Rattle.blockspec.specs.ListItems.{begins_item, item_by}
 use Rattle.mdblock.specs.held.StartParts.{start_before_underline, start_after_underline, begins_marker}
 use Rattle.mdblock.proofs.StartLaws.{or_none}
 

@@ -2,12 +2,14 @@
 use Rattle.std.proofs.Common.{◌≡◌, ℕ, zero, suc, Bool, true, false, not, List, [], ◌∷◌, Some, None, refl, sym, ◌∙◌, subst, arith}
 use Rattle.std.specs.Prelude.{if◌then◌else◌}
 use Rattle.mdtext.specs.EntityTable.{EntityTable}
-use Rattle.blockspec.specs.BlockLine.{BlockLine, is_blank_line}
-use Rattle.blockspec.specs.BlockStart.{Container, Kind, Holds, begun}
+use Rattle.blockspec.specs.BlockLine.{BlockLine}
+use Rattle.blockspec.specs.BlankLines.{is_blank_line}
+use Rattle.blockspec.specs.BlockKinds.{Container, Kind, Holds}
+use Rattle.blockspec.specs.BlockStart.{begun}
 use Rattle.blockspec.specs.BlockUnits.{container_part}
 use Rattle.blockspec.specs.ContainerLines.{opened, inside}
-use Rattle.blockspec.specs.LineSummary.{Summary, summary, Last, nothing_yet, ended_block, open_leaf, open_container, no_summary, last_in, summary_tip, summary_gap, ended_last, new_last, begin_after, last_grown, leaf_after, container_after, last_after, line_added, is_apart_after, begins_after, mark_of}
-use Rattle.blockspec.specs.ListGroups.{Group}
+use Rattle.blockspec.specs.LineSummary.{Summary, summary, Last, nothing_yet, ended_block, open_leaf, open_container, no_summary, last_in, summary_tip, summary_gap, ended_last, new_last, begin_after, last_grown, leaf_after, container_after, last_after, line_added, is_apart_after, begins_after, mark_of, summary_of}
+use Rattle.blockspec.specs.Lists.{Group}
 use Rattle.blockspec.specs.Nesting.{deep_within}
 use Rattle.blockspec.specs.OpenLeaf.{OpenLeaf, NextLeaf, ContinuesAs, EndsAs, EndedBefore, next_leaf, is_parted, leaf_from}
 use Rattle.blockspec.specs.Stretches.{goes_on, is_single}
@@ -18,7 +20,6 @@ use Rattle.blockspec.proofs.LeafSteps.{Sort, is_container, is_leaf, sort_of}
 use Rattle.blockspec.proofs.SummaryLaws.{leaf_begun, new_leaf}
 use Rattle.blockspec.proofs.UnitLaws.{three_facts}
 use Rattle.blockspec.proofs.UnitReaderLaws.{fault_first, holds_summary}
-use Rattle.blockspec.specs.LineSummary.{summary_of}
 use Rattle.mdblock.specs.held.HeldLevel.{Fits, FitsLast}
 use Rattle.mdblock.proofs.CloseLaws.{not_both}
 use Rattle.mdblock.proofs.LevelLines.{apart_sinks}

@@ -9,7 +9,7 @@ use Rattle.mdtext.specs.EntityTable.{EntityTable}
 use Rattle.blockspec.specs.BlockLine.{BlockLine, document_line}
 use Rattle.blockspec.specs.BlockUnits.{groups}
 use Rattle.blockspec.specs.LineSummary.{Summary, summary_of, begins_after}
-use Rattle.blockspec.specs.ListGroups.{Group, nodes_of}
+use Rattle.blockspec.specs.Lists.{Group, nodes_of}
 use Rattle.blockspec.specs.Meetings.{joins_list}
 use Rattle.blockspec.specs.NodeTree.{texts_in, definitions_in}
 use Rattle.blockspec.specs.UnitBegin.{begins_unit, units_of, shift_found}
@@ -23,7 +23,7 @@ use Rattle.blockspec.proofs.ReaderLaws.{summary_closed, summary_begins}
 use Rattle.blockspec.proofs.UnitReaderLaws.{IsOne}
 use Rattle.blockspec.specs.ItemMarks.{ItemMark, is_parted, list_marks, mark_behind, marks_next, join_of}
 use Rattle.blockspec.specs.Joins.{block_joins}
-use Rattle.blockspec.specs.ListItems.{top_blocks}
+use Rattle.blockspec.specs.TopBlocks.{top_blocks}
 use Rattle.blockspec.specs.SummaryJoins.{joins_after, is_parted_after, gap_in}
 use Rattle.blockspec.proofs.LastJoins.{summary_joins}
 use Rattle.blockspec.proofs.LastParted.{summary_parted, summary_gapped}

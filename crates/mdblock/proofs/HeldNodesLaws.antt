@@ -5,9 +5,9 @@ use Rattle.blockspec.specs.BlockTree.{ListKind, no_blocks}
 use Rattle.mdblock.specs.held.HeldLevel.{is_list}
 use Rattle.mdblock.specs.held.HeldNodes.{ListSoFar, list_behind, list_where, list_at, list_of, over_behind, handed_groups, handed_nodes, tasked}
 use Rattle.blockspec.specs.LineSummary.{no_summary, closed}
-use Rattle.blockspec.specs.ListGroups.{Part, Leaves, Quoted, Listed, Group, is_same_list, items_before, joined_where, joined, merged, is_tight_inside, leaves_before, part_before, nodes_of}
+use Rattle.blockspec.specs.Lists.{Part, Leaves, Quoted, Listed, Group, is_same_list, items_before, joined_where, joined, merged, is_tight_inside, leaves_before, part_before, nodes_of}
 use Rattle.blockspec.specs.NodeTree.{Leaf, Nodes, no_nodes, quote_node, list_node, ItemNodes, texts_in, definitions_in, placed}
-use Rattle.blockspec.specs.TaskItem.{with_task}
+use Rattle.blockspec.specs.TaskListItems.{with_task}
 use Rattle.mdblock.specs.held.TreesBehind.{nodes_before}
 use Rattle.mdblock.proofs.PlacedNodes.{nodes_assoc, part_behind}
 

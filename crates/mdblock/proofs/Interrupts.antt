@@ -14,8 +14,17 @@ use Rattle.mdscan.specs.Spans.{part}
 use Rattle.mdscan.specs.declared.atx_headings.AtxLine.{AtxLine}
 use Rattle.mdscan.specs.declared.code_fences.FenceLine.{FenceLine}
 use Rattle.mdscan.specs.declared.list_markers.Marker.{Marker}
-use Rattle.blockspec.specs.BlockLine.{BlockLine, rest, indentation, is_blank_line, behind_marker}
-use Rattle.blockspec.specs.BlockStart.{Mode, Free, Inside, Lazy, Kind, AtxHeading, ThematicBreak, FencedCode, HtmlBlock, Holds, Quote, is_inside, begins_quote, begins_atx, begins_fence, html_by, begins_break, item_by, item_of, may_begin_item, start_near, start_at, start_far, start_where, start}
+use Rattle.blockspec.specs.BlockLine.{BlockLine, rest, indentation, behind_marker}
+use Rattle.blockspec.specs.BlankLines.{is_blank_line}
+use Rattle.blockspec.specs.BlockKinds.{Mode, Free, Inside, Lazy, Kind, AtxHeading, ThematicBreak, FencedCode, HtmlBlock, Holds, Quote, is_inside}
+use Rattle.blockspec.specs.BlockQuotes.{begins_quote}
+use Rattle.blockspec.specs.AtxHeadings.{begins_atx}
+use Rattle.blockspec.specs.FencedCode.{begins_fence}
+use Rattle.blockspec.specs.HtmlBlocks.{html_by}
+use Rattle.blockspec.specs.ThematicBreaks.{begins_break}
+use Rattle.blockspec.specs.ListItems.{item_by, item_of, may_begin_item}
+use Rattle.blockspec.specs.BlockStart.{start_near, start_at, start_where, start}
+use Rattle.blockspec.specs.IndentedCode.{start_far}
 use Rattle.mdblock.specs.held.StartKind.{stays_lazy}
 use Rattle.mdblock.specs.held.StartParts.{begins_marker, start_before_underline, start_after_underline}
 use Rattle.mdblock.proofs.FirstBytes.{none_first, none_behind, no_kind}

@@ -3,11 +3,11 @@ use Rattle.std.proofs.Common.{◌≡◌, ℕ, Bool, List, [], ◌++◌, Option, 
 use Rattle.std.proofs.lemmas.List.{append-nil}
 use Rattle.mdtext.specs.EntityTable.{EntityTable}
 use Rattle.mdleaf.specs.CodeLanguage.{code_language, code_meta}
-use Rattle.mdleaf.specs.LeadingDefinitions.{leading_of}
-use Rattle.mdleaf.specs.LinkDefinition.{LinkDefinition}
+use Rattle.mdleaf.specs.ParagraphDefinitions.{leading_of}
+use Rattle.mdleaf.specs.DefinedLinks.{LinkDefinition}
 use Rattle.mdleaf.specs.ParagraphText.{without_end_blanks, behind_definitions}
 use Rattle.blockspec.specs.BlockLine.{BlockLine}
-use Rattle.blockspec.specs.BlockStart.{Kind, Paragraph, FencedCode, IndentedCode, HtmlBlock, Table}
+use Rattle.blockspec.specs.BlockKinds.{Kind, Paragraph, FencedCode, IndentedCode, HtmlBlock, Table}
 use Rattle.blockspec.specs.BlockTree.{no_blocks, block, code_block, html_block}
 use Rattle.blockspec.specs.BlockTree as tree
 use Rattle.blockspec.specs.OpenLeaf.{OpenLeaf, open_table, leaf_from}

@@ -1,8 +1,10 @@
 -- What an open leaf tells of the lines that it takes.
 use Rattle.std.proofs.Common.{◌≡◌, ℕ, Bool, true, false, not, ◌||◌, List, ◌∷◌, refl, ap, ◌∙◌, nat_lt}
 use Rattle.mdtext.specs.EntityTable.{EntityTable}
-use Rattle.blockspec.specs.BlockLine.{BlockLine, is_blank_line}
-use Rattle.blockspec.specs.BlockStart.{Kind, Paragraph, FencedCode, IndentedCode, HtmlBlock, Table, Inside, start}
+use Rattle.blockspec.specs.BlockLine.{BlockLine}
+use Rattle.blockspec.specs.BlankLines.{is_blank_line}
+use Rattle.blockspec.specs.BlockKinds.{Kind, Paragraph, FencedCode, IndentedCode, HtmlBlock, Table, Inside}
+use Rattle.blockspec.specs.BlockStart.{start}
 use Rattle.blockspec.specs.Laziness.{Tip}
 use Rattle.mdblock.specs.held.OpenLeaves.{IsLeafOf}
 use Rattle.mdblock.specs.held.ParagraphLines.{HeldText, HoldsLines}

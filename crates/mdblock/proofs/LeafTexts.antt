@@ -9,12 +9,14 @@ use Rattle.std.proofs.lemmas.Str.{IsCharBoundary-end, IsCharBoundary-before_asci
 use Rattle.std.specs.List.{flat_map, prefix_len, slice_index, suffix_len}
 use Rattle.std.specs.Str.{IsCharBoundary, IsUtf8}
 use Rattle.mdtext.specs.EntityTable.{EntityTable}
-use Rattle.mdtext.specs.References.{unescaped}
+use Rattle.mdtext.specs.Unescaped.{unescaped}
 use Rattle.mdleaf.specs.CodeLanguage.{behind_word, code_language, code_meta, ends_language}
 use Rattle.mdleaf.specs.ParagraphText.{joined_lines}
 use Rattle.blockspec.proofs.OpenLeafLaws.{joined_next}
-use Rattle.blockspec.specs.BlockLine.{BlockLine, is_blank_line, without_columns}
-use Rattle.blockspec.specs.LeafContents.{code_text, without_end_blank_lines}
+use Rattle.blockspec.specs.BlockLine.{BlockLine, without_columns}
+use Rattle.blockspec.specs.BlankLines.{is_blank_line}
+use Rattle.blockspec.specs.LeafContents.{code_text}
+use Rattle.blockspec.specs.IndentedCode.{without_end_blank_lines}
 use Rattle.blockspec.specs.OpenLeaf.{end_blank_lines}
 
 -- ---- lines with a line ending between them

@@ -7,17 +7,20 @@ use Rattle.std.specs.Option.{MatchOption}
 use Rattle.mdtext.specs.EntityTable.{EntityTable}
 use Rattle.mdleaf.specs.CodeLanguage.{code_language, code_meta}
 use Rattle.mdleaf.specs.ParagraphText.{joined_lines}
-use Rattle.mdleaf.specs.TableRows.{row_aligns, row_texts}
+use Rattle.mdleaf.specs.Tables.{row_aligns, row_texts}
 use Rattle.mdleaf.proofs.CellTexts.{length_filled}
 use Rattle.blockspec.proofs.OpenLeafLaws.{table_push, pushed_rows}
 use Rattle.blockspec.proofs.StartKinds.{Kinds, IfBegun, start_kinds}
-use Rattle.blockspec.specs.BlockLine.{BlockLine, is_blank_line, rest}
+use Rattle.blockspec.specs.BlockLine.{BlockLine, rest, without_last}
+use Rattle.blockspec.specs.BlankLines.{is_blank_line}
 use Rattle.blockspec.specs.OpenLeaf.{leaf_from, row_of, table_from}
 use Rattle.mdblock.specs.held.HeldTables.{IsTableOf, IsHeaderLeaf, IsRowMore, IsTableBehind, first_rows, held_rows}
-use Rattle.blockspec.specs.BlockStart.{Kind, Paragraph, SetextHeading, AtxHeading, ThematicBreak, FencedCode, IndentedCode, HtmlBlock, Table, Holds, Inside, last_text, start}
+use Rattle.blockspec.specs.BlockKinds.{Kind, Paragraph, SetextHeading, AtxHeading, ThematicBreak, FencedCode, IndentedCode, HtmlBlock, Table, Holds, Inside}
+use Rattle.blockspec.specs.Tables.{last_text}
+use Rattle.blockspec.specs.BlockStart.{start}
 use Rattle.blockspec.specs.BlockTree.{code_block}
 use Rattle.blockspec.specs.Laziness.{Tip}
-use Rattle.blockspec.specs.LeafContents.{code_text, without_last}
+use Rattle.blockspec.specs.LeafContents.{code_text}
 use Rattle.mdblock.specs.held.OpenLeaves.{IsFenceOf, IsHtmlOf, IsCodeOf, IsLeafOf, IsGoing, IsOver, IsHtmlLeaf, IsHtmlStep, IsCodeLeaf, IsFenceStep, IsParagraphLeaf, IsLeft, IsTableIn}
 use Rattle.mdblock.specs.held.ParagraphLines.{HeldText, HoldsLines}
 use Rattle.blockspec.specs.Stretches.{Continues, continues_if, fence_step, closes, html_step, ends_html, is_code, is_row, paragraph_step, step}

@@ -5,7 +5,7 @@ use Rattle.std.specs.Prelude.{string_bytes}
 use Rattle.blockspec.specs.BlockLine.{BlockLine, rest}
 use Rattle.blockspec.specs.OpenLeaf.{row_of}
 use Rattle.blockspec.specs.Stretches.{ends_html}
-use Rattle.mdleaf.specs.LinkDefinition.{definition_of}
+use Rattle.mdleaf.specs.DefinedLinks.{definition_of}
 use Rattle.mdblock.specs.BlockView.{blocks_view}
 use Rattle.mdblock.specs.declared.gathering.Gathering.{Gathering}
 use Rattle.mdblock.specs.declared.leaf.Leaf.TheVariants as leaf

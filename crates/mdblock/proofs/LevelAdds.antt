@@ -4,14 +4,15 @@ use Rattle.std.proofs.Math.Bool.{or-true}
 use Rattle.std.specs.Prelude.{nat_le}
 use Rattle.mdtext.specs.EntityTable.{EntityTable}
 use Rattle.mdscan.specs.declared.list_markers.Marker.{Marker}
-use Rattle.blockspec.specs.BlockLine.{BlockLine, indentation, is_blank_line, without_columns, as_lazy}
-use Rattle.blockspec.specs.BlockStart.{Container, Quote, Item, Kind, Holds, begun}
+use Rattle.blockspec.specs.BlockLine.{BlockLine, indentation, without_columns, as_lazy}
+use Rattle.blockspec.specs.BlankLines.{is_blank_line}
+use Rattle.blockspec.specs.BlockKinds.{Container, Quote, Item, Kind, Holds, Paragraph, FencedCode, IndentedCode, HtmlBlock}
+use Rattle.blockspec.specs.BlockStart.{begun}
 use Rattle.blockspec.specs.ContainerLines.{matches, taken_off, inside_where, inside, opened}
 use Rattle.blockspec.specs.Laziness.{is_verbatim, continues_lazily}
 use Rattle.blockspec.specs.LineSummary.{Summary, summary, Last, nothing_yet, ended_block, open_leaf, open_container, no_summary, last_in, last_tip, summary_tip, begin_after, line_added, is_apart_after, mark_of, part_mark}
-use Rattle.blockspec.specs.ListGroups.{Part, Leaves, Quoted, Listed, Group}
+use Rattle.blockspec.specs.Lists.{Part, Leaves, Quoted, Listed, Group}
 use Rattle.blockspec.specs.OpenLeaf.{open_tip, leaf_from, OpenLeaf, open_table}
-use Rattle.blockspec.specs.BlockStart.{Paragraph, FencedCode, IndentedCode, HtmlBlock}
 use Rattle.blockspec.specs.SummaryDepth.{sinks}
 use Rattle.blockspec.specs.UnitBegin.{list_mark, same_mark}
 use Rattle.mdblock.specs.held.HeldLevel.{is_list, CellsStand, StandsForList, behind_over, StandsFor, StandsForLast, HasGathered, IsLazyRight}

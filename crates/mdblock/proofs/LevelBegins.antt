@@ -1,12 +1,14 @@
 -- All blocks of a level are over, and a line is read behind them.
 use Rattle.std.proofs.Common.{Result, Ok, Err, IsErrAnd, IsErrOf, ◌≡◌, ℕ, suc, Bool, true, false, not, ◌&&◌, ◌||◌, List, [], ◌∷◌, length, Option, is_some, refl, sym, ◌∙◌, ap, subst}
 use Rattle.mdtext.specs.EntityTable.{EntityTable}
-use Rattle.blockspec.specs.BlockLine.{BlockLine, is_blank_line}
-use Rattle.blockspec.specs.BlockStart.{Container, Quote, Item, Holds, begun}
+use Rattle.blockspec.specs.BlockLine.{BlockLine}
+use Rattle.blockspec.specs.BlankLines.{is_blank_line}
+use Rattle.blockspec.specs.BlockKinds.{Container, Quote, Item, Holds}
+use Rattle.blockspec.specs.BlockStart.{begun}
 use Rattle.blockspec.specs.BlockTree.{ListKind, no_blocks}
 use Rattle.blockspec.specs.BlockUnits.{container_part}
 use Rattle.blockspec.specs.LineSummary.{summary, no_summary, Last, nothing_yet, ended_block, open_leaf, open_container, last_tip, closed, last_groups, ended_last, leaf_group, container_group, summary_gap, begin_after, line_added, mark_of, part_mark}
-use Rattle.blockspec.specs.ListGroups.{Part, Leaves, Quoted, Listed, Group, is_tight_inside, merged, nodes_of}
+use Rattle.blockspec.specs.Lists.{Part, Leaves, Quoted, Listed, Group, is_tight_inside, merged, nodes_of}
 use Rattle.blockspec.specs.NodeTree.{placed}
 use Rattle.blockspec.specs.OpenLeaf.{open_leaves}
 use Rattle.blockspec.specs.UnitBegin.{list_mark, same_mark}

@@ -6,8 +6,10 @@ use Rattle.mdtext.specs.Columns.{indent, indent_at, strip_at, width, is_space_or
 use Rattle.mdtext.specs.EntityTable.{EntityTable}
 use Rattle.mdscan.specs.Blanks.{is_blank}
 use Rattle.mdscan.specs.BlockQuote.{is_quote_marker}
-use Rattle.blockspec.specs.BlockLine.{BlockLine, indentation, rest, is_blank_line, without_columns}
-use Rattle.blockspec.specs.BlockStart.{Lazy, Container, Quote, Item, start}
+use Rattle.blockspec.specs.BlockLine.{BlockLine, indentation, rest, without_columns}
+use Rattle.blockspec.specs.BlankLines.{is_blank_line}
+use Rattle.blockspec.specs.BlockKinds.{Lazy, Container, Quote, Item}
+use Rattle.blockspec.specs.BlockStart.{start}
 use Rattle.blockspec.specs.ContainerLines.{matches, inside_where, inside}
 use Rattle.blockspec.specs.Laziness.{Tip, is_text, continues_lazily}
 use Rattle.blockspec.specs.LineSummary.{Summary, summary, Last, nothing_yet, ended_block, open_leaf, open_container, last_in, summary_tip, ended_last, begin_after, line_added, is_apart_after}

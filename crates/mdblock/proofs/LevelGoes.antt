@@ -2,14 +2,16 @@
 use Rattle.std.proofs.Common.{Box, Global, ◌≡◌, ℕ, suc, ◌+◌, Bool, true, false, not, ◌&&◌, ◌||◌, List, [], ◌++◌, length, is_none, refl, sym, ◌∙◌, ap, subst}
 use Rattle.std.specs.Prelude.{nat_le}
 use Rattle.mdtext.specs.EntityTable.{EntityTable}
-use Rattle.mdleaf.specs.LinkDefinition.{LinkDefinition}
-use Rattle.blockspec.specs.BlockLine.{BlockLine, indentation, rest, is_blank_line}
-use Rattle.blockspec.specs.BlockStart.{Lazy, Container, Quote, Item, start}
+use Rattle.mdleaf.specs.DefinedLinks.{LinkDefinition}
+use Rattle.blockspec.specs.BlockLine.{BlockLine, indentation, rest}
+use Rattle.blockspec.specs.BlankLines.{is_blank_line}
+use Rattle.blockspec.specs.BlockKinds.{Lazy, Container, Quote, Item}
+use Rattle.blockspec.specs.BlockStart.{start}
 use Rattle.blockspec.specs.BlockUnits.{container_part}
 use Rattle.blockspec.specs.ContainerLines.{matches, taken_off, inside_where, inside}
 use Rattle.blockspec.specs.Laziness.{Tip, Text, Verbatim, Closed, is_text, continues_lazily}
 use Rattle.blockspec.specs.LineSummary.{Summary, summary, Last, nothing_yet, ended_block, open_leaf, open_container, last_in, summary_tip, last_tip, closed, last_groups, line_added, is_apart_after}
-use Rattle.blockspec.specs.ListGroups.{Group, nodes_of}
+use Rattle.blockspec.specs.Lists.{Group, nodes_of}
 use Rattle.blockspec.specs.NodeTree.{texts_in}
 use Rattle.blockspec.specs.Stretches.{goes_on}
 use Rattle.blockspec.specs.SummaryDepth.{sinks}

@@ -8,23 +8,25 @@ use Rattle.std.specs.Prelude.{string_bytes}
 use Rattle.mdtext.specs.EntityTable.{EntityTable}
 use Rattle.mdscan.specs.declared.delimiter_rows.Align.{Align}
 use Rattle.mdleaf.specs.CodeLanguage.{code_language, code_meta}
-use Rattle.mdleaf.specs.LeadingDefinitions.{leading_of}
-use Rattle.mdleaf.specs.LinkDefinition.{LinkDefinition}
+use Rattle.mdleaf.specs.ParagraphDefinitions.{leading_of}
+use Rattle.mdleaf.specs.DefinedLinks.{LinkDefinition}
 use Rattle.mdleaf.specs.ParagraphText.{joined_lines, behind_definitions, without_end_blanks}
-use Rattle.mdleaf.specs.TableRows.{row_aligns, row_texts}
-use Rattle.blockspec.specs.BlockLine.{BlockLine, rest, is_blank_line}
-use Rattle.blockspec.specs.BlockStart.{Inside, Quote, Item, Kind, Paragraph, SetextHeading, Table, AtxHeading, ThematicBreak, FencedCode, IndentedCode, HtmlBlock, Holds, start, last_text}
+use Rattle.mdleaf.specs.Tables.{row_aligns, row_texts}
+use Rattle.blockspec.specs.BlockLine.{BlockLine, rest, without_last}
+use Rattle.blockspec.specs.BlankLines.{is_blank_line}
+use Rattle.blockspec.specs.BlockKinds.{Inside, Quote, Item, Kind, Paragraph, SetextHeading, Table, AtxHeading, ThematicBreak, FencedCode, IndentedCode, HtmlBlock, Holds}
+use Rattle.blockspec.specs.BlockStart.{start}
+use Rattle.blockspec.specs.Tables.{last_text}
 use Rattle.blockspec.specs.BlockTree.{no_blocks, block}
 use Rattle.blockspec.specs.BlockTree as tree
 use Rattle.blockspec.specs.Laziness.{Tip, Closed}
-use Rattle.blockspec.specs.LeafContents.{without_last, code_text}
+use Rattle.blockspec.specs.LeafContents.{code_text}
 use Rattle.blockspec.specs.LineSummary.{Summary, summary, Last, nothing_yet, ended_block, open_leaf, open_container, closed, last_groups, leaf_group, summary_gap, line_added, is_apart_after}
-use Rattle.blockspec.specs.ListGroups.{Leaves, Group, is_tight_inside, leaves_before, merged, nodes_of}
+use Rattle.blockspec.specs.Lists.{Leaves, Group, is_tight_inside, leaves_before, merged, nodes_of}
 use Rattle.blockspec.specs.NodeTree.{Leaf, definition_leaf, paragraph_leaf, heading_leaf, break_leaf, code_leaf, html_leaf, table_leaf, Nodes, no_nodes, leaf_node, quote_node, list_node, texts_in, definitions_in, leaf_texts, leaf_definitions, leaf_block, placed}
 use Rattle.blockspec.specs.OpenLeaf.{OpenLeaf, open_table, leaf_from, open_leaves, text_leaves, row_of, NextLeaf, ContinuesAs, EndsAs, EndedBefore, continues_as_if, next_leaf, is_parted}
-use Rattle.blockspec.specs.Stretches.{Step, Continues, IsLastLine, IsOverBefore, continues_if, closes, ends_html, fence_step, html_step, paragraph_step, is_row, is_code, step}
-use Rattle.blockspec.specs.Stretches.{step as line_step}
-use Rattle.blockspec.specs.TaskItem.{with_task}
+use Rattle.blockspec.specs.Stretches.{Step, Continues, IsLastLine, IsOverBefore, continues_if, closes, ends_html, fence_step, html_step, paragraph_step, is_row, is_code, step, step as line_step}
+use Rattle.blockspec.specs.TaskListItems.{with_task}
 use Rattle.blockspec.proofs.OpenLeafLaws.{next_by, leaf_next, drops_last, joined_next, table_push}
 use Rattle.mdblock.specs.BlockView.{block_view, blocks_view}
 use Rattle.mdblock.specs.held.ClosedViews.{found_view}

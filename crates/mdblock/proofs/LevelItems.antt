@@ -1,16 +1,18 @@
 -- A line of a list: it is read in the open item, ends the item, or begins the next one.
 use Rattle.std.proofs.Common.{Box, Global, ◌≡◌, ℕ, suc, ◌+◌, Bool, true, false, not, ◌&&◌, ◌||◌, List, [], ◌∷◌, ◌++◌, length, append-nil, append_assoc, Some, refl, sym, ◌∙◌, ap, subst, arith}
 use Rattle.mdtext.specs.EntityTable.{EntityTable}
-use Rattle.mdleaf.specs.LinkDefinition.{LinkDefinition}
+use Rattle.mdleaf.specs.DefinedLinks.{LinkDefinition}
 use Rattle.mdscan.specs.declared.list_markers.Marker.{Marker}
-use Rattle.blockspec.specs.BlockLine.{BlockLine, is_blank_line}
-use Rattle.blockspec.specs.BlockStart.{Quote, Item, Holds, begun}
+use Rattle.blockspec.specs.BlockLine.{BlockLine}
+use Rattle.blockspec.specs.BlankLines.{is_blank_line}
+use Rattle.blockspec.specs.BlockKinds.{Quote, Item, Holds}
+use Rattle.blockspec.specs.BlockStart.{begun}
 use Rattle.blockspec.specs.BlockTree.{ListKind, item, no_items}
 use Rattle.blockspec.specs.BlockUnits.{container_part}
 use Rattle.blockspec.specs.ContainerLines.{matches, opened}
 use Rattle.blockspec.specs.Laziness.{Tip, continues_lazily}
 use Rattle.blockspec.specs.LineSummary.{Summary, summary, Last, nothing_yet, ended_block, open_leaf, open_container, no_summary, last_in, summary_tip, closed, last_groups, ended_last, summary_gap, begin_after, line_added, is_apart_after, mark_of}
-use Rattle.blockspec.specs.ListGroups.{Part, Leaves, Quoted, Listed, Group, kind_of, is_same_list, items_before, is_tight_inside, merged, nodes_of}
+use Rattle.blockspec.specs.Lists.{Part, Leaves, Quoted, Listed, Group, kind_of, is_same_list, items_before, is_tight_inside, merged, nodes_of}
 use Rattle.blockspec.specs.NodeTree.{Nodes, no_nodes, list_node, ItemNodes, no_item_nodes, item_node, texts_in, texts_in_items, definitions_in, definitions_in_items, placed, placed_items}
 use Rattle.blockspec.specs.Stretches.{goes_on}
 use Rattle.blockspec.specs.SummaryDepth.{sinks}

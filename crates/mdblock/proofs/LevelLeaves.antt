@@ -1,26 +1,27 @@
 -- Leaves that are put behind what is over, and an open leaf behind it.
 use Rattle.std.proofs.Common.{◌≡◌, ℕ, suc, ◌+◌, ◌<◌, Bool, true, false, not, List, [], ◌∷◌, ◌++◌, length, length-append, append_assoc, append-nil, map, Option, Some, None, refl, sym, ◌∙◌, ap, subst, arith}
 use Rattle.std.proofs.lemmas.List.{length-map}
-use Rattle.std.specs.Prelude.{string_bytes, ◌==◌}
-use Rattle.std.specs.Prelude.{unwrap_or}
+use Rattle.std.specs.Prelude.{string_bytes, ◌==◌, unwrap_or}
 use Rattle.std.specs.Option.{MatchOption, option_map}
 use Rattle.mdtext.specs.EntityTable.{EntityTable}
-use Rattle.mdleaf.specs.LinkDefinition.{LinkDefinition}
+use Rattle.mdleaf.specs.DefinedLinks.{LinkDefinition}
 use Rattle.mdleaf.specs.ParagraphText.{joined_lines}
 use Rattle.mdscan.specs.Spans.{part}
-use Rattle.blockspec.specs.BlockLine.{BlockLine, indentation, rest, is_blank_line}
-use Rattle.blockspec.specs.BlockStart.{Free, Kind, Paragraph, AtxHeading, ThematicBreak, FencedCode, IndentedCode, HtmlBlock, start, begun}
+use Rattle.blockspec.specs.BlockLine.{BlockLine, indentation, rest}
+use Rattle.blockspec.specs.BlankLines.{is_blank_line}
+use Rattle.blockspec.specs.BlockKinds.{Free, Kind, Paragraph, AtxHeading, ThematicBreak, FencedCode, IndentedCode, HtmlBlock}
+use Rattle.blockspec.specs.BlockStart.{start, begun}
 use Rattle.blockspec.specs.BlockTree.{ListKind, Blocks, no_blocks, block}
 use Rattle.blockspec.specs.BlockTree as tree
 use Rattle.blockspec.specs.LineSummary.{Summary, no_summary, summary, ended_block, open_leaf, closed, last_groups, leaf_group, new_last, summary_gap, line_added}
 use Rattle.blockspec.specs.SummaryDepth.{sinks}
 use Rattle.mdscan.specs.declared.atx_headings.AtxLine.{AtxLine}
 use Rattle.mdscan.specs.declared.list_markers.Marker.{Marker}
-use Rattle.blockspec.specs.ListGroups.{Leaves, Group, is_tight_inside, leaves_before, merged, nodes_of}
+use Rattle.blockspec.specs.Lists.{Leaves, Group, is_tight_inside, leaves_before, merged, nodes_of}
 use Rattle.blockspec.specs.NodeTree.{Leaf, heading_leaf, break_leaf, html_leaf, Nodes, no_nodes, leaf_node, texts_in, definitions_in, leaf_texts, leaf_definitions, leaf_block, placed}
 use Rattle.blockspec.specs.OpenLeaf.{OpenLeaf, leaf_from, open_leaves}
 use Rattle.blockspec.specs.Stretches.{ends_html, is_single, first_of}
-use Rattle.blockspec.specs.TaskItem.{with_task}
+use Rattle.blockspec.specs.TaskListItems.{with_task}
 use Rattle.blockspec.specs.UnitBegin.{same_mark}
 use Rattle.blockspec.proofs.LeafSteps.{IsLeaf}
 use Rattle.blockspec.proofs.SummaryLaws.{leaf_begun, new_leaf}

@@ -2,12 +2,14 @@
 use Rattle.std.proofs.Common.{◌≡◌, ℕ, zero, suc, ◌+◌, Bool, true, false, not, ◌||◌, List, refl, sym, ◌∙◌, ap, arith}
 use Rattle.std.proofs.Math.Bool.{or-true}
 use Rattle.mdtext.specs.EntityTable.{EntityTable}
-use Rattle.blockspec.specs.BlockLine.{BlockLine, is_blank_line}
-use Rattle.blockspec.specs.BlockStart.{Container, Kind, Paragraph, Holds, start, begun}
+use Rattle.blockspec.specs.BlockLine.{BlockLine}
+use Rattle.blockspec.specs.BlankLines.{is_blank_line}
+use Rattle.blockspec.specs.BlockKinds.{Container, Kind, Paragraph, Holds}
+use Rattle.blockspec.specs.BlockStart.{start, begun}
 use Rattle.blockspec.specs.ContainerLines.{opened, inside}
 use Rattle.blockspec.specs.LineSummary.{Summary, summary, Last, nothing_yet, ended_block, open_leaf, open_container, no_summary, last_in, summary_tip, leaf_group, ended_last, new_last, begin_after, last_grown, leaf_after, container_after, last_after, line_added, is_apart_after}
 use Rattle.blockspec.specs.OpenLeaf.{OpenLeaf, NextLeaf, ContinuesAs, EndsAs, EndedBefore, next_leaf, is_parted}
-use Rattle.blockspec.specs.ListGroups.{Group}
+use Rattle.blockspec.specs.Lists.{Group}
 use Rattle.blockspec.specs.Stretches.{Stretch, goes_on, is_single, first_of}
 use Rattle.blockspec.specs.SummaryDepth.{sinks, sinks_by, sinks_at, sinks_first, sinks_later}
 use Rattle.blockspec.proofs.LeafSteps.{Sort, is_container, is_leaf, sort_of}

@@ -2,8 +2,9 @@
 use Rattle.std.proofs.Common.{◌≡◌, ℕ, ◌-◌, true, false, [], ◌∷◌, ◌++◌, length, map, string_bytes, Option, Some, None, refl, sym, ◌∙◌, ap, subst}
 use Rattle.std.proofs.lemmas.List.{map-append}
 use Rattle.std.specs.Prelude.{is_some, unwrap_or, ◌||◌}
-use Rattle.mdleaf.specs.LinkDefinition.{definition_of}
-use Rattle.blockspec.specs.BlockLine.{BlockLine, is_blank_line}
+use Rattle.mdleaf.specs.DefinedLinks.{definition_of}
+use Rattle.blockspec.specs.BlockLine.{BlockLine}
+use Rattle.blockspec.specs.BlankLines.{is_blank_line}
 use Rattle.blockspec.specs.BlockStart.{begun}
 use Rattle.blockspec.specs.BlockTree.{ListKind}
 use Rattle.blockspec.specs.LineSummary.{Summary, last_in, is_apart_after, mark_of}

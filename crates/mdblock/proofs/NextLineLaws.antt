@@ -4,12 +4,13 @@ use Rattle.std.proofs.lemmas.List.{map-append, append-nil, drop-map, length-appe
 use Rattle.std.specs.Option.{option_map, option_to_list}
 use Rattle.std.specs.Prelude.{if◌then◌else◌, IfSome, drop, unwrap_or}
 use Rattle.mdtext.specs.EntityTable.{EntityTable}
-use Rattle.blockspec.specs.BlockLine.{BlockLine, document_line, is_blank_line}
-use Rattle.blockspec.specs.BlockStart.{Free, Paragraph, start, start_where, begun}
+use Rattle.blockspec.specs.BlockLine.{BlockLine, document_line, without_last}
+use Rattle.blockspec.specs.BlankLines.{is_blank_line}
+use Rattle.blockspec.specs.BlockKinds.{Free, Paragraph}
+use Rattle.blockspec.specs.BlockStart.{start, start_where, begun}
 use Rattle.blockspec.specs.BlockUnits.{groups, found_units, units}
-use Rattle.blockspec.specs.LeafContents.{without_last}
 use Rattle.blockspec.specs.LineSummary.{Summary, summary, Last, nothing_yet, ended_block, open_leaf, open_container, no_summary, last_in, last_tip, summary_gap, last_groups, ended_last, begin_after, last_after, line_added, summary_of, closed, is_apart_after, mark_of, begins_after}
-use Rattle.blockspec.specs.ListGroups.{Group, nodes_of}
+use Rattle.blockspec.specs.Lists.{Group, nodes_of}
 use Rattle.blockspec.specs.Nesting.{deep_within, first_too_deep}
 use Rattle.blockspec.specs.NodeTree.{unit_of}
 use Rattle.blockspec.specs.SummaryDepth.{sinks_first, sinks_at, sinks}
@@ -23,7 +24,7 @@ use Rattle.blockspec.proofs.OpenLeafLaws.{drops_last}
 use Rattle.blockspec.proofs.ReaderLaws.{summary_closed, summary_begins}
 use Rattle.blockspec.proofs.UnitReaderLaws.{IsOne}
 use Rattle.blockspec.specs.ItemMarks.{ItemMark, is_parted, list_marks, marks_next}
-use Rattle.blockspec.specs.ListItems.{top_blocks}
+use Rattle.blockspec.specs.TopBlocks.{top_blocks}
 use Rattle.blockspec.specs.SummaryJoins.{joins_after}
 use Rattle.blockspec.proofs.LastJoins.{joined_behind_held}
 use Rattle.blockspec.proofs.LastParted.{summary_parted}

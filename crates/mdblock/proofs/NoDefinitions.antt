@@ -4,8 +4,8 @@ use Rattle.mdtext.specs.EntityTable.{EntityTable}
 use Rattle.mdscan.specs.Blanks.{begins_with}
 use Rattle.mdscan.specs.LinkDefinition.{definition_of}
 use Rattle.mdscan.specs.LinkLabel.{label_at}
-use Rattle.mdleaf.specs.LeadingDefinitions.{fronts, leading_end, leading_of}
-use Rattle.mdleaf.specs.LinkDefinition.{LinkDefinition}
+use Rattle.mdleaf.specs.ParagraphDefinitions.{fronts, leading_end, leading_of}
+use Rattle.mdleaf.specs.DefinedLinks.{LinkDefinition}
 use Rattle.mdleaf.specs.ParagraphText.{behind_definitions}
 
 no_label : (text : List ℕ) → begins_with 91 text ≡ false → label_at text 0 ≡ None

@@ -8,9 +8,13 @@ use Rattle.std.specs.Option.{option_or, option_map, is_some}
 use Rattle.std.specs.Str.{IsUtf8, IsCharBoundary}
 use Rattle.mdscan.specs.Blanks.{is_blank}
 use Rattle.mdleaf.specs.ParagraphText.{joined_lines, without_end_blanks}
-use Rattle.mdleaf.specs.TableRows.{begins_table}
-use Rattle.blockspec.specs.BlockLine.{BlockLine, rest, indentation, is_blank_line}
-use Rattle.blockspec.specs.BlockStart.{Inside, Kind, Paragraph, SetextHeading, Table, begins_underline, begins_rows, last_text, start_near, start}
+use Rattle.mdleaf.specs.Tables.{begins_table}
+use Rattle.blockspec.specs.BlockLine.{BlockLine, rest, indentation}
+use Rattle.blockspec.specs.BlankLines.{is_blank_line}
+use Rattle.blockspec.specs.BlockKinds.{Inside, Kind, Paragraph, SetextHeading, Table}
+use Rattle.blockspec.specs.SetextHeadings.{begins_underline}
+use Rattle.blockspec.specs.Tables.{begins_rows, last_text}
+use Rattle.blockspec.specs.BlockStart.{start_near, start}
 use Rattle.mdblock.specs.held.StartKind.{kind_of_start}
 use Rattle.mdblock.specs.held.ParagraphLines.{HeldText, HoldsLines}
 use Rattle.mdblock.specs.held.StartParts.{start_before_underline, start_after_underline}

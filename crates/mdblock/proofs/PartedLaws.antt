@@ -2,10 +2,10 @@
 use Rattle.std.proofs.Common.{◌≡◌, ℕ, Bool, false, List, refl, ◌∙◌, ap}
 use Rattle.std.specs.Prelude.{if◌then◌else◌}
 use Rattle.mdtext.specs.EntityTable.{EntityTable}
-use Rattle.blockspec.specs.BlockStart.{Quote, Item}
+use Rattle.blockspec.specs.BlockKinds.{Quote, Item}
 use Rattle.blockspec.specs.BlockUnits.{container_part}
 use Rattle.blockspec.specs.LineSummary.{Summary, summary, Last, nothing_yet, ended_block, open_leaf, open_container, last_groups}
-use Rattle.blockspec.specs.ListGroups.{Part, Leaves, Quoted, Listed, Group}
+use Rattle.blockspec.specs.Lists.{Part, Leaves, Quoted, Listed, Group}
 use Rattle.blockspec.specs.SummaryJoins.{is_parted_part, is_parted_first, is_parted_after}
 use Rattle.mdblock.specs.held.HeldLevel.{StandsFor, StandsForLast, StandsForList, behind_over, is_list, is_parted_last}
 use Rattle.mdblock.specs.declared.container.lists.OpenList.{OpenList}

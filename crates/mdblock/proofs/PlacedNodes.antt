@@ -2,12 +2,12 @@
 -- later one have their texts further on.
 use Rattle.std.proofs.Common.{◌≡◌, ℕ, ◌+◌, true, false, List, [], ◌∷◌, ◌++◌, length, refl, sym, ◌∙◌, ap, arith, Option, Some, None}
 use Rattle.std.proofs.lemmas.List.{append_assoc, length-append}
-use Rattle.mdscan.specs.TaskMarker.{task_marker}
+use Rattle.mdscan.specs.TaskListItem.{task_marker}
 use Rattle.mdscan.specs.declared.task_list_items.TaskMark.{TaskMark}
 use Rattle.blockspec.specs.BlockTree.{block_quote, list, Blocks, no_blocks, block, item}
-use Rattle.blockspec.specs.ListGroups.{Part, Leaves, Quoted, Listed, items_before, leaves_before, part_before}
+use Rattle.blockspec.specs.Lists.{Part, Leaves, Quoted, Listed, items_before, leaves_before, part_before}
 use Rattle.blockspec.specs.NodeTree.{Leaf, definition_leaf, paragraph_leaf, heading_leaf, break_leaf, code_leaf, html_leaf, table_leaf, Nodes, no_nodes, leaf_node, quote_node, list_node, ItemNodes, no_item_nodes, item_node, leaf_texts, leaf_definitions, texts_in, texts_in_items, definitions_in, definitions_in_items, leaf_block, placed, placed_items}
-use Rattle.blockspec.specs.TaskItem.{task_paragraph, with_task}
+use Rattle.blockspec.specs.TaskListItems.{task_paragraph, with_task}
 use Rattle.mdblock.specs.held.TreesBehind.{nodes_before, blocks_before, placed_before, has_block}
 
 -- ---- trees alone

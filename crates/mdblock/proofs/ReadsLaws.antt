@@ -3,12 +3,12 @@ use Rattle.std.proofs.Common.{◌≡◌, ℕ, false, List, [], Option, Some, Non
 use Rattle.mdtext.specs.EntityTable.{EntityTable}
 use Rattle.blockspec.specs.BlockUnits.{groups_within, found_units}
 use Rattle.blockspec.specs.Stretches.{cut_from, all_of}
-use Rattle.blockspec.specs.ListGroups.{grouped}
+use Rattle.blockspec.specs.Lists.{grouped}
 use Rattle.blockspec.specs.LineSummary.{no_summary}
 use Rattle.blockspec.specs.UnitReader.{lines_held}
 use Rattle.blockspec.specs.ItemMarks.{list_marks}
 use Rattle.blockspec.specs.Joins.{is_joined}
-use Rattle.blockspec.specs.ListItems.{tops_of}
+use Rattle.blockspec.specs.TopBlocks.{tops_of}
 use Rattle.mdblock.specs.held.ReaderState.{UnitSoFar, ReaderState, held_begin, held_joined}
 use Rattle.mdblock.specs.held.Reads.{Reads, HoldsUnit, StandsForHeld, open_begin}
 use Rattle.blockspec.proofs.ReaderLaws.{summary_none}

@@ -4,19 +4,21 @@ use Rattle.std.specs.Option.{option_or}
 use Rattle.std.specs.Prelude.{if◌then◌else◌}
 use Rattle.mdtext.specs.EntityTable.{EntityTable}
 use Rattle.mdscan.specs.declared.list_markers.Marker.{Marker}
-use Rattle.blockspec.specs.BlockLine.{BlockLine, document_line, is_blank_line}
-use Rattle.blockspec.specs.BlockStart.{Item, Holds, begun}
+use Rattle.blockspec.specs.BlockLine.{BlockLine, document_line}
+use Rattle.blockspec.specs.BlankLines.{is_blank_line}
+use Rattle.blockspec.specs.BlockKinds.{Item, Holds}
+use Rattle.blockspec.specs.BlockStart.{begun}
 use Rattle.blockspec.specs.BlockTree.{ListKind}
 use Rattle.blockspec.specs.ContainerLines.{opened}
 use Rattle.blockspec.specs.LineSummary.{Summary, summary, nothing_yet, ended_block, open_leaf, open_container, no_summary, closed, is_apart_after, last_in, mark_of, summary_of}
-use Rattle.blockspec.specs.ListGroups.{Listed}
+use Rattle.blockspec.specs.Lists.{Listed}
 use Rattle.blockspec.specs.NodeTree.{ItemNodes}
 use Rattle.blockspec.specs.Nesting.{deep_within, first_too_deep}
 use Rattle.blockspec.specs.SummaryDepth.{sinks}
 use Rattle.blockspec.specs.UnitBegin.{list_mark, same_mark}
 use Rattle.blockspec.proofs.LimitLaws.{front_none, if_none, or_second}
 use Rattle.blockspec.proofs.ReaderLaws.{summary_closed, summary_sinks}
-use Rattle.blockspec.specs.ListItems.{is_tight_list, nodes_of_items, top_group}
+use Rattle.blockspec.specs.TopBlocks.{is_tight_list, nodes_of_items, top_group}
 use Rattle.blockspec.specs.SummaryJoins.{joins_after}
 use Rattle.blockspec.proofs.ItemsMeet.{blocks_are}
 use Rattle.blockspec.proofs.LastJoins.{summary_joins}

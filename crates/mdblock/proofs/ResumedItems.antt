@@ -1,15 +1,17 @@
 -- The next item of a list, of which all that stands before it is known: what holds behind the item's first line.
 use Rattle.std.proofs.Common.{◌≡◌, ℕ, suc, ◌+◌, Bool, true, false, not, ◌&&◌, List, [], ◌∷◌, ◌++◌, length, refl, sym, ◌∙◌, ap, subst, arith}
 use Rattle.mdtext.specs.EntityTable.{EntityTable}
-use Rattle.mdleaf.specs.LinkDefinition.{LinkDefinition}
+use Rattle.mdleaf.specs.DefinedLinks.{LinkDefinition}
 use Rattle.mdscan.specs.declared.list_markers.Marker.{Marker}
-use Rattle.blockspec.specs.BlockLine.{BlockLine, is_blank_line}
-use Rattle.blockspec.specs.BlockStart.{Item, Holds, begun}
+use Rattle.blockspec.specs.BlockLine.{BlockLine}
+use Rattle.blockspec.specs.BlankLines.{is_blank_line}
+use Rattle.blockspec.specs.BlockKinds.{Item, Holds}
+use Rattle.blockspec.specs.BlockStart.{begun}
 use Rattle.blockspec.specs.BlockTree.{ListKind}
 use Rattle.blockspec.specs.BlockUnits.{container_part}
 use Rattle.blockspec.specs.ContainerLines.{opened}
 use Rattle.blockspec.specs.LineSummary.{Summary, summary, open_container, no_summary, last_in, closed, last_groups, summary_gap, begin_after, line_added, is_apart_after, mark_of}
-use Rattle.blockspec.specs.ListGroups.{Listed, kind_of, is_same_list, is_tight_inside, merged, nodes_of}
+use Rattle.blockspec.specs.Lists.{Listed, kind_of, is_same_list, is_tight_inside, merged, nodes_of}
 use Rattle.blockspec.specs.NodeTree.{ItemNodes, texts_in, texts_in_items, definitions_in, definitions_in_items, placed, placed_items}
 use Rattle.blockspec.specs.SummaryDepth.{sinks}
 use Rattle.blockspec.specs.UnitBegin.{list_mark, same_mark}

@@ -2,11 +2,11 @@
 use Rattle.std.proofs.Common.{◌≡◌, ◌<◌, ℕ, suc, ◌+◌, List, [], ◌∷◌, ◌++◌, length, map, Some, refl, sym, ◌∙◌, ap, subst, arith, append-nil}
 use Rattle.std.proofs.lemmas.List.{length-append}
 use Rattle.std.specs.Prelude.{Bool, true, take}
-use Rattle.mdleaf.specs.LinkDefinition.{LinkDefinition}
+use Rattle.mdleaf.specs.DefinedLinks.{LinkDefinition}
 use Rattle.mdtext.specs.EntityTable.{EntityTable}
 use Rattle.blockspec.specs.BlockLine.{BlockLine}
 use Rattle.blockspec.specs.BlockTree.{ListKind}
-use Rattle.blockspec.specs.ListGroups.{items_before}
+use Rattle.blockspec.specs.Lists.{items_before}
 use Rattle.blockspec.specs.Meetings.{joins_list, gap_after}
 use Rattle.blockspec.specs.NodeTree.{ItemNodes, texts_in_items, definitions_in_items, placed, placed_items}
 use Rattle.blockspec.specs.UnitBegin.{units_of}
@@ -14,7 +14,7 @@ use Rattle.blockspec.specs.UnitTree.{UnitTree}
 use Rattle.blockspec.proofs.BeginLaws.{begins_in}
 use Rattle.blockspec.proofs.UnitReaderLaws.{IsOne}
 use Rattle.blockspec.specs.ItemMarks.{ItemMark, list_marks, mark_behind, item_marks}
-use Rattle.blockspec.specs.ListItems.{ListItem, ItemList, is_tight_list, nodes_of_items, top_blocks, moved_item, item_behind, items_behind}
+use Rattle.blockspec.specs.TopBlocks.{ListItem, ItemList, is_tight_list, nodes_of_items, top_blocks, moved_item, item_behind, items_behind}
 use Rattle.blockspec.proofs.ItemsMeet.{items_meet_at}
 use Rattle.blockspec.proofs.ListsSpliced.{one_parted, marks_parted, unit_of_list}
 use Rattle.blockspec.proofs.MarkedLines.{marked_at}

@@ -4,13 +4,14 @@ use Rattle.std.proofs.lemmas.List.{map-append, length-append}
 use Rattle.std.specs.List.{list_any}
 use Rattle.std.specs.Prelude.{drop, take, if◌then◌else◌}
 use Rattle.mdtext.specs.EntityTable.{EntityTable}
-use Rattle.mdleaf.specs.LinkDefinition.{definition_of}
+use Rattle.mdleaf.specs.DefinedLinks.{definition_of}
 use Rattle.mdscan.specs.declared.list_markers.Marker.{Marker}
 use Rattle.blockspec.specs.BlockLine.{BlockLine, document_line}
-use Rattle.blockspec.specs.BlockStart.{Item, Holds, begun}
+use Rattle.blockspec.specs.BlockKinds.{Item, Holds}
+use Rattle.blockspec.specs.BlockStart.{begun}
 use Rattle.blockspec.specs.ContainerLines.{opened}
 use Rattle.blockspec.specs.LineSummary.{no_summary, closed, line_added, summary_of}
-use Rattle.blockspec.specs.ListGroups.{Listed, kind_of, is_same_list}
+use Rattle.blockspec.specs.Lists.{Listed, kind_of, is_same_list}
 use Rattle.blockspec.specs.Meetings.{gap_after}
 use Rattle.blockspec.specs.Nesting.{deep_within, first_too_deep}
 use Rattle.blockspec.specs.SummaryDepth.{sinks}
@@ -22,7 +23,7 @@ use Rattle.blockspec.proofs.HandedLaws.{front_lines, held_next, lines_before_hel
 use Rattle.blockspec.proofs.LimitLaws.{front_none, summary_limited}
 use Rattle.blockspec.proofs.ReaderLaws.{summary_closed}
 use Rattle.blockspec.specs.ItemMarks.{ItemMark, is_parted, list_marks, mark_behind}
-use Rattle.blockspec.specs.ListItems.{is_tight_list, nodes_of_items, top_blocks, top_group}
+use Rattle.blockspec.specs.TopBlocks.{is_tight_list, nodes_of_items, top_blocks, top_group}
 use Rattle.blockspec.specs.SummaryJoins.{gap_in}
 use Rattle.blockspec.proofs.ItemsMeet.{blocks_are}
 use Rattle.blockspec.proofs.LastJoins.{joined_next, summary_joins}

@@ -6,7 +6,7 @@ use Rattle.mdscan.specs.Blanks.{is_blank}
 use Rattle.mdscan.specs.DelimiterRow.{is_delimiter, delimiter_columns}
 use Rattle.mdscan.specs.Spans.{part}
 use Rattle.mdscan.specs.TableRow.{inside, cell, cells_split, bars, row_cells}
-use Rattle.mdleaf.specs.TableRows.{begins_table}
+use Rattle.mdleaf.specs.Tables.{begins_table}
 use Rattle.mdtext.specs.Columns.{unindented}
 use Rattle.mdblock.specs.held.ParagraphLines.{begins_row}
 use Rattle.mdtext.proofs.Unindented.{unindented_nil, unindented_blank, unindented_other, is_bool}

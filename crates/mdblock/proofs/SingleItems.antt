@@ -2,13 +2,13 @@
 use Rattle.std.proofs.Common.{◌≡◌, ℕ, suc, ◌+◌, Bool, true, false, List, [], ◌∷◌, length, map, refl, sym, ◌∙◌, ap}
 use Rattle.mdtext.specs.EntityTable.{EntityTable}
 use Rattle.blockspec.specs.BlockLine.{BlockLine}
-use Rattle.blockspec.specs.BlockStart.{Container, Quote, Item, Kind, Paragraph, SetextHeading, Table, AtxHeading, ThematicBreak, FencedCode, IndentedCode, HtmlBlock, Holds}
+use Rattle.blockspec.specs.BlockKinds.{Container, Quote, Item, Kind, Paragraph, SetextHeading, Table, AtxHeading, ThematicBreak, FencedCode, IndentedCode, HtmlBlock, Holds}
 use Rattle.blockspec.specs.BlockTree.{ListKind, Items, item}
 use Rattle.blockspec.specs.BlockUnits.{container_part, part_at, group_of, groups_within, visible_in}
-use Rattle.blockspec.specs.ListGroups.{Part, Leaves, Quoted, Listed, Group, is_same_list, items_before}
+use Rattle.blockspec.specs.Lists.{Part, Leaves, Quoted, Listed, Group, is_same_list, items_before}
 use Rattle.blockspec.specs.NodeTree.{ItemNodes, no_item_nodes, item_node, texts_in, texts_in_items, placed, placed_items}
 use Rattle.blockspec.specs.Stretches.{Stretch, stretches, cut_within}
-use Rattle.blockspec.specs.ListItems.{ListItem, TopBlock, Other, ItemList, nodes_of_items, with_item_where, with_item, item_of_group, with_part, tops_of, single_groups, top_blocks}
+use Rattle.blockspec.specs.TopBlocks.{ListItem, TopBlock, Other, ItemList, nodes_of_items, with_item_where, with_item, item_of_group, with_part, tops_of, single_groups, top_blocks}
 use Rattle.mdblock.specs.Spliced.{take_items, drop_items}
 use Rattle.mdblock.specs.held.TreesBehind.{placed_before}
 use Rattle.mdblock.proofs.PlacedNodes.{placed_items_before}

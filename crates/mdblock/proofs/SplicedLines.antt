@@ -4,9 +4,8 @@ use Rattle.std.proofs.lemmas.List.{drop-append-le, drop-map, map-append}
 use Rattle.std.specs.List.{flat_map}
 use Rattle.std.specs.Prelude.{IfSome, if◌then◌else◌}
 use Rattle.mdtext.specs.EntityTable.{EntityTable}
-use Rattle.blockspec.specs.BlockLine.{BlockLine, document_line}
+use Rattle.blockspec.specs.BlockLine.{BlockLine, document_line, without_last}
 use Rattle.blockspec.specs.BlockUnits.{units}
-use Rattle.blockspec.specs.LeafContents.{without_last}
 use Rattle.blockspec.specs.Meetings.{joins_list}
 use Rattle.blockspec.specs.UnitBegin.{begins_unit, units_of, shift_found}
 use Rattle.blockspec.specs.UnitReader.{lines_held}
@@ -18,7 +17,7 @@ use Rattle.blockspec.proofs.LimitLaws.{for_next_line}
 use Rattle.blockspec.proofs.UnitReaderLaws.{shift_none, shift_twice}
 use Rattle.blockspec.specs.ItemMarks.{ItemMark, join_of}
 use Rattle.blockspec.specs.Joins.{block_joins, is_joined}
-use Rattle.blockspec.specs.ListItems.{top_blocks}
+use Rattle.blockspec.specs.TopBlocks.{top_blocks}
 use Rattle.blockspec.proofs.JoinCuts.{no_join}
 use Rattle.blockspec.proofs.LastJoins.{held_joins, joined_next}
 use Rattle.blockspec.proofs.MarkLines.{marks_join}

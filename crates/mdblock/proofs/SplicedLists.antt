@@ -5,7 +5,7 @@ use Rattle.std.specs.Prelude.{◌&&◌, not, drop}
 use Rattle.mdtext.specs.EntityTable.{EntityTable}
 use Rattle.blockspec.specs.BlockLine.{BlockLine}
 use Rattle.blockspec.specs.BlockTree.{ListKind}
-use Rattle.blockspec.specs.ListGroups.{Part, Leaves, Quoted, Listed, Group, items_before}
+use Rattle.blockspec.specs.Lists.{Part, Leaves, Quoted, Listed, Group, items_before}
 use Rattle.blockspec.specs.Meetings.{joins_list, gap_after}
 use Rattle.blockspec.specs.NodeTree.{ItemNodes, no_item_nodes, texts_in_items}
 use Rattle.blockspec.specs.UnitBegin.{units_of}
@@ -13,7 +13,7 @@ use Rattle.blockspec.specs.UnitTree.{UnitTree, FoundUnit}
 use Rattle.blockspec.proofs.BeginLaws.{begins_in}
 use Rattle.blockspec.proofs.UnitReaderLaws.{IsOne}
 use Rattle.blockspec.specs.ItemMarks.{ItemMark, is_parted, list_marks, mark_behind}
-use Rattle.blockspec.specs.ListItems.{ListItem, ItemList, is_tight_list, nodes_of_items, top_blocks, items_behind}
+use Rattle.blockspec.specs.TopBlocks.{ListItem, ItemList, is_tight_list, nodes_of_items, top_blocks, items_behind}
 use Rattle.blockspec.proofs.ListsSpliced.{ListsSpliced, lists_spliced, moved_mark, marks_spliced, parted_alike, unit_of_list, unit_parted}
 use Rattle.blockspec.proofs.MarkLines.{behind_is, marks_more}
 use Rattle.blockspec.proofs.MarkedLines.{MarkedAt, marked_at}

@@ -7,11 +7,11 @@ use Rattle.std.specs.Prelude.{◌^◌}
 use Rattle.mdtext.specs.EntityTable.{EntityTable}
 use Rattle.blockspec.specs.BlockLine.{BlockLine}
 use Rattle.blockspec.specs.BlockTree.{ListKind}
-use Rattle.blockspec.specs.ListGroups.{items_before}
+use Rattle.blockspec.specs.Lists.{items_before}
 use Rattle.blockspec.specs.NodeTree.{texts_in_items, definitions_in_items}
 use Rattle.blockspec.specs.ItemMarks.{ItemMark, last_item, is_parted, item_marks, block_marks, list_marks}
 use Rattle.blockspec.specs.Joins.{later_lines}
-use Rattle.blockspec.specs.ListItems.{ListItem, ItemList, is_tight_list, nodes_of_items, top_blocks}
+use Rattle.blockspec.specs.TopBlocks.{ListItem, ItemList, is_tight_list, nodes_of_items, top_blocks}
 use Rattle.blockspec.proofs.JoinLines.{AreBelow, joins_in, joins_below}
 use Rattle.blockspec.proofs.ListsSpliced.{moved_mark, tight_by_marks}
 use Rattle.blockspec.proofs.UnitsMeet.{texts_together, definitions_together}

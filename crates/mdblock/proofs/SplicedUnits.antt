@@ -4,12 +4,12 @@ use Rattle.std.proofs.Math.Seq.{take-append_seam, drop-append_seam}
 use Rattle.std.proofs.lemmas.List.{append-nil}
 use Rattle.std.specs.List.{range_with_len}
 use Rattle.std.specs.Prelude.{take}
-use Rattle.mdleaf.specs.LinkDefinition.{LinkDefinition}
+use Rattle.mdleaf.specs.DefinedLinks.{LinkDefinition}
 use Rattle.blockspec.specs.BlockTree.{ListKind, list, Blocks, no_blocks, block, Items}
-use Rattle.blockspec.specs.ListGroups.{items_before}
+use Rattle.blockspec.specs.Lists.{items_before}
 use Rattle.blockspec.specs.NodeTree.{ItemNodes, no_nodes, list_node, texts_in, texts_in_items, definitions_in, definitions_in_items, placed, placed_items, unit_of}
 use Rattle.blockspec.specs.UnitTree.{UnitTree}
-use Rattle.blockspec.specs.ListItems.{ListItem, nodes_of_items}
+use Rattle.blockspec.specs.TopBlocks.{ListItem, nodes_of_items}
 use Rattle.blockspec.proofs.UnitsMeet.{texts_together, definitions_together, list_texts}
 use Rattle.mdblock.specs.Copies.{copied_items, items_positions, texts_at}
 use Rattle.mdblock.specs.Spliced.{drop_items, spliced_unit}

@@ -3,8 +3,18 @@
 use Rattle.std.proofs.Common.{◌≡◌, Bool, true, false, List, Option, Some, None, refl, ap, sym, ◌∙◌}
 use Rattle.std.specs.Prelude.{nat_le}
 use Rattle.std.specs.Option.{option_or, option_map, is_none}
-use Rattle.blockspec.specs.BlockLine.{BlockLine, indentation, is_blank_line}
-use Rattle.blockspec.specs.BlockStart.{Mode, Free, Inside, Lazy, Kind, is_inside, begins_quote, begins_atx, begins_fence, begins_html, begins_underline, begins_break, begins_item, begins_rows, start_near, start_at, start_where, start}
+use Rattle.blockspec.specs.BlockLine.{BlockLine, indentation}
+use Rattle.blockspec.specs.BlankLines.{is_blank_line}
+use Rattle.blockspec.specs.BlockKinds.{Mode, Free, Inside, Lazy, Kind, is_inside}
+use Rattle.blockspec.specs.BlockQuotes.{begins_quote}
+use Rattle.blockspec.specs.AtxHeadings.{begins_atx}
+use Rattle.blockspec.specs.FencedCode.{begins_fence}
+use Rattle.blockspec.specs.HtmlBlocks.{begins_html}
+use Rattle.blockspec.specs.SetextHeadings.{begins_underline}
+use Rattle.blockspec.specs.ThematicBreaks.{begins_break}
+use Rattle.blockspec.specs.ListItems.{begins_item}
+use Rattle.blockspec.specs.Tables.{begins_rows}
+use Rattle.blockspec.specs.BlockStart.{start_near, start_at, start_where, start}
 use Rattle.mdblock.specs.held.StartParts.{start_before_underline, start_after_underline, start_alone_near, start_alone_at, start_alone_where, start_alone}
 
 pub or_assoc : (a b c : Option Kind) → option_or (option_or a b) c ≡ option_or a (option_or b c)

@@ -5,8 +5,8 @@ use Rattle.std.specs.Prelude.{String, string_bytes}
 use Rattle.std.specs.Vec.{vec_len}
 use Rattle.std.specs.List.{range_with_len, flat_map}
 use Rattle.mdscan.specs.declared.delimiter_rows.Align.{Align}
-use Rattle.mdleaf.specs.declared.table_rows.Header.{Header}
-use Rattle.mdleaf.specs.TableRows.{TableHeader, begins_table, filled, header_of, row_texts, table_header}
+use Rattle.mdleaf.specs.declared.tables.Header.{Header}
+use Rattle.mdleaf.specs.Tables.{TableHeader, begins_table, filled, header_of, row_texts, table_header}
 use Rattle.mdleaf.proofs.CellTexts.{length_filled}
 use Rattle.blockspec.specs.NodeTree.{table_leaf, leaf_texts, row_positions}
 use Rattle.blockspec.specs.OpenLeaf.{open_table, row_of}

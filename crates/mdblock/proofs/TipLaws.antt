@@ -2,12 +2,12 @@
 use Rattle.std.proofs.Common.{Box, Global, ◌≡◌, ℕ, Bool, true, false, List, refl, sym, ◌∙◌, ap, subst}
 use Rattle.mdtext.specs.EntityTable.{EntityTable}
 use Rattle.blockspec.specs.BlockLine.{BlockLine}
-use Rattle.blockspec.specs.BlockStart.{Kind, Paragraph, FencedCode, IndentedCode, HtmlBlock, Quote, Item}
+use Rattle.blockspec.specs.BlockKinds.{Kind, Paragraph, FencedCode, IndentedCode, HtmlBlock, Quote, Item}
 use Rattle.mdblock.specs.held.HeldLevel.{EndsIn, StandsForLast, StandsForList, CellsStand, behind_over}
 use Rattle.blockspec.specs.Laziness.{is_text}
 use Rattle.mdblock.specs.held.LeafEnds.{is_paragraph}
 use Rattle.blockspec.specs.LineSummary.{summary, summary_tip, last_tip, Last, nothing_yet, ended_block, open_leaf, open_container}
-use Rattle.blockspec.specs.ListGroups.{Part, Leaves, Quoted, Listed, Group}
+use Rattle.blockspec.specs.Lists.{Part, Leaves, Quoted, Listed, Group}
 use Rattle.blockspec.specs.OpenLeaf.{OpenLeaf, open_table, open_tip, leaf_from}
 use Rattle.mdblock.specs.held.OpenLeaves.{IsLeafOf}
 use Rattle.mdblock.specs.declared.container.lists.OpenList.{OpenList}

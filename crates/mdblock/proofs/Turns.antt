@@ -1,6 +1,6 @@
 -- A paragraph turns into another block by an underline or a delimiter row (CommonMark 4.3; GFM Tables (extension)).
 use Rattle.std.proofs.Common.{◌≡◌, ℕ, refl}
-use Rattle.blockspec.specs.BlockStart.{Paragraph}
+use Rattle.blockspec.specs.BlockKinds.{Paragraph}
 use Rattle.blockspec.specs.Stretches.{Continues}
 use Rattle.mdblock.specs.held.Continuations.{IsOfLeaf, IsTurn, step_view}
 use Rattle.mdblock.specs.held.LevelSteps.{IsInside}

@@ -1,7 +1,8 @@
 -- A line that is lazy or blank has neither the marker nor the indentation of any open container.
 use Rattle.std.proofs.Common.{◌≡◌, Bool, true, false, not, ◌&&◌, refl, ◌∙◌, ap}
 use Rattle.std.specs.Prelude.{nat_le}
-use Rattle.blockspec.specs.BlockLine.{BlockLine, indentation, is_blank_line, rest}
+use Rattle.blockspec.specs.BlockLine.{BlockLine, indentation, rest}
+use Rattle.blockspec.specs.BlankLines.{is_blank_line}
 use Rattle.blockspec.specs.ContainerLines.{matches}
 use Rattle.mdscan.specs.BlockQuote.{is_quote_marker}
 use Rattle.mdblock.specs.held.Continuations.{ContinuesList}

@@ -8,7 +8,7 @@ use Rattle.blockspec.specs.BlockUnits.{units}
 use Rattle.blockspec.specs.UnitTree.{UnitTree, FoundUnit, unit_code}
 use Rattle.blockspec.specs.ItemMarks.{ItemMark, is_parted, list_marks, join_of}
 use Rattle.blockspec.specs.Joins.{block_joins}
-use Rattle.blockspec.specs.ListItems.{top_blocks}
+use Rattle.blockspec.specs.TopBlocks.{top_blocks}
 use Rattle.mdblock.specs.declared.units.Join as declared
 
 -- a unit with the number of lines before it and its own, and where it is a list its later items, and whether a gap parts two blocks of its last one

@@ -5,4 +5,4 @@ pub mod FoundLists
 pub mod Positions
 pub mod Spliced
 pub mod held
-pub use Rattle.mdleaf.specs.LinkDefinition
+pub use Rattle.mdleaf.specs.DefinedLinks

@@ -2,10 +2,15 @@
 
 ghost use Rattle.std.specs.Prelude.{◌≡◌, ◌&&◌, not, is_none, Some, IfSome, drop, false, [], List};
 ghost use Rattle.std.specs.Option.{option_map};
-ghost use Rattle.mdscan.specs.Blanks.{is_blank_text};
-ghost use Rattle.blockspec.specs.BlockLine.{BlockLine, rest, is_blank_line, behind_marker};
-ghost use Rattle.mdscan.specs.Blanks.{begins_with};
-ghost use Rattle.blockspec.specs.BlockStart.{Lazy, is_free, is_inside, begins_atx, begins_fence, begins_html, begins_item, may_begin_item, start};
+ghost use Rattle.mdscan.specs.Blanks.{is_blank_text, begins_with};
+ghost use Rattle.blockspec.specs.BlockLine.{BlockLine, rest, behind_marker};
+ghost use Rattle.blockspec.specs.BlankLines.{is_blank_line};
+ghost use Rattle.blockspec.specs.BlockKinds.{Lazy, is_free, is_inside};
+ghost use Rattle.blockspec.specs.AtxHeadings.{begins_atx};
+ghost use Rattle.blockspec.specs.FencedCode.{begins_fence};
+ghost use Rattle.blockspec.specs.HtmlBlocks.{begins_html};
+ghost use Rattle.blockspec.specs.ListItems.{begins_item, may_begin_item};
+ghost use Rattle.blockspec.specs.BlockStart.{start};
 ghost use Rattle.mdblock.specs.held.Continuations.{IsBeginningOf};
 ghost use Rattle.mdblock.specs.held.StartKind.{mode_view, kind_of_start, stays_lazy};
 ghost use Rattle.mdblock.specs.held.StartSpans.{IsStartOf};
@@ -15,7 +20,7 @@ use crate::lines::{Line, is_space_or_tab};
 use mdscan::{AtxLine, FenceLine, Marker, atx, fence, html_start, list_marker, thematic};
 
 /// What stands open where a line is tried.
-#[derive(Clone, Copy, Debug, PartialEq, Eq)]
+#[derive(Clone, Copy)]
 pub(crate) enum Mode {
     /// No paragraph.
     Free,
@@ -40,7 +45,7 @@ impl Mode {
 }
 
 /// The block that a line begins, paragraphs apart.
-#[derive(Clone, Copy, Debug, PartialEq, Eq)]
+#[derive(Clone, Copy)]
 pub(crate) enum BlockStart {
     Quote,
     Heading(AtxLine),

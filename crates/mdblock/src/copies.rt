@@ -3,7 +3,7 @@
 ghost use Rattle.std.specs.Prelude.{◌≡◌, ◌++◌, ◌∷◌, [], IfOk, OnOk, drop, length, map, string_bytes};
 ghost use Rattle.std.specs.List.{flat_map, range_with_len};
 ghost use Rattle.blockspec.specs.BlockTree.{table};
-ghost use Rattle.mdleaf.specs.LinkDefinition.{definition_of};
+ghost use Rattle.mdleaf.specs.DefinedLinks.{definition_of};
 ghost use Rattle.mdblock.specs.BlockView.{block_view, blocks_view, item_view, items_view};
 ghost use Rattle.mdblock.specs.Copies.{block_positions, blocks_positions, items_positions, copied_block, copied_blocks, copied_items, copied_rows, text_at, texts_at};
 

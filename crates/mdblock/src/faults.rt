@@ -32,7 +32,7 @@ impl fmt::Display for BlockFault {
 impl Error for BlockFault {}
 
 /// Why a line is not read where no earlier one had a fault.
-#[derive(Clone, Copy, Debug, Drop, PartialEq, Eq)]
+#[derive(Clone, Copy, Drop)]
 pub(crate) enum LineFault {
     /// A container begins that lies in more others than the limit allows.
     TooDeep,

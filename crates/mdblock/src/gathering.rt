@@ -2,7 +2,7 @@
 
 ghost use Rattle.std.specs.Prelude.{◌≡◌, ◌-◌, ◌<◌, ◌≤◌, [], ◌∷◌, ◌++◌, IfOk, OnOk, length, map};
 ghost use Rattle.std.specs.List.{range_with_len};
-ghost use Rattle.mdleaf.specs.LinkDefinition.{definition_of};
+ghost use Rattle.mdleaf.specs.DefinedLinks.{definition_of};
 ghost use Rattle.mdblock.specs.held.Growing.{Grows};
 ghost use Rattle.mdblock.specs.held.HandedIn.{gathered_definitions};
 ghost use Rattle.mdblock.specs.Positions.{CellsIn};

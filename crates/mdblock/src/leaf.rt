@@ -3,7 +3,7 @@
 ghost use Rattle.std.specs.Prelude.{◌≡◌, ◌≤◌, ℕ, List, [], ◌++◌, IfOk, IfSome, OnOk, None, Some, length, not};
 ghost use Rattle.mdtext.specs.EntityTable.{EntityTable};
 ghost use Rattle.blockspec.specs.BlockLine.{BlockLine, rest};
-ghost use Rattle.blockspec.specs.BlockStart.{Kind};
+ghost use Rattle.blockspec.specs.BlockKinds.{Kind};
 ghost use Rattle.mdblock.specs.BlockView.{block_view};
 ghost use Rattle.mdblock.specs.held.Continuations.{IsContinuationOf, ContinuesLeaf, IsOfLeaf, IsPlain, goes_on};
 ghost use Rattle.mdblock.specs.held.Growing.{Grows};

@@ -5,14 +5,15 @@ ghost use Rattle.std.specs.Str.{IsCharBoundary};
 ghost use Rattle.std.specs.List.{suffix_len};
 ghost use Rattle.mdscan.specs.Blanks.{is_blank};
 ghost use Rattle.mdtext.specs.Columns.{AreMarks, is_space_or_tab};
-ghost use Rattle.blockspec.specs.BlockLine.{document_line, indentation, rest, is_blank_line, without_columns, as_lazy, behind_marker};
+ghost use Rattle.blockspec.specs.BlockLine.{document_line, indentation, rest, without_columns, as_lazy, behind_marker};
+ghost use Rattle.blockspec.specs.BlankLines.{is_blank_line};
 
 use mdtext::Cursor;
 use std::alloc::AllocError;
 use std::marker::Model;
 
 /// A line whose first containers have taken their marks and columns.
-#[derive(Debug, Drop)]
+#[derive(Drop)]
 pub(crate) struct Line<'a> {
     cursor: Cursor<'a>,
     lazy: bool,

@@ -50,7 +50,7 @@ enum OpenBlock {
 }
 
 /// How a line continues the open block, or an open list.
-#[derive(Clone, Copy, Debug, PartialEq, Eq)]
+#[derive(Clone, Copy)]
 pub(crate) enum Continuation {
     /// A line of the leaf, or a blank line of the open item.
     Matched,

@@ -65,7 +65,7 @@ impl<'e> Model for Reader<'e> {
 
     ghost use Rattle.mdblock.specs.contracts.open_blocks.Level as level;
     ghost use Rattle.std.specs.Coded.{codes};
-    ghost use Rattle.mdleaf.specs.LinkDefinition.{definition_code};
+    ghost use Rattle.mdleaf.specs.DefinedLinks.{definition_code};
     ghost use Rattle.mdblock.specs.FoundLists.{mark_code};
 
     ghost coded = { Prim.hlevel (codes, level.the_row.coded, definition_code, mark_code) };

@@ -4,7 +4,7 @@ ghost use Rattle.std.specs.Prelude.{◌≡◌, ◌+◌, ◌<◌, ◌≤◌, ◌+
 ghost use Rattle.std.specs.List.{list_any};
 ghost use Rattle.blockspec.specs.ItemMarks.{ItemMark};
 ghost use Rattle.blockspec.specs.Nesting.{first_too_deep};
-ghost use Rattle.mdleaf.specs.LinkDefinition.{definition_of};
+ghost use Rattle.mdleaf.specs.DefinedLinks.{definition_of};
 ghost use Rattle.mdblock.specs.BlockView.{items_view};
 ghost use Rattle.mdblock.specs.Copies.{copied_items, items_positions, texts_at};
 ghost use Rattle.mdblock.specs.CountedLines.{counted_by};

@@ -1,7 +1,7 @@
 //! Units: what is handed out of a document.
 
 ghost use Rattle.std.specs.Prelude.{◌≡◌, length, map, string_bytes};
-ghost use Rattle.mdleaf.specs.LinkDefinition.{definition_of};
+ghost use Rattle.mdleaf.specs.DefinedLinks.{definition_of};
 ghost use Rattle.mdblock.specs.BlockView.{blocks_view};
 ghost use Rattle.mdblock.specs.FoundLists.{join_mark};
 ghost use Rattle.mdblock.specs.Positions.{BlocksIn};
@@ -28,7 +28,7 @@ impl Model for Unit {
 
     ghost use Rattle.mdblock.specs.BlockView.{blocks_view};
     ghost use Rattle.mdblock.specs.Positions.{BlocksIn};
-    ghost use Rattle.mdleaf.specs.LinkDefinition.{definition_of};
+    ghost use Rattle.mdleaf.specs.DefinedLinks.{definition_of};
     ghost use Rattle.std.specs.Prelude.{map, length, string_bytes};
 
     ghost view = { λ u. record {

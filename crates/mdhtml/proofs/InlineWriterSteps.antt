@@ -2,7 +2,7 @@
 use Rattle.std.proofs.Common.{◌≡◌, ℕ, true, false, List, [], ◌∷◌, ◌++◌, String, Global, string_bytes, length, map, reverse, refl, sym, ap, ◌∙◌, append_assoc, append-nil, arith}
 use Rattle.std.proofs.lemmas.List.{reverse-append, map-append}
 use Rattle.std.proofs.lemmas.Grind.{flat_map-append}
-use Rattle.mdtext.specs.Escaped.{escaped, escaped_byte}
+use Rattle.mdtext.specs.HtmlEscapes.{escaped, escaped_byte}
 use Rattle.inlinespec.specs.CodeSpans.{as_one_line}
 use Rattle.inlinespec.specs.InlineEvents.{InlineSpan, Event, Enter, Leave, written}
 use Rattle.inlinespec.proofs.CodeContents.{IsOneLine, stays}

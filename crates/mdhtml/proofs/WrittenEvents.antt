@@ -1,6 +1,6 @@
 -- What the writer of inlines writes of several events.
 use Rattle.std.proofs.Common.{◌≡◌, ℕ, List, [], ◌∷◌, ◌++◌, sym, ap, ◌∙◌, append_assoc, append-nil}
-use Rattle.mdtext.specs.Escaped.{escaped, escaped_byte}
+use Rattle.mdtext.specs.HtmlEscapes.{escaped, escaped_byte}
 use Rattle.inlinespec.specs.InlineEvents.{written}
 use Rattle.mdhtml.specs.declared.options.Options.{Options}
 use Rattle.mdhtml.specs.InlineWriting.{Writing, writing, shows, after_events}

@@ -4,7 +4,7 @@ use Rattle.std.specs.Prelude.{◌<◌}
 use Rattle.std.proofs.Common.{arith}
 use Rattle.std.proofs.lemmas.Grind.{flat_map-append}
 use Rattle.mdtext.specs.EntityTable.{EntityTable}
-use Rattle.mdtext.specs.Escaped.{escaped, escaped_byte}
+use Rattle.mdtext.specs.HtmlEscapes.{escaped, escaped_byte}
 use Rattle.inlinespec.specs.InlineTree.{Inline, Inlines, no_inlines, inline, text, code, raw, soft, hard, emph, strong, strike, link, image}
 use Rattle.inlinespec.specs.InlineEvents.{InlineSpan, Emphasis, StrongEmphasis, Strikethrough, LinkTo, ImageOf, Event, Byte, CodeSpan, RawHtml, SoftBreak, HardBreak, Enter, Leave, span_tree, with_byte, in_front, closed, rows_of, first_row, tree_of}
 use Rattle.inlinespec.specs.LinkTails.{Table}

@@ -1,7 +1,7 @@
 -- Destinations and titles of links and images, as attributes hold them.
 use Rattle.std.specs.Prelude.{ℕ, List, [], ◌∷◌, ◌++◌, codes, if◌then◌else◌, Bool, true, false, ◌&&◌, ◌||◌, not, length, ◌==◌}
 use Rattle.std.specs.Char.{eq_ignore_ascii_case}
-use Rattle.mdtext.specs.Escaped.{escaped}
+use Rattle.mdtext.specs.HtmlEscapes.{escaped}
 use Rattle.mdtext.specs.EscapedUrl.{escaped_url}
 use Rattle.mdhtml.specs.declared.options.Options.{Options}
 

@@ -1,7 +1,7 @@
 -- HTML of blocks (CommonMark 4 and 5; GFM Tables (extension), GFM Task list items (extension)). Each is a function of the piece so far, since a block begins on a line of its own.
 use Rattle.std.specs.Prelude.{ℕ, ◌-◌, List, [], ◌++◌, codes, if◌then◌else◌, ◌==◌, ◌||◌, ◌&&◌, not, Bool, true, false, Option, Some, None, length, map, slice_index}
 use Rattle.std.specs.Fmt.{decimal}
-use Rattle.mdtext.specs.Escaped.{escaped}
+use Rattle.mdtext.specs.HtmlEscapes.{escaped}
 use Rattle.mdinline.specs.ParsedText.{ParsedText}
 use Rattle.blockspec.specs.BlockTree.{ListKind, bullet, ordered, Block, paragraph, heading, thematic_break, code_block, html_block, block_quote, list, table, Blocks, no_blocks, block, Items, no_items, item}
 use Rattle.mdhtml.specs.declared.options.Options.{Options}

@@ -1,6 +1,6 @@
 -- HTML of inlines (CommonMark 6; GFM Strikethrough (extension)).
 use Rattle.std.specs.Prelude.{ℕ, List, [], ◌++◌, codes, if◌then◌else◌}
-use Rattle.mdtext.specs.Escaped.{escaped}
+use Rattle.mdtext.specs.HtmlEscapes.{escaped}
 use Rattle.inlinespec.specs.InlineTree.{Inline, Inlines, no_inlines, inline, text, code, raw, soft, hard, emph, strong, strike, link, image}
 use Rattle.mdhtml.specs.declared.options.Options.{Options}
 use Rattle.mdhtml.specs.declared.options.Breaks.{Breaks}

@@ -1,7 +1,7 @@
 -- HTML of inlines that come from left to right, each span by its beginning and its end (CommonMark 6; GFM Strikethrough (extension)).
 use Rattle.std.specs.Prelude.{ℕ, Bool, true, false, List, [], ◌∷◌, ◌++◌, codes, if◌then◌else◌}
 use Rattle.std.specs.List.{fold}
-use Rattle.mdtext.specs.Escaped.{escaped, escaped_byte}
+use Rattle.mdtext.specs.HtmlEscapes.{escaped, escaped_byte}
 use Rattle.inlinespec.specs.InlineEvents.{InlineSpan, Emphasis, StrongEmphasis, Strikethrough, LinkTo, ImageOf, Event, Byte, CodeSpan, RawHtml, SoftBreak, HardBreak, Enter, Leave}
 use Rattle.mdhtml.specs.declared.options.Options.{Options}
 use Rattle.mdhtml.specs.InlineHtml.{wrapped, break_html, raw_html, link_open, image_begins, image_ends}

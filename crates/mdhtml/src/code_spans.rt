@@ -1,7 +1,7 @@
 //! HTML of code spans.
 
 ghost use Rattle.std.specs.Prelude.{◌≡◌, ◌++◌, OnOk, codes, string_bytes};
-ghost use Rattle.mdtext.specs.Escaped.{escaped};
+ghost use Rattle.mdtext.specs.HtmlEscapes.{escaped};
 ghost use Rattle.inlinespec.specs.CodeSpans.{as_one_line};
 ghost use Rattle.mdhtml.specs.InlineHtml.{wrapped};
 

@@ -1,7 +1,7 @@
 //! HTML of images.
 
 ghost use Rattle.std.specs.Prelude.{◌≡◌, ◌++◌, OnOk, codes, string_bytes};
-ghost use Rattle.mdtext.specs.Escaped.{escaped};
+ghost use Rattle.mdtext.specs.HtmlEscapes.{escaped};
 ghost use Rattle.mdinline.specs.TreeView.{inline_view, inlines_view};
 ghost use Rattle.mdhtml.specs.InlineHtml.{alt, alts, image_begins, image_ends, image_html};
 

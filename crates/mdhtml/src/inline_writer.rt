@@ -1,7 +1,7 @@
 //! HTML of inlines as they come, with no tree.
 
 ghost use Rattle.std.specs.Prelude.{◌≡◌, ◌++◌, IfSome, OnOk, [], true, false, codes, string_bytes, reverse};
-ghost use Rattle.mdtext.specs.Escaped.{escaped};
+ghost use Rattle.mdtext.specs.HtmlEscapes.{escaped};
 ghost use Rattle.inlinespec.specs.CodeSpans.{as_one_line};
 
 use crate::code_spans::write_as_one_line;
@@ -203,7 +203,7 @@ fn write_text(text: &str, out: &mut String) -> Result<(), NoMemory>
 }
 
 /// The reference that HTML writes for a text of one byte, if it writes one.
-#[tactic(auto, unfolding(mdtext::specs::Escaped::escaped_byte))]
+#[tactic(auto, unfolding(mdtext::specs::HtmlEscapes::escaped_byte))]
 fn reference_of(text: &[u8]) -> Option<&'static str>
     ensures { IfSome result (λ reference. reference.now ≡ escaped text.now) }
 {

@@ -11,6 +11,7 @@ pub(crate) mod item_ends;
 pub(crate) mod items;
 pub(crate) mod like_lists;
 mod same_blocks;
+pub(crate) mod task_list_items;
 
 use crate::lists::items::write_items;
 use crate::options::Options;

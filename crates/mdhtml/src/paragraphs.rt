@@ -4,7 +4,7 @@ ghost use Rattle.std.specs.Prelude.{◌≡◌, ◌++◌, ◌<◌, OnOk, length, 
 ghost use Rattle.mdhtml.specs.held.UnitTexts.{shown_texts};
 ghost use Rattle.mdhtml.specs.BlockHtml.{paragraph_html, text_html, task_box};
 
-use crate::lists::items::write_box;
+use crate::lists::task_list_items::write_box;
 use crate::pieces::write_fresh;
 use crate::unit_texts::UnitTexts;
 use mdtext::NoMemory;

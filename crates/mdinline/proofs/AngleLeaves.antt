@@ -1,10 +1,12 @@
 -- What a `<` begins: an autolink, raw HTML or text (CommonMark 6.5, 6.6).
 use Rattle.std.proofs.Common.{◌≡◌, ℕ, ◌+◌, ◌-◌, List, [], ◌∷◌, take, drop, Option, Some, None, option_map, refl, ap, sym, ◌∙◌, arith}
 use Rattle.mdtext.specs.EntityTable.{EntityTable}
-use Rattle.mdscan.specs.AutoLink.{autolink_at}
+use Rattle.mdscan.specs.Autolink.{autolink_at}
 use Rattle.mdscan.specs.RawHtml.{raw_html}
 use Rattle.inlinespec.specs.InlineEvents.{RawHtml}
-use Rattle.inlinespec.specs.Lexing.{angle_lexeme, as_written, autolink_lexeme, leaf}
+use Rattle.inlinespec.specs.RawHtml.{angle_lexeme}
+use Rattle.inlinespec.specs.Lexemes.{as_written, leaf}
+use Rattle.inlinespec.specs.Autolinks.{autolink_lexeme}
 
 none_mapped : {X Y : Type 0} (f : X → Y) (o : Option X) → None ≡ option_map f o → o ≡ None
 none_mapped f None e = refl

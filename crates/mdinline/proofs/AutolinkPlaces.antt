@@ -5,7 +5,7 @@ use Rattle.mdscan.specs.Blanks.{begins_with}
 use Rattle.std.specs.List.{prefix_len}
 use Rattle.std.proofs.lemmas.Bool.{and_parts}
 use Rattle.mdscan.specs.Repeats.{repeats}
-use Rattle.mdscan.specs.AutoLink.{autolink_at, uri_end, mail_end, auto_of, or_auto, in_uri, in_mail_name, scheme_length, domain_label_length, dotted_label_length}
+use Rattle.mdscan.specs.Autolink.{autolink_at, uri_end, mail_end, auto_of, or_auto, in_uri, in_mail_name, scheme_length, domain_label_length, dotted_label_length}
 use Rattle.mdscan.specs.declared.autolinks.Auto.{Auto}
 use Rattle.mdinline.proofs.Marks.{mark_there}
 

@@ -2,8 +2,9 @@
 use Rattle.std.proofs.Common.{◌≡◌, ℕ, ◌+◌, ◌-◌, Bool, true, false, List, [], take, drop, ap, sym, ◌∙◌, if◌then◌else◌}
 use Rattle.mdtext.specs.EntityTable.{EntityTable}
 use Rattle.inlinespec.specs.LinkTails.{Table, link_tail_at}
-use Rattle.inlinespec.specs.Settled.{Piece}
-use Rattle.inlinespec.specs.TextReading.{Item, Opened, Spends, after_deed, spent, by_link_tail, closing, closing_bracket, nearest_opener}
+use Rattle.inlinespec.specs.Pieces.{Piece}
+use Rattle.inlinespec.specs.TextReading.{Item, Spends, after_deed, spent, by_link_tail, closing, closing_bracket}
+use Rattle.inlinespec.specs.Links.{Opened, nearest_opener}
 use Rattle.mdinline.specs.declared.bracket_stack.Opening.{Opening}
 use Rattle.mdinline.specs.held.UnusedOpeners.{AreOpenersOf, IsTaken}
 use Rattle.mdinline.specs.declared.bracket_stack.BracketStack.{BracketStack}

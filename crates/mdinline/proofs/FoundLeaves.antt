@@ -2,7 +2,7 @@
 use Rattle.std.proofs.Common.{◌≡◌, ℕ, ◌+◌, ◌-◌, List, ap, sym, subst, ◌∙◌, arith}
 use Rattle.mdtext.specs.EntityTable.{EntityTable}
 use Rattle.inlinespec.specs.InlineEvents.{Event}
-use Rattle.inlinespec.specs.Lexing.{Lexeme, leaf}
+use Rattle.inlinespec.specs.Lexemes.{Lexeme, leaf}
 use Rattle.mdinline.specs.held.LeafEvents.{IsTokenOf, leaf_events}
 use Rattle.mdinline.specs.held.Recognised.{lexeme_of, bracket_of, kind_of}
 use Rattle.mdinline.specs.declared.bracket_stack.Bracket.{Bracket}

@@ -5,7 +5,8 @@ use Rattle.std.specs.Str.{IsUtf8}
 use Rattle.std.proofs.lemmas.Bool.Decides.{nat_tests}
 use Rattle.mdtext.specs.EntityTable.{EntityTable}
 use Rattle.mdscan.specs.Spans.{IsEndAfter}
-use Rattle.inlinespec.specs.Lexing.{as_written, lex}
+use Rattle.inlinespec.specs.Lexemes.{as_written}
+use Rattle.inlinespec.specs.Lexing.{lex}
 use Rattle.mdinline.proofs.Marks.{behind}
 use Rattle.mdinline.proofs.SignItems.{at_greater, at_quotation}
 

@@ -2,8 +2,9 @@
 use Rattle.std.proofs.Common.{◌≡◌, ℕ, ◌+◌, ◌<◌, ◌≤◌, Bool, true, false, not, nat_le, min, ◌||◌, List, [], ◌∷◌, ◌++◌, length, length-append, Option, Some, None, refl, ap, sym, ◌∙◌, subst, arith}
 use Rattle.std.proofs.lemmas.Bool.Decides.{nat_tests}
 use Rattle.inlinespec.specs.InlineEvents.{Event}
-use Rattle.inlinespec.specs.Settled.{Piece, Made, Run, Opening}
-use Rattle.inlinespec.specs.TextReading.{Opened, opened_with, nearest_opener, holds_link, is_live, spent}
+use Rattle.inlinespec.specs.Pieces.{Piece, Made, Run, Opening}
+use Rattle.inlinespec.specs.Links.{Opened, opened_with, nearest_opener, holds_link, is_live}
+use Rattle.inlinespec.specs.TextReading.{spent}
 use Rattle.mdinline.specs.held.UnusedOpeners.{openers, before_link}
 
 -- openers before a link are no more than all

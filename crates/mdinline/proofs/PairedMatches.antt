@@ -5,13 +5,13 @@ use Rattle.std.proofs.lemmas.List.{get_or-set_other, get_or_append_left, take_mo
 use Rattle.std.proofs.Math.Seq.{get_or-append_seam}
 use Rattle.std.proofs.lemmas.Bool.Decides.{nat_tests}
 use Rattle.mdpair.specs.declared.emphasis.Match.{Match}
-use Rattle.mdpair.specs.declared.runs.DelimiterChar.{DelimiterChar}
-use Rattle.mdpair.specs.declared.runs.DelimiterRun.{DelimiterRun}
+use Rattle.mdpair.specs.declared.delimiter_runs.DelimiterChar.{DelimiterChar}
+use Rattle.mdpair.specs.declared.delimiter_runs.DelimiterRun.{DelimiterRun}
 use Rattle.std.specs.Prelude.{slice_get}
 use Rattle.inlinespec.specs.InlineEvents.{Event, Enter, Leave}
 use Rattle.mdinline.specs.held.LeafEvents.{and_inner, begun_events}
 use Rattle.mdinline.specs.held.PairedRuns.{ArePaired, HasSpans, IsPaired, and_inside}
-use Rattle.inlinespec.specs.Settled.{begins, ends, span_by, taken}
+use Rattle.inlinespec.specs.Emphasis.{begins, ends, span_by, taken}
 use Rattle.mdinline.specs.SpanKinds.{span_of}
 use Rattle.mdinline.specs.declared.tokens.Begun.{Begun}
 use Rattle.mdinline.specs.declared.tokens.PairedRun.{PairedRun}

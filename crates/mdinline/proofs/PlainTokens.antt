@@ -6,7 +6,7 @@ use Rattle.std.specs.Str.{IsUtf8, IsCharBoundary}
 use Rattle.std.proofs.lemmas.Bool.Decides.{nat_tests}
 use Rattle.std.proofs.lemmas.List.{get_or-drop, length-take-le, get_or-take}
 use Rattle.std.proofs.lemmas.List.Sums.{prefix_len_stops}
-use Rattle.mdtext.specs.Escaped.{escaped, escaped_byte}
+use Rattle.mdtext.specs.HtmlEscapes.{escaped, escaped_byte}
 use Rattle.mdscan.specs.Spans.{IsSpanOf, part}
 use Rattle.mdinline.specs.held.LeafEvents.{IsTokenOf}
 use Rattle.mdinline.specs.held.PlainText.{is_escaped, is_stop}

@@ -4,13 +4,14 @@ use Rattle.std.proofs.lemmas.List.{reverse-append}
 use Rattle.std.proofs.lemmas.Grind.{reverse_onto}
 use Rattle.std.proofs.lemmas.Bool.Decides.{nat_tests}
 use Rattle.mdpair.specs.declared.emphasis.Match.{Match}
-use Rattle.mdpair.specs.declared.runs.DelimiterChar.{DelimiterChar}
-use Rattle.mdpair.specs.declared.runs.DelimiterRun.{DelimiterRun}
+use Rattle.mdpair.specs.declared.delimiter_runs.DelimiterChar.{DelimiterChar}
+use Rattle.mdpair.specs.declared.delimiter_runs.DelimiterRun.{DelimiterRun}
 use Rattle.mdpair.specs.Matches.{matches}
 use Rattle.mdpair.specs.Neighbours.{byte_of}
 use Rattle.mdpair.proofs.IdleRuns.{OpenNothing, moved_match, idle_runs}
 use Rattle.inlinespec.specs.InlineEvents.{Event, written}
-use Rattle.inlinespec.specs.Settled.{Piece, Made, Run, Opening, bracket_text, runs_of, settled, settled_from, run_events, taken, ends, begins}
+use Rattle.inlinespec.specs.Pieces.{Piece, Made, Run, Opening, bracket_text}
+use Rattle.inlinespec.specs.Emphasis.{runs_of, settled, settled_from, run_events, taken, ends, begins}
 use Rattle.mdinline.specs.held.ReadMarks.{ones, marks, marks_back}
 use Rattle.mdinline.specs.declared.bracket_stack.Opening as held
 use Rattle.mdinline.specs.held.UnusedOpeners.{openers}

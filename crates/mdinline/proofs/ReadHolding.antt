@@ -4,11 +4,12 @@ use Rattle.std.proofs.lemmas.Bool.Decides.{nat_tests}
 use Rattle.std.proofs.lemmas.List.Elements.{All-nil}
 use Rattle.std.specs.Prelude.{slice_index}
 use Rattle.mdtext.specs.EntityTable.{EntityTable}
-use Rattle.mdpair.specs.declared.runs.DelimiterRun.{DelimiterRun}
+use Rattle.mdpair.specs.declared.delimiter_runs.DelimiterRun.{DelimiterRun}
 use Rattle.mdpair.specs.Matches.{matches}
 use Rattle.mdpair.specs.Neighbours.{byte_of}
 use Rattle.inlinespec.specs.InlineEvents.{Event, written}
-use Rattle.inlinespec.specs.Settled.{Piece, Made, Run, Opening, runs_of, settled}
+use Rattle.inlinespec.specs.Pieces.{Piece, Made, Run, Opening}
+use Rattle.inlinespec.specs.Emphasis.{runs_of, settled}
 use Rattle.mdinline.specs.declared.bracket_stack.BracketStack.{BracketStack}
 use Rattle.mdinline.specs.declared.pending.Pending.{Pending}
 use Rattle.mdinline.specs.declared.tokens.Begun.{Begun}

@@ -4,11 +4,12 @@ use Rattle.std.proofs.Math.Logic.{◌⊎◌, inl, inr}
 use Rattle.std.proofs.Math.Nat.{eq-or-lt_of_le}
 use Rattle.mdtext.specs.EntityTable.{EntityTable}
 use Rattle.mdscan.specs.Spans.{IsEndAfter}
-use Rattle.mdpair.specs.declared.runs.DelimiterRun.{DelimiterRun}
+use Rattle.mdpair.specs.declared.delimiter_runs.DelimiterRun.{DelimiterRun}
 use Rattle.inlinespec.specs.InlineEvents.{Event, written}
-use Rattle.inlinespec.specs.Lexing.{Kind, Leaf, Delimiters, OpenBracket, CloseBracket, Lexeme, as_written, leaf, lex}
+use Rattle.inlinespec.specs.Lexemes.{Kind, Leaf, Delimiters, OpenBracket, CloseBracket, Lexeme, as_written, leaf}
+use Rattle.inlinespec.specs.Lexing.{lex}
 use Rattle.inlinespec.specs.LinkTails.{Table}
-use Rattle.inlinespec.specs.Settled.{Piece, Run}
+use Rattle.inlinespec.specs.Pieces.{Piece, Run}
 use Rattle.mdinline.specs.declared.bracket_stack.BracketStack.{BracketStack}
 use Rattle.mdinline.specs.declared.scanner.Found.{Found}
 use Rattle.mdinline.specs.declared.scanner.Scanner.{Scanner}

@@ -3,11 +3,13 @@ use Rattle.std.proofs.Common.{◌≡◌, Vec, Global, ℕ, false, List, [], ◌�
 use Rattle.std.proofs.lemmas.List.{map-append, map-set, set_at}
 use Rattle.std.proofs.lemmas.List.Elements.{All-push, All-set}
 use Rattle.mdtext.specs.EntityTable.{EntityTable}
-use Rattle.mdpair.specs.declared.runs.DelimiterRun.{DelimiterRun}
+use Rattle.mdpair.specs.declared.delimiter_runs.DelimiterRun.{DelimiterRun}
 use Rattle.mdpair.specs.Matches.{matches}
 use Rattle.inlinespec.specs.InlineEvents.{Event, Enter, Leave}
-use Rattle.inlinespec.specs.Settled.{Piece, Made, bracket_text, runs_of}
-use Rattle.inlinespec.specs.TextReading.{linked, nearest_opener, span_to}
+use Rattle.inlinespec.specs.Pieces.{Piece, Made, bracket_text}
+use Rattle.inlinespec.specs.Emphasis.{runs_of}
+use Rattle.inlinespec.specs.Links.{linked, nearest_opener}
+use Rattle.inlinespec.specs.Images.{span_to}
 use Rattle.mdinline.specs.declared.bracket_stack.Opening as held
 use Rattle.mdinline.specs.declared.pending.Pending.{Pending}
 use Rattle.mdinline.specs.declared.tokens.Begun.{Begun}

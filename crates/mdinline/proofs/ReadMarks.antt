@@ -3,10 +3,11 @@ use Rattle.std.proofs.Common.{◌≡◌, ℕ, zero, suc, ◌+◌, ◌<◌, List,
 use Rattle.std.proofs.lemmas.List.{map-append}
 use Rattle.std.proofs.lemmas.Grind.{reverse_onto}
 use Rattle.mdpair.specs.declared.emphasis.Match.{Match}
-use Rattle.mdpair.specs.declared.runs.DelimiterRun.{DelimiterRun}
+use Rattle.mdpair.specs.declared.delimiter_runs.DelimiterRun.{DelimiterRun}
 use Rattle.mdpair.specs.Matches.{matches}
 use Rattle.inlinespec.specs.InlineEvents.{Event}
-use Rattle.inlinespec.specs.Settled.{Piece, Made, Run, Opening, bracket_text, run_events, runs_of, settled, settled_from}
+use Rattle.inlinespec.specs.Pieces.{Piece, Made, Run, Opening, bracket_text}
+use Rattle.inlinespec.specs.Emphasis.{run_events, runs_of, settled, settled_from}
 use Rattle.mdinline.specs.held.ReadMarks.{Mark, One, Pending, ones, marks, marks_back, places_of, marked, AreEventsOf}
 
 pub marks_first : (p : Piece) (ps : List Piece) → marks (p ∷ ps) ≡ marks (p ∷ []) ++ marks ps

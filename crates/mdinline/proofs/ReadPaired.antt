@@ -3,12 +3,13 @@ use Rattle.std.proofs.Common.{◌≡◌, Vec, Global, ℕ, zero, suc, ◌+◌, �
 use Rattle.std.proofs.lemmas.List.{get_or_default, length-map, map-append, map-set, take_all, take_more}
 use Rattle.mdtext.specs.EntityTable.{EntityTable}
 use Rattle.mdpair.specs.declared.emphasis.Match.{Match}
-use Rattle.mdpair.specs.declared.runs.DelimiterChar.TheVariants.{Tilde}
-use Rattle.mdpair.specs.declared.runs.DelimiterRun.{DelimiterRun}
+use Rattle.mdpair.specs.declared.delimiter_runs.DelimiterChar.TheVariants.{Tilde}
+use Rattle.mdpair.specs.declared.delimiter_runs.DelimiterRun.{DelimiterRun}
 use Rattle.mdpair.specs.Matches.{matches}
 use Rattle.mdpair.specs.Neighbours.{byte_of}
 use Rattle.inlinespec.specs.InlineEvents.{Leave, written}
-use Rattle.inlinespec.specs.Settled.{Piece, Made, Run, Opening, ends, taken, run_events, runs_of}
+use Rattle.inlinespec.specs.Pieces.{Piece, Made, Run, Opening}
+use Rattle.inlinespec.specs.Emphasis.{ends, taken, run_events, runs_of}
 use Rattle.mdinline.specs.declared.pending.Pending.{Pending}
 use Rattle.mdinline.specs.declared.tokens.Begun.{Begun}
 use Rattle.mdinline.specs.declared.tokens.PairedRun.{PairedRun}

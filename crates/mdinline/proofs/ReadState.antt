@@ -5,8 +5,11 @@ use Rattle.std.proofs.lemmas.Grind.{reverse_onto}
 use Rattle.mdpair.specs.Matches.{matches}
 use Rattle.inlinespec.specs.InlineEvents.{Event, Enter, Leave, within}
 use Rattle.inlinespec.specs.LabelMap.{LinkTarget}
-use Rattle.inlinespec.specs.Settled.{Piece, Made, Run, Opening, bracket_text, runs_of, settled}
-use Rattle.inlinespec.specs.TextReading.{opened_with, nearest_opener, spent, linked, span_to, holds_link}
+use Rattle.inlinespec.specs.Pieces.{Piece, Made, Run, Opening, bracket_text}
+use Rattle.inlinespec.specs.Emphasis.{runs_of, settled}
+use Rattle.inlinespec.specs.Links.{opened_with, nearest_opener, linked, holds_link}
+use Rattle.inlinespec.specs.TextReading.{spent}
+use Rattle.inlinespec.specs.Images.{span_to}
 use Rattle.mdinline.specs.held.ReadMarks.{One, ones, marks, marks_back, marked, AreEventsOf}
 use Rattle.mdinline.specs.declared.bracket_stack.Opening as held
 use Rattle.mdinline.specs.held.UnusedOpeners.{openers}

@@ -5,13 +5,16 @@ use Rattle.std.specs.Prelude.{slice_get, slice_index}
 use Rattle.std.proofs.lemmas.List.Sums.{prefix_len_passes}
 use Rattle.std.proofs.lemmas.Bool.Decides.{nat_tests}
 use Rattle.mdtext.specs.EntityTable.{EntityTable}
-use Rattle.mdpair.specs.declared.runs.DelimiterChar.{DelimiterChar}
-use Rattle.mdpair.specs.declared.runs.DelimiterRun.{DelimiterRun}
+use Rattle.mdpair.specs.declared.delimiter_runs.DelimiterChar.{DelimiterChar}
+use Rattle.mdpair.specs.declared.delimiter_runs.DelimiterRun.{DelimiterRun}
 use Rattle.mdpair.specs.Neighbours.{byte_of, delimiter_of, run_at, run_of}
 use Rattle.inlinespec.specs.InlineEvents.{Event, Byte, written}
-use Rattle.inlinespec.specs.Lexing.{Lexeme, Delimiters, DelimiterMark, as_written, leaf, lex, lexeme_by, delimiters_at, is_lone_tilde, kept_run, run_lexeme, sign_of}
+use Rattle.inlinespec.specs.Lexemes.{Lexeme, Delimiters, as_written, leaf}
+use Rattle.inlinespec.specs.Lexing.{DelimiterMark, lex, lexeme_by, sign_of}
+use Rattle.inlinespec.specs.DelimiterRuns.{delimiters_at, run_lexeme}
+use Rattle.inlinespec.specs.Strikethrough.{is_lone_tilde, kept_run}
 use Rattle.inlinespec.specs.LinkTails.{Table}
-use Rattle.inlinespec.specs.Settled.{Piece, Made, Run, Opening}
+use Rattle.inlinespec.specs.Pieces.{Piece, Made, Run, Opening}
 use Rattle.inlinespec.specs.TextReading.{Item, after_deed, asks_of, item_at, item_by, items_from, pieces_after, reading}
 use Rattle.mdinline.specs.held.ReadMarks.{marks_back, ones}
 use Rattle.mdinline.specs.held.ReadSteps.{AreLeaves, LeadsTo, rest_from}

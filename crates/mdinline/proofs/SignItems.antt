@@ -3,17 +3,22 @@ use Rattle.std.proofs.Common.{◌≡◌, ℕ, ◌+◌, ◌<◌, ◌≤◌, Bool,
 use Rattle.std.proofs.lemmas.List.{get_or-drop, drop-drop}
 use Rattle.std.proofs.lemmas.Bool.Decides.{nat_tests}
 use Rattle.mdtext.specs.EntityTable.{EntityTable}
-use Rattle.mdtext.specs.References.{Meaning, reference}
+use Rattle.mdtext.specs.CharacterReferences.{Meaning, reference}
 use Rattle.mdscan.specs.declared.autolinks.Auto.{Auto}
-use Rattle.mdscan.specs.AutoLink.{autolink_at}
+use Rattle.mdscan.specs.Autolink.{autolink_at}
 use Rattle.mdscan.specs.Blanks.{begins_with}
-use Rattle.mdscan.specs.Escapes.{begins_escape}
+use Rattle.mdscan.specs.BackslashEscapes.{begins_escape}
 use Rattle.mdscan.specs.RawHtml.{raw_html}
-use Rattle.mdpair.specs.declared.runs.DelimiterRun.{DelimiterRun}
-use Rattle.inlinespec.specs.CodeSpans.{code_inside}
+use Rattle.mdpair.specs.declared.delimiter_runs.DelimiterRun.{DelimiterRun}
+use Rattle.inlinespec.specs.CodeSpans.{code_inside, code_lexeme}
 use Rattle.inlinespec.specs.InlineEvents.{written}
-use Rattle.inlinespec.specs.Lexing.{CloseBracket, Sign, Backslash, Ampersand, Backtick, LessThan, Blank, DelimiterMark, Bracket, Exclamation, ClosingBracket, Other, sign_of, lex, lexeme_by, leaf, as_written, bracket_lexeme, escape_lexeme, reference_lexeme, code_lexeme, angle_lexeme, delimiters_at, run_lexeme, break_or_written}
-use Rattle.inlinespec.specs.LineBreaks.{LineBreak, spaced_break, backslash_break}
+use Rattle.inlinespec.specs.Lexemes.{CloseBracket, leaf, as_written, bracket_lexeme}
+use Rattle.inlinespec.specs.Lexing.{Sign, Backslash, Ampersand, Backtick, LessThan, Blank, DelimiterMark, Bracket, Exclamation, ClosingBracket, Other, sign_of, lex, lexeme_by}
+use Rattle.inlinespec.specs.BackslashEscapes.{escape_lexeme}
+use Rattle.inlinespec.specs.CharacterReferences.{reference_lexeme}
+use Rattle.inlinespec.specs.RawHtml.{angle_lexeme}
+use Rattle.inlinespec.specs.DelimiterRuns.{delimiters_at, run_lexeme}
+use Rattle.inlinespec.specs.LineBreaks.{break_or_written, LineBreak, spaced_break, backslash_break}
 use Rattle.mdinline.specs.held.PlainText.{is_bracket}
 
 module _ (entities : EntityTable) (text : List ℕ) (at : ℕ) where

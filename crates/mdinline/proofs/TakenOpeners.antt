@@ -4,8 +4,11 @@ use Rattle.std.proofs.lemmas.List.{map-append, length-map, append_cancel_right}
 use Rattle.std.proofs.Math.Seq.{get_or-append_seam}
 use Rattle.inlinespec.specs.InlineEvents.{Event, within}
 use Rattle.inlinespec.specs.LabelMap.{LinkTarget}
-use Rattle.inlinespec.specs.Settled.{Piece, Made, Opening, settled}
-use Rattle.inlinespec.specs.TextReading.{Opened, nearest_opener, spent, holds_link, linked, span_to}
+use Rattle.inlinespec.specs.Pieces.{Piece, Made, Opening}
+use Rattle.inlinespec.specs.Emphasis.{settled}
+use Rattle.inlinespec.specs.Links.{Opened, nearest_opener, holds_link, linked}
+use Rattle.inlinespec.specs.TextReading.{spent}
+use Rattle.inlinespec.specs.Images.{span_to}
 use Rattle.mdinline.specs.held.UnusedOpeners.{openers, before_link, shown, AreOpenersOf, IsTaken}
 use Rattle.mdinline.specs.declared.bracket_stack.Opening as held
 use Rattle.mdinline.specs.declared.bracket_stack.BracketStack.{BracketStack}

@@ -7,7 +7,8 @@ use Rattle.std.proofs.lemmas.Bool.Decides.{nat_tests}
 use Rattle.mdtext.specs.EntityTable.{EntityTable}
 use Rattle.mdscan.specs.Blanks.{begins_with}
 use Rattle.mdinline.proofs.Marks.{mark_there}
-use Rattle.inlinespec.specs.Lexing.{Other, sign_of, lex, as_written}
+use Rattle.inlinespec.specs.Lexing.{Other, sign_of, lex}
+use Rattle.inlinespec.specs.Lexemes.{as_written}
 use Rattle.inlinespec.specs.LineBreaks.{spaces, spaced_break}
 use Rattle.mdinline.specs.held.PlainText.{IsWritten, is_stop}
 

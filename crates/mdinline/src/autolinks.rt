@@ -2,9 +2,9 @@
 
 ghost use Rattle.std.specs.Prelude.{◌≡◌, ◌-◌, ◌<◌, ℕ, List, IfSome, length, option_map, slice_index, true};
 ghost use Rattle.mdtext.specs.EntityTable.{EntityTable};
-ghost use Rattle.mdscan.specs.AutoLink.{autolink_at};
+ghost use Rattle.mdscan.specs.Autolink.{autolink_at};
 ghost use Rattle.mdscan.specs.Spans.{IsEndAfter, IsSpanOf, part};
-ghost use Rattle.inlinespec.specs.Lexing.{autolink_lexeme};
+ghost use Rattle.inlinespec.specs.Autolinks.{autolink_lexeme};
 ghost use Rattle.mdinline.specs.held.LeafEvents.{IsTokenOf, autolink_events, leaf_events};
 ghost use Rattle.mdinline.specs.held.ReadPending.{is_leaf};
 ghost use Rattle.mdinline.specs.held.Recognised.{lexeme_of};

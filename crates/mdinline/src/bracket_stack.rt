@@ -8,9 +8,10 @@ ghost use Rattle.inlinespec.specs.LabelMap.{LinkTarget};
 ghost use Rattle.inlinespec.specs.Lexing.{lex};
 ghost use Rattle.mdinline.specs.held.PlainText.{is_bracket};
 ghost use Rattle.mdinline.specs.held.Recognised.{bracket_of};
-ghost use Rattle.inlinespec.specs.Settled.{Piece};
-ghost use Rattle.inlinespec.specs.Settled as piece;
-ghost use Rattle.inlinespec.specs.TextReading.{Opened, linked, nearest_opener, spent};
+ghost use Rattle.inlinespec.specs.Pieces.{Piece};
+ghost use Rattle.inlinespec.specs.Pieces as piece;
+ghost use Rattle.inlinespec.specs.Links.{Opened, linked, nearest_opener};
+ghost use Rattle.inlinespec.specs.TextReading.{spent};
 ghost use Rattle.mdinline.specs.held.UnusedOpeners.{AreOpenersOf, IsTaken};
 
 use std::alloc::{AllocError, Global};

@@ -2,11 +2,10 @@
 
 ghost use Rattle.std.specs.Prelude.{◌≡◌, ◌+◌, ◌<◌, ◌++◌, IfOk, OnOk, IfSome, length, drop, slice_index, option_map, string_bytes, true};
 ghost use Rattle.std.specs.Str.{IsCharBoundary};
-ghost use Rattle.mdtext.specs.References.{reference};
+ghost use Rattle.mdtext.specs.CharacterReferences.{reference};
 ghost use Rattle.mdtext.specs.Referents.{meaning_of};
 ghost use Rattle.mdscan.specs.Spans.{IsEndAfter};
-ghost use Rattle.inlinespec.specs.AutolinkText.{without_references};
-ghost use Rattle.inlinespec.specs.Lexing.{reference_lexeme};
+ghost use Rattle.inlinespec.specs.CharacterReferences.{without_references, reference_lexeme};
 ghost use Rattle.mdinline.specs.held.LeafEvents.{IsTokenOf};
 ghost use Rattle.mdinline.specs.held.ReadPending.{is_leaf};
 ghost use Rattle.mdinline.specs.held.Recognised.{IsFound};

@@ -1,7 +1,6 @@
 //! Code spans (CommonMark 6.1).
 
-ghost use Rattle.std.specs.Prelude.{◌≡◌, ◌+◌, ◌-◌, ◌<◌, ◌≤◌, ◌==◌, ◌||◌, ℕ, List, true};
-ghost use Rattle.std.specs.Prelude.{false, not, IfOk, IfSome, MatchOption, length, drop, slice_index, slice_range, option_map};
+ghost use Rattle.std.specs.Prelude.{◌≡◌, ◌+◌, ◌-◌, ◌<◌, ◌≤◌, ◌==◌, ◌||◌, ℕ, List, true, false, not, IfOk, IfSome, MatchOption, length, drop, slice_index, slice_range, option_map};
 ghost use Rattle.std.specs.BTreeMap.{get};
 ghost use Rattle.std.specs.List.{list_any};
 ghost use Rattle.std.specs.Ordering.{nat_cmp};
@@ -10,8 +9,7 @@ ghost use Rattle.mdscan.specs.Blanks.{begins_with};
 ghost use Rattle.mdscan.specs.Spans.{IsEndAfter, IsSpanOf, part};
 ghost use Rattle.inlinespec.specs.BacktickStrings.{IsNextString};
 ghost use Rattle.mdinline.specs.held.BacktickTable.{HoldsLast, KnowsStrings};
-ghost use Rattle.inlinespec.specs.CodeSpans.{as_one_line, before_backticks, code_inside, is_padded, is_space_or_feed, unpadded};
-ghost use Rattle.inlinespec.specs.Lexing.{code_lexeme};
+ghost use Rattle.inlinespec.specs.CodeSpans.{as_one_line, before_backticks, code_inside, is_padded, is_space_or_feed, unpadded, code_lexeme};
 ghost use Rattle.mdinline.specs.held.LeafEvents.{IsTokenOf};
 ghost use Rattle.mdinline.specs.held.ReadPending.{is_leaf};
 ghost use Rattle.mdinline.specs.held.Recognised.{IsFound};

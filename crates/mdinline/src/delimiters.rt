@@ -2,7 +2,7 @@
 
 ghost use Rattle.std.specs.Prelude.{◌≡◌, ◌+◌, ◌<◌, ◌≤◌, IfSome, length};
 ghost use Rattle.std.specs.Str.{IsCharBoundary};
-ghost use Rattle.inlinespec.specs.Lexing.{delimiters_at};
+ghost use Rattle.inlinespec.specs.DelimiterRuns.{delimiters_at};
 
 use crate::strikethrough::is_lone_tilde;
 use mdpair::{DelimiterRun, delimiter_run};

@@ -3,8 +3,8 @@
 ghost use Rattle.std.specs.Prelude.{◌≡◌, ◌+◌, ◌-◌, ◌^◌, ◌<◌, [], ◌∷◌, ◌++◌, ℕ, List, All, OnOk, length};
 ghost use Rattle.mdpair.specs.Neighbours.{byte_of};
 ghost use Rattle.mdpair.specs.Matches.{IsOrdered};
-ghost use Rattle.mdtext.specs.Escaped.{escaped};
-ghost use Rattle.inlinespec.specs.Settled.{span_by};
+ghost use Rattle.mdtext.specs.HtmlEscapes.{escaped};
+ghost use Rattle.inlinespec.specs.Emphasis.{span_by};
 ghost use Rattle.mdinline.specs.declared.tokens.Begun.{Begun as Held};
 ghost use Rattle.mdinline.specs.held.PairedRuns.{ArePaired, IsPaired};
 ghost use Rattle.mdinline.specs.SpanKinds.{span_of};
@@ -120,7 +120,7 @@ fn kind_of(delimiter: DelimiterChar, width: usize) -> SpanKind
 }
 
 /// A delimiter character as text.
-#[tactic(auto, unfolding(mdtext::specs::Escaped::escaped_byte))]
+#[tactic(auto, unfolding(mdtext::specs::HtmlEscapes::escaped_byte))]
 pub(crate) fn text_of(delimiter: DelimiterChar) -> &'static str
     ensures value { result.now ≡ byte_of delimiter ∷ [] }
     ensures plain { escaped result.now ≡ result.now }

@@ -4,10 +4,11 @@ ghost use Rattle.std.specs.Prelude.{◌≡◌, [], ◌∷◌, ◌++◌, All, IfO
 ghost use Rattle.mdtext.specs.Referents.{referent_text};
 ghost use Rattle.mdscan.specs.Spans.{IsSpanOf, part};
 ghost use Rattle.mdpair.specs.Neighbours.{byte_of};
-ghost use Rattle.inlinespec.specs.AutolinkText.{scheme_before, without_references};
+ghost use Rattle.inlinespec.specs.Autolinks.{scheme_before};
+ghost use Rattle.inlinespec.specs.CharacterReferences.{without_references};
 ghost use Rattle.inlinespec.specs.InlineEvents.{Enter, Leave, written};
 ghost use Rattle.inlinespec.specs.LinkTails.{part_text};
-ghost use Rattle.inlinespec.specs.TextReading.{span_to};
+ghost use Rattle.inlinespec.specs.Images.{span_to};
 ghost use Rattle.mdinline.specs.held.LeafEvents.{IsGoalOf, IsTokenOf, autolink_events, begun_events, goal_target, leaf_events};
 ghost use Rattle.mdinline.specs.held.LeafEvents.{paired_events, token_events, tokens_events};
 

@@ -1,16 +1,16 @@
 //! Images (CommonMark 6.4): an image is read as a link is (`links`, `bracket_stack`), but for its mark `![` and what it is handed out as.
 
 ghost use Rattle.std.specs.Prelude.{◌≡◌, [], ◌∷◌, OnOk};
-ghost use Rattle.mdtext.specs.Escaped.{escaped};
+ghost use Rattle.mdtext.specs.HtmlEscapes.{escaped};
 ghost use Rattle.inlinespec.specs.InlineEvents.{Enter, written};
-ghost use Rattle.inlinespec.specs.Settled.{bracket_text};
-ghost use Rattle.inlinespec.specs.TextReading.{span_to};
+ghost use Rattle.inlinespec.specs.Pieces.{bracket_text};
+ghost use Rattle.inlinespec.specs.Images.{span_to};
 
 use crate::sinks::InlineSink;
 use mdtext::NoMemory;
 
 /// The bracket of an image or of a link as text.
-#[tactic(auto, unfolding(mdtext::specs::Escaped::escaped_byte))]
+#[tactic(auto, unfolding(mdtext::specs::HtmlEscapes::escaped_byte))]
 pub(crate) fn bracket_text(is_image: bool) -> &'static str
     ensures value { written result.now ≡ bracket_text is_image }
     ensures plain { escaped result.now ≡ result.now }

@@ -3,12 +3,12 @@
 
 mod asked;
 mod autolinks;
+mod backslash_escapes;
 mod bracket_stack;
 mod character_references;
 mod code_spans;
 mod delimiters;
 mod emphasis;
-mod escapes;
 mod faults;
 mod handing;
 mod images;

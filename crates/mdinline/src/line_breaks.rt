@@ -4,8 +4,8 @@ ghost use Rattle.std.specs.Prelude.{◌≡◌, ◌+◌, ◌-◌, ◌<◌, ◌≤
 ghost use Rattle.mdtext.specs.EntityTable.{EntityTable};
 ghost use Rattle.mdscan.specs.Spans.{IsEndAfter};
 ghost use Rattle.inlinespec.specs.InlineEvents.{SoftBreak};
-ghost use Rattle.inlinespec.specs.Lexing.{as_written, break_or_written, leaf};
-ghost use Rattle.inlinespec.specs.LineBreaks.{spaces, spaced_break};
+ghost use Rattle.inlinespec.specs.Lexemes.{as_written, leaf};
+ghost use Rattle.inlinespec.specs.LineBreaks.{break_or_written, spaces, spaced_break};
 ghost use Rattle.mdinline.specs.held.LeafEvents.{IsTokenOf};
 ghost use Rattle.mdinline.specs.held.ReadPending.{is_leaf};
 ghost use Rattle.mdinline.specs.held.Recognised.{IsFound};

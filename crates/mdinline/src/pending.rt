@@ -7,8 +7,9 @@ ghost use Rattle.mdpair.specs.Matches.{matches};
 ghost use Rattle.mdpair.specs.Pairings.{KeepsLittle};
 ghost use Rattle.inlinespec.specs.InlineEvents.{Event};
 ghost use Rattle.inlinespec.specs.LabelMap.{LinkTarget};
-ghost use Rattle.inlinespec.specs.Settled as settled;
-ghost use Rattle.inlinespec.specs.TextReading.{Opened, linked, nearest_opener, spent};
+ghost use Rattle.inlinespec.specs.Pieces as piece;
+ghost use Rattle.inlinespec.specs.Links.{Opened, linked, nearest_opener};
+ghost use Rattle.inlinespec.specs.TextReading.{spent};
 ghost use Rattle.mdinline.specs.declared.tokens.Begun.{Begun as Held};
 ghost use Rattle.mdinline.specs.declared.tokens.PairedRun.{PairedRun as Left};
 ghost use Rattle.mdinline.specs.declared.tokens.Token.TheVariants as kept;
@@ -111,7 +112,7 @@ impl<'a> Pending<'a> {
     pub(crate) fn leaf(&mut self, token: Token<'a>) -> Result<(), AllocError>
         ensures tokens { OnOk result (self.new.tokens.items ≡ self.old.tokens.items ++ token.entry ∷ []) }
         ensures openings { self.new.openings ≡ self.old.openings }
-        ensures pieces { OnOk result ((entities : EntityTable) (text : List ℕ) (handed : List Event) (ps qs : List settled.Piece)
+        ensures pieces { OnOk result ((entities : EntityTable) (text : List ℕ) (handed : List Event) (ps qs : List piece.Piece)
             → is_leaf token.entry ≡ true → openers qs ≡ [] → ones (leaf_events entities text token.entry) ≡ marks_back qs
             → HoldsPieces entities text handed self.old ps → HoldsPieces entities text handed self.new (qs ++ ps)) }
     {
@@ -124,8 +125,8 @@ impl<'a> Pending<'a> {
     pub(crate) fn run(&mut self, run: DelimiterRun) -> Result<(), AllocError>
         ensures tokens { OnOk result (self.new.tokens.items ≡ self.old.tokens.items ++ kept.Run run ∷ []) }
         ensures openings { self.new.openings ≡ self.old.openings }
-        ensures pieces { OnOk result ((entities : EntityTable) (text : List ℕ) (handed : List Event) (ps : List settled.Piece)
-            → HoldsPieces entities text handed self.old ps → HoldsPieces entities text handed self.new (settled.Run run ∷ ps)) }
+        ensures pieces { OnOk result ((entities : EntityTable) (text : List ℕ) (handed : List Event) (ps : List piece.Piece)
+            → HoldsPieces entities text handed self.old ps → HoldsPieces entities text handed self.new (piece.Run run ∷ ps)) }
     {
         self.places.push(self.tokens.len())?;
         self.tokens.push(Token::Run(run))?;
@@ -135,13 +136,13 @@ impl<'a> Pending<'a> {
 
     /// Keeps an opening bracket, behind which the text begins at a place.
     pub(crate) fn open(&mut self, is_image: bool, begin: usize) -> Result<(), AllocError>
-        ensures openers { OnOk result ((ps : List settled.Piece) → AreOpenersOf ps self.old.openings
-            → AreOpenersOf (settled.Opening is_image begin ∷ ps) self.new.openings) }
+        ensures openers { OnOk result ((ps : List piece.Piece) → AreOpenersOf ps self.old.openings
+            → AreOpenersOf (piece.Opening is_image begin ∷ ps) self.new.openings) }
         ensures brackets { OnOk result ((text : List ℕ) (at : ℕ) → IsCharBoundary text begin → at ≤ begin → AreBracketsOf text at self.old.openings.unused.items
             → AreBracketsOf text begin self.new.openings.unused.items) }
         ensures tokens { OnOk result (self.new.tokens.items ≡ self.old.tokens.items ++ kept.Bracket is_image ∷ []) }
-        ensures pieces { OnOk result ((entities : EntityTable) (text : List ℕ) (handed : List Event) (ps : List settled.Piece)
-            → HoldsPieces entities text handed self.old ps → HoldsPieces entities text handed self.new (settled.Opening is_image begin ∷ ps)) }
+        ensures pieces { OnOk result ((entities : EntityTable) (text : List ℕ) (handed : List Event) (ps : List piece.Piece)
+            → HoldsPieces entities text handed self.old ps → HoldsPieces entities text handed self.new (piece.Opening is_image begin ∷ ps)) }
     {
         self.openings.push(Opening {
             token: self.tokens.len(),
@@ -157,13 +158,13 @@ impl<'a> Pending<'a> {
     pub(crate) fn take(&mut self) -> Option<(Opening, bool)>
         ensures unused { MatchOption result (self.new.openings.unused.items ≡ self.old.openings.unused.items)
             (λ taken. self.old.openings.unused.items ≡ self.new.openings.unused.items ++ taken.0 ∷ []) }
-        ensures taken { (ps : List settled.Piece) → AreOpenersOf ps self.old.openings
+        ensures taken { (ps : List piece.Piece) → AreOpenersOf ps self.old.openings
             → MatchOption result (nearest_opener ps ≡ None) (λ taken. (o : Opened) × IsTaken ps taken o) }
-        ensures left { (ps : List settled.Piece) → AreOpenersOf ps self.old.openings → AreOpenersOf (spent ps) self.new.openings }
+        ensures left { (ps : List piece.Piece) → AreOpenersOf ps self.old.openings → AreOpenersOf (spent ps) self.new.openings }
         ensures tokens { self.new.tokens ≡ self.old.tokens }
-        ensures pieces { (entities : EntityTable) (text : List ℕ) (handed : List Event) (ps : List settled.Piece) → HoldsPieces entities text handed self.old ps
+        ensures pieces { (entities : EntityTable) (text : List ℕ) (handed : List Event) (ps : List piece.Piece) → HoldsPieces entities text handed self.old ps
             → HoldsPieces entities text handed self.new (spent ps) }
-        ensures opened { (entities : EntityTable) (text : List ℕ) (handed : List Event) (ps : List settled.Piece) → HoldsPieces entities text handed self.old ps
+        ensures opened { (entities : EntityTable) (text : List ℕ) (handed : List Event) (ps : List piece.Piece) → HoldsPieces entities text handed self.old ps
             → IfSome result (λ taken. HoldsTaken entities text handed taken.0 self.new ps) }
     {
         self.openings.take()
@@ -172,12 +173,12 @@ impl<'a> Pending<'a> {
     /// Makes a link or an image of what was kept from a bracket on.
     pub(crate) fn link(&mut self, opening: Opening, goal: Goal<'a>) -> Result<(), AllocError>
         ensures unused { OnOk result (self.new.openings.unused.items ≡ self.old.openings.unused.items) }
-        ensures openers { OnOk result ((ps : List settled.Piece) (o : Opened) (t : LinkTarget) → IsTaken ps (opening, true) o
+        ensures openers { OnOk result ((ps : List piece.Piece) (o : Opened) (t : LinkTarget) → IsTaken ps (opening, true) o
             → AreOpenersOf (spent ps) self.old.openings
             → AreOpenersOf (linked t ps (nearest_opener ps)) self.new.openings) }
         ensures tokens { OnOk result ((text : List ℕ) → IsGoalOf text goal.entry
             → All (IsTokenOf text) self.old.tokens.items → All (IsTokenOf text) self.new.tokens.items) }
-        ensures pieces { OnOk result ((entities : EntityTable) (text : List ℕ) (handed : List Event) (ps : List settled.Piece)
+        ensures pieces { OnOk result ((entities : EntityTable) (text : List ℕ) (handed : List Event) (ps : List piece.Piece)
             → IsKept entities text self.old → HoldsTaken entities text handed opening self.old ps
             → HoldsPieces entities text handed self.new (linked (goal_target entities text goal.entry) ps (nearest_opener ps))) }
         ensures room { HasSmallRoom self.old.pairing → HasSmallRoom self.new.pairing }

@@ -3,11 +3,11 @@
 ghost use Rattle.std.specs.Prelude.{◌≡◌, ◌+◌, ◌<◌, ℕ, List, None, IfSome, length, drop, slice_index, option_map, true};
 ghost use Rattle.std.specs.Char.{is_ascii_alphabetic};
 ghost use Rattle.mdtext.specs.EntityTable.{EntityTable};
-ghost use Rattle.mdscan.specs.AutoLink.{autolink_at};
+ghost use Rattle.mdscan.specs.Autolink.{autolink_at};
 ghost use Rattle.mdscan.specs.Tag.{first_is};
 ghost use Rattle.mdscan.specs.RawHtml.{place_of, raw_html};
 ghost use Rattle.mdscan.specs.Spans.{IsEndAfter, EndsAfterMark};
-ghost use Rattle.inlinespec.specs.Lexing.{angle_lexeme};
+ghost use Rattle.inlinespec.specs.RawHtml.{angle_lexeme};
 ghost use Rattle.mdinline.specs.held.LeafEvents.{IsTokenOf};
 ghost use Rattle.mdinline.specs.held.ReadPending.{is_leaf};
 ghost use Rattle.mdinline.specs.held.LongTags.{BeginsTag, FollowsMark, KnowsEnds, close_text, is_endless};

@@ -5,7 +5,8 @@ ghost use Rattle.std.specs.Str.{IsCharBoundary};
 ghost use Rattle.mdscan.specs.Spans.{IsEndAfter};
 ghost use Rattle.inlinespec.specs.InlineEvents.{Event};
 ghost use Rattle.inlinespec.specs.Nesting.{nest};
-ghost use Rattle.inlinespec.specs.Settled as settled;
+ghost use Rattle.inlinespec.specs.Pieces as piece;
+ghost use Rattle.inlinespec.specs.Emphasis as emphasis;
 ghost use Rattle.inlinespec.specs.TextReading.{asks_of, reading};
 ghost use Rattle.inlinespec.specs.TextTree.{events_of, inl};
 ghost use Rattle.mdinline.specs.declared.faults.InlineFault.TheVariants.{TooDeep};
@@ -114,8 +115,8 @@ impl<'a> TextReader<'a> {
     /// Hands out what is still pending at the end of a text: nothing in most texts.
     fn end<S: InlineSink>(&mut self, text: &str, sink: &mut S) -> Result<(), AllocError>
         requires { All (IsTokenOf text.now) self.old.pending.tokens.items }
-        ensures takes { OnOk result ((es : List Event) × S.takes sink.old es sink.new × ((handed : List Event) (ps : List settled.Piece)
-            → HoldsPieces self.old.entities.now text.now handed self.old.pending ps → settled.settled (reverse ps) ≡ handed ++ es)) }
+        ensures takes { OnOk result ((es : List Event) × S.takes sink.old es sink.new × ((handed : List Event) (ps : List piece.Piece)
+            → HoldsPieces self.old.entities.now text.now handed self.old.pending ps → emphasis.settled (reverse ps) ≡ handed ++ es)) }
         ensures entities { self.new.entities ≡ self.old.entities }
     {
         if self.pending.is_empty() {
@@ -153,8 +154,8 @@ impl<'a> TextReader<'a> {
         ensures end { IfOk result (λ end. IsEndAfter text.now at end) }
         ensures brackets { IfOk result (λ end. AreBracketsOf text.now end self.new.pending.openings.unused.items) }
         ensures tokens { OnOk result (All (IsTokenOf text.now) self.new.pending.tokens.items) }
-        ensures reads { IfOk result (λ end. (es : List Event) × S.takes sink.old es sink.new × ((handed : List Event) (ps : List settled.Piece)
-            → IsReadTo self.old.entities.now text.now at handed self.old ps → ((looked : List (List ℕ)) × (next : List settled.Piece)
+        ensures reads { IfOk result (λ end. (es : List Event) × S.takes sink.old es sink.new × ((handed : List Event) (ps : List piece.Piece)
+            → IsReadTo self.old.entities.now text.now at handed self.old ps → ((looked : List (List ℕ)) × (next : List piece.Piece)
             × LeadsTo self.old.entities.now (L.target labels.now) text.now at ps looked end next × A.asks asked.old looked asked.new
             × IsReadTo self.old.entities.now text.now end (handed ++ es) self.new next))) }
         ensures entities { self.new.entities ≡ self.old.entities }

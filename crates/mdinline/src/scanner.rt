@@ -4,15 +4,16 @@ ghost use Rattle.std.specs.Prelude.{◌≡◌, ◌<◌, false, None, IfOk, IfSom
 ghost use Rattle.std.specs.Str.{IsCharBoundary};
 ghost use Rattle.mdscan.specs.Spans.{IsEndAfter};
 ghost use Rattle.mdinline.specs.held.KnownText.{KnowsText, IsLeafAt};
-ghost use Rattle.inlinespec.specs.Lexing.{delimiters_at, lex};
+ghost use Rattle.inlinespec.specs.DelimiterRuns.{delimiters_at};
+ghost use Rattle.inlinespec.specs.Lexing.{lex};
 ghost use Rattle.mdinline.specs.held.LeafEvents.{IsTokenOf};
 ghost use Rattle.mdinline.specs.held.ReadPending.{is_leaf};
 ghost use Rattle.mdinline.specs.held.PlainText.{is_bracket};
 ghost use Rattle.mdinline.specs.held.Recognised.{IsFound};
 
+use crate::backslash_escapes::escape;
 use crate::character_references::reference;
 use crate::code_spans::Backticks;
-use crate::escapes::escape;
 use crate::line_breaks::line_break;
 use crate::raw_html::EndlessTags;
 use crate::texts::plain;

@@ -16,7 +16,7 @@ pub enum SpanKind {
 /// Takes the inlines of a text from left to right, each span by its beginning and its end. After `NoMemory` it is of no use.
 pub trait InlineSink {
     ghost use Rattle.std.specs.Prelude.{◌≡◌, List, [], ◌∷◌, ◌++◌, OnOk};
-    ghost use Rattle.mdtext.specs.Escaped.{escaped};
+    ghost use Rattle.mdtext.specs.HtmlEscapes.{escaped};
     ghost use Rattle.inlinespec.specs.CodeSpans.{as_one_line};
     ghost use Rattle.inlinespec.specs.InlineEvents.{Event, CodeSpan, RawHtml, SoftBreak, HardBreak, LinkTo, ImageOf, Enter, Leave, written};
     ghost use Rattle.mdinline.specs.SpanKinds.{span_of};

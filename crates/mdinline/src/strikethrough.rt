@@ -1,7 +1,7 @@
 //! Strikethrough (GFM Strikethrough (extension)): runs of `~` are found and paired as those of emphasis are (`delimiters`, `emphasis`), but one tilde may be text.
 
 ghost use Rattle.std.specs.Prelude.{◌≡◌};
-ghost use Rattle.inlinespec.specs.Lexing.{is_lone_tilde};
+ghost use Rattle.inlinespec.specs.Strikethrough.{is_lone_tilde};
 
 use mdpair::DelimiterChar;
 

@@ -14,7 +14,7 @@ use Rattle.mdscan.specs.declared.spans.Span.{Span}
 use Rattle.mdscan.specs.Spans.{part}
 use Rattle.mdscan.specs.Blanks.{begins_with}
 use Rattle.mdscan.specs.TableRow.{row_cells}
-use Rattle.mdleaf.specs.TableRows.{TableHeader, before_bar, begins_table, cell_text, filled, is_number, row_aligns, row_texts, table_header, text_at}
+use Rattle.mdleaf.specs.Tables.{TableHeader, before_bar, begins_table, cell_text, filled, is_number, row_aligns, row_texts, table_header, text_at}
 
 -- no bar stands in a text
 abbrev pub HasNoBar : List ℕ → Type 0

@@ -8,8 +8,8 @@ use Rattle.std.proofs.lemmas.List.Sums.{sum_by-cons}
 use Rattle.mdtext.specs.EntityTable.{EntityTable}
 use Rattle.mdscan.specs.declared.link_definitions.Def.{Def}
 use Rattle.mdscan.specs.LinkDefinition.{definition_of}
-use Rattle.mdleaf.specs.LinkDefinition.{LinkDefinition}
-use Rattle.mdleaf.specs.LeadingDefinitions.{Front, fronts_after, fronts, front_then, defined, leading_of, leading_end}
+use Rattle.mdleaf.specs.DefinedLinks.{LinkDefinition}
+use Rattle.mdleaf.specs.ParagraphDefinitions.{Front, fronts_after, fronts, front_then, defined, leading_of, leading_end}
 
 -- after some bytes of a definition the rest of it is passed
 passed : (text : List ℕ) (n : ℕ) → n ≤ length text → fronts_after n text ≡ fronts_after 0 (drop n text)

@@ -9,7 +9,7 @@ use Rattle.mdtext.specs.Labels.{has_bare_bracket, is_label, is_label_space}
 use Rattle.mdtext.proofs.BareBrackets.{bare_from, backslash_step, no_bracket, plain_step}
 use Rattle.mdscan.specs.declared.spans.Span.{Span}
 use Rattle.mdscan.specs.Blanks.{begins_with}
-use Rattle.mdscan.specs.Escapes.{begins_escape, is_one_of, run_after, run_before}
+use Rattle.mdscan.specs.BackslashEscapes.{begins_escape, is_one_of, run_after, run_before}
 use Rattle.mdscan.specs.LinkLabel.{is_label_text, is_visible, label_at}
 use Rattle.mdscan.specs.Spans.{IsSpanOf, part}
 use Rattle.mdleaf.proofs.Characters.{characters}

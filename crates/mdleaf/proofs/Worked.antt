@@ -2,15 +2,15 @@
 use Rattle.std.proofs.Common.{◌≡◌, [], ◌∷◌, Some, refl, codes, false}
 use Rattle.mdscan.specs.declared.delimiter_rows.Align.TheVariants.{Left, Right}
 use Rattle.mdscan.specs.DelimiterRow.{delimiter_align, delimiter_columns, is_delimiter}
-use Rattle.mdscan.specs.Escapes.{run_before}
+use Rattle.mdscan.specs.BackslashEscapes.{run_before}
 use Rattle.mdscan.specs.Spacing.{spacing_length}
 use Rattle.mdscan.specs.LinkDefinition.{definition_of, labelled_def, line_end, titled_def}
 use Rattle.mdscan.specs.LinkDestination.{angle_destination, bare_end, destination_at}
 use Rattle.mdscan.specs.LinkLabel.{label_at}
 use Rattle.mdscan.specs.LinkTitle.{title_at, title_to}
 use Rattle.mdscan.specs.TableRow.{bars, inside, row_cells}
-use Rattle.mdleaf.specs.LeadingDefinitions.{fronts, leading_end}
-use Rattle.mdleaf.specs.TableRows.{begins_table, filled, row_aligns, row_texts, table_header}
+use Rattle.mdleaf.specs.ParagraphDefinitions.{fronts, leading_end}
+use Rattle.mdleaf.specs.Tables.{begins_table, filled, row_aligns, row_texts, table_header}
 
 -- a definition, and a paragraph after it
 one_definition : leading_end (codes "[foo]: /url\nbar") ≡ 12

@@ -4,7 +4,7 @@
 use Rattle.std.specs.Prelude.{ℕ, Bool, not, ◌+◌, ◌||◌, ◌&&◌, ◌==◌, nat_le, List, take, drop}
 use Rattle.std.specs.List.{prefix_len}
 use Rattle.mdtext.specs.EntityTable.{EntityTable}
-use Rattle.mdtext.specs.References.{unescaped}
+use Rattle.mdtext.specs.Unescaped.{unescaped}
 
 abbrev pub ends_language : ℕ → Bool
 ends_language b = (b == 32) || (nat_le 9 b && nat_le b 13)

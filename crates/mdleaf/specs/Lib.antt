@@ -1,5 +1,5 @@
 pub mod CodeLanguage
-pub mod LinkDefinition
-pub mod LeadingDefinitions
 pub mod ParagraphText
-pub mod TableRows
+pub mod Tables
+pub mod ParagraphDefinitions
+pub mod DefinedLinks

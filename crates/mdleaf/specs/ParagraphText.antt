@@ -2,7 +2,7 @@
 use Rattle.std.specs.Prelude.{ℕ, ◌-◌, Bool, ◌==◌, List, [], ◌∷◌, ◌++◌, length, take, drop}
 use Rattle.std.specs.List.{suffix_len}
 use Rattle.mdscan.specs.Blanks.{is_blank}
-use Rattle.mdleaf.specs.LeadingDefinitions.{leading_end}
+use Rattle.mdleaf.specs.ParagraphDefinitions.{leading_end}
 
 -- lines with a line ending between each two of them
 unfoldable pub joined_lines : List (List ℕ) → List ℕ

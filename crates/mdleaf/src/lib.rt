@@ -2,11 +2,11 @@
 //! marker of a task list item.
 #![tactic(auto)]
 
-mod link_definitions;
-mod parts;
-mod table_rows;
-mod task_list_items;
+mod paragraph_definitions;
+mod paragraph_tasks;
+mod span_texts;
+mod tables;
 
-pub use link_definitions::{Definition, Leading, is_only_definitions, leading_definitions};
-pub use table_rows::{Header, begins_table, data_row, table_header};
-pub use task_list_items::task_mark;
+pub use paragraph_definitions::{Definition, Leading, is_only_definitions, leading_definitions};
+pub use paragraph_tasks::task_mark;
+pub use tables::{Header, begins_table, data_row, table_header};

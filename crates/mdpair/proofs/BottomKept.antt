@@ -3,9 +3,9 @@ use Rattle.std.proofs.Common.{zero, suc, All, subst, length, take, get_or, â—Œâ‰
 use Rattle.std.proofs.Math.Nat.{add-mod}
 use Rattle.std.proofs.lemmas.List.Elements.{All-weaker}
 use Rattle.std.specs.List.{AllByRecursion}
-use Rattle.mdpair.specs.declared.runs.DelimiterChar.{DelimiterChar}
-use Rattle.mdpair.specs.declared.runs.DelimiterChar.TheVariants.{Asterisk, Underscore, Tilde}
-use Rattle.mdpair.specs.declared.runs.DelimiterRun.{DelimiterRun}
+use Rattle.mdpair.specs.declared.delimiter_runs.DelimiterChar.{DelimiterChar}
+use Rattle.mdpair.specs.declared.delimiter_runs.DelimiterChar.TheVariants.{Asterisk, Underscore, Tilde}
+use Rattle.mdpair.specs.declared.delimiter_runs.DelimiterRun.{DelimiterRun}
 use Rattle.mdpair.specs.declared.emphasis.Remaining.{Remaining}
 use Rattle.mdpair.specs.DelimiterRun.{same_delimiter, can_both, lengths_fit, lengths_match, is_admissible}
 use Rattle.mdpair.specs.Matches.{nearest, without, left_of, stack, IsBelow}

@@ -1,7 +1,7 @@
 -- What a run can do by what its neighbours are is what it can do by the characters.
 use Rattle.std.proofs.Common.{◌≡◌, ℕ, Option, refl}
-use Rattle.mdpair.specs.declared.runs.DelimiterChar.{DelimiterChar}
-use Rattle.mdpair.specs.declared.runs.DelimiterChar.TheVariants.{Asterisk, Underscore, Tilde}
+use Rattle.mdpair.specs.declared.delimiter_runs.DelimiterChar.{DelimiterChar}
+use Rattle.mdpair.specs.declared.delimiter_runs.DelimiterChar.TheVariants.{Asterisk, Underscore, Tilde}
 use Rattle.mdpair.specs.Neighbours.{left_flanking, right_flanking, opens_between, closes_between}
 use Rattle.mdpair.specs.Flanks.{bounds, neighbour_at}
 

@@ -2,9 +2,9 @@
 use Rattle.std.proofs.Common.{◌≡◌, ℕ, zero, suc, ◌-◌, ◌<◌, ◌≤◌, Bool, true, false, ◌&&◌, cond, eqb, nat_lt, List, [], ◌∷◌, ◌++◌, refl, arith}
 use Rattle.std.proofs.lemmas.Bool.Decides.{nat_tests}
 use Rattle.std.specs.List.{AllByRecursion}
-use Rattle.mdpair.specs.declared.runs.DelimiterChar.{DelimiterChar}
-use Rattle.mdpair.specs.declared.runs.DelimiterChar.TheVariants.{Asterisk, Underscore, Tilde}
-use Rattle.mdpair.specs.declared.runs.DelimiterRun.{DelimiterRun}
+use Rattle.mdpair.specs.declared.delimiter_runs.DelimiterChar.{DelimiterChar}
+use Rattle.mdpair.specs.declared.delimiter_runs.DelimiterChar.TheVariants.{Asterisk, Underscore, Tilde}
+use Rattle.mdpair.specs.declared.delimiter_runs.DelimiterRun.{DelimiterRun}
 use Rattle.mdpair.specs.declared.emphasis.Remaining.{Remaining}
 use Rattle.mdpair.specs.DelimiterRun.{same_delimiter, lengths_match, is_admissible}
 use Rattle.mdpair.specs.Matches.{width_of, left_of, IsLeft}

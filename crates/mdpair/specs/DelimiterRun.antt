@@ -1,8 +1,8 @@
 -- Which delimiter runs may open and close emphasis together (CommonMark 6.2; of tildes: GFM Strikethrough (extension)).
 use Rattle.std.specs.Prelude.{◌+◌, ◌%◌, Bool, true, false, ◌&&◌, ◌||◌, not, eqb}
-use Rattle.mdpair.specs.declared.runs.DelimiterChar.{DelimiterChar}
-use Rattle.mdpair.specs.declared.runs.DelimiterChar.TheVariants.{Asterisk, Underscore, Tilde}
-use Rattle.mdpair.specs.declared.runs.DelimiterRun.{DelimiterRun}
+use Rattle.mdpair.specs.declared.delimiter_runs.DelimiterChar.{DelimiterChar}
+use Rattle.mdpair.specs.declared.delimiter_runs.DelimiterChar.TheVariants.{Asterisk, Underscore, Tilde}
+use Rattle.mdpair.specs.declared.delimiter_runs.DelimiterRun.{DelimiterRun}
 
 abbrev pub same_delimiter : DelimiterChar → DelimiterChar → Bool
 same_delimiter Asterisk Asterisk = true

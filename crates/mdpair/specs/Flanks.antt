@@ -1,8 +1,8 @@
 -- What a run can do, by what its neighbours are.
 use Rattle.std.specs.Prelude.{ℕ, Bool, ◌==◌, ◌&&◌, ◌||◌, not, nat_lt, Option}
 use Rattle.mdpair.specs.Neighbours.{white_at, punct_at}
-use Rattle.mdpair.specs.declared.runs.DelimiterChar.{DelimiterChar}
-use Rattle.mdpair.specs.declared.runs.DelimiterChar.TheVariants.{Asterisk, Underscore, Tilde}
+use Rattle.mdpair.specs.declared.delimiter_runs.DelimiterChar.{DelimiterChar}
+use Rattle.mdpair.specs.declared.delimiter_runs.DelimiterChar.TheVariants.{Asterisk, Underscore, Tilde}
 use Rattle.mdpair.specs.declared.flanking.Neighbour.{Neighbour}
 
 -- what a neighbour is

@@ -1,8 +1,8 @@
 -- The bottom of a search for an opener: a place below which no run opens what such a closer closes (CommonMark, appendix, process emphasis: openers_bottom).
 use Rattle.std.specs.Prelude.{◌≡◌, ℕ, ◌%◌, ◌<◌, ◌≤◌, false, List, [], ◌∷◌}
 use Rattle.std.specs.List.{AllByRecursion}
-use Rattle.mdpair.specs.declared.runs.DelimiterChar.TheVariants.{Tilde}
-use Rattle.mdpair.specs.declared.runs.DelimiterRun.{DelimiterRun}
+use Rattle.mdpair.specs.declared.delimiter_runs.DelimiterChar.TheVariants.{Tilde}
+use Rattle.mdpair.specs.declared.delimiter_runs.DelimiterRun.{DelimiterRun}
 use Rattle.mdpair.specs.declared.emphasis.Remaining.{Remaining}
 use Rattle.mdpair.specs.declared.searches.Bottom.{Bottom}
 use Rattle.mdpair.specs.DelimiterRun.{can_both, is_admissible}

@@ -4,11 +4,11 @@ ghost use Rattle.std.specs.Prelude.{◌≡◌, ℕ, ◌+◌, ◌-◌, ◌<◌, �
 ghost use Rattle.std.specs.List.{AllByRecursion};
 ghost use Rattle.mdpair.specs.declared.emphasis.Remaining.{Remaining as Left};
 ghost use Rattle.mdpair.specs.DelimiterRun.{is_admissible};
-ghost use Rattle.mdpair.specs.declared.runs.DelimiterRun.{DelimiterRun};
+ghost use Rattle.mdpair.specs.declared.delimiter_runs.DelimiterRun.{DelimiterRun};
 ghost use Rattle.mdpair.specs.OpenersBottom.{IsBottom, IsBottomUpTo, Descends};
 ghost use Rattle.mdpair.specs.Matches.{nearest, onto, stack, width_of, left_of, Rewrites, IsClear, IsLeft, IsOrdered, IsBelow, IsProcessed, matches};
 
-use crate::runs::{DelimiterChar, DelimiterRun};
+use crate::delimiter_runs::{DelimiterChar, DelimiterRun};
 use crate::searches::{Bottom, bottom_for, keep_bottom};
 use std::alloc::{AllocError, Global};
 

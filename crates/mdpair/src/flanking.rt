@@ -6,7 +6,7 @@ ghost use Rattle.std.specs.Option.{option_and_then};
 ghost use Rattle.mdpair.specs.Flanks.{bounds, flanks, is_ascii_white, neighbour_at};
 ghost use Rattle.mdpair.specs.Neighbours.{run_between, char_before, char_after, delimiter_of, byte_of, run_length, run_at};
 
-use crate::runs::{DelimiterChar, DelimiterRun};
+use crate::delimiter_runs::{DelimiterChar, DelimiterRun};
 use mdtext::{is_punct, is_white};
 
 /// The delimiter run that begins at the byte `at` of an inline text, or none where no delimiter character stands there.

@@ -5,11 +5,11 @@
 //! closer that has an admissible opener takes the nearest one. Nothing is known here of the text between the runs.
 #![tactic(auto)]
 
+mod delimiter_runs;
 mod emphasis;
 mod flanking;
-mod runs;
 mod searches;
 
+pub use delimiter_runs::{DelimiterChar, DelimiterRun};
 pub use emphasis::{Match, Pairing, pair};
 pub use flanking::delimiter_run;
-pub use runs::{DelimiterChar, DelimiterRun};

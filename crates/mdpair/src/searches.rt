@@ -4,7 +4,7 @@ ghost use Rattle.std.specs.Prelude.{◌≡◌, ℕ, ◌<◌, ◌≤◌, All, Lis
 ghost use Rattle.mdpair.specs.declared.emphasis.Remaining.{Remaining};
 ghost use Rattle.mdpair.specs.OpenersBottom.{IsBottom, IsBottomUpTo};
 
-use crate::runs::DelimiterRun;
+use crate::delimiter_runs::DelimiterRun;
 use std::alloc::AllocError;
 
 /// A place below which no run opens for closers of this one's kind.

@@ -2,7 +2,7 @@
 use Rattle.std.specs.Prelude.{if◌then◌else◌}
 use Rattle.std.proofs.Common.{◌≡◌, ℕ, ◌+◌, ◌-◌, ◌<◌, true, false, not, ◌&&◌, Bool, List, ◌∷◌, length, take, drop, get_or, drop-cons, add-one, refl, arith}
 use Rattle.std.proofs.lemmas.List.{take_rest}
-use Rattle.mdscan.specs.Escapes.{begins_escape, is_one_of, run_after}
+use Rattle.mdscan.specs.BackslashEscapes.{begins_escape, is_one_of, run_after}
 
 pub from_here : (text : List ℕ) (at : ℕ) → at < length text → drop at text ≡ get_or text at 0 ∷ drop (at + 1) text
 from_here text at inside = rw add-one (drop-cons text at 0 inside)

@@ -6,7 +6,6 @@ pub mod SetextHeading
 pub mod CodeFence
 pub mod AtxHeading
 pub mod ListMarker
-pub mod TaskMarker
 pub mod HtmlBlock
 pub mod TableRow
 pub mod DelimiterRow
@@ -14,10 +13,11 @@ pub mod Spacing
 pub mod Repeats
 pub mod Tag
 pub mod RawHtml
-pub mod AutoLink
-pub mod Escapes
 pub mod LinkLabel
 pub mod LinkDestination
 pub mod LinkTitle
-pub mod InlineTail
 pub mod LinkDefinition
+pub mod BackslashEscapes
+pub mod LinkTail
+pub mod Autolink
+pub mod TaskListItem

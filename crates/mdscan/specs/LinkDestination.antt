@@ -3,7 +3,7 @@ use Rattle.std.specs.Prelude.{ℕ, ◌+◌, ◌-◌, Bool, true, false, ◌||◌
 use Rattle.std.specs.Char.{is_ascii_control}
 use Rattle.mdscan.specs.declared.link_destinations.Dest.{Dest}
 use Rattle.mdscan.specs.Blanks.{begins_with}
-use Rattle.mdscan.specs.Escapes.{begins_escape, run_before}
+use Rattle.mdscan.specs.BackslashEscapes.{begins_escape, run_before}
 
 -- between `<` and `>`, without line ending and without `<` and `>` that are not escaped
 unfoldable pub angle_destination : List ℕ → ℕ → Option Dest

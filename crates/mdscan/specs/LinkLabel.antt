@@ -3,7 +3,7 @@ use Rattle.std.specs.Prelude.{ℕ, ◌+◌, Bool, not, ◌||◌, ◌&&◌, ◌==
 use Rattle.std.specs.List.{list_any}
 use Rattle.mdscan.specs.declared.spans.Span.{Span}
 use Rattle.mdscan.specs.Blanks.{begins_with}
-use Rattle.mdscan.specs.Escapes.{run_before}
+use Rattle.mdscan.specs.BackslashEscapes.{run_before}
 
 -- a byte with which a character begins
 abbrev pub begins_character : ℕ → Bool

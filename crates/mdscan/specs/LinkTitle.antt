@@ -3,7 +3,7 @@ use Rattle.std.specs.Prelude.{ℕ, ◌+◌, Bool, false, not, ◌||◌, ◌&&◌
 use Rattle.std.specs.List.{prefix_len}
 use Rattle.mdscan.specs.declared.link_destinations.Dest.{Dest}
 use Rattle.mdscan.specs.Blanks.{is_blank, begins_with}
-use Rattle.mdscan.specs.Escapes.{run_before}
+use Rattle.mdscan.specs.BackslashEscapes.{run_before}
 
 -- a line ending, spaces and tabs, and a line ending
 abbrev pub begins_blank_line : List ℕ → Bool

@@ -5,7 +5,7 @@ ghost use Rattle.std.specs.Str.{IsCharBoundary};
 ghost use Rattle.mdscan.specs.AtxHeading.{atx_heading, content_length, heading_content};
 ghost use Rattle.mdscan.specs.Spans.{IsSpanOf};
 
-use crate::runs::{blank, blank_follows, leading, trailing, trailing_blanks};
+use crate::byte_runs::{blank, blank_follows, leading, trailing, trailing_blanks};
 use crate::spans::{Span, trimmed};
 
 /// A heading line: its level, 1 to 6, and where its content is.

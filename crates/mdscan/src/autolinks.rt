@@ -5,10 +5,9 @@ ghost use Rattle.std.specs.List.{list_any, prefix_len};
 ghost use Rattle.std.specs.Str.{IsCharBoundary};
 ghost use Rattle.mdscan.specs.Spans.{IsEndAfter, EndsAfterMark};
 ghost use Rattle.mdscan.specs.Repeats.{repeats};
-ghost use Rattle.mdscan.specs.AutoLink.{autolink_at, uri_end, mail_end, in_scheme, in_uri, in_mail_name, mail_marks, in_domain_label, scheme_length};
-ghost use Rattle.mdscan.specs.AutoLink.{domain_label_length, dotted_label_length};
+ghost use Rattle.mdscan.specs.Autolink.{autolink_at, uri_end, mail_end, in_scheme, in_uri, in_mail_name, mail_marks, in_domain_label, scheme_length, domain_label_length, dotted_label_length};
 
-use crate::runs::{begins, holds};
+use crate::byte_runs::{begins, holds};
 
 /// The marks of a mail address before its `@`, beside letters and digits.
 const MAIL_MARKS: [u8; 20] = *b".!#$%&'*+/=?^_`{|}~-";
@@ -31,7 +30,7 @@ pub fn autolink(text: &str, at: usize) -> Option<Auto>
     auto_at(text.as_bytes(), at)
 }
 
-#[tactic(auto, unfolding(crate::specs::AutoLink::autolink_at))]
+#[tactic(auto, unfolding(crate::specs::Autolink::autolink_at))]
 fn auto_at(text: &[u8], at: usize) -> Option<Auto>
     requires { at ≤ length text.now }
     ensures value { result ≡ autolink_at text.now at }
@@ -50,7 +49,7 @@ fn auto_at(text: &[u8], at: usize) -> Option<Auto>
 }
 
 /// Where the autolink of a URI ends whose `<` stands at a place.
-#[tactic(auto, unfolding(crate::specs::AutoLink::uri_end))]
+#[tactic(auto, unfolding(crate::specs::Autolink::uri_end))]
 fn uri(text: &[u8], at: usize) -> Option<usize>
     requires { at < length text.now }
     ensures value { result ≡ uri_end text.now at }
@@ -70,7 +69,7 @@ fn uri(text: &[u8], at: usize) -> Option<usize>
 }
 
 /// A scheme: a letter, and then letters, digits, `+`, `.` and `-`, 2 to 32 in all.
-#[tactic(auto, unfolding(crate::specs::AutoLink::scheme_length))]
+#[tactic(auto, unfolding(crate::specs::Autolink::scheme_length))]
 fn scheme(text: &[u8]) -> usize
     ensures value { result ≡ scheme_length text.now }
     ensures within { result ≤ length text.now }
@@ -111,7 +110,7 @@ fn uri_goes_on(byte: u8) -> bool
 }
 
 /// Where the autolink of a mail address ends whose `<` stands at a place.
-#[tactic(auto, unfolding(crate::specs::AutoLink::mail_end))]
+#[tactic(auto, unfolding(crate::specs::Autolink::mail_end))]
 fn mail(text: &[u8], at: usize) -> Option<usize>
     requires { at < length text.now }
     ensures value { result ≡ mail_end text.now at }
@@ -147,7 +146,7 @@ fn mail_name_goes_on(byte: u8) -> bool
     byte.is_ascii_alphanumeric() || mail_mark(byte)
 }
 
-#[tactic(auto, unfolding(crate::specs::AutoLink::mail_marks))]
+#[tactic(auto, unfolding(crate::specs::Autolink::mail_marks))]
 fn mail_mark(byte: u8) -> bool
     ensures { result ≡ list_any (λ mark. mark == byte) mail_marks }
 {
@@ -156,7 +155,7 @@ fn mail_mark(byte: u8) -> bool
 }
 
 /// A label: 1 to 63 letters, digits and hyphens, with a letter or digit at both ends.
-#[tactic(auto, unfolding(crate::specs::AutoLink::domain_label_length))]
+#[tactic(auto, unfolding(crate::specs::Autolink::domain_label_length))]
 fn domain_label(text: &[u8]) -> usize
     ensures value { result ≡ domain_label_length text.now }
     ensures within { result ≤ length text.now }
@@ -195,7 +194,7 @@ fn dotted_labels(text: &[u8]) -> usize
     at
 }
 
-#[tactic(auto, unfolding(crate::specs::AutoLink::dotted_label_length))]
+#[tactic(auto, unfolding(crate::specs::Autolink::dotted_label_length))]
 fn dotted_label(text: &[u8]) -> usize
     ensures value { result ≡ dotted_label_length text.now }
     ensures within { result ≤ length text.now }

@@ -5,7 +5,7 @@ ghost use Rattle.std.specs.Str.{IsCharBoundary};
 ghost use Rattle.mdscan.specs.CodeFence.{fence_length, fence_of, opening_backticks, opening_fence, is_closing_fence};
 ghost use Rattle.mdscan.specs.Spans.{IsSpanOf};
 
-use crate::runs::{all_blank, holds, leading};
+use crate::byte_runs::{all_blank, holds, leading};
 use crate::spans::{Span, trimmed};
 
 /// A line that opens fenced code: the mark, how often it stands there, and where the info string is.

@@ -5,7 +5,7 @@ ghost use Rattle.mdscan.specs.Spans.{part};
 ghost use Rattle.mdscan.specs.TableRow.{cell};
 ghost use Rattle.mdscan.specs.DelimiterRow.{is_colon_or_none, is_hyphens, is_delimiter, delimiter_columns, delimiter_align, align_by, column_align};
 
-use crate::runs::{begins, holds, leading};
+use crate::byte_runs::{begins, holds, leading};
 use crate::table_rows::{cell_at, inner, is_split};
 
 /// How a table's column is aligned.

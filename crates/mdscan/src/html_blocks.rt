@@ -8,7 +8,7 @@ ghost use Rattle.mdscan.specs.HtmlBlock.{begins_raw, begins_raw_end, begins_bloc
 ghost use Rattle.mdscan.specs.HtmlBlock.{block_names, ends_raw_name, ends_block_name, ends_kind, holds_end, is_raw_tag, fills_line, begins_whole_tag};
 ghost use Rattle.mdscan.specs.HtmlBlock.{html_kind};
 
-use crate::runs::{all_blank, begins, blank_follows, leading_name};
+use crate::byte_runs::{all_blank, begins, blank_follows, leading_name};
 use crate::tags::{closing, opening, tag_name};
 
 /// The names of the first kind, whose content is no Markdown.

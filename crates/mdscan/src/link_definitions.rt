@@ -6,11 +6,11 @@ ghost use Rattle.mdscan.specs.Spans.{IsSpanOf};
 ghost use Rattle.mdscan.specs.LinkDefinition.{AreDefSpans, definition_of, labelled_def, titled_def, def_to, line_end};
 ghost use Rattle.mdscan.specs.LinkLabel.{label_at};
 
-use crate::inline_tails::after_spacing;
+use crate::byte_runs::{begins, leading_blanks};
 use crate::link_destinations::{Dest, target};
 use crate::link_labels::brackets;
+use crate::link_tails::after_spacing;
 use crate::link_titles::quoted;
-use crate::runs::{begins, leading_blanks};
 use crate::spans::Span;
 
 /// A link reference definition: the inside of its label, its destination, its title where it has one, and the

@@ -5,8 +5,8 @@ ghost use Rattle.std.specs.Str.{IsUtf8, IsCharBoundary};
 ghost use Rattle.mdscan.specs.Spans.{IsEnclosed, IsEndAfter, IsSpanOf};
 ghost use Rattle.mdscan.specs.LinkDestination.{angle_destination, bare_end, bare_dest, destination_at, ends_bare};
 
-use crate::escapes::{before, escape};
-use crate::runs::begins;
+use crate::backslash_escapes::{before, escape};
+use crate::byte_runs::begins;
 use crate::spans::Span;
 
 /// A destination or a title: what stands between its marks, and where it ends, after them.

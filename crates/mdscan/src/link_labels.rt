@@ -6,8 +6,8 @@ ghost use Rattle.std.specs.Str.{IsCharBoundary};
 ghost use Rattle.mdscan.specs.Spans.{IsEnclosed, IsSpanOf};
 ghost use Rattle.mdscan.specs.LinkLabel.{begins_character, is_visible, is_label_text, label_at};
 
-use crate::escapes::before;
-use crate::runs::begins;
+use crate::backslash_escapes::before;
+use crate::byte_runs::begins;
 use crate::spans::Span;
 
 /// The inside of the link label whose brackets stand at a place of a text (CommonMark 6.3): 1 to 999

@@ -5,9 +5,9 @@ ghost use Rattle.std.specs.Str.{IsCharBoundary};
 ghost use Rattle.mdscan.specs.Spans.{IsEnclosed, IsEndAfter, IsSpanOf};
 ghost use Rattle.mdscan.specs.LinkTitle.{begins_blank_line, holds_blank_line, title_at, title_to};
 
-use crate::escapes::before;
+use crate::backslash_escapes::before;
+use crate::byte_runs::{begins, leading_blanks};
 use crate::link_destinations::Dest;
-use crate::runs::{begins, leading_blanks};
 use crate::spans::Span;
 
 /// The link title that stands at a place of a text (CommonMark 6.3).

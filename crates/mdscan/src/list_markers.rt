@@ -4,7 +4,7 @@ ghost use Rattle.std.specs.Prelude.{◌≡◌, ◌<◌, ◌≤◌, ◌^◌, IfSo
 ghost use Rattle.std.specs.Str.Parse.{AllDigits, digits_value};
 ghost use Rattle.mdscan.specs.ListMarker.{marker, ordered_marker};
 
-use crate::runs::{begins, blank_follows, leading_digits};
+use crate::byte_runs::{begins, blank_follows, leading_digits};
 
 /// A list marker: its bullet or its delimiter, the number of an ordered one, and how many bytes it has.
 #[derive(Clone, Copy, Debug, PartialEq, Eq)]

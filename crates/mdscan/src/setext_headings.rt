@@ -3,7 +3,7 @@
 ghost use Rattle.std.specs.Prelude.{◌≡◌};
 ghost use Rattle.mdscan.specs.SetextHeading.{is_run_of, underline_level};
 
-use crate::runs::{all_blank, leading};
+use crate::byte_runs::{all_blank, leading};
 
 /// The level of the heading that the rest of a line underlines, 1 or 2 (CommonMark 4.3).
 #[tactic(auto, unfolding(crate::specs::SetextHeading::underline_level))]

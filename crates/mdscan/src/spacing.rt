@@ -3,7 +3,7 @@
 ghost use Rattle.std.specs.Prelude.{◌≡◌, ◌≤◌, length};
 ghost use Rattle.mdscan.specs.Spacing.{spacing_length};
 
-use crate::runs::{begins, leading_blanks};
+use crate::byte_runs::{begins, leading_blanks};
 
 /// How many of the first bytes are spaces and tabs with at most one line ending among them.
 #[tactic(auto, unfolding(crate::specs::Spacing::spacing_length))]

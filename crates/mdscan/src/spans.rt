@@ -4,7 +4,7 @@ ghost use Rattle.std.specs.Prelude.{◌≡◌, ◌≤◌, length};
 ghost use Rattle.std.specs.Str.{IsCharBoundary};
 ghost use Rattle.mdscan.specs.Spans.{IsSpanOf, trimmed_from};
 
-use crate::runs::{leading_blanks, trailing_blanks};
+use crate::byte_runs::{leading_blanks, trailing_blanks};
 
 /// The bytes from `start` up to `end`.
 #[derive(Clone, Copy, Debug, PartialEq, Eq)]

@@ -8,7 +8,7 @@ ghost use Rattle.mdscan.specs.Tag.{in_tag_name, in_attribute_name, in_unquoted_v
 ghost use Rattle.mdscan.specs.Tag.{quoted_length, value_length, equals_length, value_part_length, attribute_length, attributes_length};
 ghost use Rattle.mdscan.specs.Tag.{open_end_length, open_tag, closing_tag};
 
-use crate::runs::begins;
+use crate::byte_runs::begins;
 use crate::spacing::spacing;
 
 /// The length of the open tag that a text begins with (CommonMark 6.6).

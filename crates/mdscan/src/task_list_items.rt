@@ -2,9 +2,9 @@
 
 ghost use Rattle.std.specs.Prelude.{◌≡◌, ◌<◌, ◌≤◌, IfSome, IsTrue, length};
 ghost use Rattle.std.specs.Str.{IsCharBoundary};
-ghost use Rattle.mdscan.specs.TaskMarker.{begins_box, begins_text, is_tick, task_marker};
+ghost use Rattle.mdscan.specs.TaskListItem.{begins_box, begins_text, is_tick, task_marker};
 
-use crate::runs::{blank, leading_blanks};
+use crate::byte_runs::{blank, leading_blanks};
 
 /// A task marker: whether it is ticked, and where the text goes on after it and the spaces and tabs behind it.
 #[derive(Clone, Copy, Debug, PartialEq, Eq)]
@@ -16,7 +16,7 @@ pub struct TaskMark {
 }
 
 /// The task marker that a paragraph's text begins with (GFM Task list items (extension)).
-#[tactic(auto, unfolding(crate::specs::TaskMarker::task_marker))]
+#[tactic(auto, unfolding(crate::specs::TaskListItem::task_marker))]
 pub fn task(text: &str) -> Option<TaskMark>
     ensures mark { result ≡ task_marker text.now }
     ensures within { IfSome result (λ mark. mark.after < length text.now) }

@@ -3,7 +3,7 @@
 ghost use Rattle.std.specs.Prelude.{◌≡◌};
 ghost use Rattle.mdscan.specs.ThematicBreak.{is_break_of, is_thematic_break};
 
-use crate::runs::{begins, blank};
+use crate::byte_runs::{begins, blank};
 
 /// Whether the rest of a line is a thematic break (CommonMark 4.1).
 #[tactic(auto, unfolding(crate::specs::ThematicBreak::is_thematic_break))]

@@ -8,7 +8,7 @@ use Rattle.std.proofs.lemmas.List.Elements.{All-nil, All-push, All-weaker, All-c
 use Rattle.mdtext.specs.EntityTable.{EntityTable}
 use Rattle.blockspec.specs.BlockLine.{BlockLine, document_line}
 use Rattle.blockspec.specs.BlockUnits.{begins, units, found_units, groups_within}
-use Rattle.blockspec.specs.ListGroups.{grouped}
+use Rattle.blockspec.specs.Lists.{grouped}
 use Rattle.blockspec.specs.Stretches.{all_of, cut_from}
 use Rattle.blockspec.specs.UnitBegin.{begins_unit, units_of, shift_found}
 use Rattle.blockspec.specs.UnitTree.{FoundUnit}

@@ -3,9 +3,9 @@ use Rattle.std.proofs.Common.{◌≡◌, ℕ, List, ◌++◌, Option, None, map,
 use Rattle.std.specs.Prelude.{option_map}
 use Rattle.std.specs.Option.{option_or}
 use Rattle.mdtext.specs.EntityTable.{EntityTable}
-use Rattle.mdleaf.specs.LinkDefinition.{LinkDefinition}
+use Rattle.mdleaf.specs.DefinedLinks.{LinkDefinition}
 use Rattle.blockspec.specs.BlockUnits.{units, definitions_of}
-use Rattle.blockspec.specs.FirstDefinitions.{first_definition}
+use Rattle.blockspec.specs.LinkDefinitions.{first_definition}
 use Rattle.blockspec.specs.UnitBegin.{shift_found}
 use Rattle.blockspec.proofs.DocumentLaws.{definitions_append, definitions_moved, first_of_both}
 use Rattle.inlinespec.specs.LabelMap.{LinkTarget}

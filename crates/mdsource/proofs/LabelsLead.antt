@@ -7,9 +7,9 @@ use Rattle.std.specs.Ordering.{is_eq, match_ordering, nat_cmp}
 use Rattle.std.specs.Str.{bytes_eq}
 use Rattle.std.proofs.lemmas.Map.Text.{is_eq-slice_cmp}
 use Rattle.std.proofs.lemmas.Slice.Eq.{bytes_eq-Decides}
-use Rattle.mdleaf.specs.LinkDefinition.{LinkDefinition}
+use Rattle.mdleaf.specs.DefinedLinks.{LinkDefinition}
 use Rattle.blockspec.specs.BlockUnits.{definitions_of}
-use Rattle.blockspec.specs.FirstDefinitions.{first_definition}
+use Rattle.blockspec.specs.LinkDefinitions.{first_definition}
 use Rattle.blockspec.specs.UnitTree.{FoundUnit}
 use Rattle.blockspec.proofs.DocumentLaws.{first_of_both}
 use Rattle.inlinespec.specs.LabelMap.{LabelMap, LinkTarget, put_first, target_in}

@@ -3,9 +3,8 @@ use Rattle.std.proofs.Common.{◌≡◌, ℕ, ◌+◌, ◌⊎◌, inl, inr, true
 use Rattle.std.proofs.lemmas.List.{append-nil}
 use Rattle.std.specs.Prelude.{Contains}
 use Rattle.mdtext.specs.EntityTable.{EntityTable}
-use Rattle.blockspec.specs.BlockLine.{document_line}
+use Rattle.blockspec.specs.BlockLine.{document_line, without_last}
 use Rattle.blockspec.specs.BlockUnits.{begins, units}
-use Rattle.blockspec.specs.LeafContents.{without_last}
 use Rattle.blockspec.specs.Meetings.{IsBeginning, joins_list}
 use Rattle.blockspec.specs.UnitBegin.{shift_found}
 use Rattle.blockspec.specs.UnitTree.{FoundUnit}

@@ -1,7 +1,7 @@
 -- What a reader has told that was fed the first lines of a text.
 use Rattle.std.proofs.Common.{◌≡◌, ℕ, List, [], None, length, ap}
 use Rattle.mdtext.specs.EntityTable.{EntityTable}
-use Rattle.blockspec.specs.LeafContents.{without_last}
+use Rattle.blockspec.specs.BlockLine.{without_last}
 use Rattle.blockspec.specs.Nesting.{first_too_deep}
 use Rattle.mdblock.specs.held.ReaderState.{ReaderState}
 use Rattle.mdblock.specs.held.Reads.{Reads, handed}

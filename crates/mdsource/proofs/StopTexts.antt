@@ -9,7 +9,7 @@ use Rattle.std.proofs.lemmas.List.Sums.{count_by-le-length, length-filter}
 use Rattle.std.proofs.Math.Seq.{drop-append_seam}
 use Rattle.mdtext.specs.EntityTable.{EntityTable}
 use Rattle.blockspec.specs.BlockUnits.{begins, units}
-use Rattle.blockspec.specs.LeafContents.{without_last}
+use Rattle.blockspec.specs.BlockLine.{without_last}
 use Rattle.blockspec.specs.UnitBegin.{shift_found}
 use Rattle.blockspec.specs.UnitTree.{FoundUnit}
 use Rattle.blockspec.proofs.BeginLaws.{shifted_begins}

@@ -8,9 +8,8 @@ use Rattle.std.proofs.lemmas.List.{append-nil, take-take}
 use Rattle.std.proofs.lemmas.List.Elements.{All-contains}
 use Rattle.std.proofs.Math.Seq.{take-append_seam, drop-append_seam}
 use Rattle.mdtext.specs.EntityTable.{EntityTable}
-use Rattle.blockspec.specs.BlockLine.{document_line}
+use Rattle.blockspec.specs.BlockLine.{document_line, without_last}
 use Rattle.blockspec.specs.BlockUnits.{begins, units}
-use Rattle.blockspec.specs.LeafContents.{without_last}
 use Rattle.blockspec.specs.Nesting.{first_too_deep}
 use Rattle.blockspec.specs.UnitBegin.{shift_found}
 use Rattle.blockspec.specs.UnitTree.{FoundUnit}

@@ -21,7 +21,7 @@ use Rattle.blockspec.proofs.DocumentLaws.{document_units, map_length}
 use Rattle.blockspec.proofs.UnitReaderLaws.{IsOne}
 use Rattle.blockspec.specs.ItemMarks.{ItemMark, item_marks, block_marks, list_marks}
 use Rattle.blockspec.specs.Joins.{joins, later_lines}
-use Rattle.blockspec.specs.ListItems.{ListItem, TopBlock, Other, ItemList, top_group, top_blocks}
+use Rattle.blockspec.specs.TopBlocks.{ListItem, TopBlock, Other, ItemList, top_group, top_blocks}
 use Rattle.blockspec.proofs.ItemsMeet.{blocks_are}
 use Rattle.blockspec.proofs.JoinCuts.{joins_cut, no_join, first_no_join}
 use Rattle.blockspec.proofs.JoinLines.{with_number, joins_in, joins_next}

@@ -6,7 +6,7 @@ use Rattle.std.proofs.lemmas.List.Elements.{All-head, All-tail, All-weaker}
 use Rattle.mdtext.specs.EntityTable.{EntityTable}
 use Rattle.blockspec.specs.BlockLine.{document_line}
 use Rattle.blockspec.specs.BlockUnits.{begins, found_units, groups, next_begin, units}
-use Rattle.blockspec.specs.ListGroups.{Group}
+use Rattle.blockspec.specs.Lists.{Group}
 use Rattle.mdsource.specs.UnitTiles.{begins_from, front_of, lines_of}
 use Rattle.mdsource.proofs.Cuts.{begins_in, begins_within}
 use Rattle.mdsource.proofs.StretchReadings.{Ascends, begins_ascend}

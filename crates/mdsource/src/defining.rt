@@ -6,7 +6,7 @@ ghost use Rattle.blockspec.specs.BlockUnits.{units};
 ghost use Rattle.blockspec.specs.UnitTree.{FoundUnit};
 ghost use Rattle.mdblock.specs.FoundLists.{found_unit};
 ghost use Rattle.mdhtml.specs.Limits.{HasLimits};
-ghost use Rattle.mdleaf.specs.LinkDefinition.{definition_of};
+ghost use Rattle.mdleaf.specs.DefinedLinks.{definition_of};
 ghost use Rattle.mdsource.specs.LabelTable.{with_definitions, with_units};
 ghost use Rattle.mdsource.specs.Refusals.{undefining_line};
 ghost use Rattle.mdsource.specs.Defining.{Defines, EndsAt, fault_of, shown};

@@ -9,7 +9,7 @@ use mdtext::{Class, clean_len, first_special};
 /// How many lines a text or a prelude may have.
 pub const MAX_LINES: usize = 1_000_000;
 
-/// How many bytes, with one counted for each line's end.
+/// How many bytes a text or a prelude may have, with one counted for each line's end.
 pub const MAX_SIZE: usize = 16_777_216;
 
 /// Whether no line ending and no U+0000 stands in any of the lines.

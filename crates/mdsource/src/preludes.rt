@@ -59,7 +59,7 @@ impl Prelude {
     }
 
     /// The definitions in these lines, which are read as a text of their own. U+FFFD stands for each U+0000 then
-    /// (CommonMark 2.3). Each line that is read is counted.
+    /// (CommonMark 2.3). Each line that is read is counted. The limits of the options are 1 to 256.
     ///
     /// Refused, in this order: `BreakInLine`, `TooManyLines`, `TooLarge`, whatever the memory, and then nothing is counted;
     /// `NotDefinitions`; `NoMemory` at any point behind the first three.
@@ -133,7 +133,7 @@ fn accept(lines: &AddedLines) -> Result<(), EditFault>
     Ok(())
 }
 
-/// Where a label leads that the text defines so, if it does: a definition of the text counts before one of the prelude
+/// Where a label leads: to `target`, where the text defines it; else where the prelude says; nowhere, where neither defines it
 /// (CommonMark 4.7). Refused for want of memory alone.
 pub fn or_beside(
     alloc: Global,

@@ -4,7 +4,8 @@ use Rattle.std.proofs.lemmas.List.{append_assoc, append-nil}
 use Rattle.std.specs.List.{list_any}
 use Rattle.mdtext.specs.ByteClass.{in_class}
 use Rattle.mdtext.specs.EntityTable.{EntityTable}
-use Rattle.mdtext.specs.References.{meaning, unescaped_from, unescaped, unescape_specials, added, escape, reference, reference_or}
+use Rattle.mdtext.specs.Unescaped.{meaning, unescaped_from, unescaped, unescape_specials, added, escape}
+use Rattle.mdtext.specs.CharacterReferences.{reference, reference_or}
 use Rattle.std.specs.Char.{is_ascii_punctuation}
 use Rattle.mdtext.proofs.PlainRuns.{either_false}
 

@@ -11,7 +11,7 @@ use Rattle.std.specs.List.{prefix_len, slice_range, slice_index}
 use Rattle.std.specs.Str.{IsUtf8, IsCharBoundary}
 use Rattle.std.specs.Str.Parse.{AllDigits, IsNumeral, digits_value, without_leading_plus}
 use Rattle.mdtext.specs.EntityTable.{EntityTable}
-use Rattle.mdtext.specs.References.{is_closed, named, numeric, reference}
+use Rattle.mdtext.specs.CharacterReferences.{is_closed, named, numeric, reference}
 use Rattle.std.proofs.lemmas.List.{length-take-le}
 
 no_plus : (base d : ℕ) (ds : List ℕ) (t : Bool) → eqb d 43 ≡ t → base ≤ 16 → digit_value d < base → drop (cond t 1 0) (d ∷ ds) ≡ d ∷ ds

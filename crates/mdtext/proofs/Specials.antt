@@ -1,7 +1,7 @@
 -- The bytes that a text has replaced.
 use Rattle.std.proofs.Common.{◌≡◌, ℕ, List, true, false, [], ◌∷◌, arith, ap, sym, ◌∙◌}
 use Rattle.mdtext.specs.ByteClass.{in_class}
-use Rattle.mdtext.specs.Escaped.{escaped_byte, text_specials}
+use Rattle.mdtext.specs.HtmlEscapes.{escaped_byte, text_specials}
 use Rattle.mdtext.specs.Lines.{clean_byte}
 use Rattle.mdtext.proofs.PlainRuns.{Replaces}
 

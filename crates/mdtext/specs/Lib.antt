@@ -5,13 +5,14 @@ pub mod Counted
 pub mod EntityFile
 pub mod EntityReading
 pub mod EntityTable
-pub mod Escaped
 pub mod EscapedUrl
 pub mod LabelFronts
 pub mod Labels
 pub mod Lines
 pub mod MemberTexts
 pub mod NamedTexts
-pub mod References
 pub mod Referents
 pub mod TidyLabels
+pub mod CharacterReferences
+pub mod HtmlEscapes
+pub mod Unescaped

@@ -1,9 +1,9 @@
 -- What the code's references stand for.
 use Rattle.std.specs.Prelude.{ℕ, List, encode_utf8}
-use Rattle.mdtext.specs.declared.references.Referent.{Referent}
-use Rattle.mdtext.specs.declared.references.Referent.TheVariants.{Character, Text}
-use Rattle.mdtext.specs.declared.references.Reference.{Reference}
-use Rattle.mdtext.specs.References.{Meaning}
+use Rattle.mdtext.specs.declared.character_references.Referent.{Referent}
+use Rattle.mdtext.specs.declared.character_references.Referent.TheVariants.{Character, Text}
+use Rattle.mdtext.specs.declared.character_references.Reference.{Reference}
+use Rattle.mdtext.specs.CharacterReferences.{Meaning}
 
 abbrev pub referent_text : Referent → List ℕ
 referent_text (Character c) = encode_utf8 c

@@ -3,7 +3,7 @@ ghost use Rattle.std.specs.Prelude.{◌≡◌, true, option_map};
 ghost use Rattle.mdtext.specs.EntityFile.{counts, is_name, name_of};
 
 use crate::NoMemory;
-use crate::references::{byte_at, name_len};
+use crate::character_references::{byte_at, name_len};
 use std::alloc::{AllocFailed, Global};
 use std::error::Error;
 use std::fmt;

@@ -9,10 +9,10 @@ ghost use Rattle.mdtext.specs.EntityFile.{characters_of, file_names, with_member
 ghost use Rattle.mdtext.specs.EntityReading.{characters_among, items_at, members_at, value_at, whole_at};
 ghost use Rattle.mdtext.specs.MemberTexts.{AreHeld, gathered, given_table};
 
+use crate::character_references::{byte_at, digit_count};
 use crate::entity_file::TableFault;
 use crate::member_texts::MemberTexts;
 use crate::named_texts::NamedTexts;
-use crate::references::{byte_at, digit_count};
 use fast_float::Numeral;
 use json::{Invalid, Reader, Scratch, Token};
 use std::alloc::Global;

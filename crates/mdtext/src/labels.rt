@@ -11,8 +11,8 @@ ghost use Rattle.mdtext.specs.Labels.{add_word, collapsed, folded, space_between
 
 use crate::NoMemory;
 use crate::byte_class::Class;
-use crate::references::byte_at;
-use crate::runs::split_at_special;
+use crate::character_references::byte_at;
+use crate::plain_runs::split_at_special;
 use caseless::default_case_fold_str;
 use std::alloc::Global;
 use std::cmp::Ordering;

@@ -5,7 +5,7 @@ ghost use Rattle.std.specs.Str.{IsUtf8};
 
 use crate::NoMemory;
 use crate::byte_class::Class;
-use crate::runs::split_at_special;
+use crate::plain_runs::split_at_special;
 use memchr::memchr;
 use std::alloc::Global;
 

@@ -2,14 +2,15 @@
 ghost use Rattle.std.specs.Prelude.{◌≡◌, ◌++◌, true, IfOk, OnErr, OnOk, string_bytes, string_len, take};
 ghost use Rattle.std.specs.Str.{IsCharBoundary};
 ghost use Rattle.mdtext.specs.ByteClass.{in_class};
-ghost use Rattle.mdtext.specs.References.{added, escape, meaning, reference, reference_or, unescape_specials, unescaped};
+ghost use Rattle.mdtext.specs.Unescaped.{added, escape, meaning, unescape_specials, unescaped};
+ghost use Rattle.mdtext.specs.CharacterReferences.{reference, reference_or};
 ghost use Rattle.mdtext.specs.Referents.{referent_text};
 
 use crate::NoMemory;
 use crate::byte_class::Class;
+use crate::character_references::{Referent, byte_at, read_reference};
 use crate::entity_table::Entities;
-use crate::references::{Referent, byte_at, read_reference};
-use crate::runs::split_at_special;
+use crate::plain_runs::split_at_special;
 
 /// Appends the text with each backslash escape (CommonMark 2.4) and each reference (CommonMark 2.5) replaced by what it
 /// stands for. After `NoMemory` nothing is appended.

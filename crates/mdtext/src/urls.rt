@@ -5,7 +5,7 @@ ghost use Rattle.mdtext.specs.EscapedUrl.{escaped_url, url_byte, url_specials};
 
 use crate::NoMemory;
 use crate::byte_class::Class;
-use crate::runs::split_at_special;
+use crate::plain_runs::split_at_special;
 use percent_encoding::{AsciiSet, NON_ALPHANUMERIC, ascii_set, utf8_percent_encode};
 
 /// The ASCII bytes that a destination has percent-encoded.

@@ -18,7 +18,8 @@ pub struct MemoryFeed<'a> {
 }
 
 impl<'a> MemoryFeed<'a> {
-    /// A feed of these bytes that gives at most `step` of them a call, and fails at the call that so many come before.
+    /// A feed of these bytes that gives at most `step` of them a call, and fails at the call that so many come before; with
+    /// `None` at none. `step` is not 0.
     pub fn new(bytes: &'a [u8], step: usize, calls_to_failure: Option<u64>) -> MemoryFeed<'a>
         requires { 0 < step }
         ensures left { ⟦<MemoryFeed<'a> as Feed>⟧.left result ≡ Some bytes.entry.now }
@@ -80,7 +81,8 @@ pub struct MemoryOut {
 }
 
 impl MemoryOut {
-    /// An out that takes at most `step` bytes a call, and fails at the call that so many come before.
+    /// An out that takes at most `step` bytes a call, and fails at the call that so many come before; with
+    /// `None` at none. `step` is not 0.
     pub fn new(alloc: Global, step: usize, calls_to_failure: Option<u64>) -> MemoryOut
         requires { 0 < step }
         ensures written { ⟦<MemoryOut as Out>⟧.written result ≡ Some [] }

@@ -179,7 +179,7 @@ fn not_opened(rt: &HostRuntime, name: &str) -> Stop
     }
 }
 
-/// How an engine came to its end that reads a text or a script. Where nothing was read of it, it stopped for the prelude.
+/// The end of an engine that reads a text or a script, with what it was reading: the prelude, where nothing of the feed was read, and else the text.
 pub fn text_end<R: Read>(end: Result<(), ToolFault>, feed: &ReadFeed<R>) -> Result<(), Halt>
     ensures end { EndsBy end result }
     ensures source { IfErr result (λ halt. halt.source ≡ (if feed.now.calls_left == 2 ^ 64 - 1 then Source.Prelude else Source.Text)) }

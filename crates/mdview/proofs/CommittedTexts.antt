@@ -14,7 +14,8 @@ use Rattle.inlinespec.specs.LinkTails.{Table}
 use Rattle.mdsource.specs.UnitTexts.{asking_units, asks_again, readings_under}
 use Rattle.mdsource.proofs.ReadingsUnder.{unasked_stays}
 use Rattle.mdview.specs.declared.inlines.concerned_texts.Again.{Again}
-use Rattle.mdview.specs.HeldTexts.{IsReadUnder, IsReread, asking_in_parts, between, number_again}
+use Rattle.mdview.specs.ReadUnits.{IsReadUnder}
+use Rattle.mdview.specs.HeldTexts.{IsReread, asking_in_parts, between, number_again}
 use Rattle.mdview.specs.HeldUnit.{HeldUnit, unit_in}
 use Rattle.mdview.specs.Lists.{replaced}
 use Rattle.mdview.specs.Update.{all_renewed, map_at, renewed}

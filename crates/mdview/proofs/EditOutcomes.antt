@@ -33,7 +33,8 @@ use Rattle.mdview.specs.declared.inlines.concerned_texts.Again.{Again}
 use Rattle.mdview.specs.declared.update.Update.{Update}
 use Rattle.mdview.specs.Document.{Document, pieces_of, readings_of, setting_of, source_of}
 use Rattle.mdview.specs.HeldBlocks.{HoldsUnits, IsReplacing, old_lines, places_of}
-use Rattle.mdview.specs.HeldTexts.{HoldsTexts, IsReadUnder, IsReread, asking_in_parts, between, number_again}
+use Rattle.mdview.specs.HeldTexts.{HoldsTexts, IsReread, asking_in_parts, between, number_again}
+use Rattle.mdview.specs.ReadUnits.{IsReadUnder}
 use Rattle.mdview.specs.HeldUnit.{HeldUnit, IsRendered, piece_of, read_of, shown_in, unit_in}
 use Rattle.mdview.specs.LabelTargets.{led_after, target_held}
 use Rattle.mdview.specs.Lists.{replaced}

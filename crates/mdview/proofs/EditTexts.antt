@@ -9,9 +9,9 @@ use Rattle.std.proofs.lemmas.List.Elements.{All-cons, All-head, All-nil, All-tai
 use Rattle.std.proofs.lemmas.List.Folds.{flat_map-map}
 use Rattle.std.proofs.lemmas.List.Sums.{sum_by-cons}
 use Rattle.mdtext.specs.EntityTable.{EntityTable}
-use Rattle.mdleaf.specs.LinkDefinition.{LinkDefinition}
+use Rattle.mdleaf.specs.DefinedLinks.{LinkDefinition}
 use Rattle.blockspec.specs.BlockUnits.{definitions_of, units}
-use Rattle.blockspec.specs.FirstDefinitions.{first_definition}
+use Rattle.blockspec.specs.LinkDefinitions.{first_definition}
 use Rattle.blockspec.specs.UnitTree.{FoundUnit, UnitTree}
 use Rattle.blockspec.proofs.DocumentLaws.{first_of_both}
 use Rattle.inlinespec.specs.LabelMap.{target_in}
@@ -42,7 +42,8 @@ use Rattle.mdview.specs.declared.source.new_text.NewText.{NewText}
 use Rattle.mdview.specs.declared.inlines.concerned_texts.Again.{Again}
 use Rattle.mdview.specs.declared.blocks.reparse.Reparsed.{Reparsed}
 use Rattle.mdview.specs.HeldBlocks.{HoldsUnits, IsReread as IsReadStretch, held_tile, lines_in, old_lines, places_of, tile_in}
-use Rattle.mdview.specs.HeldTexts.{IsReadUnder, IsRefusedBy, IsReread, IsShallow, asking_in_parts, between, deep_in_parts, head_read, line_on, texts_in_parts}
+use Rattle.mdview.specs.ReadUnits.{IsReadUnder, IsShallow}
+use Rattle.mdview.specs.HeldTexts.{IsRefusedBy, IsReread, asking_in_parts, between, deep_in_parts, head_read, line_on, texts_in_parts}
 use Rattle.mdsource.specs.TextFaults.{IsTextFault}
 use Rattle.mdview.specs.HeldUnit.{HeldUnit, read_of, texts_in, unit_in}
 use Rattle.mdview.specs.KeptTexts.{kept_texts, number_kept, texts_with_kept}
@@ -142,8 +143,8 @@ module _ (e : EntityTable) (lines : List (List ℕ)) (head : ℕ) (held : List H
       by true is g rest = cc
       by false is g rest = All-cons (λ (x : UnitTree). is_deep_under limit e labels x ≡ false) u.unit (trees_in us) is (rest g)
 
-  pub all_shallow : (limit : ℕ) (labels : Table) → deep_found limit e labels (units e lines) ≡ None → All (IsShallow limit e labels) held
-  all_shallow limit labels none k d below =
+  pub units_shallow : (limit : ℕ) (labels : Table) → deep_found limit e labels (units e lines) ≡ None → All (IsShallow limit e labels) held
+  units_shallow limit labels none k d below =
       let P : UnitTree → Type 0 = λ t. is_deep_under limit e labels t ≡ false in
       let many = length-map held unit_in in
       subst P (get_or-map unit_in held k d (unit_in d) below)

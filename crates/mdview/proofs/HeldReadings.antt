@@ -19,14 +19,15 @@ use Rattle.mdview.specs.declared.held.labels.HeldLabels.{HeldLabels}
 use Rattle.mdview.specs.declared.labels.changes.LabelChanges.{LabelChanges}
 use Rattle.mdview.specs.declared.inlines.concerned_texts.Again.{Again}
 use Rattle.mdview.specs.HeldBlocks.{HoldsUnits, held_tile, lines_in}
-use Rattle.mdview.specs.HeldTexts.{HoldsTexts, IsReadUnder, IsReread, IsShallow, asking_in_parts, between, number_again}
+use Rattle.mdview.specs.HeldTexts.{HoldsTexts, IsReread, asking_in_parts, between, number_again}
+use Rattle.mdview.specs.ReadUnits.{IsReadUnder, IsShallow}
 use Rattle.mdview.specs.HeldUnit.{HeldUnit, read_of, unit_in}
 use Rattle.mdview.specs.LabelTargets.{at, changed, led_after, led_by, target_held}
 use Rattle.mdview.specs.Lists.{replaced}
 use Rattle.mdsource.specs.Preludes.{HeldPrelude, IsDefinedBy}
 use Rattle.mdview.specs.Update.{all_renewed}
 use Rattle.mdview.proofs.CommittedTexts.{committed_read}
-use Rattle.mdview.proofs.EditTexts.{all_read_under, all_shallow, led_by_text, lines_are, nested_in_none, none_deep_before, tiles_are, trees_are}
+use Rattle.mdview.proofs.EditTexts.{all_read_under, units_shallow, led_by_text, lines_are, nested_in_none, none_deep_before, tiles_are, trees_are}
 
 -- nothing is held
 pub holds_no_texts : (setting : Setting) (prelude : HeldPrelude) (labels : HeldLabels) → prelude ≡ record { lines = []; labels = [] } → ((label : List ℕ) → target_held labels label ≡ None)
@@ -150,7 +151,7 @@ holds_texts_still setting lines head old new labels room led changes held again 
 pub shallow_still : (setting : Setting) (lines : List (List ℕ)) (head : ℕ) (prelude : HeldPrelude) (labels : HeldLabels) (held : List HeldUnit) → HoldsUnits setting.entities lines head (map read_of held)
     → HoldsTexts setting lines prelude labels held → All (IsShallow setting.options.max_spans setting.entities (target_held labels)) held
 shallow_still setting lines head prelude labels held blocks texts =
-    all_shallow setting.entities lines head held blocks setting.options.max_spans (target_held labels)
+    units_shallow setting.entities lines head held blocks setting.options.max_spans (target_held labels)
     (deep_found_under setting.options.max_spans setting.entities (target_held labels) (table setting.entities (record { lines = lines; prelude = prelude.lines }))
     (λ label. texts.led label ∙ led_by_held setting.entities lines head prelude held blocks texts.defined label) (text_units setting.entities lines)
     ∙ none_deep_before setting (record { lines = lines; prelude = prelude.lines }) texts.spans)

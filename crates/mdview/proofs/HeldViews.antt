@@ -11,7 +11,8 @@ use Rattle.mdsource.specs.View.{ViewedUnit, view, viewed}
 use Rattle.mdsource.specs.UnitTexts.{readings_under, trees_in}
 use Rattle.mdview.specs.declared.held.labels.HeldLabels.{HeldLabels}
 use Rattle.mdview.specs.HeldBlocks.{HoldsUnits}
-use Rattle.mdview.specs.HeldTexts.{HoldsTexts, IsReadUnder}
+use Rattle.mdview.specs.HeldTexts.{HoldsTexts}
+use Rattle.mdview.specs.ReadUnits.{IsReadUnder}
 use Rattle.mdview.specs.HeldUnit.{HeldUnit, IsRendered, html_of, piece_of, read_of, shown_in, unit_in}
 use Rattle.mdview.specs.Document.{shown_of}
 use Rattle.mdview.specs.LabelTargets.{target_held}

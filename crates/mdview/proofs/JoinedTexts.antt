@@ -6,7 +6,7 @@ use Rattle.std.proofs.Math.Seq.{drop-append_seam, drop-cons}
 use Rattle.mdtext.specs.EntityTable.{EntityTable}
 use Rattle.blockspec.specs.BlockLine.{BlockLine, document_line}
 use Rattle.blockspec.specs.BlockUnits.{found_units, groups, units}
-use Rattle.blockspec.specs.ListGroups.{Group, nodes_of}
+use Rattle.blockspec.specs.Lists.{Group, nodes_of}
 use Rattle.blockspec.specs.Meetings.{joins_list}
 use Rattle.blockspec.specs.NodeTree.{texts_in}
 use Rattle.blockspec.specs.UnitBegin.{shift_found, units_of}

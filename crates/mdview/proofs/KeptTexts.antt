@@ -30,7 +30,7 @@ use Rattle.mdview.proofs.CommittedTexts.{read_member}
 use Rattle.mdview.proofs.FoundTexts.{deep_first, deep_later}
 use Rattle.mdview.specs.TextSetting.{DidReadIn, DidReadLast, TextSetting}
 use Rattle.mdview.proofs.ReadParts.{fault_in_front}
-use Rattle.mdview.proofs.ToldTexts.{none_deep as none_deep_in}
+use Rattle.mdview.proofs.ToldTexts.{shallow_readings}
 
 -- ---- how many
 
@@ -126,8 +126,8 @@ module _ (limit : ℕ) (e : EntityTable) (labels : Table) (us : List FoundUnit) 
   pub deep_behind : deep_found limit e labels us ≡ None → deep_found limit e labels (us ++ u ∷ []) ≡ deep_found limit e labels (u ∷ [])
   deep_behind none = found_append limit e labels us (u ∷ []) ∙ ap (λ o. option_or o (deep_found limit e labels (u ∷ []))) none
 
-  pub none_deep : deep_found limit e labels us ≡ None → is_deep_under limit e labels u.unit ≡ false → deep_found limit e labels (us ++ u ∷ []) ≡ None
-  none_deep none shallow = deep_behind none ∙ deep_later limit e labels u [] shallow
+  pub none_deep_found : deep_found limit e labels us ≡ None → is_deep_under limit e labels u.unit ≡ false → deep_found limit e labels (us ++ u ∷ []) ≡ None
+  none_deep_found none shallow = deep_behind none ∙ deep_later limit e labels u [] shallow
 
   pub last_deep : deep_found limit e labels us ≡ None → is_deep_under limit e labels u.unit ≡ true → deep_found limit e labels (us ++ u ∷ []) ≡ Some u.begin
   last_deep none deep = deep_behind none ∙ deep_first limit e labels u [] deep
@@ -179,7 +179,7 @@ module _ (s : TextSetting) (units : List HeldUnit) (trees : List UnitTree) (did 
         readings = record {
           at = subst (λ n. n ≤ length (last_texts trees)) (sym at) w.at;
           readings = is w.unit w.held ∙ ap (drop part.from) here.read ∙ drop-map read part.from texts ∙ ap (map read) (sym w.texts) ∙ ap (λ n. map read (drop n (last_texts trees))) (sym at);
-          shallow = ap (list_any deep) (is w.unit w.held) ∙ none_dropped deep part.from w.unit.read.readings (none_deep_in s w.unit here);
+          shallow = ap (list_any deep) (is w.unit w.held) ∙ none_dropped deep part.from w.unit.read.readings (shallow_readings s w.unit here);
           part = held_part ∙ sym (drop_end part.from all) ∙ ap (λ (z : List ParsedText). drop (length all - length z) all) (sym held_part);
           within = subst (λ (z : List ParsedText). length z ≤ length all) (sym held_part) (let z = length-drop part.from all in omega (arith, z));
           like = there.read;

@@ -6,11 +6,11 @@ use Rattle.std.specs.Str.{bytes_eq}
 use Rattle.std.specs.Cmp.Lexicographic.{nat_list_eq_equiv}
 use Rattle.std.proofs.lemmas.List.{drop-drop, map-append, take-append-drop}
 use Rattle.std.proofs.lemmas.Slice.Eq.{bytes_eq-Decides}
-use Rattle.blockspec.specs.FirstDefinitions.{first_definition}
+use Rattle.blockspec.specs.LinkDefinitions.{first_definition}
 use Rattle.blockspec.specs.UnitTree.{UnitTree}
 use Rattle.blockspec.proofs.DocumentLaws.{first_of_both}
 use Rattle.inlinespec.specs.LabelMap.{LabelMap, LinkTarget, target_in, target_of}
-use Rattle.mdleaf.specs.LinkDefinition.{LinkDefinition}
+use Rattle.mdleaf.specs.DefinedLinks.{LinkDefinition}
 use Rattle.mdtext.specs.declared.labels.Target.{Target}
 use Rattle.mdsource.specs.Changes.{is_same_target}
 use Rattle.mdsource.specs.LabelTable.{table_of, target_defined}

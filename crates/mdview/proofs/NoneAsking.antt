@@ -11,7 +11,8 @@ use Rattle.mdsource.specs.Refusals.{is_deep}
 use Rattle.mdsource.specs.UnitTexts.{asking_units, asks_again, deep_from, readings_under}
 use Rattle.mdsource.proofs.ReadingsUnder.{unasked_stays}
 use Rattle.mdview.specs.HeldBlocks.{held_tile}
-use Rattle.mdview.specs.HeldTexts.{IsShallow, labels_before, labels_behind}
+use Rattle.mdview.specs.ReadUnits.{IsShallow}
+use Rattle.mdview.specs.HeldTexts.{labels_before, labels_behind}
 use Rattle.mdview.specs.HeldUnit.{HeldUnit}
 use Rattle.mdview.specs.LabelTargets.{IsElsewhere, at}
 use Rattle.mdview.specs.declared.inlines.UnitTextReader.{UnitTextReader}
@@ -22,11 +23,11 @@ any_none p none [] = refl
 any_none p none (x ∷ xs) = ap (λ b. b || list_any p xs) (none x) ∙ any_none p none xs
 
 -- spans lie too deep in none of these
-pub none_deep : (limit : ℕ) (e : EntityTable) (labels : Table) (begin : ℕ) (units : List HeldUnit) → All (IsShallow limit e labels) units → deep_from limit e labels begin (map held_tile units) ≡ None
-none_deep limit e labels begin [] all = refl
-none_deep limit e labels begin (u ∷ units) all =
+pub none_deep_in : (limit : ℕ) (e : EntityTable) (labels : Table) (begin : ℕ) (units : List HeldUnit) → All (IsShallow limit e labels) units → deep_from limit e labels begin (map held_tile units) ≡ None
+none_deep_in limit e labels begin [] all = refl
+none_deep_in limit e labels begin (u ∷ units) all =
     ap (λ b. cond b (Some begin) (deep_from limit e labels (begin + u.read.lines) (map held_tile units))) (all_first (IsShallow limit e labels) u units all)
-    ∙ none_deep limit e labels (begin + u.read.lines) units (all_rest (IsShallow limit e labels) u units all)
+    ∙ none_deep_in limit e labels (begin + u.read.lines) units (all_rest (IsShallow limit e labels) u units all)
 
 module _ (reader : UnitTextReader) (elsewhere : IsElsewhere reader.labels.now.held.now reader.labels.now.changes.now) (none : (label : List ℕ) → at label reader.labels.now.changes.now.targets.entries ≡ None) where
   none_leads : (label : List ℕ) → leads_elsewhere (labels_before reader) (labels_behind reader) label ≡ false
@@ -44,6 +45,6 @@ module _ (reader : UnitTextReader) (elsewhere : IsElsewhere reader.labels.now.he
       ap (λ b. if b then number ∷ asking_units e (labels_before reader) (labels_behind reader) (number + 1) units else asking_units e (labels_before reader) (labels_behind reader) (number + 1) units) (none_asks e unit)
       ∙ none_asking e (number + 1) units
 
-  pub all_shallow : (limit : ℕ) (e : EntityTable) (units : List HeldUnit) → All (IsShallow limit e (labels_before reader)) units → All (IsShallow limit e (labels_behind reader)) units
-  all_shallow limit e units all k d below =
+  pub shallow_behind : (limit : ℕ) (e : EntityTable) (units : List HeldUnit) → All (IsShallow limit e (labels_before reader)) units → All (IsShallow limit e (labels_behind reader)) units
+  shallow_behind limit e units all k d below =
       ap (list_any (is_deep limit)) (sym (unasked_stays e (labels_before reader) (labels_behind reader) (get_or units k d).read.unit (none_asks e (get_or units k d).read.unit))) ∙ all k d below

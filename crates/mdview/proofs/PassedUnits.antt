@@ -15,7 +15,7 @@ use Rattle.blockspec.specs.UnitTree.{UnitTree}
 use Rattle.inlinespec.specs.LabelMap.{LinkTarget}
 use Rattle.inlinespec.specs.LinkTails.{Table}
 use Rattle.mdchunks.specs.Marks.{IsApart}
-use Rattle.mdleaf.specs.LinkDefinition.{LinkDefinition}
+use Rattle.mdleaf.specs.DefinedLinks.{LinkDefinition}
 use Rattle.mdsource.specs.Changes.{asks_changed, leads_elsewhere}
 use Rattle.mdsource.specs.LabelTable.{target_defined}
 use Rattle.mdsource.specs.Refusals.{is_deep}
@@ -24,7 +24,8 @@ use Rattle.mdsource.proofs.AskingUnits.{asking_append}
 use Rattle.mdsource.proofs.DeepUnits.{deep_append}
 use Rattle.mdsource.proofs.ReadingsUnder.{unasked_stays}
 use Rattle.mdview.specs.HeldBlocks.{held_tile, lines_in}
-use Rattle.mdview.specs.HeldTexts.{IsReadUnder, IsShallow, between, labels_before, labels_behind}
+use Rattle.mdview.specs.ReadUnits.{IsReadUnder, IsShallow}
+use Rattle.mdview.specs.HeldTexts.{between, labels_before, labels_behind}
 use Rattle.mdview.specs.HeldUnit.{HeldUnit, unit_in}
 use Rattle.mdview.specs.LabelMarks.{held_marks, label_mark, marks_after}
 use Rattle.mdview.specs.LabelTargets.{IsElsewhere, at, definitions_by}
@@ -33,7 +34,7 @@ use Rattle.mdview.specs.declared.inlines.UnitTextReader.{UnitTextReader}
 use Rattle.mdchunks.proofs.MarkSums.{apart_right}
 use Rattle.mdview.proofs.LabelMarkLaws.{asked_apart, kept_apart, none_of_readings}
 use Rattle.mdview.proofs.MemberChanges.{all_first, all_rest}
-use Rattle.mdview.proofs.NoneAsking.{none_deep}
+use Rattle.mdview.proofs.NoneAsking.{none_deep_in}
 use Rattle.mdview.proofs.ToldLaws.{definitions_append, map_same, or_none, told_append, told_unit}
 
 -- ---- lists
@@ -114,7 +115,7 @@ module _ (e : EntityTable) (old new : Table) (first i j : ℕ) (units : List Hel
       ap (λ l. deep_from limit e new begin (map held_tile l)) both ∙ ap (deep_from limit e new begin) (map-append held_tile front back)
       ∙ deep_append limit e new begin (map held_tile front) (map held_tile back)
       ∙ ap (λ o. option_or o (deep_from limit e new (begin + sum_by (λ (t : ℕ × UnitTree). t.0) (map held_tile front)) (map held_tile back))) none
-      ∙ none_deep limit e new (begin + sum_by (λ (t : ℕ × UnitTree). t.0) (map held_tile front)) back shallow
+      ∙ none_deep_in limit e new (begin + sum_by (λ (t : ℕ × UnitTree). t.0) (map held_tile front)) back shallow
 
 -- ---- units that define no label of which something is told
 

@@ -7,7 +7,7 @@ use Rattle.std.proofs.lemmas.List.{append-nil, take-take}
 use Rattle.std.proofs.lemmas.List.Elements.{All-contains, All-cons, All-head, All-nil, Contains-append_left, Contains-append_right, Contains-push}
 use Rattle.mdtext.specs.EntityTable.{EntityTable}
 use Rattle.blockspec.specs.BlockUnits.{begins, units}
-use Rattle.blockspec.specs.LeafContents.{without_last}
+use Rattle.blockspec.specs.BlockLine.{without_last}
 use Rattle.blockspec.specs.Nesting.{first_too_deep}
 use Rattle.blockspec.specs.UnitTree.{FoundUnit}
 use Rattle.blockspec.specs.ItemMarks.{ItemMark}

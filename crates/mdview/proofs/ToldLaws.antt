@@ -10,7 +10,7 @@ use Rattle.std.proofs.lemmas.Map.Text.{is_eq-slice_cmp}
 use Rattle.std.proofs.lemmas.Slice.Eq.{bytes_eq-Decides}
 use Rattle.blockspec.specs.UnitTree.{UnitTree}
 use Rattle.inlinespec.specs.LabelMap.{LinkTarget, target_of}
-use Rattle.mdleaf.specs.LinkDefinition.{LinkDefinition}
+use Rattle.mdleaf.specs.DefinedLinks.{LinkDefinition}
 use Rattle.mdtext.specs.declared.labels.Target.{Target}
 use Rattle.mdsource.specs.LabelTable.{target_defined}
 use Rattle.mdview.specs.LabelTargets.{at, definitions_by}

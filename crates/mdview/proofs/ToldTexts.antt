@@ -16,9 +16,10 @@ use Rattle.mdsource.specs.Refusals.{is_deep}
 use Rattle.mdsource.proofs.Readings.{reads_as_before}
 use Rattle.mdview.specs.declared.inlines.concerned_texts.Again.{Again}
 use Rattle.mdview.specs.HeldLists.{list_in, unplaced}
-use Rattle.mdview.specs.HeldTexts.{IsReadUnder, IsReread, IsShallow}
+use Rattle.mdview.specs.ReadUnits.{IsReadUnder, IsShallow}
+use Rattle.mdview.specs.HeldTexts.{IsReread}
 use Rattle.mdview.specs.HeldUnit.{HeldUnit, IsRendered}
-use Rattle.mdview.specs.TextSetting.{AreReadFrom, DidRead, DidReadIn, IsOneReadAgain, IsReadAgain, IsReadFrom, TellsDeep, TextSetting, reads_as}
+use Rattle.mdview.specs.TextSetting.{AreReadFrom, DidRead, DidReadIn, IsOneReadAgain, IsReadAgain, IsReadFrom, TellsDeep, TextSetting, reading_as}
 use Rattle.mdview.specs.Update.{Fits, IsWritten}
 use Rattle.mdview.proofs.MemberChanges.{all_more}
 
@@ -41,7 +42,7 @@ told_deep result fault deep is h = (on_err (deep ≡ false) result (λ f. f ≡ 
 module _ (s : TextSetting) where
   -- A text that asked for no label which leads elsewhere reads as it did.
   pub reads_on : (text : List ℕ) (held : ParsedText) → DidRead s text held → asks_changed s.before s.behind held ≡ false
-      → (held ≡ reads_as s text) × (is_deep s.options.max_spans (reads_as s text) ≡ false)
+      → (held ≡ reading_as s text) × (is_deep s.options.max_spans (reading_as s text) ≡ false)
   reads_on text held did none =
       let is = did.0 ∙ reads_as_before s.entities s.before s.behind text (ap (asks_changed s.before s.behind) (sym did.0) ∙ none) in
       (is, ap (is_deep s.options.max_spans) (sym is) ∙ did.1)
@@ -52,12 +53,12 @@ module _ (s : TextSetting) where
   pub all_read : (units : List HeldUnit) → All (DidReadIn s) units → All (IsReadUnder s.entities s.before) units
   all_read units did k d below = (did k d below).read
 
-  pub all_shallow : (units : List HeldUnit) → All (DidReadIn s) units → All (IsShallow s.options.max_spans s.entities s.before) units
-  all_shallow units did k d below = (did k d below).shallow
+  pub did_shallow : (units : List HeldUnit) → All (DidReadIn s) units → All (IsShallow s.options.max_spans s.entities s.before) units
+  did_shallow units did k d below = (did k d below).shallow
 
   -- in the readings of a held unit themselves
-  pub none_deep : (u : HeldUnit) → DidReadIn s u → list_any (is_deep s.options.max_spans) u.read.readings ≡ false
-  none_deep u did = ap (list_any (is_deep s.options.max_spans)) did.read ∙ did.shallow
+  pub shallow_readings : (u : HeldUnit) → DidReadIn s u → list_any (is_deep s.options.max_spans) u.read.readings ≡ false
+  shallow_readings u did = ap (list_any (is_deep s.options.max_spans)) did.read ∙ did.shallow
 
   -- ---- units that were found
 
@@ -89,4 +90,4 @@ module _ (s : TextSetting) where
     pub all_fit : All (Fits trees) again
     all_fit k d below =
         let one = get_or again k d in
-        IfSome_then (slice_get trees one.unit) (all k d below) (λ (tree : UnitTree) (w : IsReadAgain s tree one). ap length w.readings ∙ length-map tree.texts (reads_as s))
+        IfSome_then (slice_get trees one.unit) (all k d below) (λ (tree : UnitTree) (w : IsReadAgain s tree one). ap length w.readings ∙ length-map tree.texts (reading_as s))

@@ -15,7 +15,8 @@ use Rattle.mdsource.specs.UnitTexts.{asking_in, asking_texts, asking_units, deep
 use Rattle.mdsource.proofs.AskingUnits.{asking_append}
 use Rattle.mdsource.proofs.DeepUnits.{deep_append}
 use Rattle.mdview.specs.HeldBlocks.{held_tile, lines_in}
-use Rattle.mdview.specs.HeldTexts.{IsShallow, between}
+use Rattle.mdview.specs.ReadUnits.{IsShallow}
+use Rattle.mdview.specs.HeldTexts.{between}
 use Rattle.mdsource.specs.TextFaults.{IsTextFault, text_fault_in}
 use Rattle.mdview.specs.HeldUnit.{HeldUnit, unit_in}
 

@@ -1,10 +1,11 @@
 -- What the inline texts of held units read as, which units are read again, and what an edit is refused for then.
-use Rattle.std.specs.Prelude.{◌≡◌, ℕ, ◌+◌, ◌-◌, ◌^◌, false, if◌then◌else◌, nat_eq, min, List, ◌++◌, Option, Some, None, IfSome, drop, length, map, option_map, slice_get, take}
+use Rattle.std.specs.Prelude.{◌≡◌, ℕ, ◌+◌, ◌-◌, ◌^◌, if◌then◌else◌, nat_eq, min, List, ◌++◌, Option, Some, None, IfSome, drop, length, map, option_map, slice_get, take}
 use Rattle.std.specs.Option.{option_or}
+use Rattle.std.specs.List.{All}
 use Rattle.mdtext.specs.EntityTable.{EntityTable}
 use Rattle.blockspec.specs.UnitTree.{UnitTree}
 use Rattle.inlinespec.specs.LinkTails.{Table}
-use Rattle.mdsource.specs.UnitTexts.{asking_texts, asking_units, deep_found, deep_from, is_deep_under, readings_under, trees_in}
+use Rattle.mdsource.specs.UnitTexts.{asking_texts, asking_units, deep_found, deep_from, readings_under, trees_in}
 use Rattle.mdsource.specs.UnitTiles.{front_of}
 use Rattle.mdsource.specs.Refusals.{Refusal, break_in_line, inline_refusal, inline_too_deep, nested_too_deep, not_definitions, out_of_range, too_large, too_many_lines}
 use Rattle.mdsource.specs.Setting.{Setting, Source}
@@ -22,17 +23,9 @@ use Rattle.mdview.specs.declared.pieces.text_room.TextRoom.{TextRoom}
 use Rattle.mdview.specs.HeldUnit.{HeldUnit, unit_in}
 use Rattle.mdview.specs.KeptTexts.{number_kept, texts_with_kept}
 use Rattle.mdview.specs.LabelTargets.{Leads, target_after, target_held}
-use Rattle.std.specs.List.{All}
 use Rattle.mdsource.specs.Preludes.{HeldPrelude, IsDefinedBy}
 use Rattle.mdview.specs.declared.held.labels.HeldLabels.{HeldLabels}
-
--- the texts of the unit were read under these labels
-abbrev pub IsReadUnder : EntityTable → Table → HeldUnit → Type 0
-IsReadUnder e labels u = u.read.readings ≡ readings_under e labels u.read.unit
-
--- in none of them do spans lie too deep under these labels
-abbrev pub IsShallow : (limit : ℕ) → EntityTable → Table → HeldUnit → Type 0
-IsShallow limit e labels u = is_deep_under limit e labels u.read.unit ≡ false
+use Rattle.mdview.specs.ReadUnits.{IsReadUnder}
 
 -- these are the readings of the unit with this number, if there is one
 abbrev pub IsReread : EntityTable → Table → List UnitTree → Again → Type 0

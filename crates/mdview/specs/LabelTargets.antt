@@ -7,7 +7,7 @@ use Rattle.std.specs.Option.{option_or}
 use Rattle.std.specs.Ordering.{nat_cmp}
 use Rattle.blockspec.specs.UnitTree.{UnitTree}
 use Rattle.inlinespec.specs.LabelMap.{LabelMap, LinkTarget, target_of}
-use Rattle.mdleaf.specs.LinkDefinition.{LinkDefinition}
+use Rattle.mdleaf.specs.DefinedLinks.{LinkDefinition}
 use Rattle.mdtext.specs.declared.labels.Target.{Target}
 use Rattle.mdsource.specs.Changes.{leads_elsewhere}
 use Rattle.mdsource.specs.LabelTable.{table_of}

@@ -18,3 +18,4 @@ pub mod TextSetting
 pub mod Update
 pub mod BroughtPieces
 pub mod LabelMarks
+pub mod ReadUnits

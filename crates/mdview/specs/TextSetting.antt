@@ -21,7 +21,8 @@ use Rattle.mdview.specs.declared.inlines.kept_texts.KeptReadings.{KeptReadings}
 use Rattle.mdview.specs.declared.pieces.text_room.TextRoom.{TextRoom}
 use Rattle.mdview.specs.HeldBlocks.{held_tile}
 use Rattle.mdview.specs.HeldLists.{list_in, unplaced}
-use Rattle.mdview.specs.HeldTexts.{IsReadUnder, IsShallow, entities_in, labels_before, labels_behind}
+use Rattle.mdview.specs.ReadUnits.{IsReadUnder, IsShallow}
+use Rattle.mdview.specs.HeldTexts.{entities_in, labels_before, labels_behind}
 use Rattle.mdview.specs.HeldUnit.{AreEnds, HeldUnit, IsRendered, html_of, unit_in}
 use Rattle.mdview.specs.KeptTexts.{AreReadingsOf, texts_with_kept}
 
@@ -61,15 +62,15 @@ pub record DidReadLast (s : TextSetting) (texts : List (List ℕ)) (kept : KeptR
 
 -- ---- what is read
 
-abbrev pub reads_as : TextSetting → (text : List ℕ) → ParsedText
-reads_as s text = reading_of s.entities s.behind text
+abbrev pub reading_as : TextSetting → (text : List ℕ) → ParsedText
+reading_as s text = reading_of s.entities s.behind text
 
-abbrev pub read_as : TextSetting → (texts : List (List ℕ)) → List ParsedText
-read_as s texts = map (reads_as s) texts
+abbrev pub readings_as : TextSetting → (texts : List (List ℕ)) → List ParsedText
+readings_as s texts = map (reading_as s) texts
 
 -- in one of the texts spans lie too deep
 abbrev pub are_deep : TextSetting → (texts : List (List ℕ)) → Bool
-are_deep s texts = list_any (is_deep s.options.max_spans) (read_as s texts)
+are_deep s texts = list_any (is_deep s.options.max_spans) (readings_as s texts)
 
 -- how many of the texts asked for a label that leads elsewhere now
 abbrev pub asking : TextSetting → (texts : List (List ℕ)) → ℕ
@@ -78,7 +79,7 @@ asking s texts = asking_of s.entities s.before s.behind texts
 -- each text reads so
 pub record ReadSo (s : TextSetting) (texts : List (List ℕ)) (readings : List ParsedText) : Type 0 where
   pub all : length readings ≡ length texts
-  pub are : readings ≡ read_as s texts
+  pub are : readings ≡ readings_as s texts
 
 -- A unit is held as it was found, with what its texts read as, and its piece is its HTML.
 pub record IsReadFrom (s : TextSetting) (found : FoundList) (u : HeldUnit) : Type 0 where
@@ -95,7 +96,7 @@ pub record AreReadFrom (s : TextSetting) (found : List FoundList) (units : List 
 
 -- A unit's texts were read again, and its piece is its HTML then.
 pub record IsReadAgain (s : TextSetting) (tree : UnitTree) (again : Again) : Type 0 where
-  pub readings : again.inlines.items ≡ read_as s tree.texts
+  pub readings : again.inlines.items ≡ readings_as s tree.texts
   pub html : again.piece.html ≡ html_of s.options tree again.inlines.items
   pub ends : AreEnds s.options again.inlines.items tree.blocks again.piece.ends
 
@@ -137,11 +138,11 @@ TellsLine result line = OnOk result (line ≡ None) × IfErr result (IsTextFault
 
 -- what a text reads as is answered, or that spans lie too deep in it
 abbrev pub Reads : TextSetting → (text : List ℕ) → Result ParsedText InlineFault → Type 0
-Reads s text result = IfOk result (λ reading. reading ≡ reads_as s text) × TellsDeep result (is_deep s.options.max_spans (reads_as s text))
+Reads s text result = IfOk result (λ reading. reading ≡ reading_as s text) × TellsDeep result (is_deep s.options.max_spans (reading_as s text))
 
 -- what texts read as comes behind other readings
 abbrev pub Appends : {T : Type 0} → TextSetting → (texts : List (List ℕ)) → (old new : List ParsedText) → Result T InlineFault → Type 0
-Appends s texts old new result = OnOk result (new ≡ old ++ read_as s texts) × TellsDeep result (are_deep s texts)
+Appends s texts old new result = OnOk result (new ≡ old ++ readings_as s texts) × TellsDeep result (are_deep s texts)
 
 -- the entities and the count of lines stay
 abbrev pub Stays : (old new : TextRoom) → (lines counted : ℕ) → Type 0

@@ -4,7 +4,7 @@ use Rattle.std.specs.Option.{option_or}
 use Rattle.std.specs.Str.{bytes_eq}
 use Rattle.blockspec.specs.UnitTree.{UnitTree}
 use Rattle.inlinespec.specs.LabelMap.{LinkTarget, target_of}
-use Rattle.mdleaf.specs.LinkDefinition.{LinkDefinition}
+use Rattle.mdleaf.specs.DefinedLinks.{LinkDefinition}
 use Rattle.mdtext.specs.declared.labels.Target.{Target}
 use Rattle.mdsource.specs.Changes.{is_same_target}
 use Rattle.mdsource.specs.LabelTable.{target_defined}

@@ -1,9 +1,12 @@
 //! What a preview holds of a text: its units with their HTML, and where its labels lead.
 
 ghost use Rattle.std.specs.Prelude.{map};
+ghost use Rattle.std.specs.List.{All};
 ghost use Rattle.mdhtml.specs.Limits.{HasLimits};
+ghost use Rattle.mdsource.specs.Preludes.{IsDefinedBy};
 ghost use Rattle.mdview.specs.HeldUnit.{unit_in};
-ghost use Rattle.mdview.specs.LabelTargets.{Leads};
+ghost use Rattle.mdview.specs.LabelTargets.{Leads, target_held};
+ghost use Rattle.mdview.specs.ReadUnits.{IsShallow};
 
 pub(crate) mod label_marks;
 pub(crate) mod labels;
@@ -36,4 +39,6 @@ pub(crate) struct HeldText<'a> {
     pub(crate) labels: &'a HeldLabels,
     ghost limits: { HasLimits options.now },
     ghost led: { Leads labels.now (map unit_in units.now.items) prelude.now },
+    ghost defined: { IsDefinedBy entities.now prelude.now },
+    ghost shallow: { All (IsShallow options.now.max_spans entities.now (target_held labels.now)) units.now.items },
 }

@@ -13,9 +13,13 @@ use std::marker::Model;
 /// made again.
 #[derive(Debug, Drop)]
 pub struct Patch {
+    /// The number of the first piece that gave way, from 0.
     pub first: usize,
+    /// How many pieces went from there on.
     pub removed: usize,
+    /// How many came in their place.
     pub added: usize,
+    /// The numbers, after the edit and in ascending order, of the other pieces that were made again.
     pub again: Vec<usize>,
 }
 

@@ -260,7 +260,7 @@ impl Preview {
         Ok(kept + added)
     }
 
-    /// Replaces `del` lines at line `at` by others, and says which pieces changed.
+    /// Replaces `del` lines from line `at` on by others, which have no line ending, and says which pieces changed. Lines are counted from 0.
     ///
     /// Refused, in this order: `OutOfRange`, `BreakInLine`, `TooManyLines`, `TooLarge`, whatever the memory; then
     /// `NestedTooDeep`, `InlineTooDeep`; `NoMemory` at any point behind the first four. After each the preview is as before, and after the first

@@ -5,20 +5,19 @@ ghost use Rattle.std.specs.List.{All};
 ghost use Rattle.blockspec.specs.Nesting.{first_too_deep};
 ghost use Rattle.mdblock.specs.FoundLists.{found_unit};
 ghost use Rattle.mdsource.specs.LabelTable.{table};
-ghost use Rattle.mdsource.specs.Refusals.{inline_refusal, nesting_refusal};
+ghost use Rattle.mdsource.specs.Refusals.{nesting_refusal};
 ghost use Rattle.mdsource.specs.SoonTexts.{texts_of_read, units_read};
 ghost use Rattle.mdsource.specs.Stops.{lines_to_stop};
 ghost use Rattle.mdsource.specs.UnitTexts.{asking_texts, asking_units, deep_from, trees_in};
-ghost use Rattle.mdsource.specs.Preludes.{IsDefinedBy};
 ghost use Rattle.mdsource.specs.UnitTiles.{front_of};
-ghost use Rattle.mdview.specs.HeldBlocks.{HoldsUnits, IsReplacing, old_lines};
+ghost use Rattle.mdview.specs.HeldBlocks.{HoldsUnits, IsReplacing, old_lines, held_tile, lines_in};
 ghost use Rattle.mdview.specs.HeldLists.{list_in, unplaced};
 ghost use Rattle.mdsource.specs.SourceLimits.{size_of};
 ghost use Rattle.mdview.specs.NewText.{lines_of};
-ghost use Rattle.mdview.specs.HeldTexts.{IsReadUnder, IsRefusedBy, IsReread, IsShallow, asking_in_parts, deep_in_parts, head_read, number_again, setting_in, source_before, source_behind, texts_in_parts};
+ghost use Rattle.mdview.specs.ReadUnits.{IsReadUnder};
+ghost use Rattle.mdview.specs.HeldTexts.{IsRefusedBy, IsReread, asking_in_parts, deep_in_parts, head_read, number_again, setting_in, source_before, source_behind, texts_in_parts};
 ghost use Rattle.mdsource.specs.TextFaults.{IsTextFault};
 ghost use Rattle.mdview.specs.LabelTargets.{IsElsewhere, LeadsAfter, led_after, led_by, target_held};
-ghost use Rattle.mdview.specs.HeldBlocks.{held_tile, lines_in};
 ghost use Rattle.mdview.specs.HeldUnit.{IsRendered, unit_in, read_of, texts_before, texts_of};
 ghost use Rattle.mdview.specs.KeptTexts.{IsKept};
 ghost use Rattle.mdview.specs.StopLines.{stops_of};
@@ -64,10 +63,8 @@ impl Update {
         requires old { length (old_lines text) ≤ 1000000 }
         requires held { HoldsUnits held.now.entities.now (old_lines text) held.now.head (map read_of held.now.units.now.items) }
         requires fits { first_too_deep held.now.options.now.max_containers (old_lines text) ≡ None }
-        requires defined { IsDefinedBy held.now.entities.now held.now.prelude.now }
         requires read { All (IsReadUnder held.now.entities.now (target_held held.now.labels.now)) held.now.units.now.items }
         requires rendered { All (IsRendered held.now.options.now) held.now.units.now.items }
-        requires spans { inline_refusal (setting_in held.now) (source_before held.now text) ≡ None }
         ensures refused { IfErr result (IsRefusedBy (nesting_refusal (setting_in held.now) (source_behind held.now text.entry))) }
         ensures accepted { OnOk result (nesting_refusal (setting_in held.now) (source_behind held.now text.entry) ≡ None) }
         ensures fits { OnOk result (first_too_deep held.now.options.now.max_containers (lines_of text.entry) ≡ None) }
@@ -97,7 +94,6 @@ impl Update {
         count: &mut C,
     ) -> Result<Update, EditFault>
         requires read { All (IsReadUnder held.now.entities.now (target_held held.now.labels.now)) held.now.units.now.items }
-        requires shallow { All (IsShallow held.now.options.now.max_spans held.now.entities.now (target_held held.now.labels.now)) held.now.units.now.items }
         requires rendered { All (IsRendered held.now.options.now) held.now.units.now.items }
         requires near { held.now.head + sum_by lines_in held.now.units.now.items < 2 ^ 64 }
         ensures none { IfOk result (λ r. (r.first ≡ 0) × (r.next ≡ 0) × (r.units.items ≡ [])) }
@@ -138,7 +134,6 @@ impl Update {
         requires next { reparsed.next ≤ length held.now.units.now.items }
         requires elsewhere { IsElsewhere held.now.labels.now changes }
         requires read { All (IsReadUnder held.now.entities.now (target_held held.now.labels.now)) held.now.units.now.items }
-        requires shallow { All (IsShallow held.now.options.now.max_spans held.now.entities.now (target_held held.now.labels.now)) held.now.units.now.items }
         requires near { head_read held.now.head reparsed + sum_by lines_in held.now.units.now.items < 2 ^ 64 }
         requires far { reparsed.meet + sum_by lines_in held.now.units.now.items < 2 ^ 64 }
         requires rendered { All (IsRendered held.now.options.now) held.now.units.now.items }

@@ -1,5 +1,5 @@
 -- The words of the programs, and what they say.
-use Rattle.std.specs.Prelude.{◌≡◌, ◌==◌, ◌||◌, ◌∷◌, [], ℕ, Bool, true, false, List, Option, Some, None, IfSome, IsSome, codes, drop, option_map, string_bytes, if◌then◌else◌}
+use Rattle.std.specs.Prelude.{◌≡◌, ◌==◌, ◌||◌, ◌∷◌, [], ℕ, Bool, true, false, List, Option, Some, None, IfSome, IsSome, is_some, codes, drop, option_map, string_bytes, if◌then◌else◌}
 use Rattle.std.specs.List.{list_all, prefix_len}
 use Rattle.std.specs.Option.{option_map_or}
 use Rattle.std.specs.Str.{bytes_eq}
@@ -9,6 +9,7 @@ use Rattle.clap.specs.declared.parser.matches.ArgMatches.{ArgMatches}
 use Rattle.mdhtml.specs.declared.options.Breaks.{Breaks}
 use Rattle.mdhtml.specs.declared.options.Breaks.TheVariants.{Soft, Hard, Space}
 use Rattle.mdhtml.specs.declared.options.Options.{Options}
+use Rattle.mdwords.specs.declared.commands.Choice.{Choice}
 use Rattle.mdwords.specs.declared.reply_forms.ReplyForm.{ReplyForm}
 use Rattle.mdwords.specs.declared.reply_forms.ReplyForm.TheVariants.{Plain, WithLines}
 use Rattle.mdwords.specs.declared.tool_words.Words.{Words}
@@ -29,6 +30,15 @@ lettered_rule letter rule = record rule { short = Some letter }
 -- the same, which may stand several times
 abbrev pub repeated_rule : Rule → Rule
 repeated_rule rule = record rule { action = Some Append }
+
+-- an option, with a value where that has a name
+abbrev pub choice_rule : Choice → Rule
+choice_rule choice = if is_some choice.value then valued_rule choice.name.now else flag_rule choice.name.now
+
+-- these options behind those of a program
+abbrev pub with_choices : List Choice → App → App
+with_choices [] app = app
+with_choices (choice ∷ choices) app = with_choices choices (with_rule app (choice_rule choice))
 
 abbrev pub file_rule : Rule
 file_rule = record (new_rule (codes "file")) { value_names = 1 }

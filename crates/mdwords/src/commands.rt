@@ -1,7 +1,7 @@
 //! What the words of a program may be, and what `--help` says of them.
 ghost use Rattle.std.specs.Prelude.{◌≡◌, IfOk, codes, false};
 ghost use Rattle.clap.specs.Words.{app_of, rule_of};
-ghost use Rattle.mdwords.specs.ToolWords.{flag_rule, has_lines, lettered_rule, repeated_rule, tool_app, valued_rule, with_done_anyway, with_lines, with_names, with_reading, with_replies, with_version, with_writing};
+ghost use Rattle.mdwords.specs.ToolWords.{choice_rule, flag_rule, has_lines, lettered_rule, repeated_rule, tool_app, valued_rule, with_choices, with_done_anyway, with_replies, with_version};
 
 use clap::{Arg, ArgAction, Command};
 use std::alloc::{AllocError, Global};
@@ -37,13 +37,108 @@ Not there, of cmark-gfm's words:
 Example:
   printf 'edit 0 0 1\\n# Notes\\nhtml\\n' | mdpreview";
 
+/// An option: its name, the name of its value where it has one, and what `--help` says of it.
+struct Choice {
+    name: &'static str,
+    value: Option<&'static str>,
+    help: &'static str,
+}
+
+/// The options of how HTML is written, of which names of entities are known, of how a text is read, and of what a stop says.
+const OPTIONS: &[Choice] = &[
+    Choice {
+        name: "unsafe",
+        value: None,
+        help: "Write raw HTML and destinations of any scheme as they stand",
+    },
+    Choice {
+        name: "hardbreaks",
+        value: None,
+        help: "Write each line break of a paragraph as <br />",
+    },
+    Choice {
+        name: "nobreaks",
+        value: None,
+        help: "Write each line break of a paragraph as a space",
+    },
+    Choice {
+        name: "github-pre-lang",
+        value: None,
+        help: "Write the language of a code block as <pre lang=\"..\">",
+    },
+    Choice {
+        name: "full-info-string",
+        value: None,
+        help: "Write what stands behind the language as data-meta=\"..\"",
+    },
+    Choice {
+        name: "table-prefer-style-attributes",
+        value: None,
+        help: "Write the alignment of a cell as style=\"text-align: ..\"",
+    },
+    Choice {
+        name: "entities",
+        value: Some("FILE"),
+        help: "Read the names of entities from a JSON file, as HTML's entities.json is",
+    },
+    Choice {
+        name: "html-entities",
+        value: None,
+        help: "Know all 2,125 names of HTML's entities, in place of 23",
+    },
+    Choice {
+        name: "strikethrough-double-tilde",
+        value: None,
+        help: "Strike through between two tildes alone; one is text",
+    },
+    Choice {
+        name: "prelude",
+        value: Some("FILE"),
+        help: "Read definitions from a file, which count where the text has none of its own",
+    },
+    Choice {
+        name: "max-containers",
+        value: Some("N"),
+        help: "Let so many block quotes and list items lie in one another, 1 to 256; 64 if not given",
+    },
+    Choice {
+        name: "max-spans",
+        value: Some("N"),
+        help: "Let so many spans (emphasis, links, ..) lie in one another, 1 to 256; 64 if not given",
+    },
+    Choice {
+        name: "explain",
+        value: None,
+        help: "Say in a second line, in plain words, why the program stops",
+    },
+];
+
+/// The option of what replies tell, which `mdpreview` has.
+const REPLIES: &[Choice] = &[Choice {
+    name: "lines",
+    value: None,
+    help: "Tell on which line each piece begins, and how far those behind it moved",
+}];
+
+/// Options of cmark-gfm that say what is done anyway; two more have a letter.
+const DONE_ANYWAY: &[Choice] = &[
+    Choice {
+        name: "validate-utf8",
+        value: None,
+        help: "Read what is no UTF-8 as U+FFFD, as is done anyway",
+    },
+    Choice {
+        name: "width",
+        value: Some("N"),
+        help: "Wrap no lines of the HTML, whatever the number, as is done anyway",
+    },
+];
+
 /// What the words may be.
 pub(crate) fn command<'a>(alloc: Global, program: &'a str) -> Result<Command<'a>, AllocError>
     ensures { IfOk result (λ command. app_of command ≡ tool_app program.entry.now) }
 {
-    let command = with_writing(alloc, Command::new(alloc, program))?;
-    let command = with_names(alloc, command)?;
-    let command = with_reading(alloc, command)?;
+    let command = with_options(alloc, Command::new(alloc, program), OPTIONS)?;
     let command = with_replies(alloc, command, program)?;
     let command = with_done_anyway(alloc, command)?.arg(
         Arg::new(alloc, "file")
@@ -53,103 +148,23 @@ pub(crate) fn command<'a>(alloc: Global, program: &'a str) -> Result<Command<'a>
     Ok(versioned(described(command, program)))
 }
 
-/// The options of how HTML is written. These and the next ones stand by themselves, so that what each takes of the stack is given back before the next.
+/// The command with these options behind its own. It stands by itself, so that what it takes of the stack is given back behind it.
 #[inline(never)]
-fn with_writing<'a>(alloc: Global, command: Command<'a>) -> Result<Command<'a>, AllocError>
-    ensures { IfOk result (λ all. app_of all ≡ with_writing (app_of command.entry)) }
+fn with_options<'a>(
+    alloc: Global,
+    command: Command<'a>,
+    options: &[Choice],
+) -> Result<Command<'a>, AllocError>
+    ensures { IfOk result (λ all. app_of all ≡ with_choices options.now (app_of command.entry)) }
 {
-    let all = command
-        .arg(flag(
-            alloc,
-            "unsafe",
-            "Write raw HTML and destinations of any scheme as they stand",
-        ))?
-        .arg(flag(
-            alloc,
-            "hardbreaks",
-            "Write each line break of a paragraph as <br />",
-        ))?
-        .arg(flag(
-            alloc,
-            "nobreaks",
-            "Write each line break of a paragraph as a space",
-        ))?
-        .arg(flag(
-            alloc,
-            "github-pre-lang",
-            "Write the language of a code block as <pre lang=\"..\">",
-        ))?
-        .arg(flag(
-            alloc,
-            "full-info-string",
-            "Write what stands behind the language as data-meta=\"..\"",
-        ))?
-        .arg(flag(
-            alloc,
-            "table-prefer-style-attributes",
-            "Write the alignment of a cell as style=\"text-align: ..\"",
-        ))?;
+    let mut all = command;
+    for choice in options {
+        all = all.arg(option(alloc, choice))?;
+    }
     Ok(all)
 }
 
-/// The options of which names of entities are known.
-#[inline(never)]
-fn with_names<'a>(alloc: Global, command: Command<'a>) -> Result<Command<'a>, AllocError>
-    ensures { IfOk result (λ all. app_of all ≡ with_names (app_of command.entry)) }
-{
-    let all = command
-        .arg(valued(
-            alloc,
-            "entities",
-            "FILE",
-            "Read the names of entities from a JSON file, as HTML's entities.json is",
-        ))?
-        .arg(flag(
-            alloc,
-            "html-entities",
-            "Know all 2,125 names of HTML's entities, in place of 23",
-        ))?;
-    Ok(all)
-}
-
-/// The options of how a text is read, and what a stop says.
-#[inline(never)]
-fn with_reading<'a>(alloc: Global, command: Command<'a>) -> Result<Command<'a>, AllocError>
-    ensures { IfOk result (λ all. app_of all ≡ with_reading (app_of command.entry)) }
-{
-    let all = command
-        .arg(flag(
-            alloc,
-            "strikethrough-double-tilde",
-            "Strike through between two tildes alone; one is text",
-        ))?
-        .arg(valued(
-            alloc,
-            "prelude",
-            "FILE",
-            "Read definitions from a file, which count where the text has none of its own",
-        ))?
-        .arg(valued(
-            alloc,
-            "max-containers",
-            "N",
-            "Let so many block quotes and list items lie in one another, 1 to 256; 64 if not given",
-        ))?
-        .arg(valued(
-            alloc,
-            "max-spans",
-            "N",
-            "Let so many spans (emphasis, links, ..) lie in one another, 1 to 256; 64 if not given",
-        ))?
-        .arg(flag(
-            alloc,
-            "explain",
-            "Say in a second line, in plain words, why the program stops",
-        ))?;
-    Ok(all)
-}
-
-/// The option of what replies tell, which `mdpreview` has.
+/// The command with the option of what replies tell, where its program has that.
 fn with_replies<'a>(
     alloc: Global,
     command: Command<'a>,
@@ -158,7 +173,7 @@ fn with_replies<'a>(
     ensures { IfOk result (λ all. app_of all ≡ with_replies program.now (app_of command.entry)) }
 {
     if has_lines(program) {
-        with_lines(alloc, command)
+        with_options(alloc, command, REPLIES)
     } else {
         Ok(command)
     }
@@ -171,37 +186,13 @@ fn has_lines(program: &str) -> bool
     program == "mdpreview"
 }
 
-fn with_lines<'a>(alloc: Global, command: Command<'a>) -> Result<Command<'a>, AllocError>
-    ensures { IfOk result (λ all. app_of all ≡ with_lines (app_of command.entry)) }
-{
-    let all = command.arg(flag(
-        alloc,
-        "lines",
-        "Tell on which line each piece begins, and how far those behind it moved",
-    ))?;
-    Ok(all)
-}
-
-/// The options of cmark-gfm that say what is done anyway.
+/// The options of cmark-gfm that say what is done anyway. It stands by itself too.
 #[inline(never)]
 fn with_done_anyway<'a>(alloc: Global, command: Command<'a>) -> Result<Command<'a>, AllocError>
     ensures { IfOk result (λ all. app_of all ≡ with_done_anyway (app_of command.entry)) }
 {
-    let all = command
-        .arg(format(alloc))?
-        .arg(extension(alloc))?
-        .arg(flag(
-            alloc,
-            "validate-utf8",
-            "Read what is no UTF-8 as U+FFFD, as is done anyway",
-        ))?
-        .arg(valued(
-            alloc,
-            "width",
-            "N",
-            "Wrap no lines of the HTML, whatever the number, as is done anyway",
-        ))?;
-    Ok(all)
+    let lettered = command.arg(format(alloc))?.arg(extension(alloc))?;
+    with_options(alloc, lettered, DONE_ANYWAY)
 }
 
 /// The option that names the format.
@@ -228,6 +219,16 @@ fn versioned<'a>(command: Command<'a>) -> Command<'a>
     ensures { app_of result ≡ with_version (app_of command.entry) }
 {
     command.version(VERSION)
+}
+
+fn option<'a>(alloc: Global, choice: &Choice) -> Arg<'a>
+    ensures rule { rule_of result ≡ choice_rule choice.now }
+    ensures local { result.global ≡ false }
+{
+    match choice.value {
+        Some(value) => valued(alloc, choice.name, value, choice.help),
+        None => flag(alloc, choice.name, choice.help),
+    }
 }
 
 fn flag<'a>(alloc: Global, name: &'static str, help: &'static str) -> Arg<'a>

@@ -1,4 +1,5 @@
-//! Tests of characters, lines, labels and entities, of the pairing of delimiter runs, and of sequences in chunks.
+//! Tests of what stands below the readers, by its public calls: characters, lines, labels and entities, the recognisers of constructs, what a paragraph's lines
+//! give, the pairing of delimiter runs, and sequences in chunks.
 #![tactic(auto)]
 
 #[cfg(test)]
@@ -7,3 +8,7 @@ mod characters_and_lines;
 mod chunks;
 #[cfg(test)]
 mod delimiter_runs;
+#[cfg(test)]
+mod leaves;
+#[cfg(test)]
+mod recognisers;

@@ -1,6 +1,8 @@
-//! Tests of a preview, by its public calls.
+//! Tests of a preview and of the batch way, by their public calls.
 #![tactic(auto)]
 
+#[cfg(test)]
+mod batch;
 #[cfg(test)]
 mod calls;
 #[cfg(test)]

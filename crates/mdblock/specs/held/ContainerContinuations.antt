@@ -2,12 +2,13 @@
 use Rattle.std.specs.Prelude.{◌≡◌, ℕ, Bool, true, false, not, ◌&&◌, nat_le, Option, Some}
 use Rattle.mdtext.specs.EntityTable.{EntityTable}
 use Rattle.mdscan.specs.declared.list_markers.Marker.{Marker}
-use Rattle.blockspec.specs.BlockLine.{BlockLine, is_blank_line, indentation}
-use Rattle.blockspec.specs.BlockStart.{Quote, Item}
+use Rattle.blockspec.specs.BlockLine.{BlockLine, indentation}
+use Rattle.blockspec.specs.BlankLines.{is_blank_line}
+use Rattle.blockspec.specs.BlockKinds.{Quote, Item}
 use Rattle.blockspec.specs.BlockTree.{ListKind}
 use Rattle.blockspec.specs.ContainerLines.{matches}
 use Rattle.blockspec.specs.LineSummary.{Summary, open_container, ended_block}
-use Rattle.blockspec.specs.ListGroups.{Listed, kind_of}
+use Rattle.blockspec.specs.Lists.{Listed, kind_of}
 use Rattle.blockspec.specs.NodeTree.{ItemNodes}
 use Rattle.blockspec.specs.UnitBegin.{same_mark}
 use Rattle.mdblock.specs.BlockView.{kind_view}

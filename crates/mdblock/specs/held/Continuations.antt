@@ -2,9 +2,11 @@
 use Rattle.std.specs.Prelude.{◌≡◌, ℕ, Bool, true, false, not, List, [], length, drop, Option, None, IfSome}
 use Rattle.std.specs.Option.{option_map}
 use Rattle.mdtext.specs.Columns.{AreMarks}
-use Rattle.mdleaf.specs.TableRows.{begins_table}
-use Rattle.blockspec.specs.BlockLine.{BlockLine, rest, is_blank_line}
-use Rattle.blockspec.specs.BlockStart.{Free, Inside, Paragraph, SetextHeading, Table, start}
+use Rattle.mdleaf.specs.Tables.{begins_table}
+use Rattle.blockspec.specs.BlockLine.{BlockLine, rest}
+use Rattle.blockspec.specs.BlankLines.{is_blank_line}
+use Rattle.blockspec.specs.BlockKinds.{Free, Inside, Paragraph, SetextHeading, Table}
+use Rattle.blockspec.specs.BlockStart.{start}
 use Rattle.blockspec.specs.Stretches.{Step, Continues, IsLastLine, IsOverBefore, paragraph_step}
 use Rattle.mdblock.specs.held.ParagraphLines.{HoldsLines}
 use Rattle.mdblock.specs.held.StartKind.{kind_of_start}

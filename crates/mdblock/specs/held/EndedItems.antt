@@ -1,9 +1,12 @@
 -- The item that is open in a list ends before the next one is read, so that all that stands before that one has been handed in.
 use Rattle.std.specs.Prelude.{◌≡◌, ℕ, Bool, true, false, is_some, List, length, Some}
 use Rattle.mdtext.specs.EntityTable.{EntityTable}
-use Rattle.mdleaf.specs.LinkDefinition.{LinkDefinition}
-use Rattle.blockspec.specs.BlockLine.{BlockLine, is_blank_line}
-use Rattle.blockspec.specs.BlockStart.{Holds, begun, item_of}
+use Rattle.mdleaf.specs.DefinedLinks.{LinkDefinition}
+use Rattle.blockspec.specs.BlockLine.{BlockLine}
+use Rattle.blockspec.specs.BlankLines.{is_blank_line}
+use Rattle.blockspec.specs.BlockKinds.{Holds}
+use Rattle.blockspec.specs.BlockStart.{begun}
+use Rattle.blockspec.specs.ListItems.{item_of}
 use Rattle.blockspec.specs.LineSummary.{Summary, summary, last_in, ended_last, summary_gap, mark_of}
 use Rattle.blockspec.specs.UnitBegin.{list_mark, same_mark}
 use Rattle.mdblock.specs.BlockView.{kind_view}

@@ -1,12 +1,12 @@
 -- What an open paragraph hands in at its end (CommonMark 4.7, 4.8; GFM Task list items (extension)).
 use Rattle.std.specs.Prelude.{◌≡◌, ℕ, Bool, true, false, List, [], ◌∷◌, ◌++◌, length, map, Option, None, string_bytes}
 use Rattle.std.specs.Option.{MatchOption}
-use Rattle.mdscan.specs.TaskMarker.{task_marker}
-use Rattle.mdleaf.specs.LinkDefinition.{LinkDefinition, definition_of}
+use Rattle.mdscan.specs.TaskListItem.{task_marker}
+use Rattle.mdleaf.specs.DefinedLinks.{LinkDefinition, definition_of}
 use Rattle.blockspec.specs.BlockTree.{no_blocks, block}
 use Rattle.mdblock.specs.BlockView.{block_view}
 use Rattle.blockspec.specs.NodeTree.{Leaf, paragraph_leaf, leaf_texts, leaf_block}
-use Rattle.blockspec.specs.TaskItem.{task_paragraph}
+use Rattle.blockspec.specs.TaskListItems.{task_paragraph}
 use Rattle.mdblock.specs.declared.blocks.Block.{Block}
 use Rattle.mdblock.specs.declared.gathering.Gathering.{Gathering}
 

@@ -2,9 +2,10 @@
 -- and the summary has the texts in place.
 use Rattle.std.specs.Prelude.{◌≡◌, ℕ, zero, suc, ◌+◌, ◌<◌, Bool, true, false, not, ◌&&◌, List, [], ◌∷◌, ◌++◌, length, map, string_bytes, Option, option_map, ◌-◌, if◌then◌else◌}
 use Rattle.mdtext.specs.EntityTable.{EntityTable}
-use Rattle.mdleaf.specs.LinkDefinition.{LinkDefinition, definition_of}
-use Rattle.blockspec.specs.BlockLine.{BlockLine, is_blank_line}
-use Rattle.blockspec.specs.BlockStart.{Kind, FencedCode, Quote, Item}
+use Rattle.mdleaf.specs.DefinedLinks.{LinkDefinition, definition_of}
+use Rattle.blockspec.specs.BlockLine.{BlockLine}
+use Rattle.blockspec.specs.BlankLines.{is_blank_line}
+use Rattle.blockspec.specs.BlockKinds.{Kind, FencedCode, Quote, Item}
 use Rattle.blockspec.specs.Laziness.{Text, is_text}
 use Rattle.blockspec.specs.ItemMarks.{ItemMark}
 use Rattle.blockspec.specs.SummaryJoins.{is_parted_after}
@@ -12,7 +13,7 @@ use Rattle.mdblock.specs.BlockView.{kind_view, blocks_view, items_view}
 use Rattle.mdblock.specs.FoundLists.{FoundList, join_mark}
 use Rattle.mdblock.specs.held.HeldNodes.{ListSoFar, list_of, over_nodes, handed_nodes, closed_nodes, tasked}
 use Rattle.blockspec.specs.LineSummary.{Summary, summary, Last, nothing_yet, ended_block, open_leaf, open_container, closed, summary_gap, summary_tip}
-use Rattle.blockspec.specs.ListGroups.{Part, Leaves, Quoted, Listed, Group, kind_of, items_before, is_tight_inside}
+use Rattle.blockspec.specs.Lists.{Part, Leaves, Quoted, Listed, Group, kind_of, items_before, is_tight_inside}
 use Rattle.blockspec.specs.NodeTree.{Nodes, texts_in, texts_in_items, definitions_in, placed, placed_items, unit_of}
 use Rattle.blockspec.specs.UnitTree.{FoundUnit}
 use Rattle.blockspec.specs.OpenLeaf.{OpenLeaf, leaf_from}

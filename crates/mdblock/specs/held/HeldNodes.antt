@@ -2,13 +2,13 @@
 -- which texts and definitions have been handed in. Of an open leaf they have been handed in if it is a table.
 use Rattle.std.specs.Prelude.{Bool, true, false, not, ◌&&◌, List, [], ◌∷◌, ◌++◌}
 use Rattle.mdtext.specs.EntityTable.{EntityTable}
-use Rattle.blockspec.specs.BlockStart.{Quote, Item}
+use Rattle.blockspec.specs.BlockKinds.{Quote, Item}
 use Rattle.blockspec.specs.BlockTree.{ListKind}
 use Rattle.blockspec.specs.LineSummary.{Summary, summary, Last, nothing_yet, ended_block, open_leaf, open_container, container_group, closed}
-use Rattle.blockspec.specs.ListGroups.{Part, Leaves, Quoted, Listed, Group, kind_of, is_same_list, merged, leaves_before, part_before, nodes_of}
+use Rattle.blockspec.specs.Lists.{Part, Leaves, Quoted, Listed, Group, kind_of, is_same_list, merged, leaves_before, part_before, nodes_of}
 use Rattle.blockspec.specs.NodeTree.{Leaf, table_leaf, Nodes, no_nodes, ItemNodes, no_item_nodes}
 use Rattle.blockspec.specs.OpenLeaf.{OpenLeaf, open_table, text_leaves}
-use Rattle.blockspec.specs.TaskItem.{with_task}
+use Rattle.blockspec.specs.TaskListItems.{with_task}
 use Rattle.mdblock.specs.held.TreesBehind.{nodes_before}
 
 -- ---- lists (CommonMark 5.3)

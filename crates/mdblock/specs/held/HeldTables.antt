@@ -3,9 +3,9 @@
 use Rattle.std.specs.Prelude.{◌≡◌, ℕ, ◌+◌, List, [], ◌∷◌, ◌++◌, Bool, length, map, Option}
 use Rattle.std.specs.Option.{MatchOption}
 use Rattle.std.specs.List.{range_with_len}
-use Rattle.mdleaf.specs.LinkDefinition.{LinkDefinition}
+use Rattle.mdleaf.specs.DefinedLinks.{LinkDefinition}
 use Rattle.mdleaf.specs.ParagraphText.{behind_definitions, without_end_blanks}
-use Rattle.mdleaf.specs.TableRows.{TableHeader, row_aligns, row_texts}
+use Rattle.mdleaf.specs.Tables.{TableHeader, row_aligns, row_texts}
 use Rattle.mdscan.specs.declared.delimiter_rows.Align.{Align}
 use Rattle.blockspec.specs.BlockTree.{table, Blocks, block, no_blocks}
 use Rattle.blockspec.specs.NodeTree.{row_positions}

@@ -2,15 +2,16 @@
 use Rattle.std.specs.Prelude.{◌≡◌, ℕ, Bool, true, false, List, [], ◌∷◌, map, Option}
 use Rattle.mdtext.specs.EntityTable.{EntityTable}
 use Rattle.mdleaf.specs.CodeLanguage.{code_language, code_meta}
-use Rattle.mdleaf.specs.LeadingDefinitions.{leading_of}
-use Rattle.mdleaf.specs.LinkDefinition.{LinkDefinition}
+use Rattle.mdleaf.specs.ParagraphDefinitions.{leading_of}
+use Rattle.mdleaf.specs.DefinedLinks.{LinkDefinition}
 use Rattle.mdleaf.specs.ParagraphText.{joined_lines, paragraph_text, behind_definitions}
 use Rattle.blockspec.specs.BlockLine.{BlockLine, rest}
-use Rattle.blockspec.specs.BlockStart.{Kind, Paragraph, FencedCode, IndentedCode, HtmlBlock, Table}
+use Rattle.blockspec.specs.BlockKinds.{Kind, Paragraph, FencedCode, IndentedCode, HtmlBlock, Table}
 use Rattle.mdblock.specs.held.HandedIn.{left_behind, IsLeafIn, IsHandedIn}
 use Rattle.mdblock.specs.held.HeldTables.{IsBlockOf}
 pub use Rattle.mdblock.specs.held.HeldTables.{IsTableEnd}
-use Rattle.blockspec.specs.LeafContents.{code_text, without_end_blank_lines}
+use Rattle.blockspec.specs.LeafContents.{code_text}
+use Rattle.blockspec.specs.IndentedCode.{without_end_blank_lines}
 use Rattle.blockspec.specs.NodeTree.{code_leaf, html_leaf}
 use Rattle.blockspec.specs.OpenLeaf.{leaf_from}
 use Rattle.mdblock.specs.held.ClosedViews.{found_view}

@@ -1,11 +1,15 @@
 -- What the parts of reading a line make of a level: its blocks end, a block begins behind them, and the next item begins.
 use Rattle.std.specs.Prelude.{Result, IfOk, OnOk, ◌++◌, ◌-◌, if◌then◌else◌, take, ◌≡◌, ℕ, suc, Bool, true, false, not, ◌&&◌, ◌||◌, List, [], ◌∷◌, length, Option, None, Some, is_some}
 use Rattle.mdtext.specs.EntityTable.{EntityTable}
-use Rattle.mdleaf.specs.LeadingDefinitions.{leading_of}
-use Rattle.mdleaf.specs.LinkDefinition.{LinkDefinition}
+use Rattle.mdleaf.specs.ParagraphDefinitions.{leading_of}
+use Rattle.mdleaf.specs.DefinedLinks.{LinkDefinition}
 use Rattle.mdleaf.specs.ParagraphText.{behind_definitions, without_end_blanks}
-use Rattle.blockspec.specs.BlockLine.{BlockLine, rest, is_blank_line, without_columns, as_lazy}
-use Rattle.blockspec.specs.BlockStart.{Inside, Quote, Item, Paragraph, SetextHeading, Table, start, begun, item_of, last_text}
+use Rattle.blockspec.specs.BlockLine.{BlockLine, rest, without_columns, as_lazy}
+use Rattle.blockspec.specs.BlankLines.{is_blank_line}
+use Rattle.blockspec.specs.BlockKinds.{Inside, Quote, Item, Paragraph, SetextHeading, Table}
+use Rattle.blockspec.specs.BlockStart.{start, begun}
+use Rattle.blockspec.specs.ListItems.{item_of}
+use Rattle.blockspec.specs.Tables.{last_text}
 use Rattle.blockspec.specs.ContainerLines.{opened}
 use Rattle.blockspec.specs.BlockTree.{ListKind, heading as heading_block, block_quote, item, no_blocks, no_items}
 use Rattle.blockspec.specs.BlockTree as tree
@@ -22,7 +26,7 @@ use Rattle.mdblock.specs.declared.blocks.Block.{Block}
 use Rattle.mdblock.specs.held.HeldLevel.{StandsFor, StandsForLast, HasGathered, IsShut, is_begun}
 use Rattle.mdblock.specs.held.HeldNodes.{handed_nodes, closed_nodes, tasked}
 use Rattle.blockspec.specs.LineSummary.{Summary, summary, Last, nothing_yet, ended_block, open_leaf, open_container, last_in, last_tip, closed, summary_gap, new_last, begin_after, line_added, is_apart_after, mark_of, part_mark}
-use Rattle.blockspec.specs.ListGroups.{Group, is_tight_inside, nodes_of}
+use Rattle.blockspec.specs.Lists.{Group, is_tight_inside, nodes_of}
 use Rattle.blockspec.specs.NodeTree.{Nodes, placed}
 use Rattle.blockspec.specs.Laziness.{is_verbatim}
 use Rattle.blockspec.specs.Stretches.{Continues, IsLastLine, closes, ends_html, paragraph_step, is_single, first_of}

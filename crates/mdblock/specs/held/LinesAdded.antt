@@ -1,9 +1,12 @@
 -- What reading one line more makes of what is held: it stands for the summary of one line more, or the line begins a container too deep.
 use Rattle.std.specs.Prelude.{◌≡◌, ℕ, suc, Bool, true, false, not, ◌&&◌, nat_le, List, length, is_some}
 use Rattle.mdtext.specs.EntityTable.{EntityTable}
-use Rattle.mdleaf.specs.LinkDefinition.{LinkDefinition}
-use Rattle.blockspec.specs.BlockLine.{BlockLine, is_blank_line, indentation, as_lazy}
-use Rattle.blockspec.specs.BlockStart.{Container, Holds, Quote, Item, begun, item_of}
+use Rattle.mdleaf.specs.DefinedLinks.{LinkDefinition}
+use Rattle.blockspec.specs.BlockLine.{BlockLine, indentation, as_lazy}
+use Rattle.blockspec.specs.BlankLines.{is_blank_line}
+use Rattle.blockspec.specs.BlockKinds.{Container, Holds, Quote, Item}
+use Rattle.blockspec.specs.BlockStart.{begun}
+use Rattle.blockspec.specs.ListItems.{item_of}
 use Rattle.blockspec.specs.ContainerLines.{inside, matches, taken_off}
 use Rattle.blockspec.specs.LineSummary.{Summary, Last, nothing_yet, ended_block, open_leaf, open_container, last_in, line_added, is_apart_after, mark_of}
 use Rattle.blockspec.specs.SummaryDepth.{sinks}

@@ -4,11 +4,12 @@ use Rattle.std.specs.Option.{MatchOption}
 use Rattle.mdtext.specs.EntityTable.{EntityTable}
 use Rattle.mdleaf.specs.CodeLanguage.{code_language, code_meta}
 use Rattle.mdleaf.specs.ParagraphText.{joined_lines}
-use Rattle.blockspec.specs.BlockLine.{BlockLine}
-use Rattle.blockspec.specs.BlockStart.{Kind, Paragraph, AtxHeading, ThematicBreak, FencedCode, IndentedCode, HtmlBlock, Table}
+use Rattle.blockspec.specs.BlockLine.{BlockLine, without_last}
+use Rattle.blockspec.specs.BlockKinds.{Kind, Paragraph, AtxHeading, ThematicBreak, FencedCode, IndentedCode, HtmlBlock, Table}
 use Rattle.blockspec.specs.BlockTree.{Block, heading, thematic_break, code_block, html_block}
 use Rattle.mdblock.specs.BlockView.{block_view}
-use Rattle.blockspec.specs.LeafContents.{code_text, without_last, without_end_blank_lines}
+use Rattle.blockspec.specs.LeafContents.{code_text}
+use Rattle.blockspec.specs.IndentedCode.{without_end_blank_lines}
 use Rattle.blockspec.specs.OpenLeaf.{end_blank_lines, leaf_from, row_of}
 use Rattle.mdblock.specs.held.HeldTables.{IsTableOf, IsRowMore}
 use Rattle.mdblock.specs.held.ParagraphLines.{HoldsLines}

@@ -3,7 +3,7 @@ use Rattle.std.specs.Prelude.{◌≡◌, ℕ, ◌+◌, Bool, ◌||◌, List, len
 use Rattle.mdscan.specs.Blanks.{begins_with}
 use Rattle.mdleaf.specs.ParagraphText.{joined_lines}
 use Rattle.blockspec.specs.BlockLine.{BlockLine, rest}
-use Rattle.blockspec.specs.BlockStart.{last_text}
+use Rattle.blockspec.specs.Tables.{last_text}
 
 -- a text, and where its last line begins
 pub record HeldText : Type 0 where

@@ -1,7 +1,7 @@
 -- What callers see of a reader.
 use Rattle.std.specs.Prelude.{ℕ, Bool, false, List, Option, None, Some, length, map, string_bytes}
 use Rattle.mdtext.specs.EntityTable.{EntityTable}
-use Rattle.mdleaf.specs.LinkDefinition.{LinkDefinition, definition_of}
+use Rattle.mdleaf.specs.DefinedLinks.{LinkDefinition, definition_of}
 use Rattle.blockspec.specs.ItemMarks.{ItemMark}
 use Rattle.mdblock.specs.FoundLists.{join_mark}
 use Rattle.mdblock.specs.declared.open_blocks.Level.{Level}

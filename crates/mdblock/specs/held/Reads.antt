@@ -2,9 +2,8 @@
 use Rattle.std.specs.Prelude.{◌≡◌, ℕ, suc, ◌-◌, true, false, List, [], ◌∷◌, length, map, Option, None, Some, unwrap_or, if◌then◌else◌, ◌||◌}
 use Rattle.std.specs.Option.{option_map}
 use Rattle.mdtext.specs.EntityTable.{EntityTable}
-use Rattle.blockspec.specs.BlockLine.{BlockLine, document_line}
+use Rattle.blockspec.specs.BlockLine.{BlockLine, document_line, without_last}
 use Rattle.blockspec.specs.BlockUnits.{begins, units}
-use Rattle.blockspec.specs.LeafContents.{without_last}
 use Rattle.mdblock.specs.FoundLists.{FoundList, join_mark}
 use Rattle.mdblock.specs.held.HeldLevel.{StandsFor, HoldsSummary, GivesUnit, Fits, list_between}
 use Rattle.mdblock.specs.held.HeldNodes.{handed_nodes, closed_nodes}

@@ -3,7 +3,8 @@ use Rattle.std.specs.Prelude.{Bool, true, false, not, nat_lt, Option, None, Some
 use Rattle.std.specs.Option.{option_map}
 use Rattle.mdscan.specs.Spans.{part}
 use Rattle.blockspec.specs.BlockLine.{BlockLine, indentation, rest}
-use Rattle.blockspec.specs.BlockStart.{Mode, Free, Inside, Lazy, Quote, Kind, Paragraph, AtxHeading, ThematicBreak, FencedCode, IndentedCode, HtmlBlock, Holds, item_of}
+use Rattle.blockspec.specs.BlockKinds.{Mode, Free, Inside, Lazy, Quote, Kind, Paragraph, AtxHeading, ThematicBreak, FencedCode, IndentedCode, HtmlBlock, Holds}
+use Rattle.blockspec.specs.ListItems.{item_of}
 use Rattle.mdblock.specs.declared.block_starts.Mode as m
 use Rattle.mdblock.specs.declared.block_starts.Mode.TheVariants as mv
 use Rattle.mdblock.specs.declared.block_starts.BlockStart.{BlockStart}

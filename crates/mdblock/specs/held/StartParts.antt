@@ -5,8 +5,16 @@ use Rattle.std.specs.Char.{is_ascii_digit}
 use Rattle.std.specs.Option.{option_or}
 use Rattle.mdscan.specs.Blanks.{begins_with}
 use Rattle.mdscan.specs.Tag.{first_is}
-use Rattle.blockspec.specs.BlockLine.{BlockLine, indentation, is_blank_line}
-use Rattle.blockspec.specs.BlockStart.{Mode, Kind, begins_quote, begins_atx, begins_fence, begins_html, begins_break, begins_item, start_far}
+use Rattle.blockspec.specs.BlockLine.{BlockLine, indentation}
+use Rattle.blockspec.specs.BlankLines.{is_blank_line}
+use Rattle.blockspec.specs.BlockKinds.{Mode, Kind}
+use Rattle.blockspec.specs.BlockQuotes.{begins_quote}
+use Rattle.blockspec.specs.AtxHeadings.{begins_atx}
+use Rattle.blockspec.specs.FencedCode.{begins_fence}
+use Rattle.blockspec.specs.HtmlBlocks.{begins_html}
+use Rattle.blockspec.specs.ThematicBreaks.{begins_break}
+use Rattle.blockspec.specs.ListItems.{begins_item}
+use Rattle.blockspec.specs.IndentedCode.{start_far}
 
 unfoldable pub start_before_underline : Mode → BlockLine → Option Kind
 start_before_underline mode l = option_or (begins_quote l) (option_or (begins_atx l) (option_or (begins_fence l) (begins_html mode l)))

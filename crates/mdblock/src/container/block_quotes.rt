@@ -3,7 +3,7 @@
 ghost use Rattle.std.specs.Prelude.{◌≡◌, IsTrue};
 ghost use Rattle.mdtext.specs.Columns.{AreMarks};
 ghost use Rattle.blockspec.specs.BlockLine.{rest};
-ghost use Rattle.blockspec.specs.BlockStart.{Quote};
+ghost use Rattle.blockspec.specs.BlockKinds.{Quote};
 ghost use Rattle.blockspec.specs.ContainerLines.{matches, opened};
 
 use crate::lines::Line;

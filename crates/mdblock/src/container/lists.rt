@@ -2,12 +2,15 @@
 
 ghost use Rattle.std.specs.Prelude.{◌≡◌, ℕ, ◌+◌, ◌^◌, ◌<◌, ◌&&◌, ◌||◌, if◌then◌else◌, not, nat_le, is_some, true, false, Some, IfSome, OnOk};
 ghost use Rattle.mdtext.specs.Columns.{AreMarks};
-ghost use Rattle.blockspec.specs.BlockLine.{rest, indentation, is_blank_line, without_columns};
-ghost use Rattle.blockspec.specs.BlockStart.{Item as ItemWith, Holds, padding, item_of, begun};
+ghost use Rattle.blockspec.specs.BlockLine.{rest, indentation, without_columns};
+ghost use Rattle.blockspec.specs.BlankLines.{is_blank_line};
+ghost use Rattle.blockspec.specs.BlockKinds.{Item as ItemWith, Holds};
+ghost use Rattle.blockspec.specs.ListItems.{padding, item_of};
+ghost use Rattle.blockspec.specs.BlockStart.{begun};
 ghost use Rattle.blockspec.specs.BlockTree.{no_items};
 ghost use Rattle.mdblock.specs.BlockView.{kind_view, block_view, blocks_view, items_view};
 ghost use Rattle.blockspec.specs.ContainerLines.{opened};
-ghost use Rattle.blockspec.specs.ListGroups.{kind_of, is_same_list};
+ghost use Rattle.blockspec.specs.Lists.{kind_of, is_same_list};
 ghost use Rattle.mdblock.specs.held.Continuations.{IsBeginningOf};
 ghost use Rattle.mdblock.specs.held.ClosedViews.{list_view, list_view_with};
 ghost use Rattle.mdblock.specs.Positions.{BlockIn, BlocksIn, ItemsIn};
@@ -178,7 +181,7 @@ pub(crate) fn take_marker(line: &mut Line, marker: Marker) -> usize
 }
 
 /// How many columns after a marker belong to it: with five or more, or with nothing behind them, one counts.
-#[tactic(auto, unfolding(blockspec::specs::BlockStart::padding))]
+#[tactic(auto, unfolding(blockspec::specs::ListItems::padding))]
 fn columns_after_marker(line: &Line) -> usize
     ensures value { result ≡ padding line.now }
     ensures short { line.now.line.column + result < 2 ^ 64 }

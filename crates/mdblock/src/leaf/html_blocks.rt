@@ -1,7 +1,8 @@
 //! HTML blocks (CommonMark 4.6).
 
 ghost use Rattle.std.specs.Prelude.{◌≡◌, ℕ, ◌||◌, nat_lt, not, true, List, [], ◌∷◌, ◌++◌, IfOk, OnOk, string_bytes};
-ghost use Rattle.blockspec.specs.BlockLine.{BlockLine, is_blank_line};
+ghost use Rattle.blockspec.specs.BlockLine.{BlockLine};
+ghost use Rattle.blockspec.specs.BlankLines.{is_blank_line};
 ghost use Rattle.blockspec.specs.BlockTree.{html_block};
 ghost use Rattle.mdblock.specs.BlockView.{block_view};
 ghost use Rattle.mdblock.specs.held.OpenLeaves.{IsHtmlOf, IsHtmlStep};

@@ -2,7 +2,7 @@
 
 ghost use Rattle.std.specs.Prelude.{◌≡◌, ◌++◌, IfOk, OnOk, string_bytes};
 ghost use Rattle.mdscan.specs.Blanks.{begins_with};
-ghost use Rattle.mdleaf.specs.LeadingDefinitions.{leading_of};
+ghost use Rattle.mdleaf.specs.ParagraphDefinitions.{leading_of};
 ghost use Rattle.mdleaf.specs.ParagraphText.{behind_definitions, without_end_blanks};
 ghost use Rattle.mdblock.specs.held.HandedIn.{gathered_definitions};
 

@@ -4,7 +4,7 @@ ghost use Rattle.std.specs.Prelude.{◌≡◌, ◌≤◌, ℕ, [], ◌∷◌, �
 ghost use Rattle.blockspec.specs.BlockLine.{rest};
 ghost use Rattle.blockspec.specs.BlockTree.{table};
 ghost use Rattle.blockspec.specs.OpenLeaf.{row_of};
-ghost use Rattle.mdleaf.specs.TableRows.{header_of};
+ghost use Rattle.mdleaf.specs.Tables.{header_of};
 ghost use Rattle.mdblock.specs.BlockView.{block_view};
 ghost use Rattle.mdblock.specs.held.Growing.{Grows};
 ghost use Rattle.mdblock.specs.held.HandedIn.{gathered_texts};

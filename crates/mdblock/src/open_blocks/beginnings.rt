@@ -1,7 +1,7 @@
 //! A line that goes on with no open block begins one, or is blank.
 
 ghost use Rattle.std.specs.Prelude.{◌≡◌, ◌&&◌, ◌||◌, ◌≤◌, ℕ, [], IfErr, IfOk, IsErrOf, None, OnOk, Some, false, length, true};
-ghost use Rattle.blockspec.specs.BlockLine.{is_blank_line};
+ghost use Rattle.blockspec.specs.BlankLines.{is_blank_line};
 ghost use Rattle.blockspec.specs.LineSummary.{no_summary};
 ghost use Rattle.blockspec.specs.SummaryDepth.{sinks};
 ghost use Rattle.mdblock.specs.BlockView.{blocks_view, items_view};

@@ -17,7 +17,7 @@ use crate::lines::Line;
 use crate::open_blocks::{Continuation, Level, OpenBlock, deeper};
 
 /// How the reading of a line inside a level ends: a word, since of a `Result` the compiler makes no loop, and each level is a call.
-#[derive(Clone, Copy, Debug, PartialEq, Eq)]
+#[derive(Clone, Copy)]
 enum LineRead {
     /// It is read.
     Done,

@@ -25,7 +25,9 @@ const WRITTEN_ROOM: usize = 1_000;
 /// A unit that was written before, with what a unit like it takes over.
 #[derive(Clone, Copy, Drop)]
 pub struct Like<'a> {
+    /// Its blocks.
     pub blocks: &'a [Block],
+    /// What its texts read as.
     pub texts: &'a [Parsed],
     /// Its HTML.
     pub html: &'a str,

@@ -2,7 +2,8 @@
 use Rattle.std.specs.Prelude.{◌≡◌, ◌+◌, ◌-◌, ◌⊎◌, ℕ, List, drop}
 use Rattle.mdtext.specs.EntityTable.{EntityTable}
 use Rattle.mdinline.specs.held.BacktickTable.{KnowsStrings}
-use Rattle.inlinespec.specs.Lexing.{lex, as_written}
+use Rattle.inlinespec.specs.Lexing.{lex}
+use Rattle.inlinespec.specs.Lexemes.{as_written}
 use Rattle.mdinline.specs.held.LongTags.{KnowsEnds}
 use Rattle.mdinline.specs.held.PlainText.{IsWritten}
 use Rattle.mdinline.specs.held.Recognised.{lexeme_of}

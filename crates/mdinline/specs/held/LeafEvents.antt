@@ -1,17 +1,18 @@
 -- What the reader keeps of a text, as events (CommonMark 6).
 use Rattle.std.specs.Prelude.{◌≡◌, ℕ, zero, suc, ◌∷◌, ◌++◌, List, [], Bool, false, true, Option, Some, None, IfSome, replicate, slice_get}
 use Rattle.mdtext.specs.EntityTable.{EntityTable}
-use Rattle.mdtext.specs.Escaped.{escaped}
+use Rattle.mdtext.specs.HtmlEscapes.{escaped}
 use Rattle.mdtext.specs.Referents.{referent_text}
 use Rattle.mdscan.specs.Spans.{IsSpanOf, part}
 use Rattle.mdpair.specs.Neighbours.{byte_of}
-use Rattle.inlinespec.specs.AutolinkText.{scheme_before, without_references}
+use Rattle.inlinespec.specs.Autolinks.{scheme_before}
+use Rattle.inlinespec.specs.CharacterReferences.{without_references}
 use Rattle.inlinespec.specs.CodeSpans.{as_one_line}
 use Rattle.inlinespec.specs.InlineEvents.{Event, CodeSpan, RawHtml, SoftBreak, HardBreak, LinkTo, Enter, Leave, within, written}
 use Rattle.inlinespec.specs.LabelMap.{LinkTarget, target_of}
 use Rattle.inlinespec.specs.LinkTails.{part_text}
-use Rattle.inlinespec.specs.Settled.{bracket_text}
-use Rattle.inlinespec.specs.TextReading.{span_to}
+use Rattle.inlinespec.specs.Pieces.{bracket_text}
+use Rattle.inlinespec.specs.Images.{span_to}
 use Rattle.mdinline.specs.SpanKinds.{span_of}
 use Rattle.mdinline.specs.declared.tokens.Begun.{Begun}
 use Rattle.mdinline.specs.declared.tokens.Goal.{Goal}

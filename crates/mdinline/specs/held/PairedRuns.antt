@@ -1,8 +1,8 @@
 -- The reader's delimiter runs, by what matches take of them (CommonMark 6.2; GFM Strikethrough (extension)).
 use Rattle.std.specs.Prelude.{◌≡◌, ◌-◌, ◌<◌, length, slice_get, slice_index_or, ℕ, zero, suc, List, Option, Some, None}
 use Rattle.mdpair.specs.declared.emphasis.Match.{Match}
-use Rattle.mdpair.specs.declared.runs.DelimiterRun.{DelimiterRun}
-use Rattle.inlinespec.specs.Settled as settled
+use Rattle.mdpair.specs.declared.delimiter_runs.DelimiterRun.{DelimiterRun}
+use Rattle.inlinespec.specs.Emphasis as emphasis
 use Rattle.mdinline.specs.held.LeafEvents.{begun_events}
 use Rattle.mdinline.specs.declared.tokens.Begun.{Begun}
 use Rattle.mdinline.specs.declared.tokens.PairedRun.{PairedRun}
@@ -19,10 +19,10 @@ HasSpans begun (suc n) place = and_inside (HasSpans begun n) (slice_get begun pl
 -- what these matches leave of the nth run, and how many spans end and which begin there
 pub record IsPaired (begun : List Begun) (n : ℕ) (ts : List Match) (r : DelimiterRun) (p : PairedRun) : Type 0 where
   pub delimiter : p.delimiter ≡ r.delimiter
-  pub left : p.left ≡ r.length - settled.taken n ts
-  pub ends : p.ends ≡ length (settled.ends n ts)
-  pub begins : p.begins ≡ length (settled.begins n r.delimiter ts)
-  pub spans : begun_events begun p.begins p.outermost ≡ settled.begins n r.delimiter ts
+  pub left : p.left ≡ r.length - emphasis.taken n ts
+  pub ends : p.ends ≡ length (emphasis.ends n ts)
+  pub begins : p.begins ≡ length (emphasis.begins n r.delimiter ts)
+  pub spans : begun_events begun p.begins p.outermost ≡ emphasis.begins n r.delimiter ts
   pub held : HasSpans begun p.begins p.outermost
 
 -- each run by its place

@@ -2,7 +2,8 @@
 use Rattle.std.specs.Prelude.{◌≡◌, ◌<◌, ◌≤◌, ℕ, Bool, true, false, ◌&&◌, ◌||◌, ◌==◌, not, List, drop}
 use Rattle.std.specs.Char.{is_ascii_lowercase}
 use Rattle.mdtext.specs.EntityTable.{EntityTable}
-use Rattle.inlinespec.specs.Lexing.{Kind, OpenBracket, CloseBracket, lex, as_written}
+use Rattle.inlinespec.specs.Lexemes.{Kind, OpenBracket, CloseBracket, as_written}
+use Rattle.inlinespec.specs.Lexing.{lex}
 
 -- from a place up to another each byte is text
 abbrev pub IsWritten : List ℕ → ℕ → ℕ → Type 0

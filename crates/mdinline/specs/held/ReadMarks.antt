@@ -1,9 +1,10 @@
 -- Pieces of a text as what can be seen of them: events, and delimiter runs that are not paired (CommonMark 6.2).
 use Rattle.std.specs.Prelude.{◌≡◌, false, ℕ, zero, suc, ◌+◌, List, [], ◌∷◌, ◌++◌, map}
 use Rattle.mdpair.specs.declared.emphasis.Match.{Match}
-use Rattle.mdpair.specs.declared.runs.DelimiterRun.{DelimiterRun}
+use Rattle.mdpair.specs.declared.delimiter_runs.DelimiterRun.{DelimiterRun}
 use Rattle.inlinespec.specs.InlineEvents.{Event}
-use Rattle.inlinespec.specs.Settled.{Piece, Made, Run, Opening, bracket_text, run_events}
+use Rattle.inlinespec.specs.Pieces.{Piece, Made, Run, Opening, bracket_text}
+use Rattle.inlinespec.specs.Emphasis.{run_events}
 
 pub data Mark : Type 0 where
   One : Event → Mark

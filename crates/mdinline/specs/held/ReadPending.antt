@@ -3,7 +3,8 @@ use Rattle.std.specs.Prelude.{◌≡◌, ℕ, ◌+◌, ◌≤◌, Bool, true, fa
 use Rattle.mdtext.specs.EntityTable.{EntityTable}
 use Rattle.mdpair.specs.Matches.{matches}
 use Rattle.inlinespec.specs.InlineEvents.{Event}
-use Rattle.inlinespec.specs.Settled.{Piece, Made, Run, runs_of}
+use Rattle.inlinespec.specs.Pieces.{Piece, Made, Run}
+use Rattle.inlinespec.specs.Emphasis.{runs_of}
 use Rattle.mdinline.specs.declared.bracket_stack.Opening as held
 use Rattle.mdinline.specs.declared.pending.Pending.{Pending}
 use Rattle.mdinline.specs.declared.tokens.Begun.{Begun}

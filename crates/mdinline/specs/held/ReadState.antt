@@ -2,7 +2,8 @@
 use Rattle.std.specs.Prelude.{◌≡◌, false, List, [], ◌∷◌, ◌++◌, length, replicate}
 use Rattle.mdpair.specs.Neighbours.{byte_of}
 use Rattle.inlinespec.specs.InlineEvents.{Event, written}
-use Rattle.inlinespec.specs.Settled.{Piece, Made, Run, Opening, bracket_text, runs_of}
+use Rattle.inlinespec.specs.Pieces.{Piece, Made, Run, Opening, bracket_text}
+use Rattle.inlinespec.specs.Emphasis.{runs_of}
 use Rattle.mdinline.specs.declared.bracket_stack.Opening as held
 use Rattle.mdinline.specs.held.ReadMarks.{marks, marks_back}
 use Rattle.mdinline.specs.held.UnusedOpeners.{openers}

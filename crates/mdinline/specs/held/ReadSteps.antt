@@ -2,7 +2,7 @@
 use Rattle.std.specs.Prelude.{◌≡◌, ℕ, false, List, [], ◌∷◌, ◌++◌, drop}
 use Rattle.mdtext.specs.EntityTable.{EntityTable}
 use Rattle.inlinespec.specs.LinkTails.{Table}
-use Rattle.inlinespec.specs.Settled.{Piece, Made}
+use Rattle.inlinespec.specs.Pieces.{Piece, Made}
 use Rattle.inlinespec.specs.TextReading.{Item, asks_of, items_from, pieces_after}
 
 -- the items from a place on, after these pieces

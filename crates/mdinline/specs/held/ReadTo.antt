@@ -2,7 +2,7 @@
 use Rattle.std.specs.Prelude.{◌≡◌, ℕ, List}
 use Rattle.mdtext.specs.EntityTable.{EntityTable}
 use Rattle.inlinespec.specs.InlineEvents.{Event}
-use Rattle.inlinespec.specs.Settled.{Piece}
+use Rattle.inlinespec.specs.Pieces.{Piece}
 use Rattle.mdinline.specs.declared.readers.TextReader.{TextReader}
 use Rattle.mdinline.specs.held.KnownText.{KnowsText}
 use Rattle.mdinline.specs.held.ReadPending.{HoldsPieces}

@@ -1,7 +1,7 @@
 -- What the reader finds at a place of a text, as what stands there (CommonMark 6).
 use Rattle.std.specs.Prelude.{◌≡◌, ◌-◌, ℕ, true, false, List, drop, Option, Some, None}
 use Rattle.mdtext.specs.EntityTable.{EntityTable}
-use Rattle.inlinespec.specs.Lexing.{Lexeme, Kind, OpenBracket, CloseBracket, leaf, as_written}
+use Rattle.inlinespec.specs.Lexemes.{Lexeme, Kind, OpenBracket, CloseBracket, leaf, as_written}
 use Rattle.mdinline.specs.declared.bracket_stack.Bracket.{Bracket}
 use Rattle.mdinline.specs.declared.bracket_stack.BracketKind.{BracketKind}
 use Rattle.mdinline.specs.declared.bracket_stack.BracketKind.TheVariants.{Link, Image, Closing}

@@ -1,7 +1,7 @@
 -- The opening brackets among the pieces that no `]` has used, and which of them stand before a link (CommonMark 6.3, 6.4).
 use Rattle.std.specs.Prelude.{◌≡◌, ℕ, Bool, true, List, [], ◌∷◌, ◌++◌, length, map, Some}
-use Rattle.inlinespec.specs.Settled.{Piece, Made, Opening}
-use Rattle.inlinespec.specs.TextReading.{Opened, nearest_opener, is_live}
+use Rattle.inlinespec.specs.Pieces.{Piece, Made, Opening}
+use Rattle.inlinespec.specs.Links.{Opened, nearest_opener, is_live}
 use Rattle.mdinline.specs.declared.bracket_stack.Opening as held
 use Rattle.mdinline.specs.declared.bracket_stack.BracketStack.{BracketStack}
 

@@ -5,8 +5,9 @@ ghost use Rattle.std.specs.Str.{IsCharBoundary};
 ghost use Rattle.mdtext.specs.EntityTable.{EntityTable};
 ghost use Rattle.mdscan.specs.Spans.{IsEndAfter};
 ghost use Rattle.inlinespec.specs.InlineEvents.{Event};
-ghost use Rattle.inlinespec.specs.Settled as settled;
-ghost use Rattle.inlinespec.specs.TextReading.{Opened, after_deed, closing, item_by, nearest_opener, spent};
+ghost use Rattle.inlinespec.specs.Pieces as piece;
+ghost use Rattle.inlinespec.specs.Links.{Opened, nearest_opener};
+ghost use Rattle.inlinespec.specs.TextReading.{after_deed, closing, item_by, spent};
 ghost use Rattle.mdinline.specs.held.Brackets.{AreBracketsOf, IsLinkEnd};
 ghost use Rattle.mdinline.specs.held.FoundLinks.{IsLinkOf};
 ghost use Rattle.mdinline.specs.held.LeafEvents.{IsGoalOf, IsTokenOf};
@@ -44,16 +45,16 @@ impl<'a> TextReader<'a> {
         ensures end { IfOk result (λ end. IsEndAfter text.now at end) }
         ensures brackets { IfOk result (λ end. AreBracketsOf text.now end self.new.pending.openings.unused.items) }
         ensures tokens { OnOk result (All (IsTokenOf text.now) self.new.pending.tokens.items) }
-        ensures takes { OnOk result ((es : List Event) × S.takes sink.old es sink.new × ((handed : List Event) (ps : List settled.Piece)
+        ensures takes { OnOk result ((es : List Event) × S.takes sink.old es sink.new × ((handed : List Event) (ps : List piece.Piece)
             → AreOpenersOf ps self.old.pending.openings → HoldsPieces self.old.entities.now text.now handed self.old.pending ps
             → HoldsPieces self.old.entities.now text.now (handed ++ es) self.new.pending (after_deed (item_by self.old.entities.now (L.target labels.now) text.now at ps (bracket.end - at) (kind_of bracket.kind)).deed ps))) }
-        ensures size { (ps : List settled.Piece) → AreOpenersOf ps self.old.pending.openings
+        ensures size { (ps : List piece.Piece) → AreOpenersOf ps self.old.pending.openings
             → IfOk result (λ end. (entities : EntityTable)
             → end ≡ at + (item_by entities (L.target labels.now) text.now at ps (bracket.end - at) (kind_of bracket.kind)).size) }
-        ensures asks { (ps : List settled.Piece) → AreOpenersOf ps self.old.pending.openings
+        ensures asks { (ps : List piece.Piece) → AreOpenersOf ps self.old.pending.openings
             → OnOk result ((entities : EntityTable)
             → A.asks asked.old (item_by entities (L.target labels.now) text.now at ps (bracket.end - at) (kind_of bracket.kind)).asks asked.new) }
-        ensures openers { (ps : List settled.Piece) → AreOpenersOf ps self.old.pending.openings
+        ensures openers { (ps : List piece.Piece) → AreOpenersOf ps self.old.pending.openings
             → OnOk result ((entities : EntityTable) → AreOpenersOf (after_deed
             (item_by entities (L.target labels.now) text.now at ps (bracket.end - at) (kind_of bracket.kind)).deed ps) self.new.pending.openings) }
         ensures scanner { self.new.scanner ≡ self.old.scanner }
@@ -84,16 +85,16 @@ impl<'a> TextReader<'a> {
         ensures end { IfOk result (λ end. IsEndAfter text.now at end) }
         ensures brackets { IfOk result (λ end. AreBracketsOf text.now end self.new.pending.openings.unused.items) }
         ensures tokens { OnOk result (All (IsTokenOf text.now) self.new.pending.tokens.items) }
-        ensures takes { OnOk result ((es : List Event) × S.takes sink.old es sink.new × ((handed : List Event) (ps : List settled.Piece)
+        ensures takes { OnOk result ((es : List Event) × S.takes sink.old es sink.new × ((handed : List Event) (ps : List piece.Piece)
             → AreOpenersOf ps self.old.pending.openings → HoldsPieces self.old.entities.now text.now handed self.old.pending ps
             → HoldsPieces self.old.entities.now text.now (handed ++ es) self.new.pending (after_deed (closing self.old.entities.now (L.target labels.now) text.now at (nearest_opener ps)).deed ps))) }
-        ensures size { (ps : List settled.Piece) → AreOpenersOf ps self.old.pending.openings
+        ensures size { (ps : List piece.Piece) → AreOpenersOf ps self.old.pending.openings
             → IfOk result (λ end. (entities : EntityTable)
             → end ≡ at + (closing entities (L.target labels.now) text.now at (nearest_opener ps)).size) }
-        ensures asks { (ps : List settled.Piece) → AreOpenersOf ps self.old.pending.openings
+        ensures asks { (ps : List piece.Piece) → AreOpenersOf ps self.old.pending.openings
             → OnOk result ((entities : EntityTable)
             → A.asks asked.old (closing entities (L.target labels.now) text.now at (nearest_opener ps)).asks asked.new) }
-        ensures openers { (ps : List settled.Piece) → AreOpenersOf ps self.old.pending.openings
+        ensures openers { (ps : List piece.Piece) → AreOpenersOf ps self.old.pending.openings
             → OnOk result ((entities : EntityTable)
             → AreOpenersOf (after_deed (closing entities (L.target labels.now) text.now at (nearest_opener ps)).deed ps) self.new.pending.openings) }
         ensures scanner { self.new.scanner ≡ self.old.scanner }
@@ -121,16 +122,16 @@ impl<'a> TextReader<'a> {
         ensures end { IfOk result (λ end. IsEndAfter text.now at end) }
         ensures brackets { IfOk result (λ end. AreBracketsOf text.now end self.new.pending.openings.unused.items) }
         ensures tokens { OnOk result (All (IsTokenOf text.now) self.new.pending.tokens.items) }
-        ensures takes { OnOk result ((es : List Event) × S.takes sink.old es sink.new × ((handed : List Event) (ps : List settled.Piece)
+        ensures takes { OnOk result ((es : List Event) × S.takes sink.old es sink.new × ((handed : List Event) (ps : List piece.Piece)
             → AreOpenersOf ps self.old.pending.openings → HoldsPieces self.old.entities.now text.now handed self.old.pending ps
             → HoldsPieces self.old.entities.now text.now (handed ++ es) self.new.pending (after_deed (closing self.old.entities.now (L.target labels.now) text.now at (nearest_opener ps)).deed ps))) }
-        ensures size { (ps : List settled.Piece) → AreOpenersOf ps self.old.pending.openings
+        ensures size { (ps : List piece.Piece) → AreOpenersOf ps self.old.pending.openings
             → IfOk result (λ end. (entities : EntityTable)
             → end ≡ at + (closing entities (L.target labels.now) text.now at (nearest_opener ps)).size) }
-        ensures asks { (ps : List settled.Piece) → AreOpenersOf ps self.old.pending.openings
+        ensures asks { (ps : List piece.Piece) → AreOpenersOf ps self.old.pending.openings
             → OnOk result ((entities : EntityTable)
             → A.asks asked.old (closing entities (L.target labels.now) text.now at (nearest_opener ps)).asks asked.new) }
-        ensures openers { (ps : List settled.Piece) → AreOpenersOf ps self.old.pending.openings → OnOk result ((entities : EntityTable)
+        ensures openers { (ps : List piece.Piece) → AreOpenersOf ps self.old.pending.openings → OnOk result ((entities : EntityTable)
             → AreOpenersOf (after_deed (closing entities (L.target labels.now) text.now at (nearest_opener ps)).deed ps) self.new.pending.openings) }
         ensures scanner { self.new.scanner ≡ self.old.scanner }
         ensures entities { self.new.entities ≡ self.old.entities }
@@ -165,18 +166,18 @@ impl<'a> TextReader<'a> {
         ensures end { IfOk result (λ found. IfSome found (λ found. IsLinkEnd text.now (at + 1) found.1.end)) }
         ensures goal { IfOk result (λ found. IfSome found (λ found. IsGoalOf text.now found.1.goal)) }
         ensures brackets { OnOk result (AreBracketsOf text.now at self.new.pending.openings.unused.items) }
-        ensures value { (ps : List settled.Piece) → AreOpenersOf ps self.old.pending.openings → IfOk result (λ found. (entities : EntityTable)
+        ensures value { (ps : List piece.Piece) → AreOpenersOf ps self.old.pending.openings → IfOk result (λ found. (entities : EntityTable)
             → IsLinkOf entities text.now at (closing entities (L.target labels.now) text.now at (nearest_opener ps)) (option_map (λ found. found.1) found)) }
-        ensures asks { (ps : List settled.Piece) → AreOpenersOf ps self.old.pending.openings
+        ensures asks { (ps : List piece.Piece) → AreOpenersOf ps self.old.pending.openings
             → OnOk result ((entities : EntityTable)
             → A.asks asked.old (closing entities (L.target labels.now) text.now at (nearest_opener ps)).asks asked.new) }
-        ensures taken { (ps : List settled.Piece) → AreOpenersOf ps self.old.pending.openings
+        ensures taken { (ps : List piece.Piece) → AreOpenersOf ps self.old.pending.openings
             → IfOk result (λ found. IfSome found (λ found. (o : Opened) × IsTaken ps (found.0, true) o)) }
-        ensures openers { (ps : List settled.Piece) → AreOpenersOf ps self.old.pending.openings → OnOk result (AreOpenersOf (spent ps) self.new.pending.openings) }
+        ensures openers { (ps : List piece.Piece) → AreOpenersOf ps self.old.pending.openings → OnOk result (AreOpenersOf (spent ps) self.new.pending.openings) }
         ensures tokens { self.new.pending.tokens ≡ self.old.pending.tokens }
-        ensures pieces { (handed : List Event) (ps : List settled.Piece) → HoldsPieces self.old.entities.now text.now handed self.old.pending ps
+        ensures pieces { (handed : List Event) (ps : List piece.Piece) → HoldsPieces self.old.entities.now text.now handed self.old.pending ps
             → HoldsPieces self.old.entities.now text.now handed self.new.pending (spent ps) }
-        ensures opened { (handed : List Event) (ps : List settled.Piece) → HoldsPieces self.old.entities.now text.now handed self.old.pending ps
+        ensures opened { (handed : List Event) (ps : List piece.Piece) → HoldsPieces self.old.entities.now text.now handed self.old.pending ps
             → IfOk result (λ found. IfSome found (λ found. HoldsTaken self.old.entities.now text.now handed found.0 self.new.pending ps)) }
         ensures scanner { self.new.scanner ≡ self.old.scanner }
         ensures entities { self.new.entities ≡ self.old.entities }

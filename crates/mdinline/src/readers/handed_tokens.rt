@@ -5,7 +5,7 @@ ghost use Rattle.std.specs.Str.{IsCharBoundary};
 ghost use Rattle.mdscan.specs.Spans.{IsEndAfter, part};
 ghost use Rattle.mdpair.specs.Neighbours.{run_at};
 ghost use Rattle.inlinespec.specs.InlineEvents.{Event, SoftBreak, written};
-ghost use Rattle.inlinespec.specs.Settled as settled;
+ghost use Rattle.inlinespec.specs.Pieces as piece;
 ghost use Rattle.mdinline.specs.declared.tokens.Token.TheVariants as kept;
 ghost use Rattle.mdinline.specs.held.LeafEvents.{IsTokenOf, leaf_events, tokens_events};
 ghost use Rattle.mdinline.specs.held.ReadMarks.{marks_back, ones};
@@ -31,7 +31,7 @@ impl<'a> TextReader<'a> {
         requires token { IsTokenOf text.now (kept.Plain span) }
         requires tokens { All (IsTokenOf text.now) self.old.pending.tokens.items }
         ensures tokens { OnOk result (All (IsTokenOf text.now) self.new.pending.tokens.items) }
-        ensures takes { OnOk result ((es : List Event) × S.takes sink.old es sink.new × ((handed : List Event) (ps qs : List settled.Piece)
+        ensures takes { OnOk result ((es : List Event) × S.takes sink.old es sink.new × ((handed : List Event) (ps qs : List piece.Piece)
             → AreLeaves qs → ones (written (part text.now span)) ≡ marks_back qs → HoldsPieces self.old.entities.now text.now handed self.old.pending ps
             → HoldsPieces self.old.entities.now text.now (handed ++ es) self.new.pending (qs ++ ps))) }
         ensures openings { self.new.pending.openings ≡ self.old.pending.openings }
@@ -56,7 +56,7 @@ impl<'a> TextReader<'a> {
         requires token { IsTokenOf text.now (kept.Text span) }
         requires tokens { All (IsTokenOf text.now) self.old.pending.tokens.items }
         ensures tokens { OnOk result (All (IsTokenOf text.now) self.new.pending.tokens.items) }
-        ensures takes { OnOk result ((es : List Event) × S.takes sink.old es sink.new × ((handed : List Event) (ps qs : List settled.Piece)
+        ensures takes { OnOk result ((es : List Event) × S.takes sink.old es sink.new × ((handed : List Event) (ps qs : List piece.Piece)
             → AreLeaves qs → ones (written (part text.now span)) ≡ marks_back qs → HoldsPieces self.old.entities.now text.now handed self.old.pending ps
             → HoldsPieces self.old.entities.now text.now (handed ++ es) self.new.pending (qs ++ ps))) }
         ensures openings { self.new.pending.openings ≡ self.old.pending.openings }
@@ -74,7 +74,7 @@ impl<'a> TextReader<'a> {
     /// Hands a soft line break to the sink, where nothing is pending before it.
     pub(super) fn put_break<S: InlineSink>(&mut self, sink: &mut S) -> Result<(), AllocError>
         ensures tokens { OnOk result ((text : List ℕ) → All (IsTokenOf text) self.old.pending.tokens.items → All (IsTokenOf text) self.new.pending.tokens.items) }
-        ensures takes { OnOk result ((es : List Event) × S.takes sink.old es sink.new × ((text : List ℕ) (handed : List Event) (ps qs : List settled.Piece)
+        ensures takes { OnOk result ((es : List Event) × S.takes sink.old es sink.new × ((text : List ℕ) (handed : List Event) (ps qs : List piece.Piece)
             → AreLeaves qs → ones (SoftBreak ∷ []) ≡ marks_back qs → HoldsPieces self.old.entities.now text handed self.old.pending ps
             → HoldsPieces self.old.entities.now text (handed ++ es) self.new.pending (qs ++ ps))) }
         ensures openings { self.new.pending.openings ≡ self.old.pending.openings }
@@ -101,7 +101,7 @@ impl<'a> TextReader<'a> {
         ensures handed { self.old.pending.tokens.items ≡ [] → OnOk result (S.takes sink.old (leaf_events self.old.entities.now text.now token.entry) sink.new) }
         ensures idle { self.old.pending.tokens.items ≡ [] → self.new.pending ≡ self.old.pending }
         ensures tokens { OnOk result (All (IsTokenOf text.now) self.new.pending.tokens.items) }
-        ensures takes { OnOk result ((es : List Event) × S.takes sink.old es sink.new × ((handed : List Event) (ps qs : List settled.Piece) → is_leaf token.entry ≡ true
+        ensures takes { OnOk result ((es : List Event) × S.takes sink.old es sink.new × ((handed : List Event) (ps qs : List piece.Piece) → is_leaf token.entry ≡ true
             → AreLeaves qs → ones (leaf_events self.old.entities.now text.now token.entry) ≡ marks_back qs → HoldsPieces self.old.entities.now text.now handed self.old.pending ps
             → HoldsPieces self.old.entities.now text.now (handed ++ es) self.new.pending (qs ++ ps))) }
         ensures openings { self.new.pending.openings ≡ self.old.pending.openings }
@@ -134,9 +134,9 @@ impl<'a> TextReader<'a> {
         requires whole { IsCharBoundary text.now at }
         requires tokens { All (IsTokenOf text.now) self.old.pending.tokens.items }
         ensures tokens { OnOk result (All (IsTokenOf text.now) self.new.pending.tokens.items) }
-        ensures takes { OnOk result ((es : List Event) × S.takes sink.old es sink.new × ((handed : List Event) (ps : List settled.Piece)
+        ensures takes { OnOk result ((es : List Event) × S.takes sink.old es sink.new × ((handed : List Event) (ps : List piece.Piece)
             → HoldsPieces self.old.entities.now text.now handed self.old.pending ps
-            → HoldsPieces self.old.entities.now text.now (handed ++ es) self.new.pending (settled.Run run ∷ ps))) }
+            → HoldsPieces self.old.entities.now text.now (handed ++ es) self.new.pending (piece.Run run ∷ ps))) }
         ensures openings { self.new.pending.openings ≡ self.old.pending.openings }
         ensures scanner { self.new.scanner ≡ self.old.scanner }
         ensures entities { self.new.entities ≡ self.old.entities }
@@ -161,7 +161,7 @@ impl<'a> TextReader<'a> {
     ) -> Result<(), AllocError>
         requires { All (IsTokenOf text.now) self.old.pending.tokens.items }
         ensures tokens { OnOk result (All (IsTokenOf text.now) self.new.pending.tokens.items) }
-        ensures takes { OnOk result ((es : List Event) × S.takes sink.old es sink.new × ((handed : List Event) (ps : List settled.Piece)
+        ensures takes { OnOk result ((es : List Event) × S.takes sink.old es sink.new × ((handed : List Event) (ps : List piece.Piece)
             → HoldsPieces self.old.entities.now text.now handed self.old.pending ps
             → HoldsPieces self.old.entities.now text.now (handed ++ es) self.new.pending ps)) }
         ensures openings { OnOk result (self.new.pending.openings ≡ self.old.pending.openings) }

@@ -3,7 +3,7 @@
 ghost use Rattle.std.specs.Prelude.{◌≡◌, ◌<◌, ℕ, List, false, is_some, map, option_copied};
 ghost use Rattle.std.specs.Int.RustNames.{bit_and};
 ghost use Rattle.std.specs.Option.{option_to_list};
-ghost use Rattle.mdleaf.specs.LinkDefinition.{definition_of};
+ghost use Rattle.mdleaf.specs.DefinedLinks.{definition_of};
 ghost use Rattle.mdview.specs.LabelMarks.{label_mark, marks_after, marks_asked, place_from, unit_marks};
 ghost use Rattle.mdview.specs.LabelTargets.{at};
 ghost use Rattle.mdview.specs.ToldLabels.{labels_in};

@@ -4,7 +4,7 @@ ghost use Rattle.std.specs.Prelude.{◌≡◌, ◌≤◌, length, ◌∷◌, ◌
 ghost use Rattle.std.specs.Int.RustNames.{bit_and};
 ghost use Rattle.std.specs.Option.{option_or};
 ghost use Rattle.inlinespec.specs.LabelMap.{target_of};
-ghost use Rattle.mdleaf.specs.LinkDefinition.{definition_of};
+ghost use Rattle.mdleaf.specs.DefinedLinks.{definition_of};
 ghost use Rattle.mdsource.specs.Changes.{is_same_target};
 ghost use Rattle.mdview.specs.HeldTexts.{between};
 ghost use Rattle.mdview.specs.HeldUnit.{unit_in};

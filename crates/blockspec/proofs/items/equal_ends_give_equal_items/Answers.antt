@@ -1,6 +1,6 @@
 use Rattle.std.proofs.Common.{◌∷◌, map}
 use Rattle.blockspec.specs.BlockLine.{document_line}
-use Rattle.blockspec.specs.ListItems.{top_blocks}
+use Rattle.blockspec.specs.TopBlocks.{top_blocks}
 use Rattle.blockspec.proofs.DocumentItems.{document_lists_meet}
 use Rattle.blockspec.proofs.items.equal_ends_give_equal_items.Goals as goal
 

@@ -2,7 +2,7 @@ use Rattle.std.proofs.Common.{◌++◌, ◌∙◌, ap, eqb-true, string_bytes, s
 use Rattle.std.proofs.lemmas.List.{nil_from_length}
 use Rattle.std.specs.Prelude.{map}
 use Rattle.mdhtml.specs.WrittenUnits.{is_deep_unit, written_unit}
-use Rattle.mdleaf.specs.LinkDefinition.{definition_of}
+use Rattle.mdleaf.specs.DefinedLinks.{definition_of}
 use Rattle.mdblock.specs.FoundLists.{found_unit}
 use Rattle.mdbatch.specs.GatheredUnits.{setting_of}
 use Rattle.mdbatch.specs.TextLabels.{target_on_page}

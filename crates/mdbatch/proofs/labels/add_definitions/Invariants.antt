@@ -1,5 +1,5 @@
 use Rattle.std.proofs.Common.{◌≡◌, drop, map}
-use Rattle.mdleaf.specs.LinkDefinition.{definition_of}
+use Rattle.mdleaf.specs.DefinedLinks.{definition_of}
 use Rattle.mdsource.specs.LabelTable.{with_definitions}
 use Rattle.mdbatch.proofs.labels.add_definitions.Given as goal
 

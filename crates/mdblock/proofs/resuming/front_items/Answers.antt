@@ -5,7 +5,7 @@ use Rattle.blockspec.proofs.DocumentLaws.{map_length}
 use Rattle.blockspec.specs.BlockTree.{no_items}
 use Rattle.blockspec.specs.UnitTree.{UnitTree}
 use Rattle.blockspec.specs.ItemMarks.{ItemMark}
-use Rattle.mdleaf.specs.LinkDefinition.{definition_of}
+use Rattle.mdleaf.specs.DefinedLinks.{definition_of}
 use Rattle.mdblock.specs.BlockView.{items_view}
 use Rattle.mdblock.specs.Copies.{copied_items, items_positions, texts_at}
 use Rattle.mdblock.specs.Spliced.{first_items, mark_at, take_items}

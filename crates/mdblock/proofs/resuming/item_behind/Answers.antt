@@ -4,7 +4,8 @@ use Rattle.std.specs.List.{list_any}
 use Rattle.std.specs.Prelude.{take}
 use Rattle.blockspec.proofs.DocumentLaws.{map_length}
 use Rattle.blockspec.specs.BlockLine.{BlockLine, document_line}
-use Rattle.blockspec.specs.BlockStart.{Holds, Item, begun}
+use Rattle.blockspec.specs.BlockKinds.{Holds, Item}
+use Rattle.blockspec.specs.BlockStart.{begun}
 use Rattle.blockspec.specs.ContainerLines.{opened}
 use Rattle.blockspec.specs.UnitBegin.{list_mark, same_mark}
 use Rattle.blockspec.specs.UnitTree.{UnitTree}

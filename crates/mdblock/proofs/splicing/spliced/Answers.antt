@@ -4,7 +4,7 @@ use Rattle.std.specs.Prelude.{min, option_map, take, ◌^◌}
 use Rattle.blockspec.proofs.DocumentLaws.{map_length}
 use Rattle.blockspec.specs.BlockTree.{paragraph, heading, thematic_break, code_block, html_block, block_quote, list, table, Blocks, no_blocks, block, Items}
 use Rattle.blockspec.specs.ItemMarks.{ItemMark}
-use Rattle.mdleaf.specs.LinkDefinition.{LinkDefinition, definition_of}
+use Rattle.mdleaf.specs.DefinedLinks.{LinkDefinition, definition_of}
 use Rattle.mdblock.specs.BlockView.{blocks_view, items_view, kind_view}
 use Rattle.mdblock.specs.Copies.{copied_items, items_positions, texts_at}
 use Rattle.mdblock.specs.FoundLists.{FoundList, join_mark}

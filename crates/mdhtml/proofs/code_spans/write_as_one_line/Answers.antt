@@ -1,7 +1,7 @@
 use Rattle.std.proofs.Common.{◌++◌, ◌∷◌, [], ap, ◌∙◌, arith, string_bytes, rules}
 use Rattle.std.proofs.lemmas.Result.{on_ok_weaker}
 use Rattle.std.proofs.lemmas.Str.Pattern.{split_parts}
-use Rattle.mdtext.specs.Escaped.{escaped}
+use Rattle.mdtext.specs.HtmlEscapes.{escaped}
 use Rattle.inlinespec.specs.CodeSpans.{as_one_line}
 use Rattle.mdhtml.proofs.InlineWriterSteps.{line_written, last_written}
 use Rattle.mdhtml.proofs.code_spans.write_as_one_line.Goals as goal

@@ -1,7 +1,7 @@
 use Rattle.std.proofs.Common.{◌≡◌, ◌++◌, length, string_bytes}
 use denote.Shadow.{shadow}
 use denote.Text.{Utf8}
-use Rattle.mdtext.specs.Escaped.{escaped}
+use Rattle.mdtext.specs.HtmlEscapes.{escaped}
 use Rattle.inlinespec.specs.CodeSpans.{as_one_line}
 use Rattle.mdhtml.proofs.code_spans.write_as_one_line.Given as goal
 

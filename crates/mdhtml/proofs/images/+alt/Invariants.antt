@@ -1,5 +1,5 @@
 use Rattle.std.proofs.Common.{◌≡◌, ◌++◌, string_bytes, drop}
-use Rattle.mdtext.specs.Escaped.{escaped}
+use Rattle.mdtext.specs.HtmlEscapes.{escaped}
 use Rattle.mdinline.specs.TreeView.{inlines_view}
 use Rattle.mdhtml.specs.InlineHtml.{alts}
 use Rattle.mdhtml.proofs.images.+alt.Given as goal

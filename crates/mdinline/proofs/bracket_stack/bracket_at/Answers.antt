@@ -1,6 +1,6 @@
 use Rattle.std.proofs.Common.{◌+◌, sym, ap, ◌∙◌, arith, rules}
 use Rattle.mdinline.specs.held.PlainText.{is_bracket}
-use Rattle.inlinespec.specs.Lexing.{Lexeme}
+use Rattle.inlinespec.specs.Lexemes.{Lexeme}
 use Rattle.mdinline.specs.declared.bracket_stack.BracketKind.TheVariants.{Link, Image, Closing}
 use Rattle.mdinline.proofs.FoundLeaves.{bracket_is}
 use Rattle.mdinline.proofs.SignItems.{at_bracket, at_closing, at_image, lone_mark, mark_and_other, no_bracket}

@@ -1,7 +1,8 @@
 use Rattle.std.proofs.Common.{◌++◌, ap, ◌∙◌, arith, string_bytes}
 use Rattle.std.proofs.lemmas.Str.Pattern.{split_parts}
-use Rattle.mdtext.specs.References.{added, reference, reference_or}
-use Rattle.inlinespec.specs.AutolinkText.{without_references}
+use Rattle.mdtext.specs.Unescaped.{added}
+use Rattle.mdtext.specs.CharacterReferences.{reference, reference_or}
+use Rattle.inlinespec.specs.CharacterReferences.{without_references}
 use Rattle.inlinespec.proofs.ReplacedReferences.{write_last, write_part}
 use Rattle.mdinline.proofs.character_references.append_without_references.Goals as goal
 

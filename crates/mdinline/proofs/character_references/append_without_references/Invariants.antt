@@ -1,7 +1,7 @@
 use Rattle.std.proofs.Common.{◌≡◌, ◌++◌, length, string_bytes}
 use denote.Shadow.{shadow}
 use denote.Text.{Utf8}
-use Rattle.inlinespec.specs.AutolinkText.{without_references}
+use Rattle.inlinespec.specs.CharacterReferences.{without_references}
 use Rattle.mdinline.proofs.character_references.append_without_references.Given as goal
 
 abbrev pub invariant-loop-plain : goal.invariant-loop-plain

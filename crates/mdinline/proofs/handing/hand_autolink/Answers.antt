@@ -1,5 +1,6 @@
 use Rattle.std.proofs.Common.{◌≡◌, ◌++◌, [], ◌∷◌, ap, subst, ◌∙◌, string_bytes}
-use Rattle.inlinespec.specs.AutolinkText.{scheme_before, without_references}
+use Rattle.inlinespec.specs.Autolinks.{scheme_before}
+use Rattle.inlinespec.specs.CharacterReferences.{without_references}
 use Rattle.inlinespec.specs.InlineEvents.{Enter, Leave, LinkTo, written}
 use Rattle.mdinline.proofs.handing.hand_autolink.Goals as goal
 

@@ -1,10 +1,10 @@
 use Rattle.std.proofs.Common.{◌≡◌, ℕ, ◌<◌, All, List, ◌∷◌, ◌++◌}
 use Rattle.std.specs.List.{AllByRecursion}
 use Rattle.mdpair.specs.declared.emphasis.Remaining.{Remaining}
-use Rattle.mdpair.specs.declared.runs.DelimiterRun.{DelimiterRun}
+use Rattle.mdpair.specs.declared.delimiter_runs.DelimiterRun.{DelimiterRun}
 use Rattle.mdpair.specs.OpenersBottom.{IsBottom, Descends}
 use Rattle.mdpair.specs.Matches.{onto, stack, left_of, Rewrites, IsClear, IsLeft, IsBelow, IsOrdered}
-use Rattle.mdpair.specs.declared.runs.DelimiterChar.TheVariants.{Tilde}
+use Rattle.mdpair.specs.declared.delimiter_runs.DelimiterChar.TheVariants.{Tilde}
 use Rattle.mdpair.proofs.emphasis.close.Given as goal
 
 abbrev pub invariant-loop-left : goal.invariant-loop-left

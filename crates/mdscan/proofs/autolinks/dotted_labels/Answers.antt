@@ -1,6 +1,6 @@
 use Rattle.std.proofs.Common.{◌≡◌, ◌+◌, ℕ, List, arith, subst}
 use Rattle.std.proofs.lemmas.List.{take_rest}
-use Rattle.mdscan.specs.AutoLink.{dotted_label_length}
+use Rattle.mdscan.specs.Autolink.{dotted_label_length}
 use Rattle.mdscan.specs.Repeats.{repeats}
 use Rattle.mdscan.proofs.Sequences.{element_passed, elements_end}
 use Rattle.mdscan.proofs.autolinks.dotted_labels.Goals as goal

@@ -1,5 +1,5 @@
 use Rattle.std.proofs.Common.{◌≡◌, ◌+◌, ◌-◌, ◌≤◌, length, drop}
-use Rattle.mdscan.specs.AutoLink.{dotted_label_length}
+use Rattle.mdscan.specs.Autolink.{dotted_label_length}
 use Rattle.mdscan.specs.Repeats.{repeats}
 use Rattle.mdscan.proofs.autolinks.dotted_labels.Given as goal
 

@@ -2,7 +2,7 @@ use Rattle.std.proofs.Common.{◌≡◌, ℕ, List, arith, subst}
 use Rattle.std.specs.List.{prefix_len}
 use Rattle.std.proofs.lemmas.Grind.{common_steps}
 use Rattle.mdscan.specs.Blanks.{is_blank}
-use Rattle.mdscan.specs.TaskMarker.{task_marker}
+use Rattle.mdscan.specs.TaskListItem.{task_marker}
 use Rattle.mdscan.proofs.Boundaries.{after_blanks_boundary}
 use Rattle.std.proofs.lemmas.List.{take_rest}
 use Rattle.mdscan.proofs.task_list_items.task.Goals as goal

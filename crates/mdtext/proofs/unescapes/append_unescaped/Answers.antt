@@ -1,6 +1,6 @@
 use Rattle.std.proofs.Common.{◌≡◌, ◌++◌, ap, ◌∙◌, string_bytes, arith}
 use Rattle.std.proofs.lemmas.Grind.{common_steps}
-use Rattle.mdtext.specs.References.{added, meaning, unescaped}
+use Rattle.mdtext.specs.Unescaped.{added, meaning, unescaped}
 use Rattle.mdtext.proofs.Meanings.{write_run, write_last}
 use Rattle.mdtext.proofs.unescapes.append_unescaped.Goals as goal
 

@@ -1,7 +1,7 @@
 use denote.Shadow.{shadow}
 use denote.Text.{Utf8}
 use Rattle.std.proofs.Common.{◌≡◌, ◌++◌, length, take, string_bytes}
-use Rattle.mdtext.specs.References.{unescaped}
+use Rattle.mdtext.specs.Unescaped.{unescaped}
 use Rattle.mdtext.proofs.unescapes.append_unescaped.Given as goal
 
 abbrev pub invariant-loop-byte : goal.invariant-loop-byte

@@ -1,5 +1,5 @@
 use Rattle.std.proofs.Common.{◌≡◌, subst, string_bytes, IfOk}
-use Rattle.mdtext.specs.References.{added}
+use Rattle.mdtext.specs.Unescaped.{added}
 use Rattle.mdtext.proofs.Meanings.{at_backslash, at_ampersand}
 use Rattle.mdtext.proofs.unescapes.push_meaning.Goals as goal
 

@@ -1,10 +1,11 @@
-use Rattle.std.proofs.Common.{ap₂, refl, ◌∙◌}
-use Rattle.clap.specs.Words.{with_rule}
+use Rattle.std.proofs.Common.{ap, ap₂, codes, ◌∙◌}
+use Rattle.std.proofs.lemmas.Result.{IfOk-weaker}
+use Rattle.clap.specs.Words.{app_of, with_rule}
+use Rattle.mdwords.specs.ToolWords.{flag_rule, valued_rule}
 use Rattle.mdwords.proofs.commands.with_done_anyway.Goals as goal
 
 pub returns : goal.returns
 returns c =
-    c.in_ok-all.ensures.shape c.valued.ensures.local ∙ ap₂ with_rule
-    (c.in_ok-arg-3.ensures.shape c.flag.ensures.local ∙ ap₂ with_rule
-    (c.in_ok-arg-2.ensures.shape c.extension.ensures.local ∙ ap₂ with_rule
-    (c.in_ok-arg.ensures.shape c.format.ensures.local ∙ ap₂ with_rule refl c.format.ensures.rule) c.extension.ensures.rule) c.flag.ensures.rule) c.valued.ensures.rule
+    let to = c.in_ok-arg.ensures.shape c.format.ensures.local ∙ ap (with_rule (app_of c.args.command)) c.format.ensures.rule in
+    let both = c.in_ok-lettered.ensures.shape c.extension.ensures.local ∙ ap₂ with_rule to c.extension.ensures.rule in
+    IfOk-weaker c.with_options.result _ _ (λ all is. is ∙ ap (λ app. with_rule (with_rule app (flag_rule (codes "validate-utf8"))) (valued_rule (codes "width"))) both) c.with_options.ensures

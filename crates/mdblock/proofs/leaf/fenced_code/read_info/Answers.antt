@@ -1,6 +1,6 @@
 use Rattle.std.proofs.Common.{not, ◌++◌, ap, ◌∙◌}
 use Rattle.std.specs.List.{prefix_len}
-use Rattle.mdtext.specs.References.{unescaped}
+use Rattle.mdtext.specs.Unescaped.{unescaped}
 use Rattle.mdleaf.specs.CodeLanguage.{behind_word, ends_language}
 use Rattle.mdblock.proofs.LeafTexts.{word_ends, language_is, meta_is}
 use Rattle.mdblock.proofs.leaf.fenced_code.read_info.Goals as goal

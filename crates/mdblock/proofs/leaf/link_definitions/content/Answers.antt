@@ -1,5 +1,5 @@
 use Rattle.std.proofs.Common.{◌++◌, ap, ◌∙◌}
-use Rattle.mdleaf.specs.LeadingDefinitions.{leading_of}
+use Rattle.mdleaf.specs.ParagraphDefinitions.{leading_of}
 use Rattle.mdleaf.specs.ParagraphText.{behind_definitions}
 use Rattle.mdblock.specs.held.HandedIn.{gathered_definitions}
 use Rattle.mdblock.proofs.ParagraphLaws.{cut_is}

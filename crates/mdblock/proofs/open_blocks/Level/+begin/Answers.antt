@@ -1,6 +1,6 @@
 use Rattle.std.proofs.Common.{ap, arith, refl, sym, ◌∙◌, Err, Some, subst}
 use Rattle.std.proofs.lemmas.Result.{on_ok_weaker}
-use Rattle.blockspec.specs.BlockStart.{Quote, Holds, Item}
+use Rattle.blockspec.specs.BlockKinds.{Quote, Holds, Item}
 use Rattle.mdblock.specs.held.LevelSteps.{IsLeafStart, BeginsBehind}
 use Rattle.mdblock.specs.held.StartKind.{kind_of_start}
 use Rattle.mdblock.proofs.LevelBegins.{blank_begins, block_begins, err_is}

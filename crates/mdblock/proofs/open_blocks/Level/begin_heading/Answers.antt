@@ -1,5 +1,5 @@
 use Rattle.std.proofs.Common.{refl, ap, map, None, Some}
-use Rattle.mdleaf.specs.LinkDefinition.{definition_of}
+use Rattle.mdleaf.specs.DefinedLinks.{definition_of}
 use Rattle.mdblock.specs.declared.block_starts.BlockStart.TheVariants as o
 use Rattle.mdblock.specs.declared.leaf.LeafAfter.{LeafAfter}
 use Rattle.mdblock.proofs.LevelLeaves.{leaf_begins, shut_last}

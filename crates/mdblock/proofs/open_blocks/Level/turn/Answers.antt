@@ -1,6 +1,8 @@
 use Rattle.std.proofs.Common.{◌≡◌, ◌∷◌, List, length, ap, sym, subst, ◌∙◌, Ok}
-use Rattle.blockspec.specs.BlockLine.{BlockLine, is_blank_line}
-use Rattle.blockspec.specs.BlockStart.{Inside, Paragraph, start}
+use Rattle.blockspec.specs.BlockLine.{BlockLine}
+use Rattle.blockspec.specs.BlankLines.{is_blank_line}
+use Rattle.blockspec.specs.BlockKinds.{Inside, Paragraph}
+use Rattle.blockspec.specs.BlockStart.{start}
 use Rattle.blockspec.specs.Stretches.{Continues, paragraph_step}
 use Rattle.mdblock.specs.held.Continuations.{ContinuesOpen}
 use Rattle.mdblock.specs.held.ParagraphLines.{HoldsLines}

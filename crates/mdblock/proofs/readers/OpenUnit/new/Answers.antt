@@ -1,5 +1,5 @@
 use Rattle.std.proofs.Common.{map, string_bytes, sym, ap, ◌∙◌}
-use Rattle.mdleaf.specs.LinkDefinition.{definition_of}
+use Rattle.mdleaf.specs.DefinedLinks.{definition_of}
 use Rattle.mdblock.proofs.HeldNodesLaws.{none_texts, none_definitions}
 use Rattle.mdblock.proofs.readers.OpenUnit.new.Goals as goal
 

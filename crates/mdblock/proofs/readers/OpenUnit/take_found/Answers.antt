@@ -1,5 +1,5 @@
 use Rattle.std.proofs.Common.{[], false, map, string_bytes, sym, ap, ◌∙◌}
-use Rattle.mdleaf.specs.LinkDefinition.{definition_of}
+use Rattle.mdleaf.specs.DefinedLinks.{definition_of}
 use Rattle.mdblock.specs.FoundLists.{join_mark}
 use Rattle.mdblock.proofs.FoundParts.{same_found}
 use Rattle.mdblock.proofs.HeldNodesLaws.{none_texts, none_definitions}

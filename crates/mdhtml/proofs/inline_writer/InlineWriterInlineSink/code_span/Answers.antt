@@ -1,6 +1,6 @@
 use Rattle.std.proofs.Common.{ap, ◌∙◌, ◌++◌, codes, string_bytes}
 use Rattle.std.proofs.lemmas.Result.{on_ok_weaker}
-use Rattle.mdtext.specs.Escaped.{escaped}
+use Rattle.mdtext.specs.HtmlEscapes.{escaped}
 use Rattle.inlinespec.specs.CodeSpans.{as_one_line}
 use Rattle.inlinespec.specs.InlineEvents.{CodeSpan}
 use Rattle.mdhtml.specs.InlineHtml.{wrapped}

@@ -1,6 +1,6 @@
 use Rattle.std.proofs.Common.{ap}
 use Rattle.std.proofs.lemmas.Result.{on_ok_weaker}
-use Rattle.mdtext.specs.Escaped.{escaped}
+use Rattle.mdtext.specs.HtmlEscapes.{escaped}
 use Rattle.inlinespec.specs.InlineEvents.{RawHtml}
 use Rattle.mdhtml.specs.InlineHtml.{raw_html}
 use Rattle.mdhtml.specs.InlineWriting.{shows, shown_in}

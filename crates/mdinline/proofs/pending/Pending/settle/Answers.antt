@@ -1,5 +1,5 @@
 use Rattle.std.proofs.Common.{ℕ, Vec, Global, refl, ap, take, ◌∙◌}
-use Rattle.mdpair.specs.declared.runs.DelimiterRun.{DelimiterRun}
+use Rattle.mdpair.specs.declared.delimiter_runs.DelimiterRun.{DelimiterRun}
 use Rattle.mdinline.proofs.ReadPaired.{settles}
 use Rattle.mdinline.proofs.pending.Pending.settle.Goals as goal
 

@@ -1,5 +1,6 @@
 use Rattle.std.proofs.Common.{◌++◌, append_assoc, subst}
-use Rattle.inlinespec.specs.TextReading.{after_deed, closing, nearest_opener}
+use Rattle.inlinespec.specs.TextReading.{after_deed, closing}
+use Rattle.inlinespec.specs.Links.{nearest_opener}
 use Rattle.mdinline.specs.held.ReadPending.{HoldsPieces}
 use Rattle.mdinline.proofs.readers.TextReader.close.Goals as goal
 

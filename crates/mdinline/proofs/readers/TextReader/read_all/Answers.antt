@@ -2,7 +2,8 @@ use Rattle.std.proofs.Common.{◌≡◌, ℕ, refl, All, [], ◌++◌, List, rev
 use Rattle.std.proofs.lemmas.Str.{IsCharBoundary-start}
 use Rattle.std.proofs.lemmas.List.Elements.{All-nil}
 use Rattle.mdtext.specs.EntityTable.{EntityTable}
-use Rattle.inlinespec.specs.Settled.{Piece, settled}
+use Rattle.inlinespec.specs.Pieces.{Piece}
+use Rattle.inlinespec.specs.Emphasis.{settled}
 use Rattle.inlinespec.specs.TextReading.{reading}
 use Rattle.inlinespec.specs.TextTree.{events_of}
 use Rattle.mdinline.specs.held.Brackets.{AreBracketsOf, IsBehindBracket}

@@ -1,7 +1,7 @@
 use Rattle.std.proofs.Common.{◌≡◌, ℕ, ◌-◌, [], List, All, length}
 use Rattle.std.specs.Str.{IsCharBoundary}
 use Rattle.inlinespec.specs.InlineEvents.{Event}
-use Rattle.inlinespec.specs.Settled.{Piece}
+use Rattle.inlinespec.specs.Pieces.{Piece}
 use Rattle.mdinline.specs.held.Brackets.{AreBracketsOf}
 use Rattle.mdinline.specs.held.LeafEvents.{IsTokenOf}
 use Rattle.mdinline.specs.held.ReadSteps.{LeadsTo}

@@ -2,7 +2,7 @@ use Rattle.std.proofs.Common.{◌≡◌, ◌+◌, ◌-◌, ◌++◌, [], ap, sym
 use Rattle.inlinespec.specs.InlineEvents.{written}
 use Rattle.mdscan.specs.declared.spans.Span.{Span}
 use Rattle.mdpair.specs.Neighbours.{byte_of}
-use Rattle.inlinespec.specs.Settled.{Run}
+use Rattle.inlinespec.specs.Pieces.{Run}
 use Rattle.mdinline.specs.held.LeafEvents.{leaf_events}
 use Rattle.mdinline.specs.declared.tokens.Token.TheVariants as t
 use Rattle.mdinline.specs.held.ReadPending.{HoldsPieces}

@@ -3,9 +3,11 @@ use Rattle.std.proofs.Math.Logic.{inl, inr}
 use Rattle.mdtext.specs.EntityTable.{EntityTable}
 use Rattle.mdscan.specs.Spans.{IsEndAfter}
 use Rattle.inlinespec.specs.InlineEvents.{Event}
-use Rattle.inlinespec.specs.Lexing.{Lexeme, Delimiters, delimiters_at, lex}
+use Rattle.inlinespec.specs.Lexemes.{Lexeme, Delimiters}
+use Rattle.inlinespec.specs.DelimiterRuns.{delimiters_at}
+use Rattle.inlinespec.specs.Lexing.{lex}
 use Rattle.inlinespec.specs.LinkTails.{Table}
-use Rattle.inlinespec.specs.Settled.{Piece, Run}
+use Rattle.inlinespec.specs.Pieces.{Piece, Run}
 use Rattle.inlinespec.specs.TextReading.{after_deed, item_by}
 use Rattle.mdinline.specs.declared.readers.TextReader.{TextReader}
 use Rattle.mdinline.specs.declared.scanner.Found.{Found}

@@ -4,7 +4,7 @@ use Rattle.mdinline.specs.held.LeafEvents.{IsTokenOf}
 use Rattle.mdinline.specs.held.UnusedOpeners.{AreOpenersOf}
 use Rattle.mdinline.specs.declared.tokens.Token.{Token}
 use Rattle.inlinespec.specs.InlineEvents.{written}
-use Rattle.inlinespec.specs.Settled.{Made}
+use Rattle.inlinespec.specs.Pieces.{Made}
 use Rattle.mdinline.specs.held.ReadMarks.{ones}
 use Rattle.mdinline.specs.held.ReadPending.{HoldsPieces}
 use Rattle.mdinline.proofs.ReadHolding.{byte_part, holds_still}

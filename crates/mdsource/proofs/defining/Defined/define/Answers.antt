@@ -3,7 +3,7 @@ use Rattle.std.specs.BTreeMap.{insert_entry}
 use Rattle.std.specs.Cmp.Lexicographic.{slice_cmp}
 use Rattle.std.specs.Ordering.{nat_cmp}
 use Rattle.inlinespec.proofs.FirstTargets.{kept, put}
-use Rattle.mdleaf.specs.LinkDefinition.{definition_of}
+use Rattle.mdleaf.specs.DefinedLinks.{definition_of}
 use Rattle.mdsource.specs.LabelTable.{target_defined}
 use Rattle.mdsource.specs.Defining.{shown}
 use Rattle.mdsource.proofs.Definings.{copy_put}

@@ -1,7 +1,7 @@
 use Rattle.std.proofs.Common.{◌∙◌, Some, ap, map, sym}
 use Rattle.std.proofs.lemmas.List.{drop_all}
 use Rattle.mdblock.specs.FoundLists.{found_unit}
-use Rattle.mdleaf.specs.LinkDefinition.{definition_of}
+use Rattle.mdleaf.specs.DefinedLinks.{definition_of}
 use Rattle.mdsource.specs.LabelTable.{with_definitions}
 use Rattle.mdsource.specs.Defining.{shown}
 use Rattle.mdsource.proofs.Definings.{defines_more, is_none, more_blocks, no_blocks_more, other_here, other_stays}

@@ -1,5 +1,5 @@
 use Rattle.std.proofs.Common.{◌≡◌, drop, map}
-use Rattle.mdleaf.specs.LinkDefinition.{definition_of}
+use Rattle.mdleaf.specs.DefinedLinks.{definition_of}
 use Rattle.mdview.specs.LabelMarks.{marks_after}
 use Rattle.mdview.specs.ToldLabels.{labels_in}
 use Rattle.mdview.proofs.held.label_marks.mark_definitions.Given as goal

@@ -3,11 +3,12 @@ use Rattle.std.specs.Prelude.{slice_get}
 use Rattle.std.proofs.lemmas.List.{append-nil}
 use Rattle.std.proofs.lemmas.Option.{slice_get-map}
 use Rattle.std.proofs.lemmas.List.Elements.{All-drop, All-take}
-use Rattle.mdview.specs.HeldTexts.{IsShallow, between, entities_in, labels_before, labels_behind}
+use Rattle.mdview.specs.ReadUnits.{IsShallow}
+use Rattle.mdview.specs.HeldTexts.{between, entities_in, labels_before, labels_behind}
 use Rattle.mdview.specs.HeldUnit.{HeldUnit, unit_in}
 use Rattle.mdview.specs.TextSetting.{DidReadIn, texts_under}
 use Rattle.mdview.proofs.Ahead.{first_comes, first_left, left_at, left_behind, something_comes}
-use Rattle.mdview.proofs.NoneAsking.{all_shallow, none_asking, none_deep}
+use Rattle.mdview.proofs.NoneAsking.{shallow_behind, none_asking, none_deep_in}
 use Rattle.mdview.proofs.PassedUnits.{all_quiet, lines_past, numbers_past, quiet_numbers, shallow_between, shallow_past, texts_past}
 use Rattle.mdview.proofs.ToldTexts as told
 use Rattle.mdview.proofs.UnitsBetween.{deep_here, member_at, numbers_next, shallow_next, text_fault, texts_next, texts_within}
@@ -27,9 +28,9 @@ returns-then-is_empty-clause-deep g c =
     let e = entities_in c.args.room.now in
     let new = labels_behind c.args.self.now in
     let units : List HeldUnit = c.args.units.now.items in
-    let shallow = told.all_shallow (texts_under c.args.self.now c.args.room.now) units c.requires.read in
-    let all = all_shallow c.args.self.now c.args.self.now.elsewhere (c.is_empty.ensures c.if-is_empty.true) limit e units shallow in (
-      none_deep limit e new c.args.begin (between c.args.first c.args.next units)
+    let shallow = told.did_shallow (texts_under c.args.self.now c.args.room.now) units c.requires.read in
+    let all = shallow_behind c.args.self.now c.args.self.now.elsewhere (c.is_empty.ensures c.if-is_empty.true) limit e units shallow in (
+      none_deep_in limit e new c.args.begin (between c.args.first c.args.next units)
           (All-take (IsShallow limit e new) (c.args.next - c.args.first) (drop c.args.first units) (All-drop (IsShallow limit e new) c.args.first units all)),
       tt,
     )
@@ -108,9 +109,9 @@ loop-i-init g c =
       ahead = passes.ahead;
       again = c.requires.again;
       numbers = rw (quiet_numbers e (labels_before reader) (labels_behind reader) c.args.first (between c.args.first j units) quiet, append-nil) refl;
-      shallow = none_deep limit e (labels_behind reader) c.args.begin (between c.args.first j units)
+      shallow = none_deep_in limit e (labels_behind reader) c.args.begin (between c.args.first j units)
           (shallow_between reader c.args.self.now.elsewhere c.marks-marks.result c.marks-marks.ensures e units read
-          c.args.first j passes.apart limit (told.all_shallow s units c.requires.read));
+          c.args.first j passes.apart limit (told.did_shallow s units c.requires.read));
       stays = (refl, refl);
       inlines = omega arith;
     }
@@ -160,7 +161,7 @@ loop-i-preserved g c =
       shallow = shallow_past e old new first (i + 1) j units up passes.low limit c.args.begin
           (shallow_next e old new limit c.args.begin first units i u low w.high w.is c.loop-i.invariant.shallow
           (rw c.loop-i.invariant.stays.0 at c.in_default.ensures.deep.0))
-          (shallow_between c.args.self.now c.args.self.now.elsewhere c.marks-marks.result c.marks-marks.ensures e units reads (i + 1) j passes.apart limit (told.all_shallow s units c.requires.read));
+          (shallow_between c.args.self.now c.args.self.now.elsewhere c.marks-marks.result c.marks-marks.ensures e units reads (i + 1) j passes.apart limit (told.did_shallow s units c.requires.read));
       stays = (c.read_if_concerned.ensures.stays.0 ∙ c.loop-i.invariant.stays.0, c.read_if_concerned.ensures.stays.1 ∙ c.loop-i.invariant.stays.1);
       inlines = omega (arith, read, texts, more, c.loop-i.invariant.inlines);
     }

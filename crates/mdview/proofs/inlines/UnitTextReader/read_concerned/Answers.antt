@@ -2,7 +2,7 @@ use Rattle.std.proofs.Common.{◌≤◌, ◌+◌, ◌∷◌, ◌++◌, [], Err, 
 use Rattle.mdsource.specs.Changes.{asks_changed}
 use Rattle.mdsource.specs.Refusals.{is_deep}
 use Rattle.mdsource.specs.View.{reading_of}
-use Rattle.mdview.specs.TextSetting.{DidRead, asking, read_as, reads_as, texts_under}
+use Rattle.mdview.specs.TextSetting.{DidRead, asking, readings_as, reading_as, texts_under}
 use Rattle.mdview.proofs.Concerns.{counted_next, counted_within}
 use Rattle.mdview.proofs.ReadTexts.{IsTextAt, none_next, none_passes, one_passes, reading_here, taken_next}
 use Rattle.mdview.proofs.ToldTexts.{on_err, told_deep}
@@ -33,7 +33,7 @@ returns-in_err-read_one-clause-readings g c =
     let s = texts_under c.args.self.now c.args.room.now in
     let deep = rw (c.deref.ensures, c.loop-i.invariant.stays.0) at c.in_err-read_one.ensures.reading.1.1 in (
       on_err _ c.from_residual.result _ c.from_residual.ensures.1,
-      told_deep c.from_residual.result _ _ c.from_residual.ensures.1 (λ too. one_passes _ _ _ _ h.0 (reads_as s) (is_deep s.options.max_spans) (deep (ap Err too))),
+      told_deep c.from_residual.result _ _ c.from_residual.ensures.1 (λ too. one_passes _ _ _ _ h.0 (reading_as s) (is_deep s.options.max_spans) (deep (ap Err too))),
     )
 
 -- how many are read, at most
@@ -62,13 +62,13 @@ loop-i-preserved g c =
     let s = texts_under c.args.self.now c.args.room.now in
     let deep = is_deep s.options.max_spans in
     let had = c.args.inlines.now.items in
-    let so_far = read_as s (take c.loop-i.i all) in
+    let so_far = readings_as s (take c.loop-i.i all) in
     let one = c.in_ok-read_one.field-0 in
     let reading = rw (c.loop-i.invariant.stays.0, c.deref.ensures) at c.in_ok-read_one.ensures.reading in
     rw c.in_ok-push.ensures.items (record {
       readings = ap (λ l. l ++ one ∷ []) c.loop-i.invariant.readings ∙ append_assoc had so_far (one ∷ [])
-          ∙ ap (λ l. had ++ l) (taken_next _ _ _ _ h.0 (reads_as s) deep so_far one refl reading.0);
-      shallow = none_next _ _ _ _ h.0 (reads_as s) deep c.loop-i.invariant.shallow reading.1.0;
+          ∙ ap (λ l. had ++ l) (taken_next _ _ _ _ h.0 (reading_as s) deep so_far one refl reading.0);
+      shallow = none_next _ _ _ _ h.0 (reading_as s) deep c.loop-i.invariant.shallow reading.1.0;
       stays = (c.read_one.ensures.stays.0 ∙ c.loop-i.invariant.stays.0, c.read_one.ensures.stays.1 ∙ c.loop-i.invariant.stays.1);
       inlines = counted_next _ _ _ _ h.0 (reading_of s.entities s.before) (asks_changed s.before s.behind) c.index-held-i.result h.1.0
           (g.C.Count.inlines c.args.count.now) (g.C.Count.inlines c.loop-i.count) (g.C.Count.inlines c.read_one.new.count)

@@ -4,7 +4,7 @@ use Rattle.mdblock.specs.FoundLists.{found_unit}
 use Rattle.mdsource.specs.TextFaults.{IsTextFault}
 use Rattle.mdview.specs.HeldTexts.{line_on}
 use Rattle.mdview.specs.TextSetting.{deep_place, texts_under}
-use Rattle.mdview.proofs.KeptTexts.{fault_before, fault_last, none_deep, none_mapped}
+use Rattle.mdview.proofs.KeptTexts.{fault_before, fault_last, none_deep_found, none_mapped}
 use Rattle.mdview.proofs.ReadParts.{returned}
 use Rattle.mdview.proofs.ToldTexts.{on_err, read_behind}
 use Rattle.mdview.proofs.inlines.UnitTextReader.read_found.Given.{Over}
@@ -47,7 +47,7 @@ pub returns-clause-deep : goal.returns-clause-deep
 returns-clause-deep g c =
     let s = texts_under c.args.self.now c.args.room.now in
     rw (parted g (goal.at.returns-clause-deep g c).In-Some-pop) (
-      ap (option_map (line_on c.args.from)) (none_deep s.options.max_spans s.entities s.behind
+      ap (option_map (line_on c.args.from)) (none_deep_found s.options.max_spans s.entities s.behind
           (map found_unit c.pop.new.self.items) (found_unit c.in-Some-pop.last) (none_mapped _ _ c.in_ok-units.ensures.deep.0)
           (rw c.read_units-2.ensures.stays.0 at c.in-Ok.ensures.deep.0)),
       tt,

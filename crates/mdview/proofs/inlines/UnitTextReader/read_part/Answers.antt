@@ -3,7 +3,7 @@ use Rattle.std.proofs.lemmas.List.{length-map, length-take, take-map}
 use Rattle.mdsource.specs.Refusals.{is_deep}
 use Rattle.mdsource.specs.View.{reading_of}
 use Rattle.mdview.specs.HeldTexts.{entities_in, labels_before}
-use Rattle.mdview.specs.TextSetting.{asking, reads_as, texts_under}
+use Rattle.mdview.specs.TextSetting.{asking, reading_as, texts_under}
 use Rattle.mdview.proofs.AlikeUnits.{take_within}
 use Rattle.mdview.proofs.KeptTexts.{behind_passes, both_parts, front_passes, neither_passes, part_is}
 use Rattle.mdview.proofs.ToldTexts.{told_deep, told_shallow}
@@ -15,7 +15,7 @@ pub returns-in_err-same-clause-deep : goal.returns-in_err-same-clause-deep
 returns-in_err-same-clause-deep g c =
     let s = texts_under c.args.self.now c.args.room.now in
     told_deep c.from_residual-in_err-same.result _ _ c.from_residual-in_err-same.ensures.1
-    (λ too. front_passes (reads_as s) c.texts-texts.result.now c.args.unit.now.texts c.texts-texts.ensures c.args.kept.at (is_deep s.options.max_spans)
+    (λ too. front_passes (reading_as s) c.texts-texts.result.now c.args.unit.now.texts c.texts-texts.ensures c.args.kept.at (is_deep s.options.max_spans)
     (c.in_err-same.ensures.readings.1.1 (ap Err too)))
 
 pub read_concerned-requires : goal.read_concerned-requires
@@ -28,7 +28,7 @@ pub returns-in_err-read_concerned-clause-deep : goal.returns-in_err-read_concern
 returns-in_err-read_concerned-clause-deep g c =
     let s = texts_under c.args.self.now c.args.room.now in
     told_deep c.from_residual-in_err-read_concerned.result _ _ c.from_residual-in_err-read_concerned.ensures.1
-    (λ too. behind_passes (reads_as s) c.texts-texts.result.now c.args.unit.now.texts c.texts-texts.ensures c.args.kept.at (is_deep s.options.max_spans)
+    (λ too. behind_passes (reading_as s) c.texts-texts.result.now c.args.unit.now.texts c.texts-texts.ensures c.args.kept.at (is_deep s.options.max_spans)
     (rw c.read_alike.ensures.stays.0 at (c.in_err-read_concerned.ensures.readings.1.1 (ap Err too))))
 
 -- how many texts are read, at most
@@ -52,14 +52,14 @@ pub returns-clause-readings : goal.returns-clause-readings
 returns-clause-readings g c =
     let s = texts_under c.args.self.now c.args.room.now in
     let are = rw (c.in_ok-same.ensures.readings.0, c.in_ok-inlines.ensures.items, c.read_alike.ensures.stays.0) at c.in_ok-read_concerned.ensures.readings.0
-    ∙ both_parts (reads_as s) c.texts-texts.result.now c.args.unit.now.texts c.texts-texts.ensures c.args.kept.at in
-    record { all = ap length are ∙ length-map c.args.unit.now.texts (reads_as s); are = are }
+    ∙ both_parts (reading_as s) c.texts-texts.result.now c.args.unit.now.texts c.texts-texts.ensures c.args.kept.at in
+    record { all = ap length are ∙ length-map c.args.unit.now.texts (reading_as s); are = are }
 
 pub returns-clause-deep : goal.returns-clause-deep
 returns-clause-deep g c =
     let s = texts_under c.args.self.now c.args.room.now in
     told_shallow _ _
-    (neither_passes (reads_as s) c.texts-texts.result.now c.args.unit.now.texts c.texts-texts.ensures c.args.kept.at (is_deep s.options.max_spans)
+    (neither_passes (reading_as s) c.texts-texts.result.now c.args.unit.now.texts c.texts-texts.ensures c.args.kept.at (is_deep s.options.max_spans)
     c.in_ok-same.ensures.readings.1.0 (rw c.read_alike.ensures.stays.0 at c.in_ok-read_concerned.ensures.readings.1.0))
 
 pub returns-clause-front : goal.returns-clause-front

@@ -4,7 +4,8 @@ use Rattle.std.proofs.lemmas.List.{nil_from_length}
 use Rattle.std.proofs.lemmas.List.Sums.{sum_by-cons}
 use Rattle.mdblock.specs.FoundLists.{found_unit}
 use Rattle.mdsource.specs.UnitTexts.{trees_in}
-use Rattle.mdview.specs.HeldTexts.{IsReadUnder, line_on}
+use Rattle.mdview.specs.ReadUnits.{IsReadUnder}
+use Rattle.mdview.specs.HeldTexts.{line_on}
 use Rattle.mdview.specs.HeldUnit.{IsRendered, texts_in}
 use Rattle.mdview.specs.TextSetting.{DidReadIn, deep_place, texts_under}
 use Rattle.mdview.proofs.AlikeTexts.{next_has, rest_have}

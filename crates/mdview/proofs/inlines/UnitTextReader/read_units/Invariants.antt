@@ -3,7 +3,8 @@ use Rattle.std.specs.List.{All, sum_by}
 use Rattle.mdblock.specs.FoundLists.{found_unit}
 use Rattle.mdsource.specs.UnitTexts.{trees_in}
 use Rattle.mdview.specs.HeldLists.{list_in, unplaced}
-use Rattle.mdview.specs.HeldTexts.{IsReadUnder, entities_in, labels_behind}
+use Rattle.mdview.specs.ReadUnits.{IsReadUnder}
+use Rattle.mdview.specs.HeldTexts.{entities_in, labels_behind}
 use Rattle.mdview.specs.HeldUnit.{IsRendered, texts_in}
 use Rattle.mdview.specs.TextSetting.{DidReadIn, Stays, deep_place, texts_under}
 use Rattle.mdview.proofs.inlines.UnitTextReader.read_units.Given as goal

@@ -18,12 +18,17 @@ use Rattle.mdview.specs.NewText.{lines_of}
 use Rattle.mdview.specs.Outcome.{answer_of, is_starved, outcome_of}
 use Rattle.mdview.specs.Update.{all_renewed}
 use Rattle.mdview.proofs.EditOutcomes.{IsTextOf, IsUpdateOf, lines_of_call, next_blocks, next_rendered, next_texts, patch_is, pieces_brought, readings_brought, text_of_edit, texts_of_call, update_of_call}
-use Rattle.mdview.proofs.HeldReadings.{holds_relabelled}
+use Rattle.mdview.proofs.HeldReadings.{holds_relabelled, shallow_still}
 use Rattle.mdview.proofs.Outcomes.{accepts, refused_by_reading, returns_refusal}
 use Rattle.mdview.proofs.Sizes.{map_replaced}
 use Rattle.mdview.proofs.preview.Preview.edit_lines.Given.{Over}
 use Rattle.mdview.proofs.preview.Preview.edit_lines.Goals.{After-of, After-commit}
 use Rattle.mdview.proofs.preview.Preview.edit_lines.Goals as goal
+
+pub invariant_of-held-clause-shallow : goal.invariant_of-held-clause-shallow
+invariant_of-held-clause-shallow g c =
+    let p = c.self.inside in
+    (shallow_still (record { entities = p.entities; options = p.options }) (map string_bytes p.lines.items) p.head p.prelude p.labels p.units.items c.self.invariant.5 c.self.invariant.7)
 
 pub invariant_of-self-in_err-make_room : goal.invariant_of-self-in_err-make_room
 invariant_of-self-in_err-make_room g c =

@@ -23,8 +23,8 @@ use Rattle.mdview.proofs.preview.Preview.set_prelude.Given.{Over}
 use Rattle.mdview.proofs.preview.Preview.set_prelude.Goals.{After-of_prelude, In_ok-renewal}
 use Rattle.mdview.proofs.preview.Preview.set_prelude.Goals as goal
 
-pub of_prelude-requires-clause-shallow : goal.of_prelude-requires-clause-shallow
-of_prelude-requires-clause-shallow g c =
+pub invariant_of-held-clause-shallow : goal.invariant_of-held-clause-shallow
+invariant_of-held-clause-shallow g c =
     let p = c.self.inside in
     (shallow_still (record { entities = p.entities; options = p.options }) (map string_bytes p.lines.items) p.head p.prelude p.labels p.units.items c.self.invariant.5 c.self.invariant.7)
 

@@ -35,10 +35,10 @@ read_found-requires-clause-kept g c =
     let trees = trees_in (map found_unit c.args.reparsed.found.items) in
     rw (c.read_again.ensures.stays.0, c.new-room.ensures)
     (kept_read _ held.units.now.items trees
-    (did_read_all _ _ c.requires.read c.requires.shallow) c.requires.rendered c.args.reparsed.kept c.kept_readings-kept.result c.requires.kept kept.at kept.readings kept.unit)
+    (did_read_all _ _ c.requires.read c.args.held.now.shallow) c.requires.rendered c.args.reparsed.kept c.kept_readings-kept.result c.requires.kept kept.at kept.readings kept.unit)
 
 pub read_found-requires-clause-held : goal.read_found-requires-clause-held
-read_found-requires-clause-held g c = rw (c.read_again.ensures.stays.0, c.new-room.ensures) (did_read_all _ _ c.requires.read c.requires.shallow)
+read_found-requires-clause-held g c = rw (c.read_again.ensures.stays.0, c.new-room.ensures) (did_read_all _ _ c.requires.read c.args.held.now.shallow)
 
 -- ---- where spans lie too deep first: in the units in front, in those found and in those behind
 

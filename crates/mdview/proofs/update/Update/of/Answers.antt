@@ -9,13 +9,14 @@ use Rattle.mdsource.specs.Setting.{Setting}
 use Rattle.mdsource.proofs.DeepUnits.{refused_for_spans}
 use Rattle.mdsource.proofs.ReadingsUnder.{deep_found_under}
 use Rattle.mdview.specs.HeldBlocks.{old_lines}
-use Rattle.mdview.specs.HeldTexts.{IsReadUnder, IsRefusedBy, IsReread, asking_in_parts, deep_in_parts, head_read, number_again, setting_in, source_before, source_behind}
+use Rattle.mdview.specs.ReadUnits.{IsReadUnder}
+use Rattle.mdview.specs.HeldTexts.{IsRefusedBy, IsReread, asking_in_parts, deep_in_parts, head_read, number_again, setting_in, source_before, source_behind}
 use Rattle.mdsource.specs.TextFaults.{IsTextFault}
 use Rattle.mdview.specs.HeldUnit.{HeldUnit, read_of, unit_in}
 use Rattle.mdview.specs.LabelTargets.{led_after, led_by, target_held}
 use Rattle.mdview.specs.NewText.{lines_of}
 use Rattle.mdview.specs.declared.update.Update.{Update}
-use Rattle.mdview.proofs.EditTexts.{all_read_under, all_reread_under, all_shallow, both_ok, deep_is, head_small, held_small, led_by_text, meet_small, nested_in_none, new_trees, none_deep_before, numbers_are, texts_refused, trees_are, when_ok}
+use Rattle.mdview.proofs.EditTexts.{all_read_under, all_reread_under, units_shallow, both_ok, deep_is, head_small, held_small, led_by_text, meet_small, nested_in_none, new_trees, none_deep_before, numbers_are, texts_refused, trees_are, when_ok}
 use Rattle.mdview.proofs.Replacing.{replacing}
 use Rattle.mdview.proofs.SoonTexts.{texts_soon_are}
 use Rattle.mdview.proofs.update.Update.of.Given.{Over}
@@ -29,7 +30,7 @@ led_before g c label =
     let held = c.args.held.now in
     let old = old_lines c.args.text in
     c.args.held.now.led label ∙ ap (λ us. led_by us held.prelude.now label) (trees_are held.entities.now old held.head held.units.now.items c.requires.held)
-    ∙ led_by_text held.entities.now old held.prelude.now c.requires.defined label
+    ∙ led_by_text held.entities.now old held.prelude.now c.args.held.now.defined label
 
 led_behind : (g : Over) (c : In_ok-changes g) → (label : List ℕ)
     → led_after c.args.held.now.labels.now c.in_ok-changes.changes label ≡ table c.args.held.now.entities.now (source_behind c.args.held.now c.args.text) label
@@ -40,7 +41,7 @@ led_behind g c label =
     c.in_ok-changes.ensures.led label
     ∙ ap (λ us. led_by us held.prelude.now label)
     (new_trees (setting_in held) text held.prelude.now held.head held.units.now.items c.in_ok-reparsed.reparsed c.requires.held c.in_ok-reparsed.ensures.read (table E (source_before held text)) (table E (source_behind held text)))
-    ∙ led_by_text E (lines_of text) held.prelude.now c.requires.defined label
+    ∙ led_by_text E (lines_of text) held.prelude.now c.args.held.now.defined label
 
 -- what is due for spans, in the parts that are read
 due_in_parts : (g : Over) (c : In_ok-changes g) → nesting_refusal (setting_in c.args.held.now) (source_behind c.args.held.now c.args.text)
@@ -56,16 +57,6 @@ due_in_parts g c =
     nested_in_none setting (source_behind held text) c.in_ok-reparsed.ensures.fits ∙ refused_for_spans setting (source_behind held text) ∙ ap (option_map inline_too_deep) (sym deep)
 
 -- ---- the answers
-
-pub behind-requires-clause-shallow : goal.behind-requires-clause-shallow
-behind-requires-clause-shallow g c =
-    let held = c.args.held.now in
-    let old = old_lines c.args.text in
-    let before = table held.entities.now (source_before held c.args.text) in
-    let led = led_before g (goal.at.behind-requires-clause-shallow g c).In_ok-reparsed in
-    all_shallow held.entities.now old held.head held.units.now.items c.requires.held held.options.now.max_spans (target_held held.labels.now)
-    (deep_found_under held.options.now.max_spans held.entities.now (target_held held.labels.now) before led (text_units held.entities.now old)
-    ∙ none_deep_before (setting_in held) (source_before held c.args.text) c.requires.spans)
 
 pub behind-requires-clause-near : goal.behind-requires-clause-near
 behind-requires-clause-near g c =

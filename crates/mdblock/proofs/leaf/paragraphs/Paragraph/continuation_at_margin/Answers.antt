@@ -1,6 +1,6 @@
 use Rattle.std.proofs.Common.{ap, sym, ◌∙◌, true, false}
 use Rattle.std.specs.Option.{option_map, is_some}
-use Rattle.blockspec.specs.BlockStart.{SetextHeading}
+use Rattle.blockspec.specs.BlockKinds.{SetextHeading}
 use Rattle.mdblock.specs.held.StartKind.{kind_of_start}
 use Rattle.mdblock.proofs.Interrupts.{interrupts_before, interrupts_after}
 use Rattle.mdblock.proofs.ParagraphLaws.{opening_stops, ends_before, underlined, ends_after, behind_all}

@@ -1,6 +1,6 @@
 use Rattle.std.proofs.Common.{ap, sym, ◌∙◌}
-use Rattle.mdleaf.specs.TableRows.{begins_table}
-use Rattle.blockspec.specs.BlockStart.{last_text}
+use Rattle.mdleaf.specs.Tables.{begins_table}
+use Rattle.blockspec.specs.Tables.{last_text}
 use Rattle.mdblock.specs.held.ParagraphLines.{begins_row}
 use Rattle.mdblock.proofs.ParagraphLaws.{last_is}
 use Rattle.mdblock.proofs.RowStarts.{not_indented, no_table_without}

@@ -1,7 +1,7 @@
 use Rattle.std.proofs.Common.{◌≡◌, ap, subst, sym, ◌∙◌, ◌++◌, length, drop, string_bytes}
 use Rattle.std.proofs.lemmas.List.{length-map}
 use Rattle.mdleaf.specs.ParagraphText.{behind_definitions, without_end_blanks}
-use Rattle.mdleaf.specs.TableRows.{TableHeader, header_of}
+use Rattle.mdleaf.specs.Tables.{TableHeader, header_of}
 use Rattle.mdblock.specs.held.HandedIn.{gathered_texts, left_behind, IsHandedIn}
 use Rattle.mdblock.specs.held.HeldTables.{IsHeaderRow, first_rows}
 use Rattle.mdblock.proofs.TableLaws.{header_told, header_there}

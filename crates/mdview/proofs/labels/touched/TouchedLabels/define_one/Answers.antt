@@ -1,6 +1,6 @@
 use Rattle.std.proofs.Common.{◌≡◌, ◌∙◌, ℕ, List, Some, ap, is_some, string_bytes, sym}
 use Rattle.inlinespec.specs.LabelMap.{target_of}
-use Rattle.mdleaf.specs.LinkDefinition.{definition_of}
+use Rattle.mdleaf.specs.DefinedLinks.{definition_of}
 use Rattle.mdsource.specs.LabelTable.{target_defined}
 use Rattle.mdview.proofs.ToldLaws.{first_counts, first_stays, seen_once}
 use Rattle.mdview.proofs.labels.touched.TouchedLabels.define_one.Goals as goal

@@ -1,5 +1,5 @@
 use Rattle.std.proofs.Common.{◌≡◌, ℕ, List, drop, map}
-use Rattle.mdleaf.specs.LinkDefinition.{definition_of}
+use Rattle.mdleaf.specs.DefinedLinks.{definition_of}
 use Rattle.mdview.specs.ToldLabels.{labels_in, told, touched_by}
 use Rattle.mdview.proofs.labels.touched.TouchedLabels.touch.Given as goal
 

@@ -1,0 +1,14 @@
+use Rattle.std.proofs.Common.{◌≡◌, ◌+◌, ◌-◌, drop, length}
+use Rattle.std.specs.Str.{IsCharBoundary}
+use Rattle.mdleaf.specs.ParagraphDefinitions.{leading_end}
+use Rattle.mdleaf.proofs.paragraph_definitions.definitions_end.Given as goal
+
+-- those so far and those at the front of the rest end where all do
+abbrev pub invariant-loop-def : goal.invariant-loop-def
+invariant-loop-def l = record {
+  boundary : IsCharBoundary l.text l.end;
+  so_far : l.end + leading_end (drop l.end l.text) ≡ leading_end l.text;
+}
+
+abbrev pub decreases-loop-def : goal.decreases-loop-def
+decreases-loop-def l = length l.text - l.end

@@ -1,0 +1,7 @@
+//! The reading of blocks, and the joining of lists.
+
+mod calls;
+mod joins;
+mod readings;
+mod shown;
+mod units;
