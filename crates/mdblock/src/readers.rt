@@ -143,7 +143,8 @@ impl<'e> Reader<'e> {
         }))
     }
 
-    /// Counts the next line, which has no line ending, and reads it. Answers the unit before the one that the line begins.
+    /// Counts the next line, which has no line ending, and reads it. Answers the unit before the one that the line begins. A line has fewer than 2^62
+    /// bytes, and fewer than `usize::MAX` lines have been read.
     ///
     /// `NestedTooDeep` where a container of the line lies in too many others, `NoMemory` where a growth is refused. Such a fault stays: from then on the
     /// answer is `Failed`, and nothing is handed out. It is inlined: most lines end no unit, and a unit is a large answer.

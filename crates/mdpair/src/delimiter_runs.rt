@@ -7,14 +7,18 @@ ghost use Rattle.mdpair.specs.DelimiterRun.{can_both, lengths_match, is_admissib
 /// The character that a delimiter run is made of.
 #[derive(Clone, Copy, Debug, Drop, PartialEq, Eq)]
 pub enum DelimiterChar {
+    /// `*`, of emphasis and strong emphasis.
     Asterisk,
+    /// `_`, of emphasis and strong emphasis.
     Underscore,
+    /// `~`, of strikethrough.
     Tilde,
 }
 
 /// A delimiter run of an inline text (CommonMark 6.2; of tildes GFM Strikethrough (extension)).
 #[derive(Clone, Copy, Debug, Drop)]
 pub struct DelimiterRun {
+    /// The character that it is made of.
     pub delimiter: DelimiterChar,
     /// How many characters the run has; each is one byte.
     pub length: usize,

@@ -8,10 +8,12 @@ ghost use Rattle.mdscan.specs.Spans.{IsSpanOf};
 use crate::byte_runs::{blank, blank_follows, leading, trailing, trailing_blanks};
 use crate::spans::{Span, trimmed};
 
-/// A heading line: its level, 1 to 6, and where its content is.
+/// The line of an ATX heading (CommonMark 4.2).
 #[derive(Clone, Copy, Debug, PartialEq, Eq)]
 pub struct AtxLine {
+    /// How many `#` open it: 1 to 6.
     pub level: u8,
+    /// The content, without spaces and tabs around it and without the closing sequence; empty where there is none.
     pub content: Span,
 }
 

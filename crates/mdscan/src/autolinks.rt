@@ -12,10 +12,12 @@ use crate::byte_runs::{begins, holds};
 /// The marks of a mail address before its `@`, beside letters and digits.
 const MAIL_MARKS: [u8; 20] = *b".!#$%&'*+/=?^_`{|}~-";
 
-/// An autolink: where it ends, after its `>`, and whether it is a mail address.
+/// An autolink (CommonMark 6.5).
 #[derive(Clone, Copy, Debug, PartialEq, Eq)]
 pub struct Auto {
+    /// The byte of the text where it ends, after its `>`.
     pub end: usize,
+    /// Whether it is a mail address, and no URI.
     pub mail: bool,
 }
 

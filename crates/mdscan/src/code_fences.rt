@@ -8,11 +8,14 @@ ghost use Rattle.mdscan.specs.Spans.{IsSpanOf};
 use crate::byte_runs::{all_blank, holds, leading};
 use crate::spans::{Span, trimmed};
 
-/// A line that opens fenced code: the mark, how often it stands there, and where the info string is.
+/// A line that opens fenced code (CommonMark 4.5).
 #[derive(Clone, Copy, Debug, PartialEq, Eq)]
 pub struct FenceLine {
+    /// The byte that the fence is made of: a backtick or `~`.
     pub mark: u8,
+    /// How many of them it has: 3 or more.
     pub length: usize,
+    /// The info string, without spaces and tabs around it; empty where there is none.
     pub info: Span,
 }
 

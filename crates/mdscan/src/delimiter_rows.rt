@@ -8,12 +8,16 @@ ghost use Rattle.mdscan.specs.DelimiterRow.{is_colon_or_none, is_hyphens, is_del
 use crate::byte_runs::{begins, holds, leading};
 use crate::table_rows::{cell_at, inner, is_split};
 
-/// How a table's column is aligned.
+/// How a table's column is aligned (GFM Tables (extension)).
 #[derive(Clone, Copy, Debug, PartialEq, Eq)]
 pub enum Align {
+    /// No colon: the column has no alignment.
     Plain,
+    /// A colon on the left.
     Left,
+    /// A colon on each side.
     Center,
+    /// A colon on the right.
     Right,
 }
 
@@ -25,7 +29,8 @@ pub fn delimiter_row(rest: &str) -> Option<usize>
     columns(rest.as_bytes())
 }
 
-/// The alignment of a column of a delimiter row, by the colons at the ends of its cell (GFM Tables (extension)).
+/// The alignment of a column of a delimiter row, by the colons at the ends of its cell (GFM Tables (extension)). Columns count from 0, and the
+/// row has the column that is asked for.
 pub fn align_at(rest: &str, column: usize) -> Align
     requires { column < unwrap_or (delimiter_columns rest.now) 0 }
     ensures { result ≡ column_align rest.now column }

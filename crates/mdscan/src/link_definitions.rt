@@ -13,13 +13,16 @@ use crate::link_tails::after_spacing;
 use crate::link_titles::quoted;
 use crate::spans::Span;
 
-/// A link reference definition: the inside of its label, its destination, its title where it has one, and the
-/// end, after its last line's ending.
+/// A link reference definition (CommonMark 4.7). Its parts are as written, with escapes and references.
 #[derive(Clone, Copy, Debug, PartialEq, Eq)]
 pub struct Def {
+    /// What stands between the label's brackets.
     pub label: Span,
+    /// The destination, without `<` and `>` around it.
     pub destination: Span,
+    /// What stands between the title's marks, where it has a title.
     pub title: Option<Span>,
+    /// The byte of the text where it ends, after its last line's ending.
     pub end: usize,
 }
 

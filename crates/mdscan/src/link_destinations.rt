@@ -9,10 +9,12 @@ use crate::backslash_escapes::{before, escape};
 use crate::byte_runs::begins;
 use crate::spans::Span;
 
-/// A destination or a title: what stands between its marks, and where it ends, after them.
+/// A link's destination or its title (CommonMark 6.3), as written.
 #[derive(Clone, Copy, Debug, PartialEq, Eq)]
 pub struct Dest {
+    /// What stands between its marks; all of a destination that has none.
     pub span: Span,
+    /// The byte of the text where it ends, after its marks.
     pub end: usize,
 }
 

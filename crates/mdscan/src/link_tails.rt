@@ -12,12 +12,14 @@ use crate::link_titles::quoted;
 use crate::spacing::spacing;
 use crate::spans::Span;
 
-/// What follows an inline link's text: its destination and its title, where it has them, and the end, after
-/// the closing parenthesis.
+/// What follows an inline link's text (CommonMark 6.3). Its parts are as written, with escapes and references.
 #[derive(Clone, Copy, Debug, PartialEq, Eq)]
 pub struct Tail {
+    /// The destination, without `<` and `>` around it, where there is one.
     pub destination: Option<Span>,
+    /// What stands between the title's marks, where there is one.
     pub title: Option<Span>,
+    /// The byte of the text where it ends, after the closing parenthesis.
     pub end: usize,
 }
 

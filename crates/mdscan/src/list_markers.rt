@@ -6,11 +6,14 @@ ghost use Rattle.mdscan.specs.ListMarker.{marker, ordered_marker};
 
 use crate::byte_runs::{begins, blank_follows, leading_digits};
 
-/// A list marker: its bullet or its delimiter, the number of an ordered one, and how many bytes it has.
+/// A list marker (CommonMark 5.2).
 #[derive(Clone, Copy, Debug, PartialEq, Eq)]
 pub struct Marker {
+    /// The bullet, `-`, `+` or `*`, or the delimiter after the number, `.` or `)`.
     pub mark: u8,
+    /// The number of an ordered one, of 1 to 9 digits.
     pub start: Option<u32>,
+    /// How many bytes it has, without the spaces behind it.
     pub width: usize,
 }
 

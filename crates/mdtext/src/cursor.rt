@@ -72,7 +72,7 @@ impl<'a> Cursor<'a> {
         self.text
     }
 
-    /// Goes over columns of spaces and tabs. Of a tab only some columns may be taken.
+    /// Goes over columns of spaces and tabs, no more than `indent` tells. Of a tab only some columns may be taken.
     #[inline]
     pub fn skip_columns(&mut self, columns: usize)
         requires { columns ≤ indent (line_at self.old) }

@@ -2,12 +2,10 @@ use Rattle.std.proofs.Common.{◌≡◌, ℕ, List, None, arith, map, option_map
 use Rattle.std.specs.List.{All}
 use Rattle.std.proofs.lemmas.Result.{IfErr-weaker, IfOk-weaker}
 use Rattle.inlinespec.specs.LinkTails.{Table}
-use Rattle.blockspec.specs.BlockUnits.{units as text_units}
 use Rattle.mdsource.specs.LabelTable.{table}
 use Rattle.mdsource.specs.Refusals.{inline_too_deep, nesting_refusal}
 use Rattle.mdsource.specs.Setting.{Setting}
 use Rattle.mdsource.proofs.DeepUnits.{refused_for_spans}
-use Rattle.mdsource.proofs.ReadingsUnder.{deep_found_under}
 use Rattle.mdview.specs.HeldBlocks.{old_lines}
 use Rattle.mdview.specs.ReadUnits.{IsReadUnder}
 use Rattle.mdview.specs.HeldTexts.{IsRefusedBy, IsReread, asking_in_parts, deep_in_parts, head_read, number_again, setting_in, source_before, source_behind}
@@ -16,7 +14,7 @@ use Rattle.mdview.specs.HeldUnit.{HeldUnit, read_of, unit_in}
 use Rattle.mdview.specs.LabelTargets.{led_after, led_by, target_held}
 use Rattle.mdview.specs.NewText.{lines_of}
 use Rattle.mdview.specs.declared.update.Update.{Update}
-use Rattle.mdview.proofs.EditTexts.{all_read_under, all_reread_under, units_shallow, both_ok, deep_is, head_small, held_small, led_by_text, meet_small, nested_in_none, new_trees, none_deep_before, numbers_are, texts_refused, trees_are, when_ok}
+use Rattle.mdview.proofs.EditTexts.{all_read_under, all_reread_under, both_ok, deep_is, head_small, held_small, led_by_text, meet_small, nested_in_none, new_trees, numbers_are, texts_refused, trees_are, when_ok}
 use Rattle.mdview.proofs.Replacing.{replacing}
 use Rattle.mdview.proofs.SoonTexts.{texts_soon_are}
 use Rattle.mdview.proofs.update.Update.of.Given.{Over}
