@@ -16,12 +16,11 @@ use Rattle.blockspec.specs.BlockUnits.{begins}
 use Rattle.mdview.specs.Document.{empty, pieces_of, readings_of}
 use Rattle.mdview.specs.Edit.{call_of}
 use Rattle.mdview.specs.Outcome.{answer_of, is_starved, outcome_of}
-use Rattle.mdsource.specs.Preludes.{HeldPrelude}
 use Rattle.mdsource.specs.Outcome.{accepted}
 use Rattle.mdsource.specs.Calls.{Call, set_prelude}
 use Rattle.mdsource.specs.ChangedPieces.{ChangedPieces}
 use Rattle.mdsource.specs.Patch.{Brings}
-use Rattle.mdbatch.specs.BatchHtml.{TextHtml}
+use Rattle.mdbatch.specs.ViewHtml.{ViewHtml}
 use Rattle.jirmoans.specs.declared.faults.Refusal.{Refusal}
 use Rattle.jirmoans.specs.declared.faults.Refusal.TheVariants.{Edit, Table, NotUtf8, NoSuchUnit, NotOpen, AlreadyOpen, UnknownBreaks, LimitTooLarge}
 use Rattle.jirmoans.specs.declared.session.Session.{Session}
@@ -133,23 +132,20 @@ ShowsPiece unit old (Err AlreadyOpen) new = ⊥
 ShowsPiece unit old (Err UnknownBreaks) new = ⊥
 ShowsPiece unit old (Err LimitTooLarge) new = ⊥
 
--- the HTML of a text with the session's entities and options, as a whole text has it
+-- what a whole text ends with that is read with the session's entities and options, beside the lines of its prelude
+abbrev pub HtmlBeside : List ℕ → Result (String Global) EditFault → Session → Type 0
+HtmlBeside source ended old =
+    ViewHtml ended (record { entities = old.preview.entities; options = old.preview.options }) (record { lines = text_lines source; prelude = old.preview.prelude })
+
+-- C is shown the HTML of such a text
 pub record ShowsWhole (source : List ℕ) (text : Text) (old new : Session) : Type 0 where
   pub html : String Global
-  pub prelude : HeldPrelude
-  pub lines : prelude.lines ≡ old.preview.prelude
-  pub is : TextHtml (Ok html) (record { entities = old.preview.entities; options = old.preview.options }) prelude (text_lines source)
+  pub is : HtmlBeside source (Ok html) old
   pub shown : Shows (string_bytes html) text old new
-
--- the text is refused so, as a whole text is
-pub record RefusesWhole (source : List ℕ) (fault : EditFault) (old : Session) : Type 0 where
-  pub prelude : HeldPrelude
-  pub lines : prelude.lines ≡ old.preview.prelude
-  pub is : TextHtml (Err fault) (record { entities = old.preview.entities; options = old.preview.options }) prelude (text_lines source)
 
 abbrev pub ShowsHtml : List ℕ → Session → Result Text Refusal → Session → Type 0
 ShowsHtml source old (Ok text) new = IsUtf8 source × ShowsWhole source text old new
-ShowsHtml source old (Err (Edit fault)) new = IsUtf8 source × RefusesWhole source fault old × (new ≡ old)
+ShowsHtml source old (Err (Edit fault)) new = IsUtf8 source × HtmlBeside source (Err fault) old × (new ≡ old)
 ShowsHtml source old (Err (NotUtf8 valid)) new = IsCutAt source valid × (new ≡ old)
 ShowsHtml source old (Err (Table fault)) new = ⊥
 ShowsHtml source old (Err (NoSuchUnit units)) new = ⊥

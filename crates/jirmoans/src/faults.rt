@@ -14,7 +14,7 @@ pub enum Refusal {
     Table(TableFault),
     /// The bytes are no UTF-8 behind the first `valid` ones.
     NotUtf8 { valid: usize },
-    /// The text has so many units.
+    /// No unit has this number: the text has so many units.
     NoSuchUnit { units: usize },
     /// No preview was opened.
     NotOpen,

@@ -12,6 +12,7 @@ use std::mem::replace;
 #[derive(Drop)]
 pub struct Handle {
     is_open: bool,
+    /// The session's box, where one is held.
     pub slot: Slot,
     ghost tells: { is_open ≡ is_some slot.held },
 }

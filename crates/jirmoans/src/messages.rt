@@ -2,7 +2,7 @@
 ghost use Rattle.std.specs.Prelude.{◌≡◌, ◌++◌, ◌∷◌, ◌+◌, drop, length};
 ghost use Rattle.jirmoans.specs.Names.{copied, name_of, text_of};
 
-/// Copies the name of a fault with a NUL behind it, where there is room for both.
+/// Copies the name of a fault with a NUL behind it, where there is room for both; where there is none nothing is copied. Answers the name's bytes, without the NUL.
 #[unsafe(no_mangle)]
 pub extern "C" fn jirmoans_fault_name(code: u32, room: &mut [u8]) -> usize
     ensures len { result ≡ length (name_of code) }
@@ -11,7 +11,7 @@ pub extern "C" fn jirmoans_fault_name(code: u32, room: &mut [u8]) -> usize
     copy_text(name_of(code), room)
 }
 
-/// Copies what a fault says with a NUL behind it, where there is room for both.
+/// Copies what a fault says with a NUL behind it, where there is room for both; where there is none nothing is copied. Answers the text's bytes, without the NUL.
 #[unsafe(no_mangle)]
 pub extern "C" fn jirmoans_fault_text(code: u32, room: &mut [u8]) -> usize
     ensures len { result ≡ length (text_of code) }

@@ -15,7 +15,7 @@ ghost use Rattle.mdsource.specs.SourceLimits.{has_special, size_of};
 ghost use Rattle.mdview.specs.Edit.{call_of, due};
 ghost use Rattle.mdview.specs.HeldUnit.{HeldUnit, piece_of, shown_in, unit_edges};
 ghost use Rattle.mdview.specs.Outcome.{answer_of, is_starved, outcome_of};
-ghost use Rattle.mdsource.specs.Preludes.{IsUndefining};
+ghost use Rattle.mdsource.specs.Preludes.{IsDefinedBy, IsUndefining};
 
 use crate::blocks::held_places::begin_of;
 use crate::commit::{commit, commit_readings};
@@ -43,6 +43,7 @@ pub struct Preview {
     entities: Entities,
     options: Options,
     lines: Chunks<String>,
+    /// The bytes of the lines, with one counted for each line's end.
     size: usize,
     /// How many lines stand before the first unit.
     head: usize,
@@ -200,7 +201,9 @@ impl Preview {
 
     /// The prelude, as other texts take it.
     pub fn definitions(&self) -> &Prelude
-        ensures { result.now.lines ≡ self.now.prelude }
+        ensures lines { result.now.lines ≡ self.now.prelude }
+        // Its labels lead where these lines define, so that what is made with it is made with the prelude of this text.
+        ensures defined { IsDefinedBy self.now.entities result.now }
     {
         &self.prelude
     }
@@ -268,7 +271,7 @@ impl Preview {
     /// replaced by U+FFFD before its size is counted (CommonMark 2.3).
     ///
     /// A line or a text that is taken over in place of being read counts as read, when it is taken over: the lines of a list in
-    /// front of the item at which reading begins, and the texts that a unit which goes has too.
+    /// front of the item at which reading begins, and the texts that a unit had already in whose place another comes.
     pub fn edit<C: Count>(
         &mut self,
         at: usize,
