@@ -4,10 +4,9 @@
 ghost use Rattle.mdhtml.specs.Limits.{HasLimits};
 
 use mdtool::{
-    Cause, Halt, Source, Stop, ToolFault, Words, WriteOut, convert, ended, entities_of, prelude_of,
-    text_end, text_of, words_of, words_refused,
+    Halt, Words, WriteOut, convert, ended, entities_of, prelude_of, text_end, text_of, words_of,
+    words_refused,
 };
-use std::io::BufWriter;
 use std::process::ExitCode;
 
 fn main(rt: HostRuntime) -> ExitCode {
@@ -22,20 +21,13 @@ fn main(rt: HostRuntime) -> ExitCode {
 fn run(rt: &HostRuntime, words: &Words) -> Result<(), Halt>
     requires { HasLimits words.now.options }
 {
-    let alloc = rt.alloc();
     let entities = entities_of(rt, words)?;
     let prelude = prelude_of(rt, words)?;
-    let Ok(writer) = BufWriter::new(alloc, rt.stdout()) else {
-        return Err(Halt {
-            stop: Stop::Tool(ToolFault::NoMemory),
-            source: Source::Text,
-            cause: Cause::Other,
-        });
-    };
     let mut feed = text_of(rt, words)?;
-    let mut out = WriteOut::new(writer);
+    // The HTML is handed over whole, so there is nothing to gather.
+    let mut out = WriteOut::new(rt.stdout());
     let end = convert(
-        alloc,
+        rt.alloc(),
         &mut feed,
         &mut out,
         entities,
