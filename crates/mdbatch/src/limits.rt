@@ -6,7 +6,7 @@ ghost use Rattle.mdsource.specs.SourceLimits.{refusal};
 use mdsource::{EditFault, MAX_LINES, MAX_SIZE};
 use mdtext::{clean_len, split_line};
 
-/// Whether the text, U+FFFD standing for each U+0000, has no more than 1,000,000 lines and 16,777,216 bytes, with one counted for each line's end.
+/// Refuses a text of more than 1,000,000 lines, or else of more than 16,777,216 bytes, with one counted for each line's end, and U+FFFD standing for each U+0000.
 /// Takes no memory.
 pub(crate) fn within_limits(text: &str) -> Result<(), EditFault>
     ensures within { OnOk result (refusal (map without_nul (split_lines text.now)) ≡ None) }

@@ -1,4 +1,4 @@
-//! Why an edit or a new prelude is refused.
+//! Why an edit, a new prelude or a whole text is refused.
 
 ghost use Rattle.std.specs.Prelude.{◌≡◌};
 ghost use Rattle.mdsource.specs.declared.fault.EditFault.TheVariants.{NoMemory};
@@ -9,7 +9,7 @@ use std::alloc::{AllocError, AllocFailed};
 use std::error::Error;
 use std::fmt;
 
-/// Why an edit or a new prelude was refused. Nothing has changed then.
+/// Why an edit, a new prelude or a whole text was refused. Nothing has changed then.
 #[derive(Clone, Copy, Debug, PartialEq, Eq)]
 pub enum EditFault {
     /// The edit reaches past the text, which has this many lines.

@@ -1,6 +1,5 @@
 //! What a text is that is handed in: its lines with their limits, and a prelude; and why an edit, a text or a prelude is refused. In `specs/` what a view of a text
-//! is, and what an edit of it means: definitions over lists of lines. An edit inside a long list reads again the items from where reading begins to the first one
-//! behind the edit that begins in both texts, and not the rest of their list. `laws` has what holds of these definitions, whatever holds a text.
+//! is, and what an edit of it means: definitions over lists of lines. `laws` has what holds of these definitions, whatever holds a text.
 #![tactic(auto)]
 
 mod added_lines;

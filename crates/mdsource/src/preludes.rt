@@ -113,7 +113,7 @@ impl Labels for Prelude {
     }
 }
 
-/// Why the lines are refused as a prelude, whatever the memory. Takes none.
+/// Refuses lines that no prelude has, whatever the memory: one with a line ending in it, too many lines, too many bytes, in this order. Takes no memory.
 fn accept(lines: &AddedLines) -> Result<(), EditFault>
     ensures ok { OnOk result (due_of_prelude lines.now ≡ None) }
     ensures err { IfErr result (λ fault. RefusesPrelude fault lines.now) }

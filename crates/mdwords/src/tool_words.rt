@@ -140,7 +140,7 @@ fn replies_of(matches: &ArgMatches<'_>) -> ReplyForm
     }
 }
 
-/// Whether what cmark-gfm is asked for is what is done anyway.
+/// Refuses options of cmark-gfm that ask for what is not done anyway.
 fn require_done_anyway(matches: &ArgMatches<'_>) -> Result<(), WordFault>
     ensures { OnOk result (IsDoneAnyway matches.now) }
 {
@@ -170,7 +170,7 @@ fn require_width(word: Option<&str>) -> Result<(), WordFault>
     }
 }
 
-/// Whether all these extensions are among those that are always on.
+/// Refuses names among which one is of no extension that is always on.
 fn require_extensions(names: &[&str]) -> Result<(), WordFault>
     ensures { OnOk result (list_all is_extension (map (λ name. name.now) names.now) ≡ true) }
 {

@@ -61,7 +61,7 @@ impl<'a> NewText<'a> {
         LinesAhead::new(self.at - from, front, Iter::of(self.added), back)
     }
 
-    /// The line of this number, the first of those ahead.
+    /// The line of this number, the first of those ahead. The number serves the contract alone.
     pub(crate) fn line(&self, i: usize, ahead: &mut LinesAhead<'a>) -> &'a str
         requires within { i < length (lines_of self.now) }
         requires ahead { ahead.old ≡ drop i (lines_of self.now) }
