@@ -262,15 +262,11 @@ fn compare(
     alloc: Global,
     one: &Preview,
     other: &Preview,
-    with_trees: bool,
 ) -> Result<(), AllocError> {
     assert!(rt; are_as_many(one, other) && have_same_prelude(one, other));
     compare_lines(rt, one, other);
     compare_units(rt, one, other);
-    if with_trees {
-        compare_told(rt, alloc, one, other)?;
-    }
-    Ok(())
+    compare_told(rt, alloc, one, other)
 }
 
 /// A preview of what was given, made anew.
@@ -280,10 +276,10 @@ fn made_anew(alloc: Global, held: &Held) -> Result<Preview, Fail> {
     Ok(anew)
 }
 
-/// Compares a preview with one of the same lines that is made anew, by its trees too where that is asked for.
-fn compare_anew(rt: &impl Abort, alloc: Global, held: &Held, with_trees: bool) -> Result<(), Fail> {
+/// Compares a preview with one of the same lines that is made anew, by all that both tell.
+fn compare_anew(rt: &impl Abort, alloc: Global, held: &Held) -> Result<(), Fail> {
     let anew = made_anew(alloc, held)?;
-    compare(rt, alloc, &held.preview, &anew, with_trees)?;
+    compare(rt, alloc, &held.preview, &anew)?;
     Ok(())
 }
 
@@ -303,18 +299,17 @@ fn try_edit(
     Ok(())
 }
 
-/// A thousand edits. The trees are compared at every `often`th.
+/// A thousand edits, with a comparison behind each.
 fn try_edits(
     rt: &impl Abort,
     alloc: Global,
     mut held: Held,
     of: &[&'static str],
-    often: usize,
     mut seed: u64,
 ) -> Result<(), Fail> {
     for step in 0..1000 {
         try_edit(rt, alloc, &mut held, of, step, &mut seed)?;
-        compare_anew(rt, alloc, &held, often != 0 && step % often == 0)?;
+        compare_anew(rt, alloc, &held)?;
     }
     Ok(())
 }
@@ -343,7 +338,7 @@ fn parted(alloc: Global, seed: &mut u64) -> Result<Held, Fail> {
 fn edits_leave_what_the_whole_text_gives(rt: HostRuntime) -> Result<(), Fail> {
     let mut seed = 41;
     let held = parted(rt.alloc(), &mut seed)?;
-    try_edits(&rt, rt.alloc(), held, &LINES, 50, seed)
+    try_edits(&rt, rt.alloc(), held, &LINES, seed)
 }
 
 /// Forty lines of these.
@@ -359,12 +354,12 @@ fn forty(alloc: Global, of: &[&'static str], seed: &mut u64) -> Result<Held, Fai
 fn edits_of_one_bullet_list_leave_what_the_whole_text_gives(rt: HostRuntime) -> Result<(), Fail> {
     let mut seed = 43;
     let held = forty(rt.alloc(), &BULLETS, &mut seed)?;
-    try_edits(&rt, rt.alloc(), held, &BULLETS, 1, seed)
+    try_edits(&rt, rt.alloc(), held, &BULLETS, seed)
 }
 
 #[test]
 fn edits_of_one_ordered_list_leave_what_the_whole_text_gives(rt: HostRuntime) -> Result<(), Fail> {
     let mut seed = 47;
     let held = forty(rt.alloc(), &NUMBERS, &mut seed)?;
-    try_edits(&rt, rt.alloc(), held, &NUMBERS, 1, seed)
+    try_edits(&rt, rt.alloc(), held, &NUMBERS, seed)
 }

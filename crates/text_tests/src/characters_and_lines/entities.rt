@@ -268,6 +268,28 @@ fn files_that_are_refused(rt: HostRuntime) {
     }
 }
 
+/// A file of one member, whose value is so many lists in one another.
+fn nested_file(alloc: Global, depth: usize) -> Result<String, AllocError> {
+    let mut file = String::from_str(alloc, "{\"a\":")?;
+    for _ in 0..depth {
+        file.push_str("[")?;
+    }
+    for _ in 0..depth {
+        file.push_str("]")?;
+    }
+    file.push_str("}")?;
+    Ok(file)
+}
+
+#[test]
+fn lists_that_nest_too_deep_are_refused(rt: HostRuntime) -> Result<(), Fail> {
+    let file = nested_file(rt.alloc(), 100)?;
+    assert_eq!(rt; refusal(rt.alloc(), file.as_bytes()), None);
+    let file = nested_file(rt.alloc(), 200)?;
+    check_refusal(&rt, rt.alloc(), file.as_bytes(), TableFault::NotJson);
+    Ok(())
+}
+
 /// Some names of HTML, and some that it has not.
 static NAMES_OF_HTML: [(&str, Option<&str>); 17] = [
     ("AElig", Some("\u{C6}")),
