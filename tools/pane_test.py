@@ -248,15 +248,18 @@ def ends_with_a_line(address, name):
 
 
 def hands_on(browser, name):
-    """The program's options are handed on."""
+    """The program's options are handed on, and the page aligns the cells by the attribute that comes of them."""
     words = ["--html-entities", "--strikethrough-double-tilde", "--hardbreaks", "--unsafe", "--github-pre-lang", "--full-info-string",
              "--table-prefer-style-attributes"]
-    save(name, "a &rarr; ~b~\n<i>c</i>\n\n``` x y\n```\n\n| a |\n|:-:|\n")
+    save(name, "a &rarr; ~b~\n<i>c</i>\n\n``` x y\n```\n\n| a | b | c |\n|:-:|--:|:--|\n| d | e | f |\n")
     wanted = subprocess.run([os.path.join(BIN, "mdrender"), *words, name], stdout=subprocess.PIPE, check=True).stdout.decode()
     server, address = started(name, *words)
     try:
         browser.call("Page.navigate", url=address)
-        return wait(lambda: shown(browser, wanted))
+        if not wait(lambda: shown(browser, wanted)):
+            return False
+        aligned = browser.value("[...document.querySelectorAll('#pieces th, #pieces td')].map(cell => getComputedStyle(cell).textAlign)")
+        return aligned == ["center", "right", "left", "center", "right", "start"]
     finally:
         server.terminate()
         server.wait()
