@@ -100,7 +100,7 @@ module _ (one other : Table) where
       ap (λ zs. x ∷ zs) (same_items entities text (at + 1) (x.size - 1) (after_deed x.deed ps) rest (agree_back x.asks _ h))
       ∙ ap (λ (z : Item). z ∷ items_from entities other text (at + 1) (z.size - 1) (after_deed z.deed ps) rest) here
 
-  same_reading : (entities : EntityTable) (text : List ℕ) → Agree one other (asked entities one text) → reading entities one text ≡ reading entities other text
+  pub same_reading : (entities : EntityTable) (text : List ℕ) → Agree one other (asked entities one text) → reading entities one text ≡ reading entities other text
   unfolding asked
   same_reading entities text h = same_items entities text 0 0 [] text (agree_fold (asks_of (reading entities one text)) [] h).1
 

@@ -9,9 +9,11 @@ ghost use Rattle.inlinespec.specs.SpanEnds.{EndSpans};
 ghost use Rattle.inlinespec.specs.TextReading.{Item, IsReading, reading};
 ghost use Rattle.inlinespec.specs.TextTree.{events_of, inl, asked, Agree};
 
-/// Tables that agree on the labels that were looked up give one tree and one set of labels.
+/// Tables that agree on the labels that were looked up give one reading, so one tree and one set of labels.
 pub fn only_asked_labels_matter()
-    ensures { (entities : EntityTable) (one other : Table) (text : List ℕ) → Agree one other (asked entities one text)
+    ensures reading { (entities : EntityTable) (one other : Table) (text : List ℕ) → Agree one other (asked entities one text)
+        → reading entities one text ≡ reading entities other text }
+    ensures tree { (entities : EntityTable) (one other : Table) (text : List ℕ) → Agree one other (asked entities one text)
         → (inl entities one text ≡ inl entities other text) × (asked entities one text ≡ asked entities other text) }
 {}
 

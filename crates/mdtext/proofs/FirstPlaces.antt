@@ -1,6 +1,7 @@
 -- The first place of one of a few bytes.
-use Rattle.std.proofs.Common.{◌≡◌, ℕ, Bool, true, false, List, [], ◌∷◌, Option, None, Some, length, take, get_or, unwrap_or, refl, ap, sym, ◌∙◌, arith, ◌||◌}
+use Rattle.std.proofs.Common.{◌≡◌, ℕ, Bool, true, false, List, [], ◌∷◌, Option, None, Some, zero, suc, length, take, get_or, ◌+◌, ◌<◌, ◌≤◌, ◌++◌, cond, eqb, length-append, unwrap_or, refl, ap, sym, subst, ◌∙◌, arith, ◌||◌}
 use Rattle.std.specs.List.{position_or_len, list_any}
+use Rattle.std.specs.Prelude.{slice_index}
 use Rattle.std.proofs.Math.Seq.{take-length}
 use Rattle.mdtext.specs.Lines.{clean_byte, without_nul}
 use Rattle.mdtext.proofs.PlainRuns.{front_plain, run_stays}
@@ -46,3 +47,26 @@ stays bs h =
     let end : length bs ≡ position_or_len (in_class (0 ∷ [])) bs = first_of_one 0 bs None h in
     let plain : list_any (in_class (0 ∷ [])) bs ≡ false = ap (λ l. list_any (in_class (0 ∷ [])) l) (sym (ap (λ n. take n bs) (sym end) ∙ take-length bs)) ∙ front_plain (in_class (0 ∷ [])) bs in
     ap without_nul (sym (append-nil bs)) ∙ run_stays (0 ∷ []) clean_byte replaces_nul bs [] plain ∙ append-nil bs
+
+grown_byte_by : (t : Bool) (b : ℕ) → 1 ≤ length (cond t (0xEF ∷ 0xBF ∷ 0xBD ∷ []) (b ∷ []))
+grown_byte_by true b = omega arith
+grown_byte_by false b = omega arith
+
+grown_byte : (b : ℕ) → 1 ≤ length (clean_byte b)
+grown_byte b = grown_byte_by (eqb b 0) b
+
+no_shorter : (bs : List ℕ) → length bs ≤ length (without_nul bs)
+no_shorter [] = omega arith
+no_shorter (b ∷ bs) = omega (arith, grown_byte b, no_shorter bs, length-append (clean_byte b) (without_nul bs))
+
+longer_by : (t : Bool) (b : ℕ) (bs : List ℕ) → t ≡ true → length bs + 1 < length (cond t (0xEF ∷ 0xBF ∷ 0xBD ∷ []) (b ∷ []) ++ without_nul bs)
+longer_by t b bs nul = subst (λ t. length bs + 1 < length (cond t (0xEF ∷ 0xBF ∷ 0xBD ∷ []) (b ∷ []) ++ without_nul bs)) (sym nul) (omega (arith, no_shorter bs))
+
+-- a line with a NUL gets longer
+longer : (bs : List ℕ) (k : ℕ) → k < length bs → is_byte 0 (slice_index bs k) ≡ true → length bs < length (without_nul bs)
+longer [] k less nul = absurd (omega (arith, less))
+longer (b ∷ bs) zero less nul = omega (arith, longer_by (eqb b 0) b bs nul)
+longer (b ∷ bs) (suc k) less nul = omega (arith, grown_byte b, longer bs k (omega (arith, less)) nul, length-append (clean_byte b) (without_nul bs))
+
+pub grows : (bs : List ℕ) (k : ℕ) → IsFirstByte (is_byte 0) bs (Some k) → length bs < length (without_nul bs)
+grows bs k h = longer bs k h.0.high h.1

@@ -1,5 +1,5 @@
 //! The lines of a text.
-ghost use Rattle.std.specs.Prelude.{◌≡◌, ◌-◌, ◌^◌, ◌<◌, ◌∷◌, IfOk, IsTrue, drop, if◌then◌else◌, length, map, min, string_bytes};
+ghost use Rattle.std.specs.Prelude.{◌≡◌, ◌-◌, ◌^◌, ◌<◌, ◌∷◌, IfOk, IsFalse, IsTrue, drop, if◌then◌else◌, length, map, min, string_bytes};
 ghost use Rattle.mdtext.specs.Lines.{without_nul, without_mark, begins_with_lf, split_lines, text_lines};
 ghost use Rattle.std.specs.Str.{IsUtf8};
 
@@ -89,9 +89,10 @@ pub fn clean_len(line: &str) -> usize
 }
 
 /// Whether no U+0000 stands in the text, so that it is read as it is (CommonMark 2.3). Takes no memory.
-#[tactic(auto, using(crate::proofs::FirstPlaces::stays))]
+#[tactic(auto, using(crate::proofs::FirstPlaces::stays, crate::proofs::FirstPlaces::grows))]
 pub fn is_clean(text: &str) -> bool
-    ensures { IsTrue result → without_nul text.now ≡ text.now }
+    ensures clean { IsTrue result → without_nul text.now ≡ text.now }
+    ensures nul { IsFalse result → length text.now < length (without_nul text.now) }
 {
     memchr(0, text.as_bytes()).is_none()
 }

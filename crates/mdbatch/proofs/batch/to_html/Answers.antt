@@ -11,7 +11,7 @@ use Rattle.mdbatch.proofs.batch.to_html.Goals as goal
 pub invariant_of-clean-clause-small : goal.invariant_of-clean-clause-small
 invariant_of-clean-clause-small c =
     let text = c.after_mark-text.result.now in
-    (clean_within text text (sym (c.is_clean.ensures c.if-is_clean.true)) c.in_ok-within_limits.ensures.within).1
+    (clean_within text text (sym (c.is_clean.ensures.clean c.if-is_clean.true)) c.in_ok-within_limits.ensures.within).1
 
 pub invariant_of-clean-2-clause-few : goal.invariant_of-clean-2-clause-few
 invariant_of-clean-2-clause-few c =
@@ -24,7 +24,7 @@ invariant_of-clean-2-clause-small c =
 pub returns-then-is_clean-clause-html : goal.returns-then-is_clean-clause-html
 returns-then-is_clean-clause-html c =
     let text = c.after_mark-text.result.now in
-    let lines = ap split_lines (sym (c.is_clean.ensures c.if-is_clean.true)) ∙ lines_of_clean text in
+    let lines = ap split_lines (sym (c.is_clean.ensures.clean c.if-is_clean.true)) ∙ lines_of_clean text in
     subst (λ ls. TextHtml c.clean_html.result (record { entities = c.args.entities.now; options = c.args.options.now }) c.args.prelude.now ls) (lines ∙ ap (λ t. map without_nul (split_lines t)) c.after_mark-text.ensures)
     (text_html c.clean_html.result (record { entities = c.args.entities.now; options = c.args.options.now }) c.args.prelude.now (split_lines text) (ap refusal lines ∙ c.in_ok-within_limits.ensures.within)
     c.clean_html.ensures.html c.clean_html.ensures.nesting c.clean_html.ensures.fault)
