@@ -141,9 +141,9 @@ typedef struct {
     size_t again_len;
 } jirmoans_changes;
 
-/* A text: `len` bytes of UTF-8 at `at`, and a NUL behind them; none is among them. It belongs to the
- * preview. It lies there until the next call of jirmoans_piece, jirmoans_html or jirmoans_close with
- * this preview. */
+/* A text: `len` bytes of UTF-8 at `at`, and a NUL behind them; none is among them, unless a name in
+ * the file of entities stands for one. It belongs to the preview. It lies there until the next call of
+ * jirmoans_piece, jirmoans_html or jirmoans_close with this preview. */
 typedef struct {
     const char *at;
     size_t len;

@@ -58,13 +58,19 @@ static void tell_fault(jirmoans_fault fault) {
     printf("refused %s %zu\n", name, fault.number);
 }
 
-static void tell_piece(jirmoans_preview *preview, size_t unit) {
+/* The HTML of a unit that is there: want of memory alone is in the way. */
+static jirmoans_text shown(jirmoans_preview *preview, size_t unit) {
     jirmoans_text piece;
     jirmoans_fault fault = jirmoans_piece(preview, unit, &piece);
     if (fault.code != JIRMOANS_OK) {
         fputs("preview: no memory\n", stderr);
         exit(1);
     }
+    return piece;
+}
+
+static void tell_piece(jirmoans_preview *preview, size_t unit) {
+    jirmoans_text piece = shown(preview, unit);
     printf("piece %zu %zu\n", unit, piece.len);
     fwrite(piece.at, 1, piece.len, stdout);
 }
@@ -86,12 +92,12 @@ static void tell_changes(jirmoans_preview *preview, jirmoans_changes changes) {
 
 static void tell_html(jirmoans_preview *preview) {
     size_t units = jirmoans_units(preview), len = 0;
-    jirmoans_text piece;
-    for (size_t i = 0; i < units && jirmoans_piece(preview, i, &piece).code == JIRMOANS_OK; i++) {
-        len += piece.len;
+    for (size_t i = 0; i < units; i++) {
+        len += shown(preview, i).len;
     }
     printf("html %zu\n", len);
-    for (size_t i = 0; i < units && jirmoans_piece(preview, i, &piece).code == JIRMOANS_OK; i++) {
+    for (size_t i = 0; i < units; i++) {
+        jirmoans_text piece = shown(preview, i);
         fwrite(piece.at, 1, piece.len, stdout);
     }
 }
@@ -161,7 +167,10 @@ int main(void) {
     while (status == 0 && read_line(&line)) {
         line.at[line.at[line.len - 1] == '\n' ? line.len - 1 : line.len] = '\0';
         status = answer(&preview, line.at, &lines) ? 0 : 2;
-        fflush(stdout);
+        if (fflush(stdout) != 0 || ferror(stdout)) {
+            fputs("preview: write failed\n", stderr);
+            status = 1;
+        }
         line.len = 0;
     }
     jirmoans_close(&preview);

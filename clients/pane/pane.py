@@ -77,6 +77,8 @@ class Preview:
         """Starts the program, and sees that it answers: the HTML of the empty text is empty."""
         self.child = subprocess.Popen(self.command, stdin=subprocess.PIPE, stdout=subprocess.PIPE, stderr=subprocess.PIPE)
         self.lines, self.pieces, self.begins = [], [], []
+        # Pages still show what another child held.
+        self.fresh = True
         answer = b""
         try:
             self.child.stdin.write(b"html\n")
@@ -95,7 +97,7 @@ class Preview:
     def edit(self, new):
         """Brings the text to these lines. Answers which pieces changed, or why the text is refused; nothing where no line differs."""
         at, gone, lines = change(self.lines, new)
-        if not gone and not lines:
+        if not gone and not lines and not self.fresh:
             return None
         command = f"edit {at} {gone} {len(lines)}\n" + "".join(line + "\n" for line in lines)
         try:
@@ -112,6 +114,7 @@ class Preview:
             return {"refused": REASONS["NoMemory"]}
         if "refused" not in answer:
             self.lines = new
+            answer["fresh"], self.fresh = self.fresh, False
         return answer
 
     def reply(self):
@@ -155,10 +158,13 @@ class Pane:
         self.lock = threading.Lock()
         # Why the text that came last is refused, if it is: a page that comes later is told too.
         self.refused = None
+        # The lines that came last, refused or not.
+        self.lines = []
 
     def show(self, lines):
         """Brings the preview to these lines, and tells every page what changed."""
         with self.lock:
+            self.lines = lines
             answer = self.preview.edit(lines)
             if answer is None:
                 # The text is as the preview holds it, so a refusal of another text is over.
@@ -189,6 +195,16 @@ def stamp_of(name):
     return stamp.st_mtime_ns, stamp.st_size, stamp.st_ino
 
 
+def text_of(name):
+    """The text of a file. A fault names it, where it comes with a read too."""
+    try:
+        with open(name, encoding="utf-8", errors="replace", newline="") as file:
+            return file.read()
+    except OSError as fault:
+        fault.filename = name
+        raise
+
+
 def watch(pane, name):
     """Shows the file whenever it was changed, once it rests: an editor may still be writing it."""
     seen = None
@@ -197,8 +213,7 @@ def watch(pane, name):
             now = stamp_of(name)
             time.sleep(0.05)
             if now != seen and now == stamp_of(name):
-                with open(name, encoding="utf-8", errors="replace", newline="") as file:
-                    pane.show(lines_of(file.read()))
+                pane.show(lines_of(text_of(name)))
                 seen = now
         except OSError:
             # An editor may take the file away for a moment while it saves.
@@ -207,7 +222,10 @@ def watch(pane, name):
 
 def served(folder, path):
     """The file of this folder that a request's path names, and its kind; nothing where there is none, or it lies outside, or is neither an image nor a text."""
-    name = os.path.realpath(os.path.join(folder, urllib.parse.unquote(path.split("?")[0]).lstrip("/")))
+    path = urllib.parse.unquote(path.split("?")[0])
+    if "\0" in path:
+        return None
+    name = os.path.realpath(os.path.join(folder, path.lstrip("/")))
     kind = KINDS.get(os.path.splitext(name)[1].lower())
     inside = name.startswith(os.path.join(os.path.realpath(folder), ""))
     return (name, kind) if kind and inside and os.path.isfile(name) else None
@@ -221,9 +239,12 @@ def handler(pane, options, secret):
         protocol_version = "HTTP/1.1"
 
         def allowed(self):
-            own = (f"127.0.0.1:{self.server.server_port}", f"localhost:{self.server.server_port}")
+            port = self.server.server_port
+            own = [f"{name}:{port}" for name in ("127.0.0.1", "localhost")] + (["127.0.0.1", "localhost"] if port == 80 else [])
             origin = self.headers.get("Origin")
-            if self.headers.get("Host") in own and origin in (None, *("http://" + one for one in own)):
+            # What another page shows, a picture say, comes with no origin; a browser tells it so.
+            stranger = self.path != "/" and self.headers.get("Sec-Fetch-Site") not in (None, "same-origin", "none")
+            if not stranger and self.headers.get("Host") in own and origin in (None, *("http://" + one for one in own)):
                 return True
             self.send_error(403)
             return False
@@ -234,9 +255,10 @@ def handler(pane, options, secret):
             self.send_header("Content-Length", str(len(body)))
             self.send_header("Cache-Control", "no-store")
             # Nothing from elsewhere is run, and no form leaves the page.
-            own = f"default-src 'none'; img-src * data:; connect-src 'self'; style-src 'nonce-{secret}'; script-src 'nonce-{secret}'; base-uri 'none'; form-action 'none'"
+            own = f"default-src 'none'; img-src * data:; connect-src 'self'; style-src 'nonce-{secret}'; script-src 'nonce-{secret}'; base-uri 'none'; form-action 'none'; frame-ancestors 'none'"
             self.send_header("Content-Security-Policy", policy or own)
             self.send_header("X-Content-Type-Options", "nosniff")
+            self.send_header("Cross-Origin-Resource-Policy", "same-origin")
             self.end_headers()
             self.wfile.write(body)
 
@@ -246,7 +268,7 @@ def handler(pane, options, secret):
             if self.path == "/":
                 with open(os.path.join(HERE, "page.html"), encoding="utf-8") as page:
                     text = page.read()
-                first = "\n".join(pane.preview.lines) if options.write else ""
+                first = "\n".join(pane.lines) if options.write else ""
                 text = text.replace("NONCE", secret).replace("WRITE", json.dumps(options.write)).replace("FIRST", json.dumps(first).replace("<", "\\u003c"))
                 self.answer("text/html; charset=utf-8", text.encode())
             elif self.path == "/changes":
@@ -298,7 +320,11 @@ def handler(pane, options, secret):
                 self.close_connection = True
                 self.send_error(403)
                 return
-            pane.show(lines_of(self.rfile.read(int(size)).decode("utf-8", "replace")))
+            text = self.rfile.read(int(size))
+            if len(text) < int(size):
+                self.close_connection = True
+                return
+            pane.show(lines_of(text.decode("utf-8", "replace")))
             self.answer("text/plain", b"")
 
         def log_message(self, form, *words):
@@ -340,8 +366,7 @@ def main():
     words += [word for name in ("entities", "prelude") if getattr(options, name) for word in ("--" + name, getattr(options, name))]
     preview = None
     try:
-        with open(options.file, encoding="utf-8", errors="replace", newline="") as file:
-            first = lines_of(file.read())
+        first = lines_of(text_of(options.file))
         preview = Preview(options.program, words)
         pane = Pane(preview)
         pane.show(first)

@@ -45,13 +45,13 @@ enddef
 def Lines(): list<string>
   var lines = getbufline(text, 1, '$')
   # An empty buffer has one empty line.
-  return lines == [''] ? [] : lines->mapnew((_, line) => substitute(line, '\r', '', 'g'))
+  return lines == [''] ? [] : lines->mapnew((_, line) => split(substitute(line, '\r$', '', ''), '\r', true))->flattennew()
 enddef
 
 # Sends the lines that differ, from the first to the last one.
 def Send()
   var now = Lines()
-  if busy || now == held || now == refused
+  if text == 0 || busy || now == held || now == refused
     return
   endif
   var [front, tail, most] = [0, 0, min([len(held), len(now)])]
@@ -101,8 +101,7 @@ def Begin(first: number, removed: number, added: number)
   sizes = sizes->slice(0, first) + repeat([0], added) + sizes->slice(first + removed)
 enddef
 
-def Put(piece: number, bytes: string)
-  var lines = bytes == '' ? [] : split(strpart(bytes, 0, len(bytes) - 1), "\n", true)
+def Put(piece: number, lines: list<string>)
   Replace(Before(piece), sizes[piece], lines)
   sizes[piece] = len(lines)
 enddef
@@ -112,18 +111,25 @@ def Soon()
   timer_start(0, (_) => Send())
 enddef
 
-# Takes the next line of the reply with what belongs to it, if all of it came.
-def Took(): bool
-  var end = stridx(came, "\n")
-  var words = split(strpart(came, 0, end), ' ')
-  var numbers = words->slice(1)->mapnew((_, word) => str2nr(word))
-  if end < 0 || words[0] ==# 'piece' && len(came) < end + 1 + numbers[1]
-    return false
+# Takes the line at `at` of the reply with what belongs to it, if all of it came: answers where the next one begins, or -1. The last of `lines` is not whole.
+def Took(lines: list<string>, at: number): number
+  if at >= len(lines) - 1
+    return -1
   endif
+  var words = split(lines[at], ' ')
+  var numbers = words->slice(1)->mapnew((_, word) => str2nr(word))
+  var end = at + 1
   if words[0] ==# 'piece'
-    Put(numbers[0], strpart(came, end + 1, numbers[1]))
+    var bytes = numbers[1]
+    while bytes > 0 && end < len(lines) - 1
+      bytes -= len(lines[end]) + 1
+      end += 1
+    endwhile
+    if bytes > 0
+      return -1
+    endif
+    Put(numbers[0], lines->slice(at + 1, end))
     pieces -= 1
-    end += numbers[1]
   elseif words[0] ==# 'ok'
     Begin(numbers[0], numbers[1], numbers[2])
     [held, refused, pieces, behind] = [sent, NONE, numbers[2] + numbers[3], [0, 0]]
@@ -131,18 +137,25 @@ def Took(): bool
     refused = sent
     Warn(Said(words[1], numbers[1]))
   endif
-  came = strpart(came, end + 1)
   if pieces == 0
     busy = false
     Soon()
   endif
-  return true
+  return end
 enddef
 
-def Came(_: channel, bytes: string)
+def Came(from: channel, bytes: string)
+  # What a program of before still says is of no use.
+  if text == 0 || from != job_getchannel(job)
+    return
+  endif
   came ..= bytes
-  while came != '' && Took()
+  var lines = split(came, "\n", true)
+  var [at, next] = [0, Took(lines, 0)]
+  while next >= 0
+    [at, next] = [next, Took(lines, next)]
   endwhile
+  came = join(lines->slice(at), "\n")
 enddef
 
 def Close()
@@ -150,6 +163,7 @@ def Close()
     text = 0
     busy = false
     listener_remove(listener)
+    autocmd! jirmoans
     job_stop(job)
     execute 'silent! bwipeout!' html
   endif
@@ -176,14 +190,19 @@ def Toggle()
     Warn(Program() .. ' is not there, or is no program; g:jirmoans_program names it')
     return
   endif
-  text = bufnr()
-  execute 'vnew [HTML]'
+  var buffer = bufnr()
+  execute 'vnew' fnameescape('[HTML]')
   setlocal buftype=nofile bufhidden=wipe noswapfile nobuflisted filetype=html
   html = bufnr()
   autocmd BufWipeout <buffer> Close()
   wincmd p
   [held, sizes, busy, came, pieces, behind, refused] = [[], [], false, '', 0, [0, 0], NONE]
   job = job_start([Program()] + get(g:, 'jirmoans_options', []), {mode: 'raw', out_cb: Came, exit_cb: Ended})
+  text = buffer
+  augroup jirmoans
+    execute printf('autocmd! BufReadPost,FileChangedShellPost <buffer=%d> Soon()', text)
+    execute printf('autocmd! BufWipeout <buffer=%d> Close()', text)
+  augroup END
   listener = listener_add((_, _, _, _, _) => Soon(), text)
   Send()
 enddef
