@@ -34,6 +34,8 @@ VERSION = $(shell sed -nE 's/^pub const VERSION: &str = "(.*)";$$/\1/p' crates/m
 need = @for made in $(1); do [ -e $$made ] || { echo "$$made is not there: make build first" >&2; exit 1; }; done
 # Ends a target that takes the toolchain where that is not there.
 need_rt = @command -v $(RT) > /dev/null || { echo "there is no $(RT) on the path: it is the command of the Rattle toolchain (rattle-kit-13f)" >&2; exit 1; }
+# Ends a target that takes a folder which no variable names.
+need_folder = @$(foreach name,$(1),[ -d "$($(name))" ] || { echo "make $@ takes $(name)=DIR, and that is no folder" >&2; exit 1; };)
 BUILT_PROGRAMS := $(PROGRAMS:%=bin/%)
 
 .PHONY: help run test build programs check more_edits fmt picture bench hostile soak fuzz memory pane_test vim_test c_library c_memory compare counts rows rows_inlines standards install install-programs uninstall
@@ -90,7 +92,7 @@ fmt:
 
 picture:
 	$(call need,bin/mdpreview)
-	@tools/picture examples/pane.script > docs/preview.svg
+	@tools/picture examples/pane.script > bin/.preview.svg && mv bin/.preview.svg docs/preview.svg
 
 bench:
 	$(call need,bin/mdrender)
@@ -109,7 +111,7 @@ fuzz:
 	@tools/fuzz.py --seconds $(SECONDS) --seed $(SEED)
 
 memory:
-	@$(if $(BUILT),,$(MAKE) -s build PROGRAMS="$(PROGRAMS) refused_growths")
+	@$(if $(BUILT),,tools/build $(PROGRAMS) refused_growths)
 	@tools/memory.py --seed $(SEED)
 
 pane_test:
@@ -130,13 +132,17 @@ c_memory:
 
 standards:
 	$(call need,bin/mdrender)
+	$(call need_folder,CORPUS)
 	@tools/standards $(wildcard $(CORPUS)/commonmark-*.json $(CORPUS)/gfm-*.json $(CORPUS)/spec.json)
 
-compare: $(if $(BUILT),,build)
+compare:
+	$(call need_folder,ORACLE)
+	@$(if $(BUILT),,tools/build $(PROGRAMS))
 	@tools/compare $(ORACLE) $(TEXTS) $(SCRIPTS)
 
 counts:
-	@$(if $(BUILT),,$(MAKE) -s build PROGRAMS=edit_counts)
+	$(call need_folder,ORACLE)
+	@$(if $(BUILT),,tools/build edit_counts)
 	@tools/counts $(ORACLE) $(SCRIPTS)
 
 # With the library alone built, that no program is there is no failure of the whole.
@@ -146,7 +152,8 @@ install: install-programs
 	  $(INSTALL) -d "$(DESTDIR)$(LIB_DIR)" "$(DESTDIR)$(INCLUDE_DIR)" "$(DESTDIR)$(PKG_CONFIG_DIR)" && \
 	  $(INSTALL) -m 644 $(LIBRARY) "$(DESTDIR)$(LIB_DIR)" && \
 	  $(INSTALL) -m 644 include/jirmoans.h "$(DESTDIR)$(INCLUDE_DIR)" && \
-	  sed -e 's|@PREFIX@|$(PREFIX)|; s|@LIB_DIR@|$(LIB_DIR)|; s|@INCLUDE_DIR@|$(INCLUDE_DIR)|; s|@VERSION@|$(VERSION)|' include/jirmoans.pc.in > "$(DESTDIR)$(PKG_CONFIG_DIR)/jirmoans.pc"; \
+	  sed -e 's|@PREFIX@|$(PREFIX)|; s|@LIB_DIR@|$(LIB_DIR)|; s|@INCLUDE_DIR@|$(INCLUDE_DIR)|; s|@VERSION@|$(VERSION)|' include/jirmoans.pc.in > "$(DESTDIR)$(PKG_CONFIG_DIR)/jirmoans.pc" && \
+	  chmod 644 "$(DESTDIR)$(PKG_CONFIG_DIR)/jirmoans.pc"; \
 	else \
 	  echo "$(LIBRARY) is not built, and so not installed (make build)"; \
 	fi
@@ -175,7 +182,9 @@ uninstall:
 	rm -f "$(DESTDIR)$(LIB_DIR)/libjirmoans.a" "$(DESTDIR)$(INCLUDE_DIR)/jirmoans.h" "$(DESTDIR)$(PKG_CONFIG_DIR)/jirmoans.pc"
 
 rows:
+	$(call need_folder,ORACLE CORPUS)
 	@tools/rows $(PART) $(ORACLE) $(CORPUS)
 
 rows_inlines:
+	$(call need_folder,ORACLE CORPUS)
 	@tools/rows_inlines $(ORACLE) $(CORPUS)

@@ -137,7 +137,10 @@ def two_sizes(program, start):
     for name, unit, size, make in KINDS:
         one, two = (counted(program, make(n)) - start for n in (size, 2 * size))
         growth = two / max(one, 1)
-        failed += growth > MOST
+        end = timed(program, make(size))[1]
+        if growth > MOST or end != "done":
+            failed += 1
+            print(f"FAILED {name}: {end}, {growth:.2f} times the instructions for twice the text", flush=True)
         print(f"| {name} | {size:,}, {2 * size:,} {unit} | {one / 1e6:.1f}, {two / 1e6:.1f} | {growth:.2f} |", flush=True)
     return failed
 
@@ -168,7 +171,9 @@ def large(folder):
     print("|---|---|--:|---|")
     for name, size, program, make, wanted in LARGE:
         seconds, end = timed(os.path.join(folder, program), make())
-        failed += seconds > LONGEST or end != wanted
+        if seconds > LONGEST or end != wanted:
+            failed += 1
+            print(f"FAILED {name}: {seconds:.2f} s, {end}, wanted {wanted}", flush=True)
         print(f"| {name} | {size} | {1000 * seconds:.0f} | {end} |", flush=True)
     return failed
 
@@ -184,7 +189,9 @@ def largest(folder):
         first = f"edit 0 0 {lines}\n{text}"
         ends = [timed(os.path.join(folder, "mdrender"), text)]
         ends += [timed(os.path.join(folder, "mdpreview"), script) for script in (first, f"{first}edit {lines // 2} 1 1\nb\n")]
-        failed += any(seconds > LONGEST_OF_LARGEST or end != "done" for seconds, end in ends)
+        if any(seconds > LONGEST_OF_LARGEST or end != "done" for seconds, end in ends):
+            failed += 1
+            print(f"FAILED {name}: " + "; ".join(f"{seconds:.2f} s, {end}" for seconds, end in ends), flush=True)
         print(f"| {name} | {size} | " + " | ".join(f"{1000 * seconds:,.0f}" for seconds, _ in ends) + " |", flush=True)
     return failed
 

@@ -28,7 +28,7 @@ def library(folder):
     """The library that refuses a growth."""
     made = os.path.join(folder, "refuse_memory.so")
     source = os.path.join(os.path.dirname(os.path.abspath(__file__)), "refuse_memory.c")
-    subprocess.run(["cc", "-shared", "-fPIC", "-O1", "-o", made, source, "-ldl"], check=True)
+    subprocess.run([os.environ.get("CC", "cc"), "-shared", "-fPIC", "-O1", "-o", made, source, "-ldl"], check=True)
     return made
 
 
@@ -215,6 +215,9 @@ def main():
         for name, subject in subjects(options, library(folder)):
             ends = {}
             numbers = range(1, growths(subject, folder) + 1)
+            if not numbers:
+                failed += 1
+                print(f"FAILED {name}: it asks for no memory, so nothing was refused", flush=True)
             runs = pool.map(lambda number: run(subject.program, subject.script, subject.loaded, number, None, subject.least), numbers)
             for number, (status, out, error) in zip(numbers, runs):
                 end, good = subject.judge(status, out, error)
