@@ -157,6 +157,7 @@ fn hold(text: &str, held: &mut Vec<u8>) -> Result<Text, NoMemory>
     ensures shown { IfOk result (λ shown. (shown.at ≡ vec_ptr held.new) × (shown.len ≡ length text.now)) }
 {
     held.clear();
+    held.reserve(text.len().saturating_add(1))?;
     held.extend_from_slice(text.as_bytes())?;
     held.push(0)?;
     Ok(Text {

@@ -3,7 +3,7 @@
 use crate::joined_lines::JoinedLines;
 
 /// What a command's first line says. Numbers are in lines, counted from 0.
-#[derive(Clone, Copy, Debug, PartialEq, Eq)]
+#[derive(Clone, Copy)]
 pub enum Header {
     Html,
     Prelude { add: usize },

@@ -30,7 +30,7 @@ pub trait Feed {
     /// Falls with each call that takes bytes.
     ghost calls_left: { Self → ℕ };
 
-    /// Takes some bytes. Into a nonempty buffer 0 come only at the end.
+    /// Takes some bytes. Into a nonempty buffer 0 come only at the end. A fault takes none.
     fn get(&mut self, buffer: &mut [u8]) -> Result<usize, DeviceFault>
         requires { failures self.old < 2 ^ 64 - 1 }
         ensures bound { IfOk result (λ n. n ≤ length buffer.new) }
@@ -51,7 +51,7 @@ pub trait Out {
     /// How often it has failed.
     ghost failures: { Self → ℕ };
 
-    /// Writes some of the bytes, at least one of a nonempty slice.
+    /// Writes some of the bytes, at least one of a nonempty slice. A fault writes none.
     fn put(&mut self, bytes: &[u8]) -> Result<usize, DeviceFault>
         requires { failures self.old < 2 ^ 64 - 1 }
         ensures bound { IfOk result (λ n. n ≤ length bytes.now) }

@@ -45,7 +45,7 @@ pub struct Halt {
     pub cause: Cause,
 }
 
-/// What the system's word for it means for a file.
+/// What the system's word for it means for a file; any other word is another cause.
 pub(crate) fn cause_of(kind: ErrorKind) -> Cause
     ensures missing { kind ≡ ErrorKind.NotFound → result ≡ Cause.Missing }
     ensures locked { kind ≡ ErrorKind.PermissionDenied → result ≡ Cause.Locked }
@@ -53,6 +53,12 @@ pub(crate) fn cause_of(kind: ErrorKind) -> Cause
     ensures no_folder { kind ≡ ErrorKind.NotADirectory → result ≡ Cause.NoFolder }
     ensures circle { kind ≡ ErrorKind.FilesystemLoop → result ≡ Cause.Circle }
     ensures waits { kind ≡ ErrorKind.WouldBlock → result ≡ Cause.Waits }
+    ensures only_missing { result ≡ Cause.Missing → kind ≡ ErrorKind.NotFound }
+    ensures only_locked { result ≡ Cause.Locked → kind ≡ ErrorKind.PermissionDenied }
+    ensures only_folder { result ≡ Cause.Folder → kind ≡ ErrorKind.IsADirectory }
+    ensures only_no_folder { result ≡ Cause.NoFolder → kind ≡ ErrorKind.NotADirectory }
+    ensures only_circle { result ≡ Cause.Circle → kind ≡ ErrorKind.FilesystemLoop }
+    ensures only_waits { result ≡ Cause.Waits → kind ≡ ErrorKind.WouldBlock }
 {
     match kind {
         ErrorKind::NotFound => Cause::Missing,

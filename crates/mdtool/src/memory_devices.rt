@@ -69,7 +69,7 @@ fn is_due(calls_to_failure: &mut Option<u64>) -> bool {
     }
 }
 
-/// An out that keeps the bytes, takes at most `step` of them a call, and fails at a chosen call; flushes count as calls.
+/// An out that keeps the bytes, takes at most `step` of them a call, and fails at a chosen call, and where a growth is refused; flushes count as calls.
 #[derive(Drop)]
 pub struct MemoryOut {
     bytes: Vec<u8>,

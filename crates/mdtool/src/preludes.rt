@@ -13,7 +13,7 @@ use std::alloc::Global;
 /// The lines of all bytes that the feed has left, for a prelude. Bytes that are no UTF-8 are read as U+FFFD, and lines end as
 /// CommonMark 2.1 says. Whether they are definitions is not looked at.
 ///
-/// `Read` where the feed failed, `NoMemory` where a growth was refused; then some of its bytes are gone.
+/// `Read` where the feed failed, `NoMemory` where a growth was refused; then some of its bytes may be gone.
 pub fn prelude_from<R: Feed>(alloc: Global, feed: &mut R) -> Result<Vec<String>, ToolFault>
     requires { R.failures feed.old < 2 ^ 64 - 1 }
     ensures steps { Steps result

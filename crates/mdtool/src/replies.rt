@@ -17,10 +17,10 @@ use std::alloc::{AllocError, Global};
 pub fn html_reply(alloc: Global, preview: &Preview) -> Result<String, AllocError>
     ensures { IfOk result (λ reply. string_bytes reply ≡ html_reply (pieces_of preview.now)) }
 {
-    let mut html = String::new(alloc);
-    push_pieces(preview, &mut html)?;
-    let mut reply = format!(in alloc; "html {}\n", html.len())?;
-    reply.push_str(html.as_str())?;
+    let mut reply = String::new(alloc);
+    push_pieces(preview, &mut reply)?;
+    let head = format!(in alloc; "html {}\n", reply.len())?;
+    reply.insert_str(0, head.as_str())?;
     Ok(reply)
 }
 

@@ -39,9 +39,9 @@ pub struct Words {
 /// Reads the words of `mdrender` or `mdpreview`, the program's name first.
 ///
 /// `Help` has the text that `--help` asks for, and `Version` answers `--version`. `NotUnderstood` where a word is unknown, a
-/// value is missing, an option is given twice that may stand once, a limit is no whole number from 1 to 256, both
-/// `--hardbreaks` and `--nobreaks` or both `--entities` and `--html-entities` are given, or another format or extension than
-/// what is done anyway. `NoMemory` where a growth was refused.
+/// value is missing, an option is given twice that may stand once, a limit is no whole number from 1 to 256, a
+/// width is no number of 1 to 9 digits, both `--hardbreaks` and `--nobreaks` or both `--entities` and
+/// `--html-entities` are given, or another format or extension than what is done anyway. `NoMemory` where a growth was refused.
 pub fn read_words<'a>(alloc: Global, words: &'a [&'a str]) -> Result<Words, WordFault>
     ensures read { IfOk result (WordsRead (map (λ word. word.now) words.entry.now)) }
     ensures limits { IfOk result (λ words. HasLimits words.options) }

@@ -1,6 +1,6 @@
 //! The reading of blocks, and the joining of lists.
 
-mod calls;
+pub(crate) mod calls;
 mod joins;
 mod readings;
 mod shown;

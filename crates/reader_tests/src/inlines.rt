@@ -78,14 +78,6 @@ fn trees_are_compared(rt: HostRuntime) -> Result<(), Fail> {
     Ok(())
 }
 
-/// Puts so many of a part behind a text.
-fn push_times(text: &mut String, part: &str, count: usize) -> Result<(), AllocError> {
-    for _ in 0..count {
-        text.push_str(part)?;
-    }
-    Ok(())
-}
-
 /// A text of so many openers, a letter and so many closers.
 fn nested(
     alloc: Global,
@@ -94,10 +86,9 @@ fn nested(
     inside: &str,
     closer: &str,
 ) -> Result<String, AllocError> {
-    let mut text = String::new(alloc);
-    push_times(&mut text, opener, count)?;
-    push_times(&mut text, inside, 1)?;
-    push_times(&mut text, closer, count)?;
+    let mut text = opener.repeat(alloc, count)?;
+    text.push_str(inside)?;
+    text.push_str(&closer.repeat(alloc, count)?)?;
     Ok(text)
 }
 

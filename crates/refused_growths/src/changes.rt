@@ -52,7 +52,7 @@ fn try_change(
         return Err(AllocError);
     }
     match answer {
-        Ok(patch) => say_patch(alloc, &patch, preview, said)?,
+        Ok(patch) => say_patch(&patch, preview, said)?,
         Err(fault) => write!(said, "refused {} {}\n", fault.name(), fault.number())?,
     }
     if !show_the_same(alloc, preview, twin)? {
@@ -79,12 +79,7 @@ fn made(preview: &mut Preview, change: &Change<'_>, lines: &[&str]) -> Result<Pa
 const LONG_PIECE: usize = 16_384;
 
 /// Says which pieces came and went, with those that came, as `mdpreview` does.
-fn say_patch(
-    alloc: Global,
-    patch: &Patch,
-    preview: &Preview,
-    said: &mut String,
-) -> Result<(), AllocError> {
+fn say_patch(patch: &Patch, preview: &Preview, said: &mut String) -> Result<(), AllocError> {
     let again = patch.again.len();
     write!(
         said,

@@ -13,35 +13,39 @@ pub fn show_the_same(alloc: Global, one: &Preview, other: &Preview) -> Result<bo
 /// All that the calls of a preview lend: its lines, one after the other and by number, its prelude, its units, each with all that is read of it, and what is past its end.
 fn shown(alloc: Global, preview: &Preview) -> Result<String, AllocError> {
     let mut out = String::with_capacity(alloc, 1 << 13)?;
+    show(preview, &mut out)?;
+    Ok(out)
+}
+
+fn show(preview: &Preview, out: &mut String) -> Result<(), AllocError> {
     write!(
-        &mut out,
+        out,
         "{} {} {:?}\n",
         preview.len(),
         preview.units(),
         preview.options()
     )?;
-    write!(&mut out, "{:?}\n", preview.entities().get("auml"))?;
+    write!(out, "{:?}\n", preview.entities().get("auml"))?;
     for line in preview.lines() {
-        write!(&mut out, "{line:?}\n")?;
+        write!(out, "{line:?}\n")?;
     }
     for number in 0..preview.len() {
-        write!(&mut out, "{number} {:?}\n", preview.line(number))?;
+        write!(out, "{number} {:?}\n", preview.line(number))?;
     }
     for line in preview.prelude() {
-        write!(&mut out, "prelude {line:?}\n")?;
+        write!(out, "prelude {line:?}\n")?;
     }
     for line in preview.definitions().lines() {
-        write!(&mut out, "definitions {line:?}\n")?;
+        write!(out, "definitions {line:?}\n")?;
     }
     for piece in preview.pieces() {
-        write!(&mut out, "{piece:?}\n")?;
+        write!(out, "{piece:?}\n")?;
     }
-    write!(&mut out, "{:?}\n", preview.line(preview.len()))?;
+    write!(out, "{:?}\n", preview.line(preview.len()))?;
     for number in 0..preview.units() {
-        show_unit(preview, number, &mut out)?;
+        show_unit(preview, number, out)?;
     }
-    show_unit(preview, preview.units(), &mut out)?;
-    Ok(out)
+    show_unit(preview, preview.units(), out)
 }
 
 /// What is read of the unit of this number.

@@ -1,12 +1,14 @@
 //! Runs of the engines over memory: what is written, how the run ends, and how often it flushed.
 //!
-//! An engine is called here alone: a call of it is dear to prove.
+//! An engine is called here alone, and so are words read: such a call is dear to prove.
 
 ghost use Rattle.std.specs.Prelude.{◌<◌};
 ghost use Rattle.mdhtml.specs.Limits.{HasLimits};
 
 use mdtext::Entities;
-use mdtool::{MemoryFeed, MemoryOut, Options, ToolFault, convert, serve};
+use mdtool::{
+    MemoryFeed, MemoryOut, Options, ToolFault, WordFault, Words, convert, read_words, serve,
+};
 use std::alloc::{AllocError, Global};
 
 /// How many bytes a call moves at most, and which call of a device fails.
@@ -136,4 +138,9 @@ pub(crate) fn served(
     requires limits { HasLimits options }
 {
     served_beside(alloc, &[], script, devices, options)
+}
+
+/// What a program's words say.
+pub(crate) fn words_read<'a>(alloc: Global, words: &'a [&'a str]) -> Result<Words, WordFault> {
+    read_words(alloc, words)
 }

@@ -163,6 +163,8 @@ fn tell_units(preview: &Preview, out: &mut String) -> Result<(), AllocError> {
 }
 
 fn tell(preview: &Preview, out: &mut String) -> Result<(), AllocError> {
+    let (lines, units) = (preview.len(), preview.units());
+    write!(out, "{lines} {units}\n")?;
     tell_all(preview.prelude(), out)?;
     out.push_str("\n")?;
     tell_all(preview.lines(), out)?;
@@ -219,33 +221,8 @@ fn edit_some(
     Ok(count.lines() <= held.lines.len() as u64)
 }
 
-fn are_as_many(one: &Preview, other: &Preview) -> bool {
-    one.len() == other.len() && one.units() == other.units()
-}
-
-fn have_same_prelude(one: &Preview, other: &Preview) -> bool {
-    one.prelude().eq(other.prelude())
-}
-
-fn compare_lines(rt: &impl Abort, one: &Preview, other: &Preview) {
-    for i in 0..one.len() {
-        assert_eq!(rt; one.line(i), other.line(i));
-    }
-}
-
-fn compare_unit(rt: &impl Abort, one: &Preview, other: &Preview, i: usize) {
-    assert!(rt; one.first_line(i) == other.first_line(i));
-    assert_eq!(rt; one.piece(i), other.piece(i));
-}
-
-fn compare_units(rt: &impl Abort, one: &Preview, other: &Preview) {
-    for i in 0..one.units() {
-        compare_unit(rt, one, other, i);
-    }
-}
-
-/// Compares all that both tell, by their trees too.
-fn compare_told(
+/// Compares all that both tell.
+fn compare(
     rt: &impl Abort,
     alloc: Global,
     one: &Preview,
@@ -257,18 +234,6 @@ fn compare_told(
     Ok(())
 }
 
-fn compare(
-    rt: &impl Abort,
-    alloc: Global,
-    one: &Preview,
-    other: &Preview,
-) -> Result<(), AllocError> {
-    assert!(rt; are_as_many(one, other) && have_same_prelude(one, other));
-    compare_lines(rt, one, other);
-    compare_units(rt, one, other);
-    compare_told(rt, alloc, one, other)
-}
-
 /// A preview of what was given, made anew.
 fn made_anew(alloc: Global, held: &Held) -> Result<Preview, Fail> {
     let mut anew = preview_of(alloc, &held.lines)?;
@@ -276,7 +241,7 @@ fn made_anew(alloc: Global, held: &Held) -> Result<Preview, Fail> {
     Ok(anew)
 }
 
-/// Compares a preview with one of the same lines that is made anew, by all that both tell.
+/// Compares a preview with one of the same lines that is made anew.
 fn compare_anew(rt: &impl Abort, alloc: Global, held: &Held) -> Result<(), Fail> {
     let anew = made_anew(alloc, held)?;
     compare(rt, alloc, &held.preview, &anew)?;

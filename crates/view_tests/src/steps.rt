@@ -252,25 +252,6 @@ fn try_blank_prelude(
     Ok(try_prelude(preview, count, &blanks, fault))
 }
 
-/// So many letters.
-fn some_letters(alloc: Global, count: usize) -> Result<String, AllocError> {
-    let mut some = String::with_capacity(alloc, count)?;
-    for _ in 0..count {
-        some.push('a')?;
-    }
-    Ok(some)
-}
-
-/// A line of so many letters.
-fn letters(alloc: Global, count: usize) -> Result<String, AllocError> {
-    let chunk = some_letters(alloc, 4096)?;
-    let mut line = some_letters(alloc, count % 4096)?;
-    for _ in 0..count / 4096 {
-        line.push_str(&chunk)?;
-    }
-    Ok(line)
-}
-
 fn try_letters(
     alloc: Global,
     preview: &mut Preview,
@@ -279,7 +260,7 @@ fn try_letters(
     len: usize,
     fault: Option<EditFault>,
 ) -> Result<bool, AllocError> {
-    let line = letters(alloc, len)?;
+    let line = "a".repeat(alloc, len)?;
     Ok(try_edit(preview, count, (at, 0), &[line.as_str()], fault))
 }
 

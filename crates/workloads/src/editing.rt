@@ -68,6 +68,13 @@ impl Editor {
         Ok(())
     }
 
+    /// The lines of a text come, and go again.
+    pub fn paste(&mut self, at: usize, text: &str, digest: &mut Digest) -> Result<()> {
+        let lines: Vec<&str> = text.lines().collect(self.alloc)?;
+        self.edit(at, 0, &lines, digest)?;
+        self.edit(at, lines.len(), &[], digest)
+    }
+
     /// Types so many letters at the end of a line, each an edit.
     pub fn type_letters(&mut self, at: usize, letters: usize, digest: &mut Digest) -> Result<()> {
         let mut line = self.line(at)?;

@@ -45,18 +45,23 @@ fn main(rt: HostRuntime) -> Result<()> {
         code: &code,
         entities: entities.as_bytes(),
     };
-    let name = word(&words, 1);
+    run_words(&rt, &words, parts)
+}
+
+/// Runs what the words ask for.
+fn run_words(rt: &HostRuntime, words: &[String], parts: Parts<'_>) -> Result<()> {
+    let name = word(words, 1);
     if name.is_empty() {
-        return run_small(&rt, parts);
+        return run_small(rt, parts);
     }
-    let seed = word(&words, 2).parse::<u64>().context("the seed")?;
-    let count = word(&words, 3).parse::<u64>().context("how many inputs")?;
+    let seed = word(words, 2).parse::<u64>().context("the seed")?;
+    let count = word(words, 3).parse::<u64>().context("how many inputs")?;
     for job in job::ALL {
         if name == job.name() {
-            run_job(&rt, *job, count, Maker::new(parts, Chance::new(seed), 1))?;
+            return run_job(rt, *job, count, Maker::new(parts, Chance::new(seed), 1));
         }
     }
-    Ok(())
+    bail!("no such job")
 }
 
 /// A file of this folder; in the crate's own folder it lies in `data`.

@@ -118,7 +118,5 @@ fn pasted(
         text.push_str(&line)?;
         text.push('\n')?;
     }
-    let lines: Vec<&str> = text.lines().collect(alloc)?;
-    editor.edit(at, 0, &lines, digest)?;
-    editor.edit(at, lines.len(), &[], digest)
+    editor.paste(at, &text, digest)
 }

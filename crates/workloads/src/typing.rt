@@ -12,18 +12,13 @@ pub fn typing(alloc: Global, count: u64, maker: &mut Maker<'_>, digest: &mut Dig
         let mut text = String::new(alloc);
         let size = maker.size(10_000, 4_000_000);
         maker.guides(40, &mut text)?;
-        out_line(&mut text)?;
+        text.push('\n')?;
         maker.sections(size, &mut text)?;
         let mut editor = Editor::open(alloc, &text, digest)?;
         for _ in 0..40 {
             stretch(alloc, &mut editor, maker, digest)?;
         }
     }
-    Ok(())
-}
-
-fn out_line(text: &mut String) -> Result<()> {
-    text.push('\n')?;
     Ok(())
 }
 
@@ -79,7 +74,5 @@ fn pasted(
     let mut text = String::new(alloc);
     let size = maker.chance.size(1_000, 25_000);
     maker.sections(size, &mut text)?;
-    let lines: Vec<&str> = text.lines().collect(alloc)?;
-    editor.edit(at, 0, &lines, digest)?;
-    editor.edit(at, lines.len(), &[], digest)
+    editor.paste(at, &text, digest)
 }

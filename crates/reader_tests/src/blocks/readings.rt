@@ -56,10 +56,7 @@ pub(crate) enum End {
 
 /// A line of so many markers of block quotes.
 pub(crate) fn quoted(alloc: Global, quotes: usize) -> Result<String, AllocError> {
-    let mut line = String::new(alloc);
-    for _ in 0..quotes {
-        line.push_str(">")?;
-    }
+    let mut line = ">".repeat(alloc, quotes)?;
     line.push_str("x")?;
     Ok(line)
 }

@@ -4,24 +4,13 @@ ghost use Rattle.std.specs.Prelude.{IfSome, length};
 ghost use Rattle.mdblock.specs.BlockView.{blocks_view};
 ghost use Rattle.mdblock.specs.Positions.{BlocksIn};
 
+use crate::blocks::calls::read_line;
 use mdblock::{Block, BlockFault, Found, Reader, Unit};
 use mdhtml::{Options, unit_html};
 use mdinline::{LabelTable, Parsed, read};
 use mdtext::{Entities, Tally};
 use std::alloc::Global;
 use std::test::Fail;
-
-/// Reads a line. One that is longer than any that a test has is a fault.
-fn read_line(
-    reader: &mut Reader<'_>,
-    line: &str,
-    count: &mut Tally,
-) -> Result<Option<Found>, BlockFault> {
-    if reader.fed() == usize::MAX || line.len() > usize::MAX / 4 {
-        return Err(BlockFault::Failed);
-    }
-    reader.line(line, count)
-}
 
 /// The first unit that the lines of a text hand out.
 fn first_unit(reader: &mut Reader<'_>, text: &str) -> Result<Option<Found>, BlockFault> {

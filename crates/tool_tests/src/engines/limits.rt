@@ -4,8 +4,8 @@ ghost use Rattle.std.specs.Prelude.{◌≤◌};
 ghost use Rattle.mdhtml.specs.Limits.{HasLimits};
 
 use crate::options::SOFT;
-use crate::runs::{WIDE, converted, served};
-use mdtool::{Options, read_words};
+use crate::runs::{WIDE, converted, served, words_read};
+use mdtool::Options;
 use std::alloc::{AllocError, Global};
 use std::process::Abort;
 use std::test::Fail;
@@ -200,12 +200,12 @@ fn check_limit(
     word: &str,
     want: Option<usize>,
 ) -> Result<(), AllocError> {
-    let containers = match read_words(alloc, &["mdrender", "--max-containers", word]) {
+    let containers = match words_read(alloc, &["mdrender", "--max-containers", word]) {
         Ok(read) => Some(read.options.max_containers),
         Err(_) => None,
     };
     assert_eq!(rt; containers, want, "{word}");
-    let spans = match read_words(alloc, &["mdpreview", "--max-spans", word]) {
+    let spans = match words_read(alloc, &["mdpreview", "--max-spans", word]) {
         Ok(read) => Some(read.options.max_spans),
         Err(_) => None,
     };
@@ -237,8 +237,8 @@ fn limits_are_whole_numbers_to_256(rt: HostRuntime) -> Result<(), Fail> {
         check_limit(&rt, alloc, word, want)?;
     }
     let twice = ["mdrender", "--max-spans", "5", "--max-spans", "5"];
-    assert!(rt; read_words(alloc, &twice).is_err());
-    let none = read_words(alloc, &["mdrender"]).map_err(|_| "not understood")?;
+    assert!(rt; words_read(alloc, &twice).is_err());
+    let none = words_read(alloc, &["mdrender"]).map_err(|_| "not understood")?;
     assert_eq!(rt;
         (none.options.max_containers, none.options.max_spans),
         (64, 64)

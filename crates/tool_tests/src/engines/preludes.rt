@@ -81,13 +81,9 @@ fn a_prelude_is_refused_by_name(rt: HostRuntime) -> Result<(), Fail> {
 fn a_prelude_makes_no_text_too_deep(rt: HostRuntime) -> Result<(), Fail> {
     let alloc = rt.alloc();
     let mut script = String::from_str(alloc, "edit 0 0 3\nx\n\n")?;
-    for _ in 0..64 {
-        script.push_str("*a ")?;
-    }
+    script.push_str(&"*a ".repeat(alloc, 64)?)?;
     script.push_str("[k]")?;
-    for _ in 0..64 {
-        script.push_str(" a*")?;
-    }
+    script.push_str(&" a*".repeat(alloc, 64)?)?;
     script.push_str("\nprelude 1\n[k]: /u\nprelude 1\n[m]: /u\nedit 0 1 1\n[m]\n")?;
     let run = served(alloc, script.as_bytes(), WIDE, SOFT)?;
     assert!(rt; run.ended("Ok(())"));

@@ -3,8 +3,8 @@
 ghost use Rattle.mdhtml.specs.Limits.{HasLimits};
 
 use crate::options::SOFT;
-use crate::runs::{Devices, Run, SOUND, converted, served};
-use mdtool::{Breaks, MemoryFeed, Options, Words, entities_from, read_words};
+use crate::runs::{Devices, Run, SOUND, converted, served, words_read};
+use mdtool::{Breaks, MemoryFeed, Options, Words, entities_from};
 use std::alloc::{AllocError, Global};
 use std::process::Abort;
 use std::test::Fail;
@@ -230,7 +230,7 @@ fn check_words(
     words: &[&str],
     want: &str,
 ) -> Result<(), AllocError> {
-    let said = match read_words(alloc, &*words) {
+    let said = match words_read(alloc, words) {
         Ok(read) => {
             format!(in alloc;
                 "{} {:?} {:?} {:?}",
@@ -290,7 +290,7 @@ fn one_kind_of_entity_names_is_known(rt: HostRuntime) -> Result<(), Fail> {
 
 /// Whether all of HTML's names are known by these words, and the name of the file.
 fn names_known(alloc: Global, words: &[&str]) -> Result<String, AllocError> {
-    match read_words(alloc, words) {
+    match words_read(alloc, words) {
         Ok(read) => format!(in alloc; "{} {:?}", read.html_entities, read.entities),
         Err(fault) => format!(in alloc; "{fault:?}"),
     }
@@ -315,7 +315,7 @@ fn reads_which_entity_names_are_known(rt: HostRuntime) -> Result<(), Fail> {
 /// Whether the language of a code block goes on `pre`, what stands behind it is written, the alignment of a cell is a style, and one
 /// tilde alone is text, by these words.
 fn forms_asked(alloc: Global, words: &[&str]) -> Result<String, AllocError> {
-    match read_words(alloc, words) {
+    match words_read(alloc, words) {
         Ok(read) => forms_shown(alloc, &read),
         Err(fault) => format!(in alloc; "{fault:?}"),
     }

@@ -227,13 +227,9 @@ fn repeated(
     count: usize,
 ) -> Result<String, AllocError> {
     let mut text = String::from_str(alloc, begin)?;
-    for _ in 0..count {
-        text.push_str(part)?;
-    }
+    text.push_str(&part.repeat(alloc, count)?)?;
     text.push_str(middle)?;
-    for _ in 0..count {
-        text.push_str(other)?;
-    }
+    text.push_str(&other.repeat(alloc, count)?)?;
     Ok(text)
 }
 

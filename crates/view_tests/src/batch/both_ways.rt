@@ -1,7 +1,7 @@
 //! Texts whose units are written as they are found, and texts that are read first.
 
 use super::calls::{Form, PLAIN, html_of};
-use super::texts::{Draws, push_repeated};
+use super::texts::{Draws, push_times};
 use mdbatch::EditFault;
 use mdtext::{NoMemory, lines_of};
 use std::alloc::Global;
@@ -27,8 +27,8 @@ fn are_alike(html: &Result<String, EditFault>, behind: &Result<String, EditFault
 }
 
 /// Appends the text behind a line of so many blanks that its units are not written as they are found.
-fn push_behind_blanks(alloc: Global, text: &str, behind: &mut String) -> Result<(), NoMemory> {
-    push_repeated(alloc, " ", 32, behind)?;
+fn push_behind_blanks(text: &str, behind: &mut String) -> Result<(), NoMemory> {
+    push_times(" ", 32, behind)?;
     behind.push_str("\n")?;
     behind.push_str(text)
 }
@@ -39,7 +39,7 @@ fn html_behind_blanks(
     form: Form,
 ) -> Result<Result<String, EditFault>, Fail> {
     let mut behind = String::new(alloc);
-    push_behind_blanks(alloc, text, &mut behind)?;
+    push_behind_blanks(text, &mut behind)?;
     html_of(alloc, &behind, form, &[])
 }
 
@@ -82,20 +82,15 @@ fn both_ways_answer_alike(rt: HostRuntime) -> Result<(), Fail> {
 static PARTS: [&str; 4] = ["*a* ", "[", "<", "[a](/b)\n\n"];
 
 /// Appends the part many times, a paragraph, and so many markers of block quotes in the last line.
-fn push_behind_part(
-    alloc: Global,
-    part: &str,
-    quotes: usize,
-    text: &mut String,
-) -> Result<(), NoMemory> {
-    push_repeated(alloc, part, 400, text)?;
+fn push_behind_part(part: &str, quotes: usize, text: &mut String) -> Result<(), NoMemory> {
+    push_times(part, 400, text)?;
     text.push_str("a]\n\nx\n")?;
-    push_repeated(alloc, ">", quotes, text)
+    push_times(">", quotes, text)
 }
 
 fn behind_part(alloc: Global, part: &str, quotes: usize) -> Result<String, NoMemory> {
     let mut text = String::new(alloc);
-    push_behind_part(alloc, part, quotes, &mut text)?;
+    push_behind_part(part, quotes, &mut text)?;
     Ok(text)
 }
 

@@ -2,6 +2,7 @@
 
 ghost use Rattle.mdhtml.specs.Limits.{HasLimits};
 
+use crate::calls::{edit, set_prelude};
 use mdbatch::{Breaks, EditFault, Entities, Options, Prelude, to_html};
 use mdtext::{NoMemory, Tally, lines_of};
 use mdview::Preview;
@@ -46,8 +47,8 @@ pub(crate) fn html_of(
 
 /// Gives a preview of nothing a prelude and lines.
 fn fill(preview: &mut Preview, lines: &[&str], prelude: &[&str]) -> Result<(), EditFault> {
-    preview.set_prelude(prelude, &mut Tally::new())?;
-    preview.edit(0, 0, lines, &mut Tally::new())?;
+    set_prelude(preview, prelude, &mut Tally::new())?;
+    edit(preview, 0, 0, lines, &mut Tally::new())?;
     Ok(())
 }
 

@@ -1,7 +1,7 @@
 //! What the batch way refuses, and in which order.
 
 use super::calls::{PLAIN, html_of};
-use super::texts::{push_repeated, repeated};
+use super::texts::push_times;
 use mdbatch::EditFault;
 use mdtext::NoMemory;
 use std::alloc::Global;
@@ -9,7 +9,7 @@ use std::test::Fail;
 
 /// What `to_html` answers for this many times the same part, if it refuses it.
 fn refused(alloc: Global, part: &str, count: usize) -> Result<Option<EditFault>, Fail> {
-    let text = repeated(alloc, part, count)?;
+    let text = part.repeat(alloc, count)?;
     Ok(html_of(alloc, &text, PLAIN, &[])?.err())
 }
 
@@ -49,18 +49,18 @@ fn keeps_the_limits(rt: HostRuntime) -> Result<(), Fail> {
 }
 
 /// Appends a line whose spans lie too deep, and behind it so many markers of block quotes.
-fn push_spans_and_quotes(alloc: Global, quotes: usize, text: &mut String) -> Result<(), NoMemory> {
-    push_repeated(alloc, "*a ", 65, text)?;
+fn push_spans_and_quotes(quotes: usize, text: &mut String) -> Result<(), NoMemory> {
+    push_times("*a ", 65, text)?;
     text.push_str("x")?;
-    push_repeated(alloc, " b*", 65, text)?;
+    push_times(" b*", 65, text)?;
     text.push_str("\n\n")?;
-    push_repeated(alloc, ">", quotes, text)
+    push_times(">", quotes, text)
 }
 
 /// Whether a line whose spans lie too deep, with so many markers of block quotes behind it, is refused for this.
 fn are_refused_for(alloc: Global, quotes: usize, fault: EditFault) -> Result<bool, Fail> {
     let mut text = String::new(alloc);
-    push_spans_and_quotes(alloc, quotes, &mut text)?;
+    push_spans_and_quotes(quotes, &mut text)?;
     is_answered(alloc, &text, 1, Some(fault))
 }
 

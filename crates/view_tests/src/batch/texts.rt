@@ -6,7 +6,7 @@ use mdtext::NoMemory;
 use std::alloc::Global;
 
 /// Texts that differ in few characters give other blocks and other inlines: so these are put together at random.
-static PARTS: &[&str] = &[
+static TEXT_PARTS: &[&str] = &[
     "a",
     "foo",
     "b c",
@@ -63,6 +63,10 @@ static PARTS: &[&str] = &[
     "\n[ẞ]: /s\n",
     "[SS]",
     "]:",
+];
+
+/// The other half of these parts: raw HTML, references, and what begins or ends blocks.
+static MARK_PARTS: &[&str] = &[
     "<",
     ">",
     "<b>",
@@ -207,9 +211,12 @@ impl Draws {
 
     fn push_part(&mut self, text: &mut String) -> Result<(), NoMemory> {
         if self.below(60) == 0 {
-            self.push_deep(text)
-        } else {
-            push_at(PARTS, self.below(PARTS.len()), text)
+            return self.push_deep(text);
+        }
+        let i = self.below(TEXT_PARTS.len().saturating_add(MARK_PARTS.len()));
+        match i.checked_sub(TEXT_PARTS.len()) {
+            None => push_at(TEXT_PARTS, i, text),
+            Some(i) => push_at(MARK_PARTS, i, text),
         }
     }
 
@@ -238,35 +245,10 @@ fn push_at(parts: &[&str], i: usize, text: &mut String) -> Result<(), NoMemory> 
     }
 }
 
-fn push_times(part: &str, count: usize, text: &mut String) -> Result<(), NoMemory> {
+/// Appends this many times the same part.
+pub(crate) fn push_times(part: &str, count: usize, text: &mut String) -> Result<(), NoMemory> {
     for _ in 0..count {
         text.push_str(part)?;
     }
     Ok(())
-}
-
-/// A text of this many times the same part, put together one by one.
-fn some_times(alloc: Global, part: &str, count: usize) -> Result<String, NoMemory> {
-    let mut text = String::new(alloc);
-    push_times(part, count, &mut text)?;
-    Ok(text)
-}
-
-/// Appends this many times the same part.
-pub(crate) fn push_repeated(
-    alloc: Global,
-    part: &str,
-    count: usize,
-    text: &mut String,
-) -> Result<(), NoMemory> {
-    let many = some_times(alloc, part, 1000)?;
-    push_times(&many, count / 1000, text)?;
-    push_times(part, count % 1000, text)
-}
-
-/// A text of this many times the same part.
-pub(crate) fn repeated(alloc: Global, part: &str, count: usize) -> Result<String, NoMemory> {
-    let mut text = String::new(alloc);
-    push_repeated(alloc, part, count, &mut text)?;
-    Ok(text)
 }
