@@ -7,7 +7,10 @@ import argparse
 import base64
 import json
 import os
+import re
 import shutil
+import signal
+import socket
 import subprocess
 import sys
 import tempfile
@@ -284,13 +287,55 @@ def opens_beside(browser, name):
         server.wait()
 
 
+def outlives(browser, name):
+    """A page that is open when mdpreview dies shows what its next one holds, and nothing twice."""
+    save(name, "one\n\nTwo\n")
+    server, address = started(name)
+    try:
+        browser.call("Page.navigate", url=address)
+        wait(lambda: shown(browser, rendered_of(name)))
+        with open(f"/proc/{server.pid}/task/{server.pid}/children", encoding="ascii") as children:
+            os.kill(int(children.read()), signal.SIGKILL)
+        save(name, "one\n\nTwo!\n")
+        wait(lambda: browser.value("document.getElementById('refused').textContent") != "")
+        save(name, "one\n\nTwo!!\n")
+        return wait(lambda: shown(browser, rendered_of(name)))
+    finally:
+        server.terminate()
+        server.wait()
+
+
+def keeps_what_is_refused(browser, name):
+    """A text that is written on the page and refused stands in the text area behind a reload too; of a post that is cut off nothing is taken."""
+    save(name, "a\n")
+    server, address = started(name, "--write")
+    area = "document.querySelector('textarea')"
+    typed = ">" * 100
+    try:
+        browser.call("Page.navigate", url=address)
+        wait(lambda: browser.value(area + " !== null"))
+        browser.value(f"(() => {{ const area = {area}; area.value = '{typed}'; area.dispatchEvent(new Event('input')); }})()")
+        wait(lambda: "lies in too many others" in browser.value("document.getElementById('refused').textContent"))
+        with urllib.request.urlopen(address) as page:
+            secret = re.search(r"'X-Pane': '([^']+)'", page.read().decode()).group(1)
+        host = address.removeprefix("http://").rstrip("/")
+        with socket.create_connection(host.split(":")) as cut:
+            cut.sendall(f"POST /text HTTP/1.1\r\nHost: {host}\r\nX-Pane: {secret}\r\nContent-Length: 9\r\n\r\ncut".encode())
+        time.sleep(0.3)
+        browser.call("Page.reload")
+        return wait(lambda: browser.value(f"{area} !== null && {area}.value") == typed)
+    finally:
+        server.terminate()
+        server.wait()
+
+
 def leaks(address, name):
     """Whether a file that is neither an image nor a text, or that lies outside of the folder, is served."""
     home = os.path.dirname(name)
     for path in (os.path.join(home, "secret.html"), os.path.join(os.path.dirname(home), "secret.md")):
         with open(path, "w", encoding="utf-8") as file:
             file.write("secret")
-    for path in ("secret.html", "../secret.md", "..%2fsecret.md", "%2e%2e/secret.md"):
+    for path in ("secret.html", "../secret.md", "..%2fsecret.md", "%2e%2e/secret.md", "%00.png"):
         try:
             urllib.request.urlopen(address + path)
             return True
@@ -302,9 +347,9 @@ def leaks(address, name):
 
 def answers_strangers(address):
     """Whether a request that names another host, or comes from another page, is answered."""
-    for header, value in (("Host", "elsewhere.example"), ("Origin", "http://elsewhere.example")):
+    for path, header, value in (("", "Host", "elsewhere.example"), ("", "Origin", "http://elsewhere.example"), ("page.md", "Sec-Fetch-Site", "cross-site")):
         try:
-            urllib.request.urlopen(urllib.request.Request(address, headers={header: value}))
+            urllib.request.urlopen(urllib.request.Request(address + path, headers={header: value}))
             return True
         except urllib.error.HTTPError as fault:
             if fault.code != 403:
@@ -348,6 +393,8 @@ def main():
                 (hands_on(browser, os.path.join(home, "pages", "names.md")), "an option of the program is not handed on"),
                 (opens_beside(browser, os.path.join(home, "pages", "links.md")), "a link does not open beside the page, or its file is not served"),
                 (not leaks(address, name), "a file that is not to be served was"),
+                (outlives(browser, os.path.join(home, "pages", "twice.md")), "a page that outlives mdpreview does not show the text"),
+                (keeps_what_is_refused(browser, os.path.join(home, "pages", "kept.md")), "a text that is refused is lost at a reload, or a post that is cut off is taken"),
                 (ends_with_a_line(address, name), "a pane that can't be begun does not say why, or goes on"),
                 (refused_at_first(browser, os.path.join(home, "pages", "other.md")), "a text that is refused at first is not said to be, or a picture is not shown"),
             ):

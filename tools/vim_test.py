@@ -1,6 +1,7 @@
 #!/usr/bin/env python3
 """Edits a buffer in Vim, and compares the HTML that clients/vim keeps beside it with mdrender's after each change; where the text is refused, the HTML is to
-be as it was. Then programs that are not there, end at once or end later, words for the program, and what is said of a refused text. The last line is 'N passed, M failed'."""
+be as it was; with CRs in a line, a file that another program changed and that is read again, and a long text too. Then programs that are not there, end at once or end
+later, words for the program, and what is said of a refused text. The last line is 'N passed, M failed'."""
 import os
 import random
 import shutil
@@ -17,7 +18,7 @@ FRAME = '''vim9script
 set nomore
 g:jirmoans_program = '{root}/bin/mdpreview'
 source {root}/clients/vim/jirmoans.vim
-edit {folder}/0.md
+edit {folder}/text.md
 Jirmoans
 var shown = bufnr('\\[HTML\\]')
 def Keep(number: number)
@@ -30,6 +31,13 @@ Keep(0)
 qall!
 '''
 
+# Changes that are made behind those by chance. The HTML of the last one comes in one reply: where that takes time by its square, Vim does not end in time.
+LAST = [
+    "deletebufline('', 1, '$')",
+    'setline(1, "# one\\r\\rtwo\\rthree")',
+    'silent write\nwritefile(["# other"], expand("%:p"))\nsilent edit!',
+    "setline(1, range(80000)->mapnew((_, number) => number % 2 == 0 ? 'Some *words* in a line.' : ''))",
+]
 
 # What Vim is asked of programs that fail and of a refusal: what it said, and whether the window is open, a line each into a file.
 WORDS = '''vim9script
@@ -69,7 +77,7 @@ SAID = ['jirmoans: {root}/nowhere is not there, or is no program; g:jirmoans_pro
 
 def run_vim(script):
     return subprocess.run(['vim', '-Nu', 'NONE', '-i', 'NONE', '-n', '-es', '-S', script], stdin=subprocess.DEVNULL, stdout=subprocess.PIPE,
-                          stderr=subprocess.STDOUT, timeout=120, env=dict(os.environ, TERM='xterm', LC_ALL='C.UTF-8'))
+                          stderr=subprocess.STDOUT, timeout=120, cwd=os.path.dirname(script), env=dict(os.environ, TERM='xterm', LC_ALL='C.UTF-8'))
 
 
 def words(root, folder):
@@ -114,14 +122,16 @@ def main():
         return 0
     passed, failed, wanted = 0, 0, b''
     with tempfile.TemporaryDirectory() as folder:
-        shutil.copy(os.path.join(root, 'examples', 'page.md'), os.path.join(folder, '0.md'))
+        shutil.copy(os.path.join(root, 'examples', 'page.md'), os.path.join(folder, 'text.md'))
         draw = random.Random(7)
-        steps = [change(draw) + '\nKeep(%d)' % (number + 1) for number in range(CHANGES)] + ["deletebufline('', 1, '$')\nKeep(%d)" % (CHANGES + 1)]
+        # A window by the name of a pattern would open this file.
+        shutil.copy(os.path.join(folder, 'text.md'), os.path.join(folder, 'H'))
+        steps = [step + '\nKeep(%d)' % (number + 1) for number, step in enumerate([change(draw) for _ in range(CHANGES)] + LAST)]
         script = os.path.join(folder, 'script.vim')
         with open(script, 'w', encoding='utf-8') as file:
             file.write(FRAME.format(root=root, folder=folder, changes='\n'.join(steps)))
         ran = run_vim(script)
-        for number in range(CHANGES + 2):
+        for number in range(len(steps) + 1):
             text, html = (os.path.join(folder, '%d.%s' % (number, end)) for end in ('md', 'html'))
             rendered = subprocess.run([os.path.join(root, 'bin', 'mdrender'), text], stdout=subprocess.PIPE, stderr=subprocess.DEVNULL)
             if rendered.returncode == 0:
