@@ -12,4 +12,6 @@ mod long_texts;
 #[cfg(test)]
 mod previews;
 #[cfg(test)]
+mod reasons;
+#[cfg(test)]
 mod steps;
