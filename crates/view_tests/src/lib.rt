@@ -14,4 +14,6 @@ mod previews;
 #[cfg(test)]
 mod reasons;
 #[cfg(test)]
+mod repeats;
+#[cfg(test)]
 mod steps;

@@ -1,6 +1,7 @@
 //! Tests as tables of steps: what is done with a preview, and what it tells then. Such a table costs no proof; what goes through it is proved once.
 
 use crate::calls::{edit, empty, set_prelude};
+use crate::repeats::repeated;
 use mdtext::Tally;
 use mdview::{EditFault, Parsed, Patch, Preview};
 use std::alloc::{AllocError, Global};
@@ -260,7 +261,7 @@ fn try_letters(
     len: usize,
     fault: Option<EditFault>,
 ) -> Result<bool, AllocError> {
-    let line = "a".repeat(alloc, len)?;
+    let line = repeated(alloc, "a", len)?;
     Ok(try_edit(preview, count, (at, 0), &[line.as_str()], fault))
 }
 

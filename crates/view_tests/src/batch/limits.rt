@@ -2,6 +2,7 @@
 
 use super::calls::{PLAIN, html_of};
 use super::texts::push_times;
+use crate::repeats::repeated;
 use mdbatch::EditFault;
 use mdtext::NoMemory;
 use std::alloc::Global;
@@ -9,7 +10,7 @@ use std::test::Fail;
 
 /// What `to_html` answers for this many times the same part, if it refuses it.
 fn refused(alloc: Global, part: &str, count: usize) -> Result<Option<EditFault>, Fail> {
-    let text = part.repeat(alloc, count)?;
+    let text = repeated(alloc, part, count)?;
     Ok(html_of(alloc, &text, PLAIN, &[])?.err())
 }
 
