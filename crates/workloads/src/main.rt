@@ -20,7 +20,7 @@ use crate::digest::Digest;
 use crate::job::Job;
 use crate::maker::Maker;
 use crate::parts::{Parts, lines_of_file};
-use anyhow::{Context, Result};
+use anyhow::{Context, Result, bail};
 use std::alloc::Global;
 use std::{env, fs};
 
