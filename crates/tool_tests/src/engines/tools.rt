@@ -230,7 +230,7 @@ fn check_words(
     words: &[&str],
     want: &str,
 ) -> Result<(), AllocError> {
-    let said = match words_read(alloc, words) {
+    let said = match words_read(alloc, &*words) {
         Ok(read) => {
             format!(in alloc;
                 "{} {:?} {:?} {:?}",
