@@ -3,33 +3,21 @@
 ghost use Rattle.std.specs.Prelude.{◌≡◌};
 
 use std::alloc::{AllocError, AllocFailed};
-use std::error::Error;
-use std::fmt;
+use thiserror::Error;
 
 /// Why a line is not read.
-#[derive(Clone, Copy, Debug, Drop, PartialEq, Eq)]
+#[derive(Clone, Copy, Debug, Drop, Error, PartialEq, Eq)]
 pub enum BlockFault {
     /// A container begins that lies in more others than the limit allows.
+    #[error("a container of the line lies in too many others")]
     NestedTooDeep,
     /// A growth was refused.
+    #[error("no memory")]
     NoMemory,
     /// An earlier line had a fault.
+    #[error("an earlier line was not read")]
     Failed,
 }
-
-impl fmt::Display for BlockFault {
-    fn fmt<W: fmt::Write>(&self, f: &mut fmt::Formatter<W>) -> fmt::Result {
-        match self {
-            BlockFault::NestedTooDeep => {
-                write!(f, "a container of the line lies in too many others")
-            }
-            BlockFault::NoMemory => write!(f, "no memory"),
-            BlockFault::Failed => write!(f, "an earlier line was not read"),
-        }
-    }
-}
-
-impl Error for BlockFault {}
 
 /// Why a line is not read where no earlier one had a fault.
 #[derive(Clone, Copy, Drop)]
