@@ -9,6 +9,7 @@ pub mod CopySteps
 pub mod EndedItemLaws
 pub mod FitLaws
 pub mod FoundParts
+pub mod FrontItems
 pub mod HeldMarks
 pub mod HeldNodesLaws
 pub mod FenceGrows

@@ -634,28 +634,3 @@ unfolding Reads
 finish_stands limit e mine own fed held found ls same gives r =
     subst (λ z. IfSome z (λ f. StandsForUnit e f (drop f.begin ls))) (sym (given_last limit e mine own fed held found ls same gives r))
     (stands_between e ls (held_marks held) r.4.2)
-
-begun_found : (e : EntityTable) (found : FoundList) (s : Summary) (marks : List ItemMark) (ls : List (List ℕ)) (o : Option ℕ) → IfSome o (λ b. found ≡ list_between e s marks (length ls) b) →
-    IfSome (option_map (list_between e s marks (length ls)) o) (λ f. StandsForUnit e f (drop f.begin ls)) → IfSome o (λ b. (found.begin ≡ b) × StandsForUnit e found (drop b ls))
-begun_found e found s marks ls None is w = tt
-begun_found e found s marks ls (Some b) is w = (ap (λ (f : FoundList). f.begin) is, subst (λ z. StandsForUnit e z (drop b ls)) (sym is) w)
-
-or_given : (P : ℕ → Type 0) (o : Option ℕ) → P (unwrap_or o 0) → IfSome o P
-or_given P None w = tt
-or_given P (Some b) w = w
-
--- the unit that is open stands for its lines
-pub found_stands : (limit : ℕ) (e mine : EntityTable) (own fed : ℕ) (held : OpenUnit) (found : FoundList) (begin : ℕ) (ls : List (List ℕ)) →
-    held.gathering.entities.now ≡ mine → begin ≡ unwrap_or held.begin 0 →
-    ((s : Summary) → HoldsSummary held s → found ≡ list_between held.gathering.entities.now s (held_marks held) fed begin) → Reads limit e (state_of mine own fed held) ls →
-    IfSome (open_begin e ls) (λ b. (found.begin ≡ b) × StandsForUnit e found (drop b ls))
-unfolding Reads
-found_stands limit e mine own fed held found begin ls same at gives r =
-    let s = summary_of e (lines_held [] (map document_line ls)) in
-    let marks = held_marks held in
-    let is : found ≡ list_between e s marks (length ls) (unwrap_or (open_begin e ls) 0) =
-    gives s (holds_of limit e mine own fed held ls same r)
-    ∙ ap (λ z. list_between z s marks fed begin) (same ∙ r.0)
-    ∙ ap (λ z. list_between e s marks z begin) r.2
-    ∙ ap (λ z. list_between e s marks (length ls) z) (at ∙ ap (λ z. unwrap_or z 0) r.4.0) in
-    begun_found e found s marks ls (open_begin e ls) (or_given (λ b. found ≡ list_between e s marks (length ls) b) (open_begin e ls) is) (stands_between e ls marks r.4.2)

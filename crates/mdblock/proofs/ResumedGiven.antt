@@ -34,7 +34,7 @@ use Rattle.mdblock.proofs.ResumedItems.{joins_parts}
 use Rattle.mdblock.proofs.ResumedReading.{front_of, some_same}
 use Rattle.mdblock.proofs.SplicedLines.{with_lines}
 
-joins_mark : (s : Summary) (l : BlockLine) → joins_after s l ≡ true → same_mark (mark_of (last_in s)) (list_mark (begun l)) ≡ true
+pub joins_mark : (s : Summary) (l : BlockLine) → joins_after s l ≡ true → same_mark (mark_of (last_in s)) (list_mark (begun l)) ≡ true
 unfolding joins_after
 joins_mark (summary before last blank lines) l j = go (is_apart_after last l) (is_blank_line l) (same_mark (mark_of last) (list_mark (begun l))) j
   where
@@ -44,7 +44,7 @@ joins_mark (summary before last blank lines) l j = go (is_apart_after last l) (i
     go false b c h = absurd (let z : ⊥ = cc in z)
 
 -- what goes on with the last item goes on with its list
-mark_kind : (e : EntityTable) (s : Summary) (m : Option ListKind) (b : ℕ) (g : Bool) (kind : ListKind) (t : Bool) (items : ItemNodes) → closed e s ≡ group_with b g (Listed kind t items) ∷ [] →
+pub mark_kind : (e : EntityTable) (s : Summary) (m : Option ListKind) (b : ℕ) (g : Bool) (kind : ListKind) (t : Bool) (items : ItemNodes) → closed e s ≡ group_with b g (Listed kind t items) ∷ [] →
     same_mark (mark_of (last_in s)) m ≡ true → same_mark (Some kind) m ≡ true
 unfolding closed mark_of
 mark_kind e (summary before nothing_yet blank lines) m b g kind t items is same = absurd (let z : ⊥ = cc in z)

@@ -41,11 +41,11 @@ joins_parts (summary before last blank lines) l j = go (is_apart_after last l) (
     go true true c x y h = absurd (let z : ⊥ = cc in z)
     go false b c x y h = absurd (let z : ⊥ = cc in z)
 
-no_texts : texts_in (tasked false (nodes_of [])) ≡ []
+pub no_texts : texts_in (tasked false (nodes_of [])) ≡ []
 unfolding nodes_of texts_in
 no_texts = refl
 
-no_definitions : definitions_in (tasked false (nodes_of [])) ≡ []
+pub no_definitions : definitions_in (tasked false (nodes_of [])) ≡ []
 unfolding nodes_of definitions_in
 no_definitions = refl
 

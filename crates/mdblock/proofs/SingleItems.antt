@@ -94,6 +94,11 @@ unfolding placed_items
 placed_taken n no_item_nodes more = refl
 placed_taken n (item_node N a) more = ap (item (placed n N)) (placed_taken (n + length (texts_in N)) a more)
 
+placed_all : (n : ℕ) (a : ItemNodes) → take_items (count_items a) (placed_items n a) ≡ placed_items n a
+unfolding placed_items
+placed_all n no_item_nodes = refl
+placed_all n (item_node N a) = ap (item (placed n N)) (placed_all (n + length (texts_in N)) a)
+
 placed_dropped : (n : ℕ) (a : ItemNodes) (more : Items) → drop_items (count_items a) (placed_before (placed_items n a) more) ≡ more
 unfolding placed_items
 placed_dropped n no_item_nodes more = refl
@@ -121,6 +126,11 @@ front_taken n first later more w v =
     ap (λ z. take_items (suc (length later)) z) (placed_items_before n N more)
     ∙ ap (λ z. take_items z (placed_before (placed_items n N) (placed_items (n + length (texts_in_items N)) more))) (sym (items_counted first later w v))
     ∙ placed_taken n N (placed_items (n + length (texts_in_items N)) more)
+
+pub all_taken : (n : ℕ) (first : ListItem) (later : List ListItem) → IsSingle first.nodes → AreSingle later →
+    take_items (suc (length later)) (placed_items n (nodes_of_items first later)) ≡ placed_items n (nodes_of_items first later)
+all_taken n first later w v =
+    let N = nodes_of_items first later in ap (λ z. take_items z (placed_items n N)) (sym (items_counted first later w v)) ∙ placed_all n N
 
 pub front_dropped : (n : ℕ) (first : ListItem) (later : List ListItem) (more : ItemNodes) → IsSingle first.nodes → AreSingle later →
     drop_items (suc (length later)) (placed_items n (items_before (nodes_of_items first later) more)) ≡ placed_items (n + length (texts_in_items (nodes_of_items first later))) more

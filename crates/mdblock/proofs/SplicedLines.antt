@@ -2,7 +2,7 @@
 use Rattle.std.proofs.Common.{◌≡◌, ℕ, zero, suc, ◌+◌, ◌-◌, ◌≤◌, ◌<◌, Bool, true, false, List, [], ◌∷◌, ◌++◌, drop, length, map, Option, Some, None, refl, sym, ◌∙◌, ap, subst, append_assoc, arith}
 use Rattle.std.proofs.lemmas.List.{drop-append-le, drop-map, map-append}
 use Rattle.std.specs.List.{flat_map}
-use Rattle.std.specs.Prelude.{IfSome, if◌then◌else◌}
+use Rattle.std.specs.Prelude.{if◌then◌else◌}
 use Rattle.mdtext.specs.EntityTable.{EntityTable}
 use Rattle.blockspec.specs.BlockLine.{BlockLine, document_line, without_last}
 use Rattle.blockspec.specs.BlockUnits.{units}
@@ -23,7 +23,7 @@ use Rattle.blockspec.proofs.LastJoins.{held_joins, joined_next}
 use Rattle.blockspec.proofs.MarkLines.{marks_join}
 use Rattle.blockspec.proofs.UnitsMeet.{units_meet_inside}
 use Rattle.mdblock.specs.FoundLists.{AreJoinsOf, FoundList, StandsForUnit, found_unit}
-use Rattle.mdblock.specs.Spliced.{MeetsAt, mark_at, spliced_list}
+use Rattle.mdblock.specs.Spliced.{IsFrontOf, MeetsAt, mark_at, spliced_list}
 use Rattle.mdblock.specs.held.ReaderState.{ReaderState, UnitSoFar, held_joined}
 use Rattle.mdblock.specs.held.Reads.{HoldsUnit, Reads, handed, open_begin}
 use Rattle.mdblock.proofs.HeldMarks.{begin_held, held_rest, lines_mapped, open_is, with_line}
@@ -161,9 +161,6 @@ held_from xs l ys h =
     ∙ ap (λ z. z ++ Y) (sym (held_rest [] all) ∙ h.held)
     ∙ append_assoc (lines_held [] X) (L ∷ []) Y
 
-held_now : (xs : List (List ℕ)) (l : List ℕ) → (let X = map document_line xs in let L = document_line l in HeldJoin X L → map document_line (drop (front_lines [] (X ++ L ∷ [])) (xs ++ l ∷ [])) ≡ lines_held [] X ++ L ∷ [])
-held_now xs l h = held_from xs l [] h
-
 -- ---- all units
 
 handed_are : (e : EntityTable) (xs : List (List ℕ)) (l : List ℕ) → handed e (xs ++ l ∷ []) ≡ front_units e [] (map document_line xs ++ document_line l ∷ [])
@@ -214,33 +211,32 @@ told e front old k xs l ys h begin w =
 met : (limit : ℕ) (e : EntityTable) (reading : ReaderState) (front old : FoundList) (k : ℕ) (xs : List (List ℕ)) (l : List ℕ) (zs ys : List (List ℕ)) →
     (let X = map document_line xs in
     let L = document_line l in
-    HeldJoin X L → (front.begin ≡ front_lines [] (X ++ L ∷ [])) × StandsForUnit e front (drop (front_lines [] (X ++ L ∷ [])) (xs ++ l ∷ [])) → MarkCut old.marks k → MeetsAt limit e reading old k xs l zs ys →
+    HeldJoin X L → IsFrontOf e front xs l → MarkCut old.marks k → MeetsAt limit e reading old k xs l zs ys →
     front.lines + (old.lines - (mark_at old.marks k).line - 1) ≤ most → length (spliced_list front old k).unit.texts ≤ most → length (spliced_list front old k).unit.definitions ≤ most →
     SplicedAt e (spliced_list front old k) old k xs l ys)
-met limit e reading front old k xs l zs ys h stands cut m fits few_texts few_definitions =
+met limit e reading front old k xs l zs ys h w cut m fits few_texts few_definitions =
     let X = map document_line xs in
     let L = document_line l in
     let Z = map document_line zs in
     let Y = map document_line ys in
-    told e front old k xs l ys h stands.0
+    let begins : Some front.begin ≡ Some (front_lines [] (X ++ L ∷ [])) = sym w.0 ∙ begin_at e xs l h in
+    let begin : front.begin ≡ front_lines [] (X ++ L ∷ []) = cc in
+    told e front old k xs l ys h begin
     (list_joined e (lines_held [] X) Z L Y front old k h.joins (held_one e X)
-    (to_lines e front (drop (front_lines [] (X ++ L ∷ [])) (xs ++ l ∷ [])) (lines_held [] X ++ L ∷ []) (held_now xs l h) stands.1)
+    w.1 w.2 w.3
     (to_lines e old (zs ++ l ∷ ys) (Z ++ L ∷ Y) (map-append document_line zs (l ∷ ys)) m.1)
     cut.before cut.behind cut.is cut.size (m.2 ∙ sym (lines_mapped zs)) fits few_texts few_definitions)
 
 -- What a reader holds, and an old list from a later item on, make one list of the lines of both.
 pub spliced_at : (reading : ReaderState) (front old found : FoundList) (k : ℕ) → held_joined reading.held ≡ true → k < length old.marks → reading.fed + (old.lines - (mark_at old.marks k).line - 1) ≤ most →
     front.lines ≤ reading.fed →
-    ((limit : ℕ) (e : EntityTable) (ls : List (List ℕ)) → Reads limit e reading ls → IfSome (open_begin e ls) (λ begin. (front.begin ≡ begin) × StandsForUnit e front (drop begin ls))) →
-    found ≡ spliced_list front old k → length found.unit.texts ≤ most → length found.unit.definitions ≤ most →
+    ((limit : ℕ) (e : EntityTable) (xs : List (List ℕ)) (l : List ℕ) → Reads limit e reading (xs ++ l ∷ []) → IsFrontOf e front xs l) → found ≡ spliced_list front old k → length found.unit.texts ≤ most → length found.unit.definitions ≤ most →
     (limit : ℕ) (e : EntityTable) (xs : List (List ℕ)) (l : List ℕ) (zs ys : List (List ℕ)) → MeetsAt limit e reading old k xs l zs ys → SplicedAt e found old k xs l ys
-spliced_at reading front old found k joined small fits lines stands is few_texts few_definitions limit e xs l zs ys m =
+spliced_at reading front old found k joined small fits lines in_front is few_texts few_definitions limit e xs l zs ys m =
     let X = map document_line xs in
     let L = document_line l in
     let h = held_join X L (sym (joined_next e xs l) ∙ if_joined limit e reading (xs ++ l ∷ []) joined m.0) in
-    let begin = begin_at e xs l h in
-    let front_stands = subst (λ z. IfSome z (λ b. (front.begin ≡ b) × StandsForUnit e front (drop b (xs ++ l ∷ [])))) begin (stands limit e (xs ++ l ∷ []) m.0) in
     let lines_fit : front.lines + (old.lines - (mark_at old.marks k).line - 1) ≤ most = omega (arith, fits, lines) in
     subst (λ z. SplicedAt e z old k xs l ys) (sym is)
-    (met limit e reading front old k xs l zs ys h front_stands (mark_cut old.marks k small) m lines_fit
+    (met limit e reading front old k xs l zs ys h (in_front limit e xs l m.0) (mark_cut old.marks k small) m lines_fit
     (subst (λ (z : FoundList). length z.unit.texts ≤ most) is few_texts) (subst (λ (z : FoundList). length z.unit.definitions ≤ most) is few_definitions))

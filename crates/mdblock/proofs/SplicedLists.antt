@@ -19,7 +19,7 @@ use Rattle.blockspec.proofs.MarkLines.{behind_is, marks_more}
 use Rattle.blockspec.proofs.MarkedLines.{MarkedAt, marked_at}
 use Rattle.blockspec.proofs.UnitsMeet.{list_definitions, list_texts, list_together}
 use Rattle.mdblock.specs.FoundLists.{FoundList}
-use Rattle.mdblock.specs.Spliced.{mark_at, mark_further, spliced_unit, spliced_marks, tight_list, spliced_list}
+use Rattle.mdblock.specs.Spliced.{IsListFront, front_unit, mark_at, mark_further, spliced_unit, spliced_marks, tight_list, spliced_list}
 use Rattle.mdblock.proofs.ItemParts.{last_mark}
 use Rattle.mdblock.proofs.SingleItems.{IsSingle, AreSingle, SingleTops, blocks_single}
 use Rattle.mdblock.proofs.SplicedMarks.{most, AreSmall, small_behind, marks_small, list_small, list_count, list_tight}
@@ -49,32 +49,15 @@ same_list e xs kind other first one later more is was =
     let l : later ≡ more = cc in
     (k, f, l)
 
--- its first items, and others behind them
-record ListFirst (e : EntityTable) (f : FoundList) (n : ℕ) (kind : ListKind) (first : ListItem) (later : List ListItem) : Type 0 where
-  pub tight : Bool
-  pub behind : ItemNodes
-  pub lines : f.lines ≡ n
-  pub unit : f.unit ≡ list_unit kind tight (items_before (nodes_of_items first later) behind)
-
-list_first : (e : EntityTable) (f : FoundList) (ls : List BlockLine) (kind : ListKind) (t : Bool) (first : ListItem) (later : List ListItem) (behind : ItemNodes) → StandsForLines e f ls →
-    units_of e ls ≡ found_at (length ls) (list_unit kind t (items_before (nodes_of_items first later) behind)) ∷ [] → ListFirst e f (length ls) kind first later
-list_first e f ls kind t first later behind stands is =
-    let same = same_found f.lines (length ls) f.unit (list_unit kind t (items_before (nodes_of_items first later) behind)) (sym stands.0 ∙ is) in
-    record { tight = t; behind = behind; lines = same.0; unit = same.1 }
-
--- that of the lines in front and of the line at which they meet
-front_first : (e : EntityTable) (f : FoundList) (xs : List BlockLine) (l : BlockLine) (kind : ListKind) (first : ListItem) (later : List ListItem) → top_blocks e xs ≡ ItemList kind first later ∷ [] →
-    StandsForLines e f (xs ++ l ∷ []) → ListsSpliced e xs xs l [] → ListFirst e f (length (xs ++ l ∷ [])) kind first later
-front_first e f xs l kind first later is stands w =
-    let same = same_list e xs w.kind kind w.first first w.later later w.front is in
-    let M = nodes_of_items w.item w.items in
-    let t = is_tight_list w.first w.later && not (gap_after xs) && is_tight_list w.item w.items in
-    let n = length (xs ++ l ∷ []) in
-    list_first e f (xs ++ l ∷ []) kind t first later M stands
-    (unit_parted e xs l [] w.kind w.first w.later w.item w.items w.line w.all
-    ∙ ap (λ z. found_at n (list_unit z t (items_before (nodes_of_items w.first w.later) M)) ∷ []) same.0
-    ∙ ap (λ z. found_at n (list_unit kind t (items_before (nodes_of_items z w.later) M)) ∷ []) same.1
-    ∙ ap (λ z. found_at n (list_unit kind t (items_before (nodes_of_items first z) M)) ∷ []) same.2)
+-- the list in front, by the items that its lines give
+front_is : (e : EntityTable) (unit : UnitTree) (xs : List BlockLine) (kind : ListKind) (first : ListItem) (later : List ListItem) → top_blocks e xs ≡ ItemList kind first later ∷ [] →
+    (f : IsListFront e unit xs) → unit ≡ front_unit kind f.tight (nodes_of_items first later) f.definitions f.texts
+front_is e unit xs kind first later is f =
+    let same = same_list e xs f.kind kind f.first first f.later later f.top is in
+    f.is
+    ∙ ap (λ z. front_unit z f.tight (nodes_of_items f.first f.later) f.definitions f.texts) same.0
+    ∙ ap (λ z. front_unit kind f.tight (nodes_of_items z f.later) f.definitions f.texts) same.1
+    ∙ ap (λ z. front_unit kind f.tight (nodes_of_items first z) f.definitions f.texts) same.2
 
 -- each item of the lists that lines give has one node
 pub single_list : (e : EntityTable) (xs : List BlockLine) (kind : ListKind) (first : ListItem) (later : List ListItem) → top_blocks e xs ≡ ItemList kind first later ∷ [] → IsSingle first.nodes × AreSingle later
@@ -94,7 +77,8 @@ nodes_together kind first later gap k item items = ap (λ (g : Group). items_in 
 
 -- Both lists, and where they meet.
 record Known (e : EntityTable) (xs zs : List BlockLine) (l : BlockLine) (ys : List BlockLine) (front old : FoundList) (k : ℕ) (w : ListsSpliced e xs zs l ys) : Type 0 where
-  pub first : ListFirst e front (length (xs ++ l ∷ [])) w.kind w.first w.later
+  pub lines : front.lines ≡ length (xs ++ l ∷ [])
+  pub first : IsListFront e front.unit xs
   pub old_tight : Bool
   pub old_lines : old.lines ≡ length (zs ++ l ∷ ys)
   pub old_unit : old.unit ≡ list_unit w.old_kind old_tight (items_before (nodes_of_items w.old_first w.old_later) (nodes_of_items w.item w.items))
@@ -140,14 +124,14 @@ unit_is e xs zs l ys front old k w tight s =
     ∙ ap (λ z. spliced_unit tight kept z to.definitions from.definitions front.unit old.unit) left
     ∙ ap (λ z. spliced_unit tight kept out z from.definitions front.unit old.unit) defined
     ∙ ap (λ z. spliced_unit tight kept out (definitions_of N) z front.unit old.unit) defined_from
-    ∙ ap (λ z. spliced_unit tight kept out (definitions_of N) (definitions_of O) z old.unit) s.first.unit
-    ∙ ap (λ z. spliced_unit tight kept out (definitions_of N) (definitions_of O) (list_unit w.kind s.first.tight (items_before N s.first.behind)) z) s.old_unit
-    ∙ unit_of_both tight w.kind w.old_kind s.first.tight s.old_tight w.first w.later s.first.behind w.old_first w.old_later (nodes_of_items w.item w.items) one.0 one.1 other.0 other.1
+    ∙ ap (λ z. spliced_unit tight kept out (definitions_of N) (definitions_of O) z old.unit) (front_is e front.unit xs w.kind w.first w.later w.front s.first)
+    ∙ ap (λ z. spliced_unit tight kept out (definitions_of N) (definitions_of O) (front_unit w.kind s.first.tight N s.first.definitions s.first.texts) z) s.old_unit
+    ∙ unit_of_both tight w.kind w.old_kind s.first.tight s.old_tight w.first w.later s.first.definitions s.first.texts w.old_first w.old_later (nodes_of_items w.item w.items) one.0 one.1 other.0 other.1
 
 lines_are : (e : EntityTable) (xs zs : List BlockLine) (l : BlockLine) (ys : List BlockLine) (front old : FoundList) (k : ℕ) (w : ListsSpliced e xs zs l ys) → Known e xs zs l ys front old k w →
     front.lines + (old.lines - (mark_at old.marks k).line - 1) ≡ length (xs ++ l ∷ ys)
 lines_are e xs zs l ys front old k w s =
-    let a = s.first.lines in
+    let a = s.lines in
     let b = s.old_lines in
     let c : (mark_at old.marks k).line ≡ length zs = ap (λ (m : ItemMark). m.line) s.from in
     let p : length (xs ++ l ∷ []) ≡ length xs + 1 = length-append xs (l ∷ []) in
@@ -225,36 +209,36 @@ joined e xs zs l ys front old k w s fits few_texts few_definitions =
           ∙ ap (λ z. texts_in_items N ++ drop z old.unit.texts) (sym before);
     }
 
-known : (e : EntityTable) (xs zs : List BlockLine) (l : BlockLine) (ys : List BlockLine) (front old : FoundList) (k : ℕ) (w : ListsSpliced e xs zs l ys) → StandsForLines e front (xs ++ l ∷ []) → StandsForLines e old (zs ++ l ∷ ys) →
-    ListsSpliced e xs xs l [] → list_marks e (xs ++ l ∷ []) ≡ list_marks e xs ++ mark_behind e xs ∷ [] → (before : List ItemMark) → length before ≡ k → MarkedAt e zs l ys before (mark_at old.marks k) →
+known : (e : EntityTable) (xs zs : List BlockLine) (l : BlockLine) (ys : List BlockLine) (front old : FoundList) (k : ℕ) (w : ListsSpliced e xs zs l ys) → front.lines ≡ length (xs ++ l ∷ []) → front.marks ≡ list_marks e xs ++ mark_behind e xs ∷ [] → IsListFront e front.unit xs →
+    StandsForLines e old (zs ++ l ∷ ys) → (before : List ItemMark) → length before ≡ k → MarkedAt e zs l ys before (mark_at old.marks k) →
     Known e xs zs l ys front old k w
-known e xs zs l ys front old k w stands old_stands alone marks before size m =
+known e xs zs l ys front old k w lines marks first old_stands before size m =
     let t = is_tight_list w.old_first w.old_later && not (gap_after zs) && is_tight_list w.item w.items in
     let other = same_found old.lines (length (zs ++ l ∷ ys)) old.unit
     (list_unit w.old_kind t (items_before (nodes_of_items w.old_first w.old_later) (nodes_of_items w.item w.items)))
     (sym old_stands.0 ∙ unit_parted e zs l ys w.old_kind w.old_first w.old_later w.item w.items w.old_line w.old_all) in
     record {
-      first = front_first e front xs l w.kind w.first w.later w.front stands alone;
+      lines = lines;
+      first = first;
       old_tight = t;
       old_lines = other.0;
       old_unit = other.1;
-      front_marks = stands.1 ∙ marks;
+      front_marks = marks;
       old_marks = old_stands.1;
       parted = old_stands.2;
       from = sym m.is;
       count = sym (m.count ∙ size);
     }
 
--- Where the last of some lines begins a later item of the list in front of it, and of an old list too, the list that is made of both stands for the lines of both.
+-- Where the last of some lines begins a later item of the list in front of it, and of an old list too, the list in front with the old one's items from there on stands for the lines of both.
 pub list_joined : (e : EntityTable) (xs zs : List BlockLine) (l : BlockLine) (ys : List BlockLine) (front old : FoundList) (k : ℕ) → joins_list xs l ≡ true → IsOne (begins_in (units_of e xs)) →
-    StandsForLines e front (xs ++ l ∷ []) → StandsForLines e old (zs ++ l ∷ ys) → (before : List ItemMark) → (behind : List ItemMark) → old.marks ≡ before ++ mark_at old.marks k ∷ behind → length before ≡ k →
+    front.lines ≡ length (xs ++ l ∷ []) → front.marks ≡ list_marks e (xs ++ l ∷ []) → IsListFront e front.unit xs → StandsForLines e old (zs ++ l ∷ ys) → (before : List ItemMark) → (behind : List ItemMark) → old.marks ≡ before ++ mark_at old.marks k ∷ behind → length before ≡ k →
     (mark_at old.marks k).line ≡ length zs → front.lines + (old.lines - (mark_at old.marks k).line - 1) ≤ most →
     length (spliced_list front old k).unit.texts ≤ most → length (spliced_list front old k).unit.definitions ≤ most → ListJoined e front old k (xs ++ l ∷ ys)
-list_joined e xs zs l ys front old k j one stands old_stands before behind cut size line fits few_texts few_definitions =
+list_joined e xs zs l ys front old k j one lines marks first old_stands before behind cut size line fits few_texts few_definitions =
     let old_one = one_unit (units_of e (zs ++ l ∷ ys)) old.lines old.unit old_stands.0 in
-    let all_one = one_unit (units_of e (xs ++ l ∷ [])) front.lines front.unit stands.0 in
     let m = marked_at e zs l ys before (mark_at old.marks k) behind old_one (sym old_stands.1 ∙ cut) line in
     let w = lists_spliced e xs zs l ys j m.joins one old_one in
     joined e xs zs l ys front old k w
-    (known e xs zs l ys front old k w stands old_stands (lists_spliced e xs xs l [] j j one all_one) (marks_more e xs l one j) before size m)
+    (known e xs zs l ys front old k w lines (marks ∙ marks_more e xs l one j) first old_stands before size m)
     fits few_texts few_definitions

@@ -12,11 +12,11 @@ use Rattle.blockspec.specs.UnitTree.{UnitTree}
 use Rattle.blockspec.specs.TopBlocks.{ListItem, nodes_of_items}
 use Rattle.blockspec.proofs.UnitsMeet.{texts_together, definitions_together, list_texts}
 use Rattle.mdblock.specs.Copies.{copied_items, items_positions, texts_at}
-use Rattle.mdblock.specs.Spliced.{drop_items, spliced_unit}
+use Rattle.mdblock.specs.Spliced.{drop_items, front_unit, spliced_unit}
 use Rattle.mdblock.specs.held.TreesBehind.{placed_before}
 use Rattle.mdblock.proofs.CopyLaws.{items_placed_copied, items_placed_positions, range_length, texts_there}
 use Rattle.mdblock.proofs.PlacedNodes.{placed_items_before}
-use Rattle.mdblock.proofs.SingleItems.{IsSingle, AreSingle, front_taken, front_dropped}
+use Rattle.mdblock.proofs.SingleItems.{IsSingle, AreSingle, all_taken, front_dropped}
 
 -- a list alone
 abbrev pub list_unit : ListKind → (tight : Bool) → ItemNodes → UnitTree
@@ -31,7 +31,7 @@ definitions_of items = length (definitions_in_items items)
 abbrev unit_tree : Blocks → List LinkDefinition → List (List ℕ) → UnitTree
 unit_tree blocks definitions texts = record { blocks = blocks; definitions = definitions; texts = texts }
 
-same_unit : (b c : Blocks) (d f : List LinkDefinition) (t u : List (List ℕ)) → b ≡ c → d ≡ f → t ≡ u → unit_tree b d t ≡ unit_tree c f u
+pub same_unit : (b c : Blocks) (d f : List LinkDefinition) (t u : List (List ℕ)) → b ≡ c → d ≡ f → t ≡ u → unit_tree b d t ≡ unit_tree c f u
 same_unit b c d f t u hb hd ht = ap (λ z. unit_tree z d t) hb ∙ ap (λ z. unit_tree c z t) hd ∙ ap (unit_tree c f) ht
 
 -- copies of both parts
@@ -48,11 +48,12 @@ items_spliced n N P =
     ∙ ap (placed_before kept) (items_placed_copied (0 + texts_of N) n P)
     ∙ sym (placed_items_before 0 N P)
 
+texts_first : (N : ItemNodes) (texts : List (List ℕ)) → texts_at (texts_in_items N ++ texts) (items_positions (placed_items 0 N)) ≡ texts_in_items N
+texts_first N texts = ap (texts_at (texts_in_items N ++ texts)) (items_placed_positions 0 N) ∙ texts_there [] (texts_in_items N) texts
+
 pub texts_kept : (N M : ItemNodes) → texts_at (texts_in_items (items_before N M) ++ []) (items_positions (placed_items 0 N)) ≡ texts_in_items N
 texts_kept N M =
-    ap (λ z. texts_at z (items_positions (placed_items 0 N))) (append-nil (texts_in_items (items_before N M)) ∙ texts_together N M)
-    ∙ ap (texts_at (texts_in_items N ++ texts_in_items M)) (items_placed_positions 0 N)
-    ∙ texts_there [] (texts_in_items N) (texts_in_items M)
+    ap (λ z. texts_at z (items_positions (placed_items 0 N))) (append-nil (texts_in_items (items_before N M)) ∙ texts_together N M) ∙ texts_first N (texts_in_items M)
 
 texts_later : (O P : ItemNodes) → texts_at (texts_in_items (items_before O P) ++ []) (items_positions (placed_items (0 + texts_of O) P)) ≡ texts_in_items P
 texts_later O P =
@@ -74,31 +75,31 @@ definitions_later O P =
     ∙ drop-append_seam (definitions_in_items O) (definitions_in_items P)
 
 -- the items of one list, and behind them those of another behind its own first ones
-pub unit_of_both : (tight : Bool) (kind other : ListKind) (t u : Bool) (first : ListItem) (later : List ListItem) (M : ItemNodes) (old_first : ListItem) (old_later : List ListItem) (P : ItemNodes) →
+pub unit_of_both : (tight : Bool) (kind other : ListKind) (t u : Bool) (first : ListItem) (later : List ListItem) (defined : List LinkDefinition) (texts : List (List ℕ)) (old_first : ListItem) (old_later : List ListItem) (P : ItemNodes) →
     IsSingle first.nodes → AreSingle later → IsSingle old_first.nodes → AreSingle old_later →
     (let N = nodes_of_items first later in
     let O = nodes_of_items old_first old_later in
-    spliced_unit tight (suc (length later)) (suc (length old_later)) (definitions_of N) (definitions_of O) (list_unit kind t (items_before N M)) (list_unit other u (items_before O P))
+    spliced_unit tight (suc (length later)) (suc (length old_later)) (definitions_of N) (definitions_of O) (front_unit kind t N defined texts) (list_unit other u (items_before O P))
     ≡ list_unit kind tight (items_before N P))
 unfolding placed placed_items texts_in texts_in_items definitions_in definitions_in_items
-unit_of_both tight kind other t u first later M old_first old_later P a b c d =
+unit_of_both tight kind other t u first later defined texts old_first old_later P a b c d =
     let N = nodes_of_items first later in
     let O = nodes_of_items old_first old_later in
-    let T = texts_in_items (items_before N M) ++ [] in
+    let T = texts_in_items N ++ texts in
     let U = texts_in_items (items_before O P) ++ [] in
     let both = placed_items 0 (items_before O P) in
     let left = drop_items (suc (length old_later)) both in
-    let kept = front_taken 0 first later M a b in
+    let kept = all_taken 0 first later a b in
     let rest = front_dropped 0 old_first old_later P c d in
     same_unit _ _ _ _ _ _
     (ap (λ z. block (list kind tight z) no_blocks)
     (ap (λ z. both_items z left) kept ∙ ap (λ z. both_items (placed_items 0 N) z) rest ∙ items_spliced (0 + texts_of O) N P))
-    (ap (λ z. z ++ drop (definitions_of O) (definitions_in_items (items_before O P) ++ [])) (definitions_kept N M)
+    (ap (λ z. z ++ drop (definitions_of O) (definitions_in_items (items_before O P) ++ [])) (take-append_seam (definitions_in_items N) defined)
     ∙ ap (λ z. definitions_in_items N ++ z) (definitions_later O P)
     ∙ sym (append-nil (definitions_in_items (items_before N P)) ∙ definitions_together N P))
     (ap (λ z. texts_at T (items_positions z) ++ texts_at U (items_positions left)) kept
     ∙ ap (λ z. texts_at T (items_positions (placed_items 0 N)) ++ texts_at U (items_positions z)) rest
-    ∙ ap (λ z. z ++ texts_at U (items_positions (placed_items (0 + texts_of O) P))) (texts_kept N M)
+    ∙ ap (λ z. z ++ texts_at U (items_positions (placed_items (0 + texts_of O) P))) (texts_first N texts)
     ∙ ap (λ z. texts_in_items N ++ z) (texts_later O P)
     ∙ sym (append-nil (texts_in_items (items_before N P)) ∙ texts_together N P))
 

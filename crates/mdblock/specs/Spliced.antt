@@ -3,12 +3,17 @@ use Rattle.std.specs.Prelude.{ℕ, ◌≡◌, zero, suc, ◌+◌, ◌-◌, ◌^�
 use Rattle.std.specs.List.{list_any}
 use Rattle.mdtext.specs.EntityTable.{EntityTable}
 use Rattle.blockspec.specs.BlockTree.{ListKind, paragraph, heading, thematic_break, code_block, html_block, block_quote, list, table, Blocks, no_blocks, block, Items, no_items, item}
+use Rattle.mdleaf.specs.DefinedLinks.{LinkDefinition}
+use Rattle.blockspec.specs.BlockLine.{BlockLine, document_line}
+use Rattle.blockspec.specs.NodeTree.{ItemNodes, definitions_in_items, placed_items, texts_in_items}
+use Rattle.blockspec.specs.TopBlocks.{ListItem, ItemList, nodes_of_items, top_blocks}
+use Rattle.blockspec.specs.UnitReader.{lines_held}
 use Rattle.blockspec.specs.UnitTree.{UnitTree}
-use Rattle.blockspec.specs.ItemMarks.{ItemMark}
+use Rattle.blockspec.specs.ItemMarks.{ItemMark, list_marks}
 use Rattle.mdblock.specs.Copies.{copied_items, items_positions, texts_at}
 use Rattle.mdblock.specs.FoundLists.{FoundList, StandsForUnit}
 use Rattle.mdblock.specs.held.ReaderState.{ReaderState}
-use Rattle.mdblock.specs.held.Reads.{Reads}
+use Rattle.mdblock.specs.held.Reads.{Reads, open_begin}
 use Rattle.mdblock.specs.held.TreesBehind.{placed_before}
 
 -- the items of a list that stands first
@@ -117,6 +122,32 @@ spliced_list front old k =
       marks = marks;
       parted = old.parted;
     }
+
+-- a list of these items alone, with other definitions and texts behind those of the items
+abbrev pub front_unit : ListKind → (tight : Bool) → ItemNodes → List LinkDefinition → List (List ℕ) → UnitTree
+front_unit kind tight items definitions texts = record {
+  blocks = block (list kind tight (placed_items 0 items)) no_blocks;
+  definitions = definitions_in_items items ++ definitions;
+  texts = texts_in_items items ++ texts;
+}
+
+-- the list of these lines, tight or not, with other definitions and texts behind its own
+pub record IsListFront (e : EntityTable) (unit : UnitTree) (lines : List BlockLine) : Type 0 where
+  pub kind : ListKind
+  pub first : ListItem
+  pub later : List ListItem
+  pub tight : Bool
+  pub definitions : List LinkDefinition
+  pub texts : List (List ℕ)
+  pub top : top_blocks e lines ≡ ItemList kind first later ∷ []
+  pub is : unit ≡ front_unit kind tight (nodes_of_items first later) definitions texts
+
+-- Of some lines and one more, in which a later item of the last list begins, that list without the item.
+abbrev pub IsFrontOf : EntityTable → FoundList → (xs : List (List ℕ)) → (l : List ℕ) → Type 0
+IsFrontOf entities front xs l =
+    let held = lines_held [] (map document_line xs) in
+    (open_begin entities (xs ++ l ∷ []) ≡ Some front.begin) × (front.lines ≡ length (held ++ document_line l ∷ []))
+    × (front.marks ≡ list_marks entities (held ++ document_line l ∷ [])) × IsListFront entities front.unit held
 
 -- A reader has read some lines and one more, and in that one the later item k of an old list begins, which stands for its lines.
 abbrev pub MeetsAt : (limit : ℕ) → EntityTable → (front : ReaderState) → (old : FoundList) → (k : ℕ) → (xs : List (List ℕ)) → (l : List ℕ)

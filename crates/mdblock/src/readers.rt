@@ -11,14 +11,14 @@ ghost use Rattle.blockspec.specs.Nesting.{first_too_deep};
 ghost use Rattle.blockspec.specs.SummaryDepth.{sinks};
 ghost use Rattle.mdblock.specs.CountedLines.{counted_by};
 ghost use Rattle.mdblock.specs.FoundLists.{AreJoinsOf, StandsForUnit, found_unit, join_mark};
-ghost use Rattle.mdblock.specs.Spliced.{mark_at};
+ghost use Rattle.mdblock.specs.Spliced.{IsFrontOf, mark_at};
 ghost use Rattle.mdblock.specs.held.Continuations.{IsBeginningOf, IsContinuationOf, ContinuesOpen, begins_item};
 ghost use Rattle.mdblock.specs.held.EndedItems.{IsNextIn};
 ghost use Rattle.mdblock.specs.held.LinesAdded.{ContinuesLevel};
 ghost use Rattle.mdblock.specs.held.HeldLevel.{HoldsSummary, GivesUnit, is_parted_last, list_between};
 ghost use Rattle.blockspec.specs.LineSummary.{Summary, no_summary};
 ghost use Rattle.blockspec.specs.Joins.{is_joined};
-ghost use Rattle.mdblock.specs.held.ReaderState.{AreKept, held_begin, held_joined};
+ghost use Rattle.mdblock.specs.held.ReaderState.{AreKept, held_begin, held_front, held_joined};
 ghost use Rattle.mdblock.specs.held.Reads.{Reads, BeginsUnit, HandsOn, SinksBehind, handed, held_marks, open_begin};
 ghost use Rattle.mdtext.specs.EntityTable.{EntityTable};
 
@@ -243,18 +243,18 @@ impl<'e> Reader<'e> {
         self.alloc
     }
 
-    /// The last unit, as far as it was read.
-    pub(crate) fn into_found(self) -> Result<Found, AllocError>
+    /// The list that is read, without the item that the last line began.
+    pub(crate) fn into_front(self) -> Result<Found, AllocError>
         requires { held_joined self.held ≡ true }
-        ensures lines { IfOk result (λ found. found.lines ≤ self.entry.fed) }
-        ensures stands { IfOk result (λ found. (limit : ℕ) (e : EntityTable) (ls : List (List ℕ)) → Reads limit e self.entry ls
-            → IfSome (open_begin e ls) (λ begin. (found.begin ≡ begin) × StandsForUnit e found (drop begin ls))) }
+        ensures lines { IfOk result (λ front. front.lines ≤ self.entry.fed) }
+        ensures front { IfOk result (λ front. (limit : ℕ) (e : EntityTable) (xs : List (List ℕ)) (l : List ℕ) → Reads limit e self.entry (xs ++ l ∷ [])
+            → IsFrontOf e front xs l) }
     {
         let fed = self.fed;
         match self.held {
             Some(held) => {
                 let begin = held.begin.unwrap_or(0);
-                held.into_found(begin, fed)
+                held.into_front(begin, fed)
             }
             None => unreachable!(),
         }
@@ -443,14 +443,14 @@ impl<'e> OpenUnit<'e> {
         self.take_unit(fed)
     }
 
-    /// All that is held as a unit with its first line there, which ends after `fed` lines. Inlined, as `take_unit`.
-    #[inline(always)]
-    fn into_found(mut self, begin: usize, fed: usize) -> Result<Found, AllocError>
+    /// What is held as a unit with its first line there, which ends after `fed` lines, without the item that is open.
+    fn into_front(mut self, begin: usize, fed: usize) -> Result<Found, AllocError>
         requires { AreKept self }
-        ensures gives { IfOk result (λ found. (s : Summary) → HoldsSummary self.entry s
-            → found ≡ list_between self.entry.gathering.entities.now s (held_marks self.entry) fed begin) }
-        ensures lines { IfOk result (λ found. found.lines ≤ fed) }
+        ensures { IfOk result (λ front. front ≡ held_front self.entry begin fed) }
     {
-        self.take_found(begin, fed)
+        let blocks = self.level.into_front()?;
+        let (definitions, texts) = self.gathering.take_parts();
+        let lines = fed.saturating_sub(begin);
+        Ok(Found::new(begin, lines, blocks, definitions, texts, self.joins, false))
     }
 }

@@ -42,7 +42,7 @@ pub fn splice(front: Reader, old: &Found, k: usize) -> Result<Found, NoMemory>
         → (kept : List (List ℕ)) × (found.unit.texts ≡ kept ++ drop (mark_at old.now.marks k).texts old.now.unit.texts)) }
 {
     let alloc = front.alloc();
-    let front = front.into_found()?;
+    let front = front.into_front()?;
     spliced(alloc, front, old, k)
 }
 

@@ -8,6 +8,7 @@ ghost use Rattle.mdblock.specs.held.Growing.{Grows};
 ghost use Rattle.mdblock.specs.held.HeldLevel.{ClosesAll, is_shut};
 ghost use Rattle.mdblock.specs.held.LevelSteps.{EndsAll, HasMarksOf, IsClosedBehind, IsEmpty, IsOpenContainer, IsOpenLeaf};
 ghost use Rattle.mdblock.specs.held.OpenPositions.{LevelIn};
+ghost use Rattle.mdblock.specs.held.ReaderState.{front_blocks};
 
 use crate::blocks::Block;
 use crate::closed_blocks::{push_found_inside, push_item, push_list, push_quote};
@@ -149,6 +150,23 @@ impl Level {
         self.blank = false;
         self.spaced = false;
         mem::replace(&mut self.over, Vec::new(alloc))
+    }
+
+    /// The blocks that are over, and a list which stands last without the item that is open in it. That item is let go: its end would read its lines.
+    pub(crate) fn into_front(self) -> Result<Vec<Block>, AllocError>
+        ensures within { IfOk result (λ blocks. (n : ℕ) → LevelIn n self → BlocksIn n (blocks_view blocks.items)) }
+        ensures front { IfOk result (λ blocks. blocks_view blocks.items ≡ front_blocks (blocks_view self.over.items) self.last) }
+    {
+        let Level { mut over, last, .. } = self;
+        match last {
+            OpenBlock::Shut => Ok(over),
+            OpenBlock::Leaf(_) => Ok(over),
+            OpenBlock::Quote(_) => Ok(over),
+            OpenBlock::List(_, list) => {
+                push_list(&mut over, list)?;
+                Ok(over)
+            }
+        }
     }
 
     /// Ends the item that is open in a list which stands last.
