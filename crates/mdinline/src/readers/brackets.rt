@@ -47,7 +47,8 @@ impl<'a> TextReader<'a> {
         ensures tokens { OnOk result (All (IsTokenOf text.now) self.new.pending.tokens.items) }
         ensures takes { OnOk result ((es : List Event) × S.takes sink.old es sink.new × ((handed : List Event) (ps : List piece.Piece)
             → AreOpenersOf ps self.old.pending.openings → HoldsPieces self.old.entities.now text.now handed self.old.pending ps
-            → HoldsPieces self.old.entities.now text.now (handed ++ es) self.new.pending (after_deed (item_by self.old.entities.now (L.target labels.now) text.now at ps (bracket.end - at) (kind_of bracket.kind)).deed ps))) }
+            → HoldsPieces self.old.entities.now text.now (handed ++ es) self.new.pending (after_deed
+            (item_by self.old.entities.now (L.target labels.now) text.now at ps (bracket.end - at) (kind_of bracket.kind)).deed ps))) }
         ensures size { (ps : List piece.Piece) → AreOpenersOf ps self.old.pending.openings
             → IfOk result (λ end. (entities : EntityTable)
             → end ≡ at + (item_by entities (L.target labels.now) text.now at ps (bracket.end - at) (kind_of bracket.kind)).size) }
@@ -63,12 +64,17 @@ impl<'a> TextReader<'a> {
         match bracket.kind {
             BracketKind::Link => self.pending.open(false, bracket.end)?,
             BracketKind::Image => self.pending.open(true, bracket.end)?,
-            BracketKind::Closing => return self.close(text, at, labels, asked, sink),
+            BracketKind::Closing => {
+                let end = self.close(text, at, labels, asked, sink)?;
+                self.flush_if_idle(text, sink)?;
+                return Ok(end);
+            }
         }
         Ok(bracket.end)
     }
 
     /// The `]` at a place uses up the nearest unused bracket, and answers where the link or the image ends that it makes. If it makes none, it is text.
+    #[tactic(auto, using(crate::proofs::BracketPlaces::brackets_later, crate::proofs::BracketPlaces::link_end))]
     fn close<L: Labels, A: AsksLabels, S: InlineSink>(
         &mut self,
         text: &str,
@@ -87,44 +93,8 @@ impl<'a> TextReader<'a> {
         ensures tokens { OnOk result (All (IsTokenOf text.now) self.new.pending.tokens.items) }
         ensures takes { OnOk result ((es : List Event) × S.takes sink.old es sink.new × ((handed : List Event) (ps : List piece.Piece)
             → AreOpenersOf ps self.old.pending.openings → HoldsPieces self.old.entities.now text.now handed self.old.pending ps
-            → HoldsPieces self.old.entities.now text.now (handed ++ es) self.new.pending (after_deed (closing self.old.entities.now (L.target labels.now) text.now at (nearest_opener ps)).deed ps))) }
-        ensures size { (ps : List piece.Piece) → AreOpenersOf ps self.old.pending.openings
-            → IfOk result (λ end. (entities : EntityTable)
-            → end ≡ at + (closing entities (L.target labels.now) text.now at (nearest_opener ps)).size) }
-        ensures asks { (ps : List piece.Piece) → AreOpenersOf ps self.old.pending.openings
-            → OnOk result ((entities : EntityTable)
-            → A.asks asked.old (closing entities (L.target labels.now) text.now at (nearest_opener ps)).asks asked.new) }
-        ensures openers { (ps : List piece.Piece) → AreOpenersOf ps self.old.pending.openings
-            → OnOk result ((entities : EntityTable)
-            → AreOpenersOf (after_deed (closing entities (L.target labels.now) text.now at (nearest_opener ps)).deed ps) self.new.pending.openings) }
-        ensures scanner { self.new.scanner ≡ self.old.scanner }
-        ensures entities { self.new.entities ≡ self.old.entities }
-    {
-        let end = self.use_bracket(text, at, labels, asked, sink)?;
-        self.flush_if_idle(text, sink)?;
-        Ok(end)
-    }
-
-    #[tactic(auto, using(crate::proofs::BracketPlaces::brackets_later, crate::proofs::BracketPlaces::link_end))]
-    fn use_bracket<L: Labels, A: AsksLabels, S: InlineSink>(
-        &mut self,
-        text: &str,
-        at: usize,
-        labels: &'a L,
-        asked: &mut A,
-        sink: &mut S,
-    ) -> Result<usize, AllocError>
-        requires at { IsCharBoundary text.now at }
-        requires after { IsEndAfter text.now at (at + 1) }
-        requires mark { slice_index text.now at ≡ 93 }
-        requires brackets { AreBracketsOf text.now at self.old.pending.openings.unused.items }
-        requires tokens { All (IsTokenOf text.now) self.old.pending.tokens.items }
-        ensures end { IfOk result (λ end. IsEndAfter text.now at end) }
-        ensures brackets { IfOk result (λ end. AreBracketsOf text.now end self.new.pending.openings.unused.items) }
-        ensures tokens { OnOk result (All (IsTokenOf text.now) self.new.pending.tokens.items) }
-        ensures takes { OnOk result ((es : List Event) × S.takes sink.old es sink.new × ((handed : List Event) (ps : List piece.Piece)
-            → AreOpenersOf ps self.old.pending.openings → HoldsPieces self.old.entities.now text.now handed self.old.pending ps
-            → HoldsPieces self.old.entities.now text.now (handed ++ es) self.new.pending (after_deed (closing self.old.entities.now (L.target labels.now) text.now at (nearest_opener ps)).deed ps))) }
+            → HoldsPieces self.old.entities.now text.now (handed ++ es) self.new.pending (after_deed
+            (closing self.old.entities.now (L.target labels.now) text.now at (nearest_opener ps)).deed ps))) }
         ensures size { (ps : List piece.Piece) → AreOpenersOf ps self.old.pending.openings
             → IfOk result (λ end. (entities : EntityTable)
             → end ≡ at + (closing entities (L.target labels.now) text.now at (nearest_opener ps)).size) }

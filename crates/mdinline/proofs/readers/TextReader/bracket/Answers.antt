@@ -1,4 +1,7 @@
-use Rattle.std.proofs.Common.{[], true, false, refl, arith}
+use Rattle.std.proofs.Common.{[], ◌++◌, true, false, refl, append_assoc, subst, arith}
+use Rattle.inlinespec.specs.Links.{nearest_opener}
+use Rattle.inlinespec.specs.TextReading.{after_deed, closing}
+use Rattle.mdinline.specs.held.ReadPending.{HoldsPieces}
 use Rattle.mdinline.proofs.ReadHolding.{holds_opening}
 use Rattle.mdinline.proofs.Marks.{behind}
 use Rattle.mdinline.proofs.readers.TextReader.bracket.Goals as goal
@@ -46,4 +49,15 @@ returns-in_ok-open-in-Image-clause-takes g c = (
 )
 
 pub returns-in-Closing-clause-takes : goal.returns-in-Closing-clause-takes
-returns-in-Closing-clause-takes g c = rw c.in-Closing.is c.close.ensures.takes
+returns-in-Closing-clause-takes g c =
+    let before = c.in_ok-end-in-Closing.ensures.takes in
+    let after = c.in_ok-flush_if_idle-in-Closing.ensures.takes in (
+      before.0 ++ after.0,
+      g.met.S.InlineSink.takes_more c.args.sink.now c.close.new.sink c.flush_if_idle.new.sink before.0 after.0 before.1 after.1,
+      λ handed ps unused h.
+          let entities = c.args.self.now.entities.now in
+          let text = c.args.text.now in
+          let next = after_deed (closing entities (g.L.Labels.target c.args.labels.now) text c.args.at (nearest_opener ps)).deed ps in
+          rw c.in-Closing.is (subst (λ es. HoldsPieces entities text es c.flush_if_idle.new.self.pending next) (append_assoc handed before.0 after.0)
+          ((rw c.in_ok-end-in-Closing.ensures.entities at after.2) (handed ++ before.0) next (before.2 handed ps unused h))),
+    )
