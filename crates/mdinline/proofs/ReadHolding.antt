@@ -16,6 +16,7 @@ use Rattle.mdinline.specs.declared.tokens.Begun.{Begun}
 use Rattle.mdinline.specs.declared.tokens.Token.{Token}
 use Rattle.mdinline.specs.declared.tokens.Token.TheVariants as t
 use Rattle.mdinline.specs.held.LeafEvents.{token_events, tokens_events}
+use Rattle.mdinline.specs.held.PutLeaves.{PutsLeaf}
 use Rattle.mdinline.specs.held.ReadMarks.{AreEventsOf, marked, marks_back, ones, places_of}
 use Rattle.mdinline.specs.held.ReadPending.{HoldsPieces, IsSettled, IsSpanned, shown_by, shown_pieces, token_piece}
 use Rattle.mdinline.specs.held.ReadState.{Shows, as_text}
@@ -140,12 +141,6 @@ module _ (entities : EntityTable) (text : List ℕ) (handed : List Event) (old :
 pub no_items : {X : Type 0} (xs : List X) (b : Bool) → b ≡ (length xs == 0) → b ≡ true → xs ≡ []
 no_items [] b e h = refl
 no_items (x ∷ xs) b e h = (let f : (length (x ∷ xs) == 0) ≡ true = sym e ∙ h in let g : length (x ∷ xs) ≡ 0 = grind (arith, nat_tests, f) in absurd (omega (arith, g)))
-
--- A leaf is put behind what is held: it is kept where something is pending, and else it is handed out.
-abbrev pub PutsLeaf : EntityTable → List ℕ → (leaf es : List Event) → (old new : Pending) → Type 0
-PutsLeaf entities text leaf es old new =
-    (handed : List Event) (ps qs : List Piece) → AreLeaves qs → ones leaf ≡ marks_back qs → HoldsPieces entities text handed old ps →
-    HoldsPieces entities text (handed ++ es) new (qs ++ ps)
 
 pub leaf_kept : (entities : EntityTable) (text : List ℕ) (leaf : List Event) (old new : Pending) →
     ((handed : List Event) (ps qs : List Piece) → openers qs ≡ [] → ones leaf ≡ marks_back qs → HoldsPieces entities text handed old ps →

@@ -11,6 +11,7 @@ pub mod LongTags
 pub mod OpenSpans
 pub mod PairedRuns
 pub mod PlainText
+pub mod PutLeaves
 pub mod ReadMarks
 pub mod ReadPending
 pub mod ReadState

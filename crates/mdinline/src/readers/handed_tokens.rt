@@ -8,9 +8,8 @@ ghost use Rattle.inlinespec.specs.InlineEvents.{Event, SoftBreak, written};
 ghost use Rattle.inlinespec.specs.Pieces as piece;
 ghost use Rattle.mdinline.specs.declared.tokens.Token.TheVariants as kept;
 ghost use Rattle.mdinline.specs.held.LeafEvents.{IsTokenOf, leaf_events, tokens_events};
-ghost use Rattle.mdinline.specs.held.ReadMarks.{marks_back, ones};
+ghost use Rattle.mdinline.specs.held.PutLeaves.{PutsLeaf, Stays};
 ghost use Rattle.mdinline.specs.held.ReadPending.{HoldsPieces, is_leaf};
-ghost use Rattle.mdinline.specs.held.ReadSteps.{AreLeaves};
 
 use crate::handing::{Source, hand_leaf, hand_out, part};
 use crate::readers::TextReader;
@@ -31,12 +30,9 @@ impl<'a> TextReader<'a> {
         requires token { IsTokenOf text.now (kept.Plain span) }
         requires tokens { All (IsTokenOf text.now) self.old.pending.tokens.items }
         ensures tokens { OnOk result (All (IsTokenOf text.now) self.new.pending.tokens.items) }
-        ensures takes { OnOk result ((es : List Event) × S.takes sink.old es sink.new × ((handed : List Event) (ps qs : List piece.Piece)
-            → AreLeaves qs → ones (written (part text.now span)) ≡ marks_back qs → HoldsPieces self.old.entities.now text.now handed self.old.pending ps
-            → HoldsPieces self.old.entities.now text.now (handed ++ es) self.new.pending (qs ++ ps))) }
-        ensures openings { self.new.pending.openings ≡ self.old.pending.openings }
-        ensures scanner { self.new.scanner ≡ self.old.scanner }
-        ensures entities { self.new.entities ≡ self.old.entities }
+        ensures takes { OnOk result ((es : List Event) × S.takes sink.old es sink.new
+            × PutsLeaf self.old.entities.now text.now (written (part text.now span)) es self.old.pending self.new.pending) }
+        ensures stays { Stays self.old self.new }
     {
         if !self.pending.is_empty() {
             self.pending.leaf(Token::Plain(span))?;
@@ -56,12 +52,9 @@ impl<'a> TextReader<'a> {
         requires token { IsTokenOf text.now (kept.Text span) }
         requires tokens { All (IsTokenOf text.now) self.old.pending.tokens.items }
         ensures tokens { OnOk result (All (IsTokenOf text.now) self.new.pending.tokens.items) }
-        ensures takes { OnOk result ((es : List Event) × S.takes sink.old es sink.new × ((handed : List Event) (ps qs : List piece.Piece)
-            → AreLeaves qs → ones (written (part text.now span)) ≡ marks_back qs → HoldsPieces self.old.entities.now text.now handed self.old.pending ps
-            → HoldsPieces self.old.entities.now text.now (handed ++ es) self.new.pending (qs ++ ps))) }
-        ensures openings { self.new.pending.openings ≡ self.old.pending.openings }
-        ensures scanner { self.new.scanner ≡ self.old.scanner }
-        ensures entities { self.new.entities ≡ self.old.entities }
+        ensures takes { OnOk result ((es : List Event) × S.takes sink.old es sink.new
+            × PutsLeaf self.old.entities.now text.now (written (part text.now span)) es self.old.pending self.new.pending) }
+        ensures stays { Stays self.old self.new }
     {
         if !self.pending.is_empty() {
             self.pending.leaf(Token::Text(span))?;
@@ -73,13 +66,11 @@ impl<'a> TextReader<'a> {
 
     /// Hands a soft line break to the sink, where nothing is pending before it.
     pub(super) fn put_break<S: InlineSink>(&mut self, sink: &mut S) -> Result<(), AllocError>
-        ensures tokens { OnOk result ((text : List ℕ) → All (IsTokenOf text) self.old.pending.tokens.items → All (IsTokenOf text) self.new.pending.tokens.items) }
-        ensures takes { OnOk result ((es : List Event) × S.takes sink.old es sink.new × ((text : List ℕ) (handed : List Event) (ps qs : List piece.Piece)
-            → AreLeaves qs → ones (SoftBreak ∷ []) ≡ marks_back qs → HoldsPieces self.old.entities.now text handed self.old.pending ps
-            → HoldsPieces self.old.entities.now text (handed ++ es) self.new.pending (qs ++ ps))) }
-        ensures openings { self.new.pending.openings ≡ self.old.pending.openings }
-        ensures scanner { self.new.scanner ≡ self.old.scanner }
-        ensures entities { self.new.entities ≡ self.old.entities }
+        ensures tokens { OnOk result ((text : List ℕ) → All (IsTokenOf text) self.old.pending.tokens.items
+            → All (IsTokenOf text) self.new.pending.tokens.items) }
+        ensures takes { OnOk result ((es : List Event) × S.takes sink.old es sink.new × ((text : List ℕ)
+            → PutsLeaf self.old.entities.now text (SoftBreak ∷ []) es self.old.pending self.new.pending)) }
+        ensures stays { Stays self.old self.new }
     {
         if !self.pending.is_empty() {
             self.pending.leaf(Token::SoftBreak)?;
@@ -98,15 +89,13 @@ impl<'a> TextReader<'a> {
     ) -> Result<(), AllocError>
         requires token { IsTokenOf text.now token }
         requires tokens { All (IsTokenOf text.now) self.old.pending.tokens.items }
-        ensures handed { self.old.pending.tokens.items ≡ [] → OnOk result (S.takes sink.old (leaf_events self.old.entities.now text.now token.entry) sink.new) }
+        ensures handed { self.old.pending.tokens.items ≡ []
+            → OnOk result (S.takes sink.old (leaf_events self.old.entities.now text.now token.entry) sink.new) }
         ensures idle { self.old.pending.tokens.items ≡ [] → self.new.pending ≡ self.old.pending }
         ensures tokens { OnOk result (All (IsTokenOf text.now) self.new.pending.tokens.items) }
-        ensures takes { OnOk result ((es : List Event) × S.takes sink.old es sink.new × ((handed : List Event) (ps qs : List piece.Piece) → is_leaf token.entry ≡ true
-            → AreLeaves qs → ones (leaf_events self.old.entities.now text.now token.entry) ≡ marks_back qs → HoldsPieces self.old.entities.now text.now handed self.old.pending ps
-            → HoldsPieces self.old.entities.now text.now (handed ++ es) self.new.pending (qs ++ ps))) }
-        ensures openings { self.new.pending.openings ≡ self.old.pending.openings }
-        ensures scanner { self.new.scanner ≡ self.old.scanner }
-        ensures entities { self.new.entities ≡ self.old.entities }
+        ensures takes { OnOk result ((es : List Event) × S.takes sink.old es sink.new × (is_leaf token.entry ≡ true
+            → PutsLeaf self.old.entities.now text.now (leaf_events self.old.entities.now text.now token.entry) es self.old.pending self.new.pending)) }
+        ensures stays { Stays self.old self.new }
     {
         if !self.pending.is_empty() {
             self.pending.leaf(token)?;
@@ -137,9 +126,7 @@ impl<'a> TextReader<'a> {
         ensures takes { OnOk result ((es : List Event) × S.takes sink.old es sink.new × ((handed : List Event) (ps : List piece.Piece)
             → HoldsPieces self.old.entities.now text.now handed self.old.pending ps
             → HoldsPieces self.old.entities.now text.now (handed ++ es) self.new.pending (piece.Run run ∷ ps))) }
-        ensures openings { self.new.pending.openings ≡ self.old.pending.openings }
-        ensures scanner { self.new.scanner ≡ self.old.scanner }
-        ensures entities { self.new.entities ≡ self.old.entities }
+        ensures stays { Stays self.old self.new }
     {
         if !run.can_open && self.pending.is_empty() {
             let span = Span {
@@ -182,7 +169,8 @@ impl<'a> TextReader<'a> {
         sink: &mut S,
     ) -> Result<(), AllocError>
         requires { All (IsTokenOf text.now) self.old.pending.tokens.items }
-        ensures handed { OnOk result (S.takes sink.old (tokens_events self.old.entities.now text.now self.old.pending.begun.items self.old.pending.tokens.items) sink.new) }
+        ensures handed { OnOk result (S.takes sink.old (tokens_events self.old.entities.now text.now self.old.pending.begun.items
+            self.old.pending.tokens.items) sink.new) }
         ensures tokens { OnOk result (self.new.pending.tokens.items ≡ []) }
         ensures openings { OnOk result (self.new.pending.openings ≡ self.old.pending.openings) }
         ensures runs { OnOk result (self.new.pending.runs ≡ self.old.pending.runs) }

@@ -43,7 +43,7 @@ pub returns-in_ok-put-in-None-clause-openers : goal.returns-in_ok-put-in-None-cl
 returns-in_ok-put-in-None-clause-openers g c = λ ps h entities.
     let is = (rw c.in-None.is at (c.in_ok-opening.ensures.value ps h)) entities in
     subst (λ d. AreOpenersOf (after_deed d ps) c.put.new.self.pending.openings) (sym is.1)
-    (spent_and ps c.put.new.self.pending.openings (subst (AreOpenersOf (spent ps)) (sym c.put.ensures.openings) (c.in_ok-opening.ensures.openers ps h)))
+    (spent_and ps c.put.new.self.pending.openings (subst (AreOpenersOf (spent ps)) (sym c.put.ensures.stays.openings) (c.in_ok-opening.ensures.openers ps h)))
 
 pub returns-in_ok-link-in-Some-clause-takes : goal.returns-in_ok-link-in-Some-clause-takes
 returns-in_ok-link-in-Some-clause-takes g c = (
@@ -73,5 +73,5 @@ returns-in_ok-put-in-None-clause-takes g c =
           let within = after.within in
           let inside : c.args.at < length text = omega (arith, within) in
           subst (λ d. HoldsPieces entities text (handed ++ put.0) c.put.new.self.pending (after_deed d ps)) (sym is.1)
-          ((rw c.in_ok-opening.ensures.entities at put.2) handed (spent ps) (Made false (written (93 ∷ [])) ∷ []) refl tt (ap (λ bs. ones (written bs)) (byte_part text c.args.at 93 inside c.requires.mark)) kept),
+          ((rw c.in_ok-opening.ensures.entities at put.2) refl handed (spent ps) (Made false (written (93 ∷ [])) ∷ []) tt (ap (λ bs. ones (written bs)) (byte_part text c.args.at 93 inside c.requires.mark)) kept),
     )

@@ -10,8 +10,8 @@ returns-then-not-is_empty-clause-takes g c =
     let put = c.in_ok-leaf.ensures in (
       [],
       g.met.S.InlineSink.takes_none c.args.sink.now,
-      λ handed ps qs leaf. leaf_kept entities text (leaf_events entities text c.args.token) c.args.self.now.pending c.leaf.new.self
-          (λ before old new. put.pieces entities text before old new leaf) handed ps qs,
+      λ leaf. leaf_kept entities text (leaf_events entities text c.args.token) c.args.self.now.pending c.leaf.new.self
+          (λ handed ps qs. put.pieces entities text handed ps qs leaf),
     )
 
 pub returns-clause-takes : goal.returns-clause-takes
@@ -21,6 +21,5 @@ returns-clause-takes g c =
     let es = leaf_events entities text c.args.token in (
       es,
       c.in_ok-hand_leaf.ensures,
-      λ handed ps qs leaf.
-          leaf_handed entities text es es c.args.self.now.pending c.is_empty.result c.is_empty.ensures c.if-not-is_empty.false refl handed ps qs,
+      λ leaf. leaf_handed entities text es es c.args.self.now.pending c.is_empty.result c.is_empty.ensures c.if-not-is_empty.false refl,
     )

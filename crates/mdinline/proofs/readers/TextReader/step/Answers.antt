@@ -15,12 +15,13 @@ use Rattle.mdinline.specs.declared.tokens.Token.TheVariants as kept
 use Rattle.mdinline.specs.held.KnownText.{IsLeafAt, IsPlainAt, KnowsText}
 use Rattle.mdinline.specs.held.LeafEvents.{leaf_events}
 use Rattle.mdinline.specs.held.PlainText.{is_bracket}
+use Rattle.mdinline.specs.held.PutLeaves.{PutsLeaf}
 use Rattle.mdinline.specs.held.ReadSteps.{LeadsTo}
 use Rattle.mdinline.specs.held.ReadTo.{IsReadTo}
 use Rattle.mdinline.specs.held.Recognised.{bracket_of, kind_of, lexeme_of}
 use Rattle.mdinline.specs.held.UnusedOpeners.{AreOpenersOf}
 use Rattle.mdinline.proofs.Marks.{behind_next, same_place}
-use Rattle.mdinline.proofs.ReadHolding.{PutsLeaf, leaves_unused}
+use Rattle.mdinline.proofs.ReadHolding.{leaves_unused}
 use Rattle.mdinline.proofs.ReadLeaf.{knows_later, leaf_leads, run_unused}
 use Rattle.mdinline.proofs.ReadSteps.{at_run, leads_lexeme, run_kept}
 use Rattle.mdinline.proofs.SignItems.{at_feed}
@@ -80,7 +81,7 @@ returns-then-begins_text-clause-reads g c =
       now.takes.1,
       leaf_reads entities (g.L.Labels.target c.args.labels.now) text at found now.takes.0 c.args.self.now c.put_text.new.self
           (λ looked. g.A.AsksLabels.asks c.args.asked.now looked c.args.asked.now)
-          c.requires.inside c.plain_end-end.ensures.end (λ _. inr plain) (subst (KnowsText text at) (sym now.scanner)) now.entities now.openings now.takes.2
+          c.requires.inside c.plain_end-end.ensures.end (λ _. inr plain) (subst (KnowsText text at) (sym now.stays.scanner)) now.stays.entities now.stays.openings now.takes.2
           (g.met.A.AsksLabels.asks_none c.args.asked.now),
     )
 
@@ -97,8 +98,8 @@ returns-then-begins_mark-clause-reads g c =
       now.takes.1,
       leaf_reads entities (g.L.Labels.target c.args.labels.now) text at found now.takes.0 c.args.self.now c.put_mark.new.self
           (λ looked. g.A.AsksLabels.asks c.args.asked.now looked c.args.asked.now)
-          c.requires.inside (c.begins_mark.ensures.end c.if-begins_mark.true) (λ _. inr plain) (subst (KnowsText text at) (sym now.scanner)) now.entities
-          now.openings now.takes.2 (g.met.A.AsksLabels.asks_none c.args.asked.now),
+          c.requires.inside (c.begins_mark.ensures.end c.if-begins_mark.true) (λ _. inr plain) (subst (KnowsText text at) (sym now.stays.scanner)) now.stays.entities
+          now.stays.openings now.takes.2 (g.met.A.AsksLabels.asks_none c.args.asked.now),
     )
 
 pub returns-then-bytes-at-eq10-clause-tokens : goal.returns-then-bytes-at-eq10-clause-tokens
@@ -117,7 +118,7 @@ returns-then-bytes-at-eq10-clause-reads g c =
       now.takes.1,
       leaf_reads entities (g.L.Labels.target c.args.labels.now) text at found now.takes.0 c.args.self.now c.put_break.new.self
           (λ looked. g.A.AsksLabels.asks c.args.asked.now looked c.args.asked.now)
-          c.requires.inside c.soft_break_end-end.ensures.end (λ _. inl here) (subst (KnowsText text at) (sym now.scanner)) now.entities now.openings
+          c.requires.inside c.soft_break_end-end.ensures.end (λ _. inl here) (subst (KnowsText text at) (sym now.stays.scanner)) now.stays.entities now.stays.openings
           (now.takes.2 text) (g.met.A.AsksLabels.asks_none c.args.asked.now),
     )
 
@@ -140,9 +141,9 @@ returns-in-Some-clause-reads g c =
         leads_lexeme entities table text at (at + run.length) ps l c.requires.inside (at_run entities text at run (sym c.in-Some.ensures.value)) refl (omega (arith, some)) c.in-Some.ensures.within,
         g.met.A.AsksLabels.asks_none c.args.asked.now,
         record {
-          entities_same = rw now.entities refl;
-          knows = subst (KnowsText text (at + run.length)) (sym now.scanner) (knows_later text at (at + run.length) c.args.self.now.scanner (omega arith) h.knows);
-          unused = subst (AreOpenersOf (Run run ∷ ps)) (sym now.openings) (run_unused ps c.args.self.now.pending.openings run h.unused);
+          entities_same = rw now.stays.entities refl;
+          knows = subst (KnowsText text (at + run.length)) (sym now.stays.scanner) (knows_later text at (at + run.length) c.args.self.now.scanner (omega arith) h.knows);
+          unused = subst (AreOpenersOf (Run run ∷ ps)) (sym now.stays.openings) (run_unused ps c.args.self.now.pending.openings run h.unused);
           pieces = took.2 handed ps h.pieces;
         },
       ),
@@ -190,7 +191,6 @@ returns-clause-reads g c =
       now.takes.1,
       leaf_reads entities (g.L.Labels.target c.args.labels.now) text at found now.takes.0 c.args.self.now c.put.new.self
           (λ looked. g.A.AsksLabels.asks c.args.asked.now looked c.args.asked.now)
-          c.requires.inside leaf.end (leaf.value no_run no_bracket) (λ known. subst (KnowsText text at) (sym now.scanner) (leaf.knows known)) now.entities
-          now.openings
-          (λ handed ps qs. now.takes.2 handed ps qs leaf.leaf) (g.met.A.AsksLabels.asks_none c.args.asked.now),
+          c.requires.inside leaf.end (leaf.value no_run no_bracket) (λ known. subst (KnowsText text at) (sym now.stays.scanner) (leaf.knows known)) now.stays.entities
+          now.stays.openings (now.takes.2 leaf.leaf) (g.met.A.AsksLabels.asks_none c.args.asked.now),
     )
