@@ -1,24 +1,21 @@
 //! What was read of a text and not handed out yet (CommonMark 6; GFM Strikethrough (extension)).
 
-ghost use Rattle.std.specs.Prelude.{◌≡◌, ◌+◌, ◌∷◌, ◌++◌, ◌==◌, ◌&&◌, ◌≤◌, ◌<◌, [], true, ℕ, List, All, IfSome, MatchOption, OnOk, drop, length, map, set, slice_index_or};
+ghost use Rattle.std.specs.Prelude.{◌≡◌, ◌+◌, ◌∷◌, ◌++◌, ◌==◌, ◌&&◌, ◌≤◌, ◌<◌, [], true, ℕ, List, All, IfSome, MatchOption, OnOk, length, map, set, slice_index_or};
 ghost use Rattle.std.specs.Str.{IsCharBoundary};
 ghost use Rattle.mdtext.specs.EntityTable.{EntityTable};
-ghost use Rattle.mdpair.specs.Matches.{matches};
 ghost use Rattle.mdpair.specs.Pairings.{KeepsLittle};
 ghost use Rattle.inlinespec.specs.InlineEvents.{Event};
 ghost use Rattle.inlinespec.specs.LabelMap.{LinkTarget};
 ghost use Rattle.inlinespec.specs.Pieces as piece;
 ghost use Rattle.inlinespec.specs.Links.{Opened, linked, nearest_opener};
 ghost use Rattle.inlinespec.specs.TextReading.{spent};
-ghost use Rattle.mdinline.specs.declared.tokens.Begun.{Begun as Held};
 ghost use Rattle.mdinline.specs.declared.tokens.PairedRun.{PairedRun as Left};
 ghost use Rattle.mdinline.specs.declared.tokens.Token.TheVariants as kept;
 ghost use Rattle.mdinline.specs.held.Brackets.{AreBracketsOf};
 ghost use Rattle.mdinline.specs.held.LeafEvents.{IsGoalOf, IsTokenOf, goal_target, leaf_events};
 ghost use Rattle.mdinline.specs.held.KeptRoom.{HasSmallRoom};
-ghost use Rattle.mdinline.specs.held.PairedRuns.{ArePaired};
 ghost use Rattle.mdinline.specs.held.ReadMarks.{marked, marks_back, ones};
-ghost use Rattle.mdinline.specs.held.ReadPending.{AreRunsAt, HasSpansOf, HoldsPieces, HoldsTaken, IsKept, IsPaired, IsSettled, IsSpanned};
+ghost use Rattle.mdinline.specs.held.ReadPending.{AreRunsAt, HasSpansOf, HoldsPieces, HoldsTaken, IsKept, IsPaired, IsSettled, IsSpanned, KnowsPaired};
 ghost use Rattle.mdinline.specs.held.ReadPending.{is_leaf, paired_piece, shown_pieces};
 ghost use Rattle.mdinline.specs.held.UnusedOpeners.{AreOpenersOf, IsTaken, openers};
 
@@ -243,13 +240,7 @@ impl<'a> Pending<'a> {
     /// What matches leave of the runs that are pending from one on. The room for the pairing of a large text is given back.
     fn pair_from(&mut self, from: usize) -> Result<(), AllocError>
         requires { from ≤ length self.old.runs.items }
-        ensures paired { OnOk result (ArePaired self.new.begun.items (matches (drop from self.old.runs.items))
-            (drop from self.old.runs.items) self.new.paired.items) }
-        ensures begun { OnOk result ((more : List Held) × (self.new.begun.items ≡ self.old.begun.items ++ more)) }
-        ensures tokens { OnOk result (self.new.tokens ≡ self.old.tokens) }
-        ensures runs { OnOk result (self.new.runs ≡ self.old.runs) }
-        ensures places { OnOk result (self.new.places ≡ self.old.places) }
-        ensures openings { OnOk result (self.new.openings ≡ self.old.openings) }
+        ensures paired { OnOk result (KnowsPaired from self.old self.new) }
         ensures room { HasSmallRoom self.old.pairing → HasSmallRoom self.new.pairing }
     {
         let taken = self.take_matches(from);
@@ -259,19 +250,14 @@ impl<'a> Pending<'a> {
 
     fn take_matches(&mut self, from: usize) -> Result<(), AllocError>
         requires { from ≤ length self.old.runs.items }
-        ensures paired { OnOk result (ArePaired self.new.begun.items (matches (drop from self.old.runs.items))
-            (drop from self.old.runs.items) self.new.paired.items) }
-        ensures begun { OnOk result ((more : List Held) × (self.new.begun.items ≡ self.old.begun.items ++ more)) }
-        ensures tokens { OnOk result (self.new.tokens ≡ self.old.tokens) }
-        ensures runs { OnOk result (self.new.runs ≡ self.old.runs) }
-        ensures places { OnOk result (self.new.places ≡ self.old.places) }
-        ensures openings { OnOk result (self.new.openings ≡ self.old.openings) }
+        ensures paired { OnOk result (KnowsPaired from self.old self.new) }
         ensures little { KeepsLittle self.old.pairing → KeepsLittle self.new.pairing }
     {
         self.paired.clear();
         append_unpaired(&self.runs[from..], &mut self.paired)?;
         self.pairing.pair(&self.runs[from..])?;
-        take_all(&mut self.paired, &mut self.begun, self.pairing.matches())
+        take_all(&mut self.paired, &mut self.begun, self.pairing.matches())?;
+        Ok(())
     }
 
     /// Marks the tokens of these runs with what is left of them.

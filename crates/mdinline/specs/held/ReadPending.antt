@@ -1,5 +1,5 @@
 -- What is kept of a text and not handed out yet, as the definition's pieces so far (CommonMark 6.2, 6.3).
-use Rattle.std.specs.Prelude.{◌≡◌, ℕ, ◌+◌, ◌≤◌, Bool, true, false, List, ◌∷◌, All, drop, length, map, reverse}
+use Rattle.std.specs.Prelude.{◌≡◌, ℕ, ◌+◌, ◌≤◌, Bool, true, false, List, ◌∷◌, ◌++◌, All, drop, length, map, reverse}
 use Rattle.mdtext.specs.EntityTable.{EntityTable}
 use Rattle.mdpair.specs.Matches.{matches}
 use Rattle.inlinespec.specs.InlineEvents.{Event}
@@ -12,7 +12,7 @@ use Rattle.mdinline.specs.declared.tokens.PairedRun.{PairedRun}
 use Rattle.mdinline.specs.declared.tokens.Token.{Token}
 use Rattle.mdinline.specs.declared.tokens.Token.TheVariants as t
 use Rattle.mdinline.specs.held.LeafEvents.{paired_events, token_events}
-use Rattle.mdinline.specs.held.PairedRuns.{HasSpans}
+use Rattle.mdinline.specs.held.PairedRuns.{ArePaired, HasSpans}
 use Rattle.mdinline.specs.held.ReadMarks.{AreEventsOf, marked, places_of}
 use Rattle.mdinline.specs.held.ReadState.{Shows}
 
@@ -59,6 +59,13 @@ pub record HoldsPieces (entities : EntityTable) (text : List ℕ) (handed : List
 abbrev pub HoldsTaken : EntityTable → List ℕ → List Event → held.Opening → Pending → List Piece → Type 0
 HoldsTaken entities text handed opening pending ps =
     Shows (opening ∷ reverse pending.openings.unused.items) handed (shown_pieces entities text pending) ps
+
+-- It is known what matches leave of the runs from one on, spans may have begun, and what else is kept is as it was.
+abbrev pub KnowsPaired : (from : ℕ) → (old new : Pending) → Type 0
+KnowsPaired from old new =
+    ArePaired new.begun.items (matches (drop from old.runs.items)) (drop from old.runs.items) new.paired.items
+    × ((more : List Begun) × (new.begun.items ≡ old.begun.items ++ more))
+    × (new.tokens ≡ old.tokens) × (new.runs ≡ old.runs) × (new.places ≡ old.places) × (new.openings ≡ old.openings)
 
 -- The runs from one on are paired, and their places and the list of runs are as they were.
 pub record IsPaired (entities : EntityTable) (text : List ℕ) (from : ℕ) (old new : Pending) : Type 0 where

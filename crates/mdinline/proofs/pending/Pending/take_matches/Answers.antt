@@ -1,6 +1,5 @@
-use Rattle.std.proofs.Common.{◌≡◌, ◌-◌, [], All, ap, sym, subst, ◌∙◌, drop, length, take}
+use Rattle.std.proofs.Common.{◌≡◌, ◌-◌, [], All, refl, ap, sym, subst, ◌∙◌, drop, length, take}
 use Rattle.std.proofs.lemmas.List.{take_rest}
-use Rattle.std.proofs.lemmas.Result.{on_ok_weaker}
 use Rattle.mdpair.specs.Matches.{IsOrdered, matches}
 use Rattle.mdpair.specs.Pairings.{matches_of}
 use Rattle.mdinline.specs.held.PairedRuns.{ArePaired}
@@ -18,7 +17,12 @@ returns-clause-paired c =
     let found = matches_of c.pair.new.self in
     let ordered = subst (λ xs. All (IsOrdered (length xs)) found) same_two c.in_ok-pair.ensures.ordered in
     let fresh = subst (λ xs. ArePaired begun [] xs c.append_unpaired.new.paired.items) same_one (c.in_ok-append_unpaired.ensures begun c.clear.ensures.items) in
-    on_ok_weaker c.take_all.result
-    (λ taken. subst (λ ts. ArePaired c.take_all.new.begun.items ts rs c.take_all.new.runs.items) (c.matches.ensures ∙ c.in_ok-pair.ensures.value ∙ ap matches same_two)
-    (taken rs (subst (All (IsOrdered (length rs))) (sym c.matches.ensures) ordered) fresh))
-    c.take_all.ensures.paired
+    let now = c.in_ok-take_all.ensures in
+    let taken = now.paired rs (subst (All (IsOrdered (length rs))) (sym c.matches.ensures) ordered) fresh in (
+      subst (λ ts. ArePaired c.take_all.new.begun.items ts rs c.take_all.new.runs.items) (c.matches.ensures ∙ c.in_ok-pair.ensures.value ∙ ap matches same_two) taken,
+      now.begun,
+      refl,
+      refl,
+      refl,
+      refl,
+    )
