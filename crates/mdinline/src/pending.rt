@@ -15,7 +15,7 @@ ghost use Rattle.mdinline.specs.held.Brackets.{AreBracketsOf};
 ghost use Rattle.mdinline.specs.held.LeafEvents.{IsGoalOf, IsTokenOf, goal_target, leaf_events};
 ghost use Rattle.mdinline.specs.held.KeptRoom.{HasSmallRoom};
 ghost use Rattle.mdinline.specs.held.ReadMarks.{marked, marks_back, ones};
-ghost use Rattle.mdinline.specs.held.ReadPending.{AreRunsAt, HasSpansOf, HoldsPieces, HoldsTaken, IsKept, IsPaired, IsSettled, IsSpanned, KnowsPaired};
+ghost use Rattle.mdinline.specs.held.ReadPending.{AreRunsAt, ChangesTokens, HasSpansOf, HoldsPieces, HoldsTaken, IsKept, IsPaired, IsSettled, IsSpanned, KnowsPaired};
 ghost use Rattle.mdinline.specs.held.ReadPending.{is_leaf, paired_piece, shown_pieces};
 ghost use Rattle.mdinline.specs.held.UnusedOpeners.{AreOpenersOf, IsTaken, openers};
 
@@ -193,15 +193,10 @@ impl<'a> Pending<'a> {
 
     /// Puts a token in place of another.
     fn replace(&mut self, place: usize, token: Token<'a>)
-        ensures openings { self.new.openings ≡ self.old.openings }
         ensures tokens { (text : List ℕ) → IsTokenOf text token.entry
             → All (IsTokenOf text) self.old.tokens.items → All (IsTokenOf text) self.new.tokens.items }
         ensures value { self.new.tokens.items ≡ set self.old.tokens.items place token.entry }
-        ensures runs { self.new.runs ≡ self.old.runs }
-        ensures places { self.new.places ≡ self.old.places }
-        ensures paired { self.new.paired ≡ self.old.paired }
-        ensures pairing { self.new.pairing ≡ self.old.pairing }
-        ensures begun { self.new.begun ≡ self.old.begun }
+        ensures same { ChangesTokens self.old self.new }
     {
         if place < self.tokens.len() {
             self.tokens[place] = token;
@@ -262,13 +257,8 @@ impl<'a> Pending<'a> {
 
     /// Marks the tokens of these runs with what is left of them.
     fn mark_from(&mut self, from: usize)
-        ensures openings { self.new.openings ≡ self.old.openings }
         ensures tokens { (text : List ℕ) → All (IsTokenOf text) self.old.tokens.items → All (IsTokenOf text) self.new.tokens.items }
-        ensures runs { self.new.runs ≡ self.old.runs }
-        ensures places { self.new.places ≡ self.old.places }
-        ensures paired { self.new.paired ≡ self.old.paired }
-        ensures pairing { self.new.pairing ≡ self.old.pairing }
-        ensures begun { self.new.begun ≡ self.old.begun }
+        ensures same { ChangesTokens self.old self.new }
         ensures value { (entities : EntityTable) (text : List ℕ) → AreRunsAt entities text from self.old
             → shown_pieces entities text self.new ≡ marked (shown_pieces entities text self.old) from (map (paired_piece self.old.begun.items) self.old.paired.items) }
         ensures spans { All (HasSpansOf self.old.begun.items) self.old.paired.items → All (IsSpanned self.old.begun.items) self.old.tokens.items
@@ -281,13 +271,8 @@ impl<'a> Pending<'a> {
 
     /// Marks the token of the run at a place of the list with the paired one at another.
     fn mark(&mut self, run: usize, paired: usize)
-        ensures openings { self.new.openings ≡ self.old.openings }
         ensures tokens { (text : List ℕ) → All (IsTokenOf text) self.old.tokens.items → All (IsTokenOf text) self.new.tokens.items }
-        ensures runs { self.new.runs ≡ self.old.runs }
-        ensures places { self.new.places ≡ self.old.places }
-        ensures paired { self.new.paired ≡ self.old.paired }
-        ensures pairing { self.new.pairing ≡ self.old.pairing }
-        ensures begun { self.new.begun ≡ self.old.begun }
+        ensures same { ChangesTokens self.old self.new }
         ensures value { run < length self.old.places.items → paired < length self.old.paired.items → (d : ℕ) (p : Left)
             → self.new.tokens.items ≡ set self.old.tokens.items (slice_index_or self.old.places.items run d) (kept.Paired (slice_index_or self.old.paired.items paired p)) }
         ensures spans { All (HasSpansOf self.old.begun.items) self.old.paired.items → All (IsSpanned self.old.begun.items) self.old.tokens.items

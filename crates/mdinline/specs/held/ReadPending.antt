@@ -60,6 +60,15 @@ abbrev pub HoldsTaken : EntityTable → List ℕ → List Event → held.Opening
 HoldsTaken entities text handed opening pending ps =
     Shows (opening ∷ reverse pending.openings.unused.items) handed (shown_pieces entities text pending) ps
 
+-- What is kept beside the tokens is as it was.
+pub record ChangesTokens (old new : Pending) : Type 0 where
+  pub openings : new.openings ≡ old.openings
+  pub runs : new.runs ≡ old.runs
+  pub places : new.places ≡ old.places
+  pub paired : new.paired ≡ old.paired
+  pub pairing : new.pairing ≡ old.pairing
+  pub begun : new.begun ≡ old.begun
+
 -- It is known what matches leave of the runs from one on, spans may have begun, and what else is kept is as it was.
 abbrev pub KnowsPaired : (from : ℕ) → (old new : Pending) → Type 0
 KnowsPaired from old new =

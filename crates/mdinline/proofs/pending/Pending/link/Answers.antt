@@ -9,7 +9,7 @@ use Rattle.mdinline.proofs.pending.Pending.link.Goals as goal
 
 pub returns-clause-openers : goal.returns-clause-openers
 returns-clause-openers c = λ ps o t taken h.
-    c.made.ensures.openers ps o t taken (subst (AreOpenersOf (spent ps)) (sym (c.replace.ensures.openings ∙ c.in_ok-settle.ensures.openings)) h)
+    c.made.ensures.openers ps o t taken (subst (AreOpenersOf (spent ps)) (sym (c.replace.ensures.same.openings ∙ c.in_ok-settle.ensures.openings)) h)
 
 pub returns-clause-tokens : goal.returns-clause-tokens
 returns-clause-tokens c = λ text goal_is h.
@@ -22,5 +22,5 @@ returns-clause-pieces c = λ entities text handed ps kept taken.
     let now = c.replace.new.self in
     holds_link entities text handed ps c.args.opening c.args.goal c.args.self.now c.settle.new.self
     (record { tokens = c.push.new.self; runs = now.runs; places = now.places; openings = c.made.new.self; pairing = now.pairing; paired = now.paired; begun = now.begun })
-    (c.in_ok-settle.ensures.pieces entities text kept) now.tokens.items replaced.value c.in_ok-push.ensures.items replaced.runs replaced.places replaced.begun
-    (c.made.ensures.unused ∙ ap (λ (s : BracketStack). s.unused.items) (replaced.openings ∙ c.in_ok-settle.ensures.openings)) kept taken
+    (c.in_ok-settle.ensures.pieces entities text kept) now.tokens.items replaced.value c.in_ok-push.ensures.items replaced.same.runs replaced.same.places replaced.same.begun
+    (c.made.ensures.unused ∙ ap (λ (s : BracketStack). s.unused.items) (replaced.same.openings ∙ c.in_ok-settle.ensures.openings)) kept taken

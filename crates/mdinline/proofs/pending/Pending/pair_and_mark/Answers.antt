@@ -17,5 +17,5 @@ returns-clause-pieces c = λ entities text h.
     let now = c.in_ok-pair_from.ensures.paired in
     let marked = c.mark_from.ensures in
     pairs entities text c.args.from c.args.self.now c.pair_from.new.self c.mark_from.new.self h now.1.0 (let below = c.if-from-len.false in let long = c.len.ensures ∙ c.args.self.now.runs.ok.0 in omega (arith, below, long)) now.0 now.1.1 (ap (λ (v : Vec Token Global). v.items) now.2) (ap (λ (v : Vec ℕ Global). v.items) now.4)
-    (ap (λ (v : Vec Begun Global). v.items) marked.begun)
+    (ap (λ (v : Vec Begun Global). v.items) marked.same.begun)
     (marked.value entities text) marked.spans
