@@ -1,6 +1,7 @@
 //! The labels that were looked up for a text.
 
-ghost use Rattle.std.specs.Prelude.{◌≡◌, ◌==◌, ◌↔◌, ◌∷◌, ◌++◌, [], ℕ, List, IsTrue, IfOk, OnOk, Contains, length, refl, slice_get, option_copied};
+ghost use Rattle.std.specs.Prelude.{◌≡◌, ◌==◌, ◌↔◌, ◌∷◌, ◌++◌, [], ℕ, List, IsTrue, IfOk, OnOk, Contains};
+ghost use Rattle.std.specs.Prelude.{length, refl, slice_get, option_copied};
 ghost use Rattle.mdinline.specs.held.AskedLabels.{asked_more, with_asked};
 
 use mdtext::{Label, NoMemory};

@@ -1,6 +1,7 @@
 //! Brackets, and those of a text that no `]` has used up (CommonMark 6.3, 6.4).
 
-ghost use Rattle.std.specs.Prelude.{◌≡◌, ◌<◌, ◌==◌, ◌||◌, nat_le, true, false, List, None, [], ◌∷◌, ◌++◌, IfSome, OnOk, MatchOption, length, slice_index};
+ghost use Rattle.std.specs.Prelude.{◌≡◌, ◌<◌, ◌==◌, ◌||◌, nat_le, true, false, List, None, [], ◌∷◌, ◌++◌};
+ghost use Rattle.std.specs.Prelude.{IfSome, OnOk, MatchOption, length, slice_index};
 ghost use Rattle.mdtext.specs.EntityTable.{EntityTable};
 ghost use Rattle.mdscan.specs.Spans.{EndsAfterMark};
 ghost use Rattle.inlinespec.specs.InlineEvents.{Event};

@@ -1,6 +1,7 @@
 //! Code spans (CommonMark 6.1).
 
-ghost use Rattle.std.specs.Prelude.{◌≡◌, ◌+◌, ◌-◌, ◌<◌, ◌≤◌, ◌==◌, ◌||◌, ℕ, List, true, false, not, IfOk, IfSome, MatchOption, length, drop, slice_index, slice_range, option_map};
+ghost use Rattle.std.specs.Prelude.{◌≡◌, ◌+◌, ◌-◌, ◌<◌, ◌≤◌, ◌==◌, ◌||◌, ℕ, List, true, false, not};
+ghost use Rattle.std.specs.Prelude.{IfOk, IfSome, MatchOption, length, drop, slice_index, slice_range, option_map};
 ghost use Rattle.std.specs.BTreeMap.{get};
 ghost use Rattle.std.specs.List.{list_any};
 ghost use Rattle.std.specs.Ordering.{nat_cmp};
@@ -90,7 +91,8 @@ impl Backticks {
         ensures place { IfOk result (λ found. IfSome found (λ run. AreTicksFrom text.now from run)) }
         ensures size { IfOk result (λ found. IfSome found (λ run. run.end ≡ run.start + size)) }
         ensures value { 0 < size → begins_with 96 (drop from text.now) ≡ false → KnowsStrings text.now self.old
-            → IfOk result (λ found. option_map (λ run. run.start) found ≡ option_map (λ k. from + k) (before_backticks false size (drop from text.now))) }
+            → IfOk result (λ found. option_map (λ run. run.start) found
+            ≡ option_map (λ k. from + k) (before_backticks false size (drop from text.now))) }
         ensures knows { KnowsStrings text.now self.old → KnowsStrings text.now self.new }
     {
         if let Some(last) = &self.last {
@@ -154,7 +156,8 @@ fn find_run(text: &[u8], from: usize, size: usize) -> Option<Ticks>
 fn next_run(text: &[u8], from: usize) -> Option<Ticks>
     requires { from ≤ length text.now }
     ensures place { IfSome result (λ run. AreTicksFrom text.now from run) }
-    ensures value { MatchOption result ((j : ℕ) → from ≤ j → slice_index text.now j ≡ 96 → ⊥) (λ run. IsNextString text.now from run.start run.end) }
+    ensures value { MatchOption result ((j : ℕ) → from ≤ j → slice_index text.now j ≡ 96 → ⊥)
+        (λ run. IsNextString text.now from run.start run.end) }
 {
     let start = from + first_special(&text[from..], &Class::of(b"`"));
     if start < text.len() && text[start] == b'`' {

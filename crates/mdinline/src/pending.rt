@@ -1,6 +1,7 @@
 //! What was read of a text and not handed out yet (CommonMark 6; GFM Strikethrough (extension)).
 
-ghost use Rattle.std.specs.Prelude.{◌≡◌, ◌+◌, ◌∷◌, ◌++◌, ◌==◌, ◌&&◌, ◌≤◌, ◌<◌, [], true, ℕ, List, All, IfSome, MatchOption, OnOk, length, map, set, slice_index_or};
+ghost use Rattle.std.specs.Prelude.{◌≡◌, ◌+◌, ◌∷◌, ◌++◌, ◌==◌, ◌&&◌, ◌≤◌, ◌<◌, [], true, ℕ, List, All};
+ghost use Rattle.std.specs.Prelude.{IfSome, MatchOption, OnOk, length, map, set, slice_index_or};
 ghost use Rattle.std.specs.Str.{IsCharBoundary};
 ghost use Rattle.mdtext.specs.EntityTable.{EntityTable};
 ghost use Rattle.mdpair.specs.Pairings.{KeepsLittle};
@@ -15,8 +16,8 @@ ghost use Rattle.mdinline.specs.held.Brackets.{AreBracketsOf};
 ghost use Rattle.mdinline.specs.held.LeafEvents.{IsGoalOf, IsTokenOf, goal_target, leaf_events};
 ghost use Rattle.mdinline.specs.held.KeptRoom.{HasSmallRoom};
 ghost use Rattle.mdinline.specs.held.ReadMarks.{marked, marks_back, ones};
-ghost use Rattle.mdinline.specs.held.ReadPending.{AreRunsAt, ChangesTokens, HasSpansOf, HoldsPieces, HoldsTaken, IsKept, IsPaired, IsSettled, IsSpanned, KnowsPaired};
-ghost use Rattle.mdinline.specs.held.ReadPending.{is_leaf, paired_piece, shown_pieces};
+ghost use Rattle.mdinline.specs.held.ReadPending.{AreRunsAt, ChangesTokens, HasSpansOf, HoldsPieces, HoldsTaken, IsKept, IsPaired};
+ghost use Rattle.mdinline.specs.held.ReadPending.{IsSettled, IsSpanned, KnowsPaired, is_leaf, paired_piece, shown_pieces};
 ghost use Rattle.mdinline.specs.held.UnusedOpeners.{AreOpenersOf, IsTaken, openers};
 
 use crate::bracket_stack::{BracketStack, Opening};
@@ -135,8 +136,8 @@ impl<'a> Pending<'a> {
     pub(crate) fn open(&mut self, is_image: bool, begin: usize) -> Result<(), AllocError>
         ensures openers { OnOk result ((ps : List piece.Piece) → AreOpenersOf ps self.old.openings
             → AreOpenersOf (piece.Opening is_image begin ∷ ps) self.new.openings) }
-        ensures brackets { OnOk result ((text : List ℕ) (at : ℕ) → IsCharBoundary text begin → at ≤ begin → AreBracketsOf text at self.old.openings.unused.items
-            → AreBracketsOf text begin self.new.openings.unused.items) }
+        ensures brackets { OnOk result ((text : List ℕ) (at : ℕ) → IsCharBoundary text begin → at ≤ begin
+            → AreBracketsOf text at self.old.openings.unused.items → AreBracketsOf text begin self.new.openings.unused.items) }
         ensures tokens { OnOk result (self.new.tokens.items ≡ self.old.tokens.items ++ kept.Bracket is_image ∷ []) }
         ensures pieces { OnOk result ((entities : EntityTable) (text : List ℕ) (handed : List Event) (ps : List piece.Piece)
             → HoldsPieces entities text handed self.old ps → HoldsPieces entities text handed self.new (piece.Opening is_image begin ∷ ps)) }
@@ -159,10 +160,10 @@ impl<'a> Pending<'a> {
             → MatchOption result (nearest_opener ps ≡ None) (λ taken. (o : Opened) × IsTaken ps taken o) }
         ensures left { (ps : List piece.Piece) → AreOpenersOf ps self.old.openings → AreOpenersOf (spent ps) self.new.openings }
         ensures tokens { self.new.tokens ≡ self.old.tokens }
-        ensures pieces { (entities : EntityTable) (text : List ℕ) (handed : List Event) (ps : List piece.Piece) → HoldsPieces entities text handed self.old ps
-            → HoldsPieces entities text handed self.new (spent ps) }
-        ensures opened { (entities : EntityTable) (text : List ℕ) (handed : List Event) (ps : List piece.Piece) → HoldsPieces entities text handed self.old ps
-            → IfSome result (λ taken. HoldsTaken entities text handed taken.0 self.new ps) }
+        ensures pieces { (entities : EntityTable) (text : List ℕ) (handed : List Event) (ps : List piece.Piece)
+            → HoldsPieces entities text handed self.old ps → HoldsPieces entities text handed self.new (spent ps) }
+        ensures opened { (entities : EntityTable) (text : List ℕ) (handed : List Event) (ps : List piece.Piece)
+            → HoldsPieces entities text handed self.old ps → IfSome result (λ taken. HoldsTaken entities text handed taken.0 self.new ps) }
     {
         self.openings.take()
     }
@@ -207,7 +208,8 @@ impl<'a> Pending<'a> {
     pub(crate) fn settle(&mut self, from: usize) -> Result<(), AllocError>
         ensures openings { OnOk result (self.new.openings ≡ self.old.openings) }
         ensures tokens { OnOk result ((text : List ℕ) → All (IsTokenOf text) self.old.tokens.items → All (IsTokenOf text) self.new.tokens.items) }
-        ensures pieces { OnOk result ((entities : EntityTable) (text : List ℕ) → IsKept entities text self.old → IsSettled entities text from self.old self.new) }
+        ensures pieces { OnOk result ((entities : EntityTable) (text : List ℕ) → IsKept entities text self.old
+            → IsSettled entities text from self.old self.new) }
         ensures room { HasSmallRoom self.old.pairing → HasSmallRoom self.new.pairing }
     {
         self.pair_and_mark(from)?;
@@ -221,7 +223,8 @@ impl<'a> Pending<'a> {
         ensures tokens { OnOk result ((text : List ℕ) → All (IsTokenOf text) self.old.tokens.items → All (IsTokenOf text) self.new.tokens.items) }
         ensures runs { OnOk result (self.new.runs ≡ self.old.runs) }
         ensures places { OnOk result (self.new.places ≡ self.old.places) }
-        ensures pieces { OnOk result ((entities : EntityTable) (text : List ℕ) → IsKept entities text self.old → IsPaired entities text from self.old self.new) }
+        ensures pieces { OnOk result ((entities : EntityTable) (text : List ℕ) → IsKept entities text self.old
+            → IsPaired entities text from self.old self.new) }
         ensures room { HasSmallRoom self.old.pairing → HasSmallRoom self.new.pairing }
     {
         if from >= self.runs.len() {
@@ -260,7 +263,8 @@ impl<'a> Pending<'a> {
         ensures tokens { (text : List ℕ) → All (IsTokenOf text) self.old.tokens.items → All (IsTokenOf text) self.new.tokens.items }
         ensures same { ChangesTokens self.old self.new }
         ensures value { (entities : EntityTable) (text : List ℕ) → AreRunsAt entities text from self.old
-            → shown_pieces entities text self.new ≡ marked (shown_pieces entities text self.old) from (map (paired_piece self.old.begun.items) self.old.paired.items) }
+            → shown_pieces entities text self.new
+            ≡ marked (shown_pieces entities text self.old) from (map (paired_piece self.old.begun.items) self.old.paired.items) }
         ensures spans { All (HasSpansOf self.old.begun.items) self.old.paired.items → All (IsSpanned self.old.begun.items) self.old.tokens.items
             → All (IsSpanned self.old.begun.items) self.new.tokens.items }
     {
@@ -274,7 +278,8 @@ impl<'a> Pending<'a> {
         ensures tokens { (text : List ℕ) → All (IsTokenOf text) self.old.tokens.items → All (IsTokenOf text) self.new.tokens.items }
         ensures same { ChangesTokens self.old self.new }
         ensures value { run < length self.old.places.items → paired < length self.old.paired.items → (d : ℕ) (p : Left)
-            → self.new.tokens.items ≡ set self.old.tokens.items (slice_index_or self.old.places.items run d) (kept.Paired (slice_index_or self.old.paired.items paired p)) }
+            → self.new.tokens.items
+            ≡ set self.old.tokens.items (slice_index_or self.old.places.items run d) (kept.Paired (slice_index_or self.old.paired.items paired p)) }
         ensures spans { All (HasSpansOf self.old.begun.items) self.old.paired.items → All (IsSpanned self.old.begun.items) self.old.tokens.items
             → All (IsSpanned self.old.begun.items) self.new.tokens.items }
     {

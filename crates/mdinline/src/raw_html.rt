@@ -74,7 +74,8 @@ impl EndlessTags {
         requires inside { at < length text.now }
         requires mark { slice_index text.now at < 128 }
         ensures end { IfSome result (λ end. IsEndAfter text.now at end) }
-        ensures value { slice_index text.now at ≡ 60 → KnowsEnds text.now at self.old → result ≡ option_map (λ n. at + n) (raw_html (drop at text.now)) }
+        ensures value { slice_index text.now at ≡ 60 → KnowsEnds text.now at self.old
+            → result ≡ option_map (λ n. at + n) (raw_html (drop at text.now)) }
         ensures knows { KnowsEnds text.now at self.old → KnowsEnds text.now at self.new }
     {
         if let Some(kind) = long_tag(text.as_bytes(), at) {
@@ -101,7 +102,8 @@ impl EndlessTags {
     }
 
     fn mark_endless(&mut self, kind: LongTag)
-        ensures { (text : List ℕ) (at : ℕ) → KnowsEnds text at self.old → place_of (close_text kind) (drop (at + 2) text) ≡ None → KnowsEnds text at self.new }
+        ensures { (text : List ℕ) (at : ℕ) → KnowsEnds text at self.old → place_of (close_text kind) (drop (at + 2) text) ≡ None
+            → KnowsEnds text at self.new }
     {
         match kind {
             LongTag::Comment => self.no_comment = true,

@@ -65,8 +65,8 @@ impl Scanner {
         ensures end { IfOk result (λ found. IsEndAfter text.now at found.end) }
         ensures token { IfOk result (λ found. IsTokenOf text.now found.token) }
         ensures leaf { IfOk result (λ found. is_leaf found.token ≡ true) }
-        ensures value { delimiters_at entities.now text.now at ≡ None → is_bracket (lex entities.now text.now at).kind ≡ false → KnowsText text.now at self.old
-            → IfOk result (λ found. IsLeafAt entities.now text.now at found) }
+        ensures value { delimiters_at entities.now text.now at ≡ None → is_bracket (lex entities.now text.now at).kind ≡ false
+            → KnowsText text.now at self.old → IfOk result (λ found. IsLeafAt entities.now text.now at found) }
         ensures knows { KnowsText text.now at self.old → KnowsText text.now at self.new }
     {
         match self.marked(alloc, text, at, entities)? {
@@ -88,8 +88,8 @@ impl Scanner {
         ensures end { IfOk result (λ found. IfSome found (λ found. IsEndAfter text.now at found.end)) }
         ensures token { IfOk result (λ found. IfSome found (λ found. IsTokenOf text.now found.token)) }
         ensures leaf { IfOk result (λ found. IfSome found (λ found. is_leaf found.token ≡ true)) }
-        ensures value { delimiters_at entities.now text.now at ≡ None → is_bracket (lex entities.now text.now at).kind ≡ false → KnowsText text.now at self.old
-            → IfOk result (λ found. IsFound entities.now text.now at (lex entities.now text.now at) found) }
+        ensures value { delimiters_at entities.now text.now at ≡ None → is_bracket (lex entities.now text.now at).kind ≡ false
+            → KnowsText text.now at self.old → IfOk result (λ found. IsFound entities.now text.now at (lex entities.now text.now at) found) }
         ensures knows { KnowsText text.now at self.old → KnowsText text.now at self.new }
     {
         match text.as_bytes()[at] {

@@ -8,11 +8,12 @@ ghost use Rattle.mdinline.specs.held.StopTables.{high_of, low_of};
 
 use std::simd::prelude::*;
 
-/// The rows of sixteen characters that hold a stop, a bit each, by the upper four bits of a byte: 1 is the row of LF, 2 that of the space to `/`, 4 of `0` to `?`, 8 of
-/// `P` to `_`, 16 of the backtick to `o`, 32 of `p` to DEL.
+/// The rows of sixteen characters that hold a stop, a bit each, by the upper four bits of a byte: 1 is the row of LF, 2 that of the space to `/`,
+/// 4 of `0` to `?`, 8 of `P` to `_`, 16 of the backtick to `o`, 32 of `p` to DEL.
 const ROWS: [u8; 16] = [1, 0, 2, 4, 0, 8, 16, 32, 0, 0, 0, 0, 0, 0, 0, 0];
 
-/// The rows in which a byte with these lower four bits is a stop. In this order: the backtick; `!`; `"`; `&`; LF and `*`; `[`; `<` and the backslash; `]`; `>` and `~`; `_`.
+/// The rows in which a byte with these lower four bits is a stop. In this order: the backtick; `!`; `"`; `&`; LF and `*`; `[`; `<` and the backslash; `]`;
+/// `>` and `~`; `_`.
 const STOPS: [u8; 16] = [16, 2, 2, 0, 0, 0, 2, 0, 0, 0, 3, 8, 12, 8, 36, 8];
 
 /// The first place of a byte that may be no plain text, or the length. Blocks of 16 bytes are looked up at once, and the rest byte by byte.

@@ -1,4 +1,5 @@
-//! Strikethrough (GFM Strikethrough (extension)): runs of `~` are found and paired as those of emphasis are (`delimiters`, `emphasis`), but one tilde may be text.
+//! Strikethrough (GFM Strikethrough (extension)): runs of `~` are found and paired as those of emphasis are (`delimiters`, `emphasis`), but one tilde may
+//! be text.
 
 ghost use Rattle.std.specs.Prelude.{◌≡◌};
 ghost use Rattle.inlinespec.specs.Strikethrough.{is_lone_tilde};

@@ -143,7 +143,8 @@ impl<'a> TextReader<'a> {
             → A.asks asked.old (closing entities (L.target labels.now) text.now at (nearest_opener ps)).asks asked.new) }
         ensures taken { (ps : List piece.Piece) → AreOpenersOf ps self.old.pending.openings
             → IfOk result (λ found. IfSome found (λ found. (o : Opened) × IsTaken ps (found.0, true) o)) }
-        ensures openers { (ps : List piece.Piece) → AreOpenersOf ps self.old.pending.openings → OnOk result (AreOpenersOf (spent ps) self.new.pending.openings) }
+        ensures openers { (ps : List piece.Piece) → AreOpenersOf ps self.old.pending.openings
+            → OnOk result (AreOpenersOf (spent ps) self.new.pending.openings) }
         ensures tokens { self.new.pending.tokens ≡ self.old.pending.tokens }
         ensures pieces { (handed : List Event) (ps : List piece.Piece) → HoldsPieces self.old.entities.now text.now handed self.old.pending ps
             → HoldsPieces self.old.entities.now text.now handed self.new.pending (spent ps) }
