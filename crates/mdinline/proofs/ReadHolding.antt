@@ -15,10 +15,10 @@ use Rattle.mdinline.specs.declared.pending.Pending.{Pending}
 use Rattle.mdinline.specs.declared.tokens.Begun.{Begun}
 use Rattle.mdinline.specs.declared.tokens.Token.{Token}
 use Rattle.mdinline.specs.declared.tokens.Token.TheVariants as t
-use Rattle.mdinline.specs.held.LeafEvents.{token_events, tokens_events}
+use Rattle.mdinline.specs.held.LeafEvents.{leaf_events, token_events, tokens_events}
 use Rattle.mdinline.specs.held.PutLeaves.{PutsLeaf}
 use Rattle.mdinline.specs.held.ReadMarks.{AreEventsOf, marked, marks_back, ones, places_of}
-use Rattle.mdinline.specs.held.ReadPending.{HoldsPieces, IsSettled, IsSpanned, shown_by, shown_pieces, token_piece}
+use Rattle.mdinline.specs.held.ReadPending.{HoldsPieces, IsSettled, IsSpanned, is_leaf, shown_by, shown_pieces, token_piece}
 use Rattle.mdinline.specs.held.ReadState.{Shows, as_text}
 use Rattle.mdinline.specs.held.ReadSteps.{AreLeaves}
 use Rattle.mdinline.specs.held.UnusedOpeners.{AreOpenersOf, openers}
@@ -142,12 +142,14 @@ pub no_items : {X : Type 0} (xs : List X) (b : Bool) → b ≡ (length xs == 0) 
 no_items [] b e h = refl
 no_items (x ∷ xs) b e h = (let f : (length (x ∷ xs) == 0) ≡ true = sym e ∙ h in let g : length (x ∷ xs) ≡ 0 = grind (arith, nat_tests, f) in absurd (omega (arith, g)))
 
-pub leaf_kept : (entities : EntityTable) (text : List ℕ) (leaf : List Event) (old new : Pending) →
-    ((handed : List Event) (ps qs : List Piece) → openers qs ≡ [] → ones leaf ≡ marks_back qs → HoldsPieces entities text handed old ps →
-    HoldsPieces entities text handed new (qs ++ ps)) →
-    PutsLeaf entities text leaf [] old new
-leaf_kept entities text leaf old new kept =
-    λ handed ps qs leaves same h. holds_still entities text handed new (qs ++ ps) (kept handed ps qs (leaves_quiet qs leaves) same h)
+-- a leaf that is kept, and one that is handed out
+
+pub leaf_kept : (entities : EntityTable) (text : List ℕ) (token : Token) (old new : Pending) →
+    ((entities : EntityTable) (text : List ℕ) (handed : List Event) (ps qs : List Piece) → is_leaf token ≡ true → openers qs ≡ [] →
+    ones (leaf_events entities text token) ≡ marks_back qs → HoldsPieces entities text handed old ps → HoldsPieces entities text handed new (qs ++ ps)) →
+    is_leaf token ≡ true → PutsLeaf entities text (leaf_events entities text token) [] old new
+leaf_kept entities text token old new kept leaf =
+    λ handed ps qs leaves same h. holds_still entities text handed new (qs ++ ps) (kept entities text handed ps qs leaf (leaves_quiet qs leaves) same h)
 
 pub leaf_handed : (entities : EntityTable) (text : List ℕ) (leaf es : List Event) (old : Pending) (none : Bool) → none ≡ (length old.tokens.items == 0) →
     none ≡ true → ones es ≡ ones leaf →
