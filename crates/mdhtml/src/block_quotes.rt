@@ -8,7 +8,6 @@ ghost use Rattle.mdhtml.specs.held.UnitTexts.{shown_texts};
 ghost use Rattle.mdhtml.specs.BlockHtml.{block_html};
 
 use crate::blocks::write_blocks;
-use crate::options::Options;
 use crate::pieces::write_fresh;
 use crate::unit_texts::UnitTexts;
 use mdblock::Block;
@@ -18,16 +17,15 @@ use mdtext::NoMemory;
 pub(crate) fn write_quote(
     inner: &[Block],
     texts: &UnitTexts<'_>,
-    options: &Options,
     out: &mut String,
 ) -> Result<(), NoMemory>
     requires { BlocksIn (length (shown_texts texts.now)) (blocks_view inner.now) }
-    ensures { OnOk result (string_bytes out.new ≡ block_html options.now
+    ensures { OnOk result (string_bytes out.new ≡ block_html texts.now.options.now
         (shown_texts texts.now) false (block_quote (blocks_view inner.now)) (string_bytes out.old)) }
 {
     write_fresh(out)?;
     out.push_str("<blockquote>\n")?;
-    write_blocks(inner, false, texts, options, out)?;
+    write_blocks(inner, false, texts, out)?;
     write_fresh(out)?;
     out.push_str("</blockquote>\n")?;
     Ok(())

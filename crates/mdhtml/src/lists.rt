@@ -14,7 +14,6 @@ mod same_blocks;
 pub(crate) mod task_list_items;
 
 use crate::lists::items::write_items;
-use crate::options::Options;
 use crate::pieces::write_fresh;
 use crate::unit_texts::UnitTexts;
 use mdblock::{Item, ListKind};
@@ -26,17 +25,16 @@ pub(crate) fn write_list(
     tight: bool,
     items: &[Item],
     texts: &UnitTexts<'_>,
-    options: &Options,
     out: &mut String,
 ) -> Result<(), NoMemory>
     requires { ItemsIn (length (shown_texts texts.now)) (items_view items.now) }
-    ensures { OnOk result (string_bytes out.new ≡ block_html options.now
+    ensures { OnOk result (string_bytes out.new ≡ block_html texts.now.options.now
         (shown_texts texts.now) false (list (kind_view kind) tight (items_view items.now))
         (string_bytes out.old)) }
 {
     write_fresh(out)?;
     open_list(kind, out)?;
-    write_items(items, tight, texts, options, out)?;
+    write_items(items, tight, texts, out)?;
     close_list(kind, out)
 }
 

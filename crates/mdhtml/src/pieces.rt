@@ -8,7 +8,7 @@ ghost use Rattle.mdhtml.specs.BlockHtml.{fresh, ends_line, texts_html, blocks_ht
 
 use crate::blocks::write_blocks;
 use crate::options::Options;
-use crate::unit_texts::UnitTexts;
+use crate::unit_texts::{HeldTexts, UnitTexts};
 use mdblock::Block;
 use mdinline::Parsed;
 use mdtext::NoMemory;
@@ -44,23 +44,26 @@ pub fn append_unit_html(
         ≡ string_bytes out.old ++ blocks_html options.now (texts_html options.now texts.now) false (blocks_view blocks.now) []) }
     ensures ends_line { OnOk result (ends_line (string_bytes out.new) ≡ true) }
 {
-    append_blocks(blocks, &UnitTexts::Read(texts, options), options, out)
+    let texts = UnitTexts {
+        held: HeldTexts::Read(texts),
+        options,
+    };
+    append_blocks(blocks, &texts, out)
 }
 
 /// Appends to a text that is empty or ends with LF the HTML of a unit's blocks, and leaves it so.
 pub(crate) fn append_blocks(
     blocks: &[Block],
     texts: &UnitTexts<'_>,
-    options: &Options,
     out: &mut String,
 ) -> Result<(), NoMemory>
     requires within { BlocksIn (length (shown_texts texts.now)) (blocks_view blocks.now) }
     requires on_a_line { ends_line (string_bytes out.old) ≡ true }
     ensures value { OnOk result (string_bytes out.new
-        ≡ string_bytes out.old ++ blocks_html options.now (shown_texts texts.now) false (blocks_view blocks.now) []) }
+        ≡ string_bytes out.old ++ blocks_html texts.now.options.now (shown_texts texts.now) false (blocks_view blocks.now) []) }
     ensures ends_line { OnOk result (ends_line (string_bytes out.new) ≡ true) }
 {
-    write_blocks(blocks, false, texts, options, out)?;
+    write_blocks(blocks, false, texts, out)?;
     Ok(())
 }
 

@@ -8,7 +8,6 @@ ghost use Rattle.mdhtml.specs.held.UnitTexts.{shown_texts};
 ghost use Rattle.mdhtml.specs.BlockHtml.{fresh, text_html};
 ghost use Rattle.mdhtml.specs.TableHtml.{align_attribute, align_of, cell_html, cells_html, row_html, rows_html, head_html, body_html, table_html};
 
-use crate::options::Options;
 use crate::pieces::write_fresh;
 use crate::unit_texts::UnitTexts;
 use mdblock::Align;
@@ -26,18 +25,17 @@ pub(crate) fn write_table(
     head: &[usize],
     rows: &[Vec<usize>],
     texts: &UnitTexts<'_>,
-    options: &Options,
     out: &mut String,
 ) -> Result<(), NoMemory>
     requires head { CellsIn (length (shown_texts texts.now)) head.now }
     requires rows { AllByRecursion (CellsIn (length (shown_texts texts.now))) (map (λ row. row.items) rows.now) }
     ensures { OnOk result (string_bytes out.new ≡ fresh (string_bytes out.old)
-        ++ table_html options.now (shown_texts texts.now) aligns.now head.now (map (λ row. row.items) rows.now)) }
+        ++ table_html texts.now.options.now (shown_texts texts.now) aligns.now head.now (map (λ row. row.items) rows.now)) }
 {
     write_fresh(out)?;
     out.push_str("<table>\n")?;
-    write_head(aligns, head, texts, options, out)?;
-    write_body(aligns, rows, texts, options, out)?;
+    write_head(aligns, head, texts, out)?;
+    write_body(aligns, rows, texts, out)?;
     out.push_str("</table>\n")?;
     Ok(())
 }
@@ -47,15 +45,14 @@ fn write_head(
     aligns: &[Align],
     head: &[usize],
     texts: &UnitTexts<'_>,
-    options: &Options,
     out: &mut String,
 ) -> Result<(), NoMemory>
     requires { CellsIn (length (shown_texts texts.now)) head.now }
     ensures { OnOk result (string_bytes out.new ≡ string_bytes out.old
-        ++ head_html options.now (shown_texts texts.now) aligns.now head.now) }
+        ++ head_html texts.now.options.now (shown_texts texts.now) aligns.now head.now) }
 {
     out.push_str("<thead>\n")?;
-    write_row(CellKind::Head, aligns, head, texts, options, out)?;
+    write_row(CellKind::Head, aligns, head, texts, out)?;
     out.push_str("</thead>\n")?;
     Ok(())
 }
@@ -65,18 +62,17 @@ fn write_body(
     aligns: &[Align],
     rows: &[Vec<usize>],
     texts: &UnitTexts<'_>,
-    options: &Options,
     out: &mut String,
 ) -> Result<(), NoMemory>
     requires { AllByRecursion (CellsIn (length (shown_texts texts.now))) (map (λ row. row.items) rows.now) }
     ensures { OnOk result (string_bytes out.new ≡ string_bytes out.old
-        ++ body_html options.now (shown_texts texts.now) aligns.now (map (λ row. row.items) rows.now)) }
+        ++ body_html texts.now.options.now (shown_texts texts.now) aligns.now (map (λ row. row.items) rows.now)) }
 {
     if rows.is_empty() {
         return Ok(());
     }
     out.push_str("<tbody>\n")?;
-    write_rows(aligns, rows, texts, options, out)?;
+    write_rows(aligns, rows, texts, out)?;
     out.push_str("</tbody>\n")?;
     Ok(())
 }
@@ -85,15 +81,14 @@ fn write_rows(
     aligns: &[Align],
     rows: &[Vec<usize>],
     texts: &UnitTexts<'_>,
-    options: &Options,
     out: &mut String,
 ) -> Result<(), NoMemory>
     requires { AllByRecursion (CellsIn (length (shown_texts texts.now))) (map (λ row. row.items) rows.now) }
     ensures { OnOk result (string_bytes out.new ≡ string_bytes out.old
-        ++ rows_html options.now (shown_texts texts.now) aligns.now (map (λ row. row.items) rows.now)) }
+        ++ rows_html texts.now.options.now (shown_texts texts.now) aligns.now (map (λ row. row.items) rows.now)) }
 {
     for row in rows {
-        write_row(CellKind::Data, aligns, row, texts, options, out)?;
+        write_row(CellKind::Data, aligns, row, texts, out)?;
     }
     Ok(())
 }
@@ -103,15 +98,14 @@ fn write_row(
     aligns: &[Align],
     cells: &[usize],
     texts: &UnitTexts<'_>,
-    options: &Options,
     out: &mut String,
 ) -> Result<(), NoMemory>
     requires { CellsIn (length (shown_texts texts.now)) cells.now }
     ensures { OnOk result (string_bytes out.new ≡ string_bytes out.old
-        ++ row_html options.now (shown_texts texts.now) (tag_of kind) aligns.now cells.now) }
+        ++ row_html texts.now.options.now (shown_texts texts.now) (tag_of kind) aligns.now cells.now) }
 {
     out.push_str("<tr>\n")?;
-    write_cells(kind, aligns, cells, texts, options, out)?;
+    write_cells(kind, aligns, cells, texts, out)?;
     out.push_str("</tr>\n")?;
     Ok(())
 }
@@ -121,15 +115,14 @@ fn write_cells(
     aligns: &[Align],
     cells: &[usize],
     texts: &UnitTexts<'_>,
-    options: &Options,
     out: &mut String,
 ) -> Result<(), NoMemory>
     requires { CellsIn (length (shown_texts texts.now)) cells.now }
     ensures { OnOk result (string_bytes out.new ≡ string_bytes out.old
-        ++ cells_html options.now (shown_texts texts.now) (tag_of kind) aligns.now 0 cells.now) }
+        ++ cells_html texts.now.options.now (shown_texts texts.now) (tag_of kind) aligns.now 0 cells.now) }
 {
     for (column, cell) in cells.iter().enumerate() {
-        write_cell(kind, align_of(aligns, column), *cell, texts, options, out)?;
+        write_cell(kind, align_of(aligns, column), *cell, texts, out)?;
     }
     Ok(())
 }
@@ -139,14 +132,13 @@ fn write_cell(
     align: Align,
     text: usize,
     texts: &UnitTexts<'_>,
-    options: &Options,
     out: &mut String,
 ) -> Result<(), NoMemory>
     requires { text < length (shown_texts texts.now) }
     ensures { OnOk result (string_bytes out.new ≡ string_bytes out.old
-        ++ cell_html options.now (tag_of kind) align (text_html (shown_texts texts.now) text)) }
+        ++ cell_html texts.now.options.now (tag_of kind) align (text_html (shown_texts texts.now) text)) }
 {
-    out.push_str(opening_tag(kind, align, options.align_style))?;
+    out.push_str(opening_tag(kind, align, texts.options.align_style))?;
     texts.append_text(text, out)?;
     out.push_str(closing_tag(kind))?;
     Ok(())

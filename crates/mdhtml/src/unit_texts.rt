@@ -9,11 +9,18 @@ use crate::options::Options;
 use mdinline::Parsed;
 use mdtext::NoMemory;
 
-/// The inline texts of a unit, as the HTML of its blocks takes them.
+/// The inline texts of a unit, as the HTML of its blocks takes them, and the options for both.
 #[derive(Clone, Copy, Drop)]
-pub(crate) enum UnitTexts<'a> {
+pub(crate) struct UnitTexts<'a> {
+    pub(crate) held: HeldTexts<'a>,
+    pub(crate) options: &'a Options,
+}
+
+/// What is held of the texts.
+#[derive(Clone, Copy, Drop)]
+pub(crate) enum HeldTexts<'a> {
     /// They were read.
-    Read(&'a [Parsed], &'a Options),
+    Read(&'a [Parsed]),
     /// Their HTML is written.
     Written(&'a [String]),
 }
@@ -28,9 +35,9 @@ impl<'a> UnitTexts<'a> {
         requires { text < length (shown_texts self.now) }
         ensures { OnOk result (string_bytes out.new ≡ string_bytes out.old ++ text_html (shown_texts self.now) text) }
     {
-        match *self {
-            UnitTexts::Read(texts, options) => append_read(texts, text, options, out),
-            UnitTexts::Written(texts) => append_written(texts, text, out),
+        match self.held {
+            HeldTexts::Read(texts) => append_read(texts, text, self.options, out),
+            HeldTexts::Written(texts) => append_written(texts, text, out),
         }
     }
 }

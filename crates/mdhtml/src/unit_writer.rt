@@ -9,7 +9,7 @@ ghost use Rattle.mdhtml.specs.Limits.{HasLimits};
 use crate::inline_writer::{InlineWriter, OpenSpan};
 use crate::options::Options;
 use crate::pieces::append_blocks;
-use crate::unit_texts::UnitTexts;
+use crate::unit_texts::{HeldTexts, UnitTexts};
 use mdblock::Unit;
 use mdinline::{InlineFault, Labels, TextReader, Unasked};
 use mdtext::{Entities, NoMemory};
@@ -68,12 +68,11 @@ impl<'a> UnitWriter<'a> {
         ensures entities { entities_of self.new ≡ entities_of self.old }
     {
         self.write_texts(unit.texts(), labels)?;
-        append_blocks(
-            unit.blocks(),
-            &UnitTexts::Written(&self.texts),
-            &self.options,
-            out,
-        )?;
+        let texts = UnitTexts {
+            held: HeldTexts::Written(&self.texts),
+            options: &self.options,
+        };
+        append_blocks(unit.blocks(), &texts, out)?;
         Ok(())
     }
 

@@ -8,13 +8,13 @@ use Rattle.mdhtml.proofs.+block.Given as goal
 abbrev pub invariant-blocks::write_blocks-loop-block : goal.invariant-blocks::write_blocks-loop-block
 invariant-blocks::write_blocks-loop-block l = record {
   within : BlocksIn (length (shown_texts l.texts)) (blocks_view (drop l.block-index l.blocks));
-  written : blocks_html l.options (shown_texts l.texts) l.tight (blocks_view (drop l.block-index l.blocks)) (string_bytes l.out)
-      ≡ blocks_html l.options (shown_texts l.texts) l.tight (blocks_view l.blocks) (string_bytes l.fn.out);
+  written : blocks_html l.texts.options.now (shown_texts l.texts) l.tight (blocks_view (drop l.block-index l.blocks)) (string_bytes l.out)
+      ≡ blocks_html l.texts.options.now (shown_texts l.texts) l.tight (blocks_view l.blocks) (string_bytes l.fn.out);
 }
 
 abbrev pub invariant-lists::items::write_items-loop-item : goal.invariant-lists::items::write_items-loop-item
 invariant-lists::items::write_items-loop-item l = record {
   within : ItemsIn (length (shown_texts l.texts)) (items_view (drop l.item-index l.items));
-  written : items_html l.options (shown_texts l.texts) l.tight (items_view (drop l.item-index l.items)) (string_bytes l.out)
-      ≡ items_html l.options (shown_texts l.texts) l.tight (items_view l.items) (string_bytes l.fn.out);
+  written : items_html l.texts.options.now (shown_texts l.texts) l.tight (items_view (drop l.item-index l.items)) (string_bytes l.out)
+      ≡ items_html l.texts.options.now (shown_texts l.texts) l.tight (items_view l.items) (string_bytes l.fn.out);
 }

@@ -13,7 +13,7 @@ use crate::blocks::write_blocks;
 use crate::lists::{close_list, open_list};
 use crate::options::Options;
 use crate::pieces::write_fresh;
-use crate::unit_texts::UnitTexts;
+use crate::unit_texts::{HeldTexts, UnitTexts};
 use mdblock::{Block, Item, ListKind};
 use mdinline::Parsed;
 use mdtext::NoMemory;
@@ -42,10 +42,13 @@ pub fn append_unit_ends(
         ≡ blocks_html options.now (texts_html options.now texts.now) false (blocks_view blocks.now) []) }
     ensures ends { OnOk result (ends.new.items ≡ unit_ends options.now (texts_html options.now texts.now) (blocks_view blocks.now)) }
 {
-    let texts = UnitTexts::Read(texts, options);
+    let texts = UnitTexts {
+        held: HeldTexts::Read(texts),
+        options,
+    };
     match one_list(blocks) {
-        Some(list) => write_list_ends(&list, &texts, options, out, ends),
-        None => write_blocks(blocks, false, &texts, options, out),
+        Some(list) => write_list_ends(&list, &texts, out, ends),
+        None => write_blocks(blocks, false, &texts, out),
     }
 }
 
@@ -82,7 +85,6 @@ fn as_list(only: &Block) -> Option<OneList<'_>>
 fn write_list_ends(
     list: &OneList<'_>,
     texts: &UnitTexts<'_>,
-    options: &Options,
     out: &mut String,
     ends: &mut Vec<usize>,
 ) -> Result<(), NoMemory>
@@ -90,12 +92,12 @@ fn write_list_ends(
     requires no_text { string_bytes out.old ≡ [] }
     requires no_ends { ends.old.items ≡ [] }
     ensures html { OnOk result (string_bytes out.new
-        ≡ blocks_html options.now (shown_texts texts.now) false (unit_of list.now) []) }
-    ensures ends { OnOk result (ends.new.items ≡ unit_ends options.now (shown_texts texts.now) (unit_of list.now)) }
+        ≡ blocks_html texts.now.options.now (shown_texts texts.now) false (unit_of list.now) []) }
+    ensures ends { OnOk result (ends.new.items ≡ unit_ends texts.now.options.now (shown_texts texts.now) (unit_of list.now)) }
 {
     ends.reserve(list.items.len())?;
     begin_list(list.kind, out)?;
-    write_item_ends(list.items, list.tight, texts, options, out, ends)?;
+    write_item_ends(list.items, list.tight, texts, out, ends)?;
     close_list(list.kind, out)
 }
 
@@ -113,20 +115,19 @@ pub(crate) fn write_item_ends(
     items: &[Item],
     tight: bool,
     texts: &UnitTexts<'_>,
-    options: &Options,
     out: &mut String,
     ends: &mut Vec<usize>,
 ) -> Result<(), NoMemory>
     requires { ItemsIn (length (shown_texts texts.now)) (items_view items.now) }
-    ensures html { OnOk result (string_bytes out.new ≡ items_html options.now
+    ensures html { OnOk result (string_bytes out.new ≡ items_html texts.now.options.now
         (shown_texts texts.now) tight (items_view items.now) (string_bytes out.old)) }
-    ensures ends { OnOk result (ends.new.items ≡ ends.old.items ++ item_ends options.now
+    ensures ends { OnOk result (ends.new.items ≡ ends.old.items ++ item_ends texts.now.options.now
         (shown_texts texts.now) tight (items_view items.now) (string_bytes out.old)) }
 {
     for item in items {
         write_fresh(out)?;
         out.push_str("<li>")?;
-        write_blocks(&item.blocks, tight, texts, options, out)?;
+        write_blocks(&item.blocks, tight, texts, out)?;
         out.push_str("</li>\n")?;
         ends.push(out.len())?;
     }

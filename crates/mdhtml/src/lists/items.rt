@@ -7,7 +7,6 @@ ghost use Rattle.mdhtml.specs.held.UnitTexts.{shown_texts};
 ghost use Rattle.mdhtml.specs.BlockHtml.{items_html};
 
 use crate::blocks::write_blocks;
-use crate::options::Options;
 use crate::pieces::write_fresh;
 use crate::unit_texts::UnitTexts;
 use mdblock::Item;
@@ -18,17 +17,16 @@ pub(crate) fn write_items(
     items: &[Item],
     tight: bool,
     texts: &UnitTexts<'_>,
-    options: &Options,
     out: &mut String,
 ) -> Result<(), NoMemory>
     requires { ItemsIn (length (shown_texts texts.now)) (items_view items.now) }
-    ensures { OnOk result (string_bytes out.new ≡ items_html options.now
+    ensures { OnOk result (string_bytes out.new ≡ items_html texts.now.options.now
         (shown_texts texts.now) tight (items_view items.now) (string_bytes out.old)) }
 {
     for item in items {
         write_fresh(out)?;
         out.push_str("<li>")?;
-        write_blocks(&item.blocks, tight, texts, options, out)?;
+        write_blocks(&item.blocks, tight, texts, out)?;
         out.push_str("</li>\n")?;
     }
     Ok(())

@@ -14,7 +14,7 @@ use crate::lists::close_list;
 use crate::lists::item_ends::{OneList, append_unit_ends, begin_list, one_list, write_item_ends};
 use crate::lists::same_blocks::{SharedTexts, same_behind, same_front};
 use crate::options::Options;
-use crate::unit_texts::UnitTexts;
+use crate::unit_texts::{HeldTexts, UnitTexts};
 use mdblock::Block;
 use mdinline::Parsed;
 use mdtext::NoMemory;
@@ -209,8 +209,11 @@ fn append_kept(
     out.push_str(kept.front)?;
     ends.extend_from_slice(&like.ends[..same.front])?;
     let between = &list.items[same.front..list.items.len() - same.behind];
-    let texts = UnitTexts::Read(texts, options);
-    write_item_ends(between, list.tight, &texts, options, out, ends)?;
+    let texts = UnitTexts {
+        held: HeldTexts::Read(texts),
+        options,
+    };
+    write_item_ends(between, list.tight, &texts, out, ends)?;
     out.push_str(kept.tail)?;
     let to = out.len() - kept.tail.len();
     let moved = &like.ends[like.ends.len() - same.behind..];

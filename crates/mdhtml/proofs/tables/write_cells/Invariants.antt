@@ -8,6 +8,6 @@ use Rattle.mdhtml.proofs.tables.write_cells.Given as goal
 abbrev pub invariant-loop-column : goal.invariant-loop-column
 invariant-loop-column l = record {
   within : CellsIn (length (shown_texts l.texts)) (drop l.column l.cells);
-  written : string_bytes l.out ++ cells_html l.options (shown_texts l.texts) (tag_of l.kind) l.aligns l.column (drop l.column l.cells)
-      ≡ string_bytes l.fn.out ++ cells_html l.options (shown_texts l.texts) (tag_of l.kind) l.aligns 0 l.cells;
+  written : string_bytes l.out ++ cells_html l.texts.options.now (shown_texts l.texts) (tag_of l.kind) l.aligns l.column (drop l.column l.cells)
+      ≡ string_bytes l.fn.out ++ cells_html l.texts.options.now (shown_texts l.texts) (tag_of l.kind) l.aligns 0 l.cells;
 }

@@ -8,6 +8,6 @@ use Rattle.mdhtml.proofs.tables.write_rows.Given as goal
 abbrev pub invariant-loop-row : goal.invariant-loop-row
 invariant-loop-row l = record {
   within : AllByRecursion (CellsIn (length (shown_texts l.texts))) (map (λ row. row.items) (drop l.row-index l.rows));
-  written : string_bytes l.out ++ rows_html l.options (shown_texts l.texts) l.aligns (map (λ row. row.items) (drop l.row-index l.rows))
-      ≡ string_bytes l.fn.out ++ rows_html l.options (shown_texts l.texts) l.aligns (map (λ row. row.items) l.rows);
+  written : string_bytes l.out ++ rows_html l.texts.options.now (shown_texts l.texts) l.aligns (map (λ row. row.items) (drop l.row-index l.rows))
+      ≡ string_bytes l.fn.out ++ rows_html l.texts.options.now (shown_texts l.texts) l.aligns (map (λ row. row.items) l.rows);
 }

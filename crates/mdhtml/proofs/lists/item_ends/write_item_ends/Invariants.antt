@@ -9,8 +9,8 @@ use Rattle.mdhtml.proofs.lists.item_ends.write_item_ends.Given as goal
 abbrev pub invariant-loop-item : goal.invariant-loop-item
 invariant-loop-item l = record {
   within : ItemsIn (length (shown_texts l.texts)) (items_view (drop l.item-index l.items));
-  html : items_html l.options (shown_texts l.texts) l.tight (items_view (drop l.item-index l.items)) (string_bytes l.out)
-      ≡ items_html l.options (shown_texts l.texts) l.tight (items_view l.items) (string_bytes l.fn.out);
-  ends : l.ends.items ++ item_ends l.options (shown_texts l.texts) l.tight (items_view (drop l.item-index l.items)) (string_bytes l.out)
-      ≡ l.fn.ends.items ++ item_ends l.options (shown_texts l.texts) l.tight (items_view l.items) (string_bytes l.fn.out);
+  html : items_html l.texts.options.now (shown_texts l.texts) l.tight (items_view (drop l.item-index l.items)) (string_bytes l.out)
+      ≡ items_html l.texts.options.now (shown_texts l.texts) l.tight (items_view l.items) (string_bytes l.fn.out);
+  ends : l.ends.items ++ item_ends l.texts.options.now (shown_texts l.texts) l.tight (items_view (drop l.item-index l.items)) (string_bytes l.out)
+      ≡ l.fn.ends.items ++ item_ends l.texts.options.now (shown_texts l.texts) l.tight (items_view l.items) (string_bytes l.fn.out);
 }
