@@ -6,7 +6,7 @@ ghost use Rattle.mdblock.specs.Positions.{CellsIn};
 ghost use Rattle.mdhtml.specs.held.CellTags.{tag_of};
 ghost use Rattle.mdhtml.specs.held.UnitTexts.{shown_texts};
 ghost use Rattle.mdhtml.specs.BlockHtml.{fresh, text_html};
-ghost use Rattle.mdhtml.specs.TableHtml.{align_attribute, align_of, cell_html, cells_html, row_html, rows_html, head_html, body_html, table_html};
+ghost use Rattle.mdhtml.specs.TableHtml.{align_attribute, align_of, cell_html, row_html, head_html, body_html, table_html};
 
 use crate::pieces::write_fresh;
 use crate::unit_texts::UnitTexts;
@@ -72,24 +72,10 @@ fn write_body(
         return Ok(());
     }
     out.push_str("<tbody>\n")?;
-    write_rows(aligns, rows, texts, out)?;
-    out.push_str("</tbody>\n")?;
-    Ok(())
-}
-
-fn write_rows(
-    aligns: &[Align],
-    rows: &[Vec<usize>],
-    texts: &UnitTexts<'_>,
-    out: &mut String,
-) -> Result<(), NoMemory>
-    requires { AllByRecursion (CellsIn (length (shown_texts texts.now))) (map (λ row. row.items) rows.now) }
-    ensures { OnOk result (string_bytes out.new ≡ string_bytes out.old
-        ++ rows_html texts.now.options.now (shown_texts texts.now) aligns.now (map (λ row. row.items) rows.now)) }
-{
     for row in rows {
         write_row(CellKind::Data, aligns, row, texts, out)?;
     }
+    out.push_str("</tbody>\n")?;
     Ok(())
 }
 
@@ -105,25 +91,10 @@ fn write_row(
         ++ row_html texts.now.options.now (shown_texts texts.now) (tag_of kind) aligns.now cells.now) }
 {
     out.push_str("<tr>\n")?;
-    write_cells(kind, aligns, cells, texts, out)?;
-    out.push_str("</tr>\n")?;
-    Ok(())
-}
-
-fn write_cells(
-    kind: CellKind,
-    aligns: &[Align],
-    cells: &[usize],
-    texts: &UnitTexts<'_>,
-    out: &mut String,
-) -> Result<(), NoMemory>
-    requires { CellsIn (length (shown_texts texts.now)) cells.now }
-    ensures { OnOk result (string_bytes out.new ≡ string_bytes out.old
-        ++ cells_html texts.now.options.now (shown_texts texts.now) (tag_of kind) aligns.now 0 cells.now) }
-{
     for (column, cell) in cells.iter().enumerate() {
         write_cell(kind, align_of(aligns, column), *cell, texts, out)?;
     }
+    out.push_str("</tr>\n")?;
     Ok(())
 }
 
