@@ -18,37 +18,25 @@ pub(crate) fn write_heading(
     ensures { OnOk result (string_bytes out.new ≡ fresh (string_bytes out.old)
         ++ heading_html level (text_html (shown_texts texts.now) text)) }
 {
+    let (opening, closing) = tags(level);
     write_fresh(out)?;
-    out.push_str(opening_tag(level))?;
+    out.push_str(opening)?;
     texts.append_text(text, out)?;
-    out.push_str(closing_tag(level))?;
+    out.push_str(closing)?;
     Ok(())
 }
 
-/// Each level's tag is whole, so that it is appended at once.
-fn opening_tag(level: u8) -> &'static str
-    ensures { result.now ≡ codes "<" ++ heading_tag level ++ codes ">" }
+/// The tags at both ends of a heading, and the end of its line. Each is whole, so that it is appended at once.
+fn tags(level: u8) -> (&'static str, &'static str)
+    ensures opening { result.0.now ≡ codes "<" ++ heading_tag level ++ codes ">" }
+    ensures closing { result.1.now ≡ codes "</" ++ heading_tag level ++ codes ">\n" }
 {
     match level {
-        1 => "<h1>",
-        2 => "<h2>",
-        3 => "<h3>",
-        4 => "<h4>",
-        5 => "<h5>",
-        _ => "<h6>",
-    }
-}
-
-/// The tag that ends a heading, and its line.
-fn closing_tag(level: u8) -> &'static str
-    ensures { result.now ≡ codes "</" ++ heading_tag level ++ codes ">\n" }
-{
-    match level {
-        1 => "</h1>\n",
-        2 => "</h2>\n",
-        3 => "</h3>\n",
-        4 => "</h4>\n",
-        5 => "</h5>\n",
-        _ => "</h6>\n",
+        1 => ("<h1>", "</h1>\n"),
+        2 => ("<h2>", "</h2>\n"),
+        3 => ("<h3>", "</h3>\n"),
+        4 => ("<h4>", "</h4>\n"),
+        5 => ("<h5>", "</h5>\n"),
+        _ => ("<h6>", "</h6>\n"),
     }
 }
