@@ -80,7 +80,8 @@ impl<'a> UnitWriter<'a> {
     fn write_texts<L: Labels>(&mut self, texts: &[String], labels: &'a L) -> Result<(), InlineFault>
         ensures texts { OnOk result (map string_bytes self.new.texts.items
             ≡ map (read_html (options_of self.old) (entities_of self.old) (L.target labels.now)) (map string_bytes texts.now)) }
-        ensures within { OnOk result (list_any (is_deep_text (options_of self.old) (entities_of self.old) (L.target labels.now)) (map string_bytes texts.now) ≡ false) }
+        ensures within { OnOk result (list_any (is_deep_text (options_of self.old) (entities_of self.old) (L.target labels.now))
+            (map string_bytes texts.now) ≡ false) }
         ensures too_deep { IsErrOf result TooDeep
             → list_any (is_deep_text (options_of self.old) (entities_of self.old) (L.target labels.now)) (map string_bytes texts.now) ≡ true }
         ensures options { options_of self.new ≡ options_of self.old }

@@ -1,14 +1,15 @@
 //! HTML of a unit that is one list, made from that of a list like it: what stands for the items at the front and at the end that are the same in both is
 //! taken over.
 
-ghost use Rattle.std.specs.Prelude.{◌≡◌, ◌++◌, ◌∷◌, [], ◌+◌, ◌-◌, ◌<◌, ◌≤◌, ◌^◌, OnOk, IfOk, IfSome, false, true, length, map, string_bytes, take, drop, slice_index};
+ghost use Rattle.std.specs.Prelude.{◌≡◌, ◌++◌, ◌∷◌, [], ◌+◌, ◌-◌, ◌<◌, ◌≤◌, ◌^◌};
+ghost use Rattle.std.specs.Prelude.{OnOk, IfOk, IfSome, false, true, length, string_bytes, take, drop, slice_index};
 ghost use Rattle.std.specs.List.{AllByRecursion};
 ghost use Rattle.mdblock.specs.BlockView.{blocks_view, items_view, kind_view};
 ghost use Rattle.mdblock.specs.Positions.{BlocksIn, ItemsIn};
-ghost use Rattle.mdhtml.specs.held.LikeLists.{SharedReadings, AreSameEnds, AreKept, between_ends};
+ghost use Rattle.mdhtml.specs.held.LikeLists.{SharedReadings, AreSameEnds, AreKept, AreInTail, html_between, ends_between, last_ends, moved_ends};
 ghost use Rattle.mdhtml.specs.held.ListUnits.{unit_of};
-ghost use Rattle.mdhtml.specs.BlockHtml.{texts_html, blocks_html, items_html};
-ghost use Rattle.mdhtml.specs.ListEnds.{item_ends, unit_ends};
+ghost use Rattle.mdhtml.specs.BlockHtml.{texts_html, blocks_html};
+ghost use Rattle.mdhtml.specs.ListEnds.{unit_ends};
 
 use crate::lists::close_list;
 use crate::lists::item_ends::{OneList, append_unit_ends, begin_list, one_list, write_item_ends};
@@ -39,8 +40,8 @@ pub struct Like<'a> {
     pub behind: usize,
 }
 
-/// Writes what `append_unit_ends` does. Where the unit is one list and the one that was written before is one of the same kind, tight or loose as it is, the bytes
-/// of the items that are the same in both, at the front and at the end, are taken from there. After `NoMemory` a beginning of both may stand there.
+/// Writes what `append_unit_ends` does. Where the unit is one list and the one that was written before is one of the same kind, tight or loose as it is, the
+/// bytes of the items that are the same in both, at the front and at the end, are taken from there. After `NoMemory` a beginning of both may stand there.
 pub fn append_unit_like(
     blocks: &[Block],
     texts: &[Parsed],
@@ -196,15 +197,16 @@ fn append_kept(
     requires both { same.now.front + same.now.behind ≤ length list.now.items.now }
     requires front { same.now.front ≤ length like.now.ends.now }
     requires behind { same.now.behind ≤ length like.now.ends.now }
-    requires tail { AllByRecursion (λ end. (kept.now.tail_at ≤ end) × (end ≤ kept.now.tail_at + length kept.now.tail.now)) (drop (length like.now.ends.now - same.now.behind) like.now.ends.now) }
+    requires tail { AreInTail kept.now (last_ends like.now same.now) }
     requires no_ends { ends.old.items ≡ [] }
     ensures html { OnOk result (string_bytes out.new
-        ≡ items_html options.now (texts_html options.now texts.now) list.now.tight (between_ends list.now same.now) (string_bytes out.old ++ kept.now.front.now) ++ kept.now.tail.now) }
+        ≡ html_between options.now texts.now list.now same.now (string_bytes out.old ++ kept.now.front.now) ++ kept.now.tail.now) }
     ensures ends { OnOk result (ends.new.items
         ≡ (take same.now.front like.now.ends.now
-        ++ item_ends options.now (texts_html options.now texts.now) list.now.tight (between_ends list.now same.now) (string_bytes out.old ++ kept.now.front.now))
-        ++ map (λ end. (end - kept.now.tail_at) + length (items_html options.now (texts_html options.now texts.now) list.now.tight (between_ends list.now same.now) (string_bytes out.old ++ kept.now.front.now)))
-        (drop (length like.now.ends.now - same.now.behind) like.now.ends.now)) }
+        ++ ends_between options.now texts.now list.now same.now (string_bytes out.old ++ kept.now.front.now))
+        ++ moved_ends kept.now.tail_at
+        (length (html_between options.now texts.now list.now same.now (string_bytes out.old ++ kept.now.front.now)))
+        (last_ends like.now same.now)) }
 {
     out.push_str(kept.front)?;
     ends.extend_from_slice(&like.ends[..same.front])?;
@@ -228,7 +230,7 @@ fn push_moved(
     ends: &mut Vec<usize>,
 ) -> Result<(), NoMemory>
     requires { AllByRecursion (λ end. (from ≤ end) × ((end - from) + to < 2 ^ 64)) moved.now }
-    ensures { OnOk result (ends.new.items ≡ ends.old.items ++ map (λ end. (end - from) + to) moved.now) }
+    ensures { OnOk result (ends.new.items ≡ ends.old.items ++ moved_ends from to moved.now) }
 {
     for end in moved {
         ends.push(*end - from + to)?;
