@@ -6,31 +6,38 @@ ghost use Rattle.mdsource.specs.FaultNames.{name_of, number_of};
 ghost use Rattle.mdsource.specs.FaultReasons.{reason_of};
 
 use std::alloc::{AllocError, AllocFailed};
-use std::error::Error;
-use std::fmt;
+use thiserror::Error;
 
 /// Why an edit, a new prelude or a whole text was refused. Nothing has changed then.
-#[derive(Clone, Copy, Debug, PartialEq, Eq)]
+#[derive(Clone, Copy, Debug, PartialEq, Eq, Error)]
 pub enum EditFault {
     /// The edit reaches past the text, which has this many lines.
+    #[error("the edit reaches past the text, which has {lines} lines")]
     OutOfRange { lines: usize },
     /// The added line of this index, counted from 0, holds LF or CR; it is the first such.
+    #[error("the added line {index} holds a line ending")]
     BreakInLine { index: usize },
     /// The text would have more than 1,000,000 lines.
+    #[error("the text is refused: it has more than 1,000,000 lines")]
     TooManyLines,
     /// The text would have more than 16,777,216 bytes, with one counted for each line's end.
+    #[error("the text is refused: it has more than 16,777,216 bytes")]
     TooLarge,
     /// The line of this number, counted from 0 in the text that the edit would leave, begins a container that lies in as
     /// many others as the options allow; it is the first such.
+    #[error("the text is refused: a container in line {line} lies in too many others")]
     NestedTooDeep { line: usize },
     /// A text of the unit that begins in this line has a span that lies in as many others as the
     /// options allow; it is the first such unit.
+    #[error("the text is refused: a span of the block in line {line} lies in too many others")]
     InlineTooDeep { line: usize },
     /// A growth was refused.
+    #[error("no memory")]
     NoMemory,
     /// The prelude is more than definitions: its line of this number, counted from 0, is the first that begins a container
     /// which lies in as many others as the options allow, or, where none does, the first line of the first unit with a block
     /// that is no definition; definitions right above a paragraph are of its unit.
+    #[error("the prelude is refused: what begins in its line {line} is more than definitions")]
     NotDefinitions { line: usize },
 }
 
@@ -64,46 +71,6 @@ impl EditFault {
         }
     }
 }
-
-impl fmt::Display for EditFault {
-    fn fmt<W: fmt::Write>(&self, f: &mut fmt::Formatter<W>) -> fmt::Result {
-        match self {
-            EditFault::OutOfRange { lines } => {
-                write!(f, "the edit reaches past the text, which has {lines} lines")
-            }
-            EditFault::BreakInLine { index } => {
-                write!(f, "the added line {index} holds a line ending")
-            }
-            EditFault::TooManyLines => {
-                write!(f, "the text is refused: it has more than 1,000,000 lines")
-            }
-            EditFault::TooLarge => {
-                write!(f, "the text is refused: it has more than 16,777,216 bytes")
-            }
-            EditFault::NestedTooDeep { line } => {
-                write!(
-                    f,
-                    "the text is refused: a container in line {line} lies in too many others"
-                )
-            }
-            EditFault::InlineTooDeep { line } => {
-                write!(
-                    f,
-                    "the text is refused: a span of the block in line {line} lies in too many others"
-                )
-            }
-            EditFault::NoMemory => write!(f, "no memory"),
-            EditFault::NotDefinitions { line } => {
-                write!(
-                    f,
-                    "the prelude is refused: what begins in its line {line} is more than definitions"
-                )
-            }
-        }
-    }
-}
-
-impl Error for EditFault {}
 
 impl From<AllocError> for EditFault {
     ghost from_gives = { λ _ e. e ≡ NoMemory };
