@@ -8,8 +8,8 @@ use crate::limits::{are_plain, clean_size, first_line_break, plain_size};
 use std::alloc::{AllocError, Global};
 use std::marker::Model;
 
-/// The lines that an edit or a prelude brings, and what one look at all of them told: no line ending and no U+0000 stands in any, or nothing is known of them. In
-/// most texts none does, and then no line is searched again.
+/// The lines that an edit or a prelude brings, and what one look at all of them told: no line ending and no U+0000 stands in any, or nothing is known of them.
+/// In most texts none does, and then no line is searched again.
 #[derive(Drop)]
 pub struct AddedLines<'a> {
     lines: &'a [&'a str],

@@ -1,6 +1,7 @@
 //! Reads the lines of a prelude, which are definitions and nothing else.
 
-ghost use Rattle.std.specs.Prelude.{List, [], ◌≡◌, ◌≤◌, ◌<◌, ◌+◌, ◌*◌, ◌^◌, ◌∷◌, ◌++◌, IfErr, IfOk, None, OnOk, length, map, string_bytes, take};
+ghost use Rattle.std.specs.Prelude.{List, [], ◌≡◌, ◌≤◌, ◌<◌, ◌+◌, ◌*◌, ◌^◌, ◌∷◌, ◌++◌};
+ghost use Rattle.std.specs.Prelude.{IfErr, IfOk, None, OnOk, length, map, string_bytes, take};
 ghost use Rattle.std.specs.Option.{option_map, option_to_list};
 ghost use Rattle.blockspec.specs.BlockUnits.{units};
 ghost use Rattle.blockspec.specs.UnitTree.{FoundUnit};
@@ -36,7 +37,8 @@ pub(crate) fn read_definitions<C: Count>(
     requires small { size_of (map string_bytes lines.now) ≤ 16777216 }
     ensures defines { IfOk result (λ targets. shown targets.entries ≡ with_units [] (units entities.now (map string_bytes lines.now))) }
     ensures definitions { OnOk result (undefining_line (record { entities = entities.now; options = options.now }) (map string_bytes lines.now) ≡ None) }
-    ensures undefining { IfErr result (IsUndefiningAt (undefining_line (record { entities = entities.now; options = options.now }) (map string_bytes lines.now))) }
+    ensures undefining { IfErr result (IsUndefiningAt (undefining_line (record { entities = entities.now; options = options.now })
+        (map string_bytes lines.now))) }
     ensures fault { IfErr result OfDefinitions }
     ensures lines { C.lines count.new ≤ C.lines count.old + length lines.now }
     ensures inlines { C.inlines count.new ≡ C.inlines count.old }
@@ -112,7 +114,8 @@ impl Defined {
 
     /// The first definition of a label counts.
     fn define(&mut self, definition: &Definition) -> Result<(), NoMemory>
-        ensures labels { OnOk result (shown self.new.targets.entries ≡ with_definitions (shown self.old.targets.entries) (definition_of definition.now ∷ [])) }
+        ensures labels { OnOk result (shown self.new.targets.entries
+            ≡ with_definitions (shown self.old.targets.entries) (definition_of definition.now ∷ [])) }
         ensures other { self.new.other ≡ self.old.other }
     {
         if self.targets.contains_key(&definition.label) {

@@ -1,5 +1,5 @@
-//! What a text is that is handed in: its lines with their limits, and a prelude; and why an edit, a text or a prelude is refused. In `specs/` what a view of a text
-//! is, and what an edit of it means: definitions over lists of lines. `laws` has what holds of these definitions, whatever holds a text.
+//! What a text is that is handed in: its lines with their limits, and a prelude; and why an edit, a text or a prelude is refused. In `specs/` what a view of a
+//! text is, and what an edit of it means: definitions over lists of lines. `laws` has what holds of these definitions, whatever holds a text.
 #![tactic(auto)]
 
 mod added_lines;

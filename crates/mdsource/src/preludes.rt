@@ -1,6 +1,7 @@
 //! A prelude: definitions that are handed in beside a text.
 
-ghost use Rattle.std.specs.Prelude.{◌≡◌, ◌≤◌, ◌+◌, [], ℕ, List, None, Some, IfErr, IfOk, IsSome, OnOk, false, length, map, option_map, string_bytes, true};
+ghost use Rattle.std.specs.Prelude.{◌≡◌, ◌≤◌, ◌+◌, [], ℕ, List, None, Some};
+ghost use Rattle.std.specs.Prelude.{IfErr, IfOk, IsSome, OnOk, false, length, map, option_map, string_bytes, true};
 ghost use Rattle.std.specs.List.{list_any};
 ghost use Rattle.std.specs.Map.Iter.{ShowsInOrder, deref};
 ghost use Rattle.std.specs.Option.{option_or};
@@ -74,7 +75,8 @@ impl Prelude {
         ensures due { IfOk result (λ _. due_of_prelude (map (λ line. line.now) lines.now) ≡ None) }
         ensures read { IfOk result (λ prelude. prelude.lines ≡ map without_nul (map (λ line. line.now) lines.now)) }
         ensures defined { IfOk result (IsDefinedBy entities.now) }
-        ensures definitions { OnOk result (undefining_line (record { entities = entities.now; options = options.now }) (map without_nul (map (λ line. line.now) lines.now)) ≡ None) }
+        ensures definitions { OnOk result (undefining_line (record { entities = entities.now; options = options.now })
+            (map without_nul (map (λ line. line.now) lines.now)) ≡ None) }
         ensures undefining { IfErr result (IsUndefiningAt (undefining_line (record { entities = entities.now; options = options.now })
             (map without_nul (map (λ line. line.now) lines.now)))) }
         ensures fault { IfErr result (λ fault. RefusesPrelude fault (map (λ line. line.now) lines.now)) }

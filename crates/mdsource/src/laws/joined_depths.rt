@@ -13,7 +13,8 @@ ghost use Rattle.mdsource.specs.Stretch.{from_line};
 /// Where a line begins a later item of the list that stands last, the first line too deep is that of the lines before it, or else that of the lines from it on
 /// alone.
 pub fn parts_tell_the_first_too_deep()
-    ensures { (limit : ℕ) (front : List (List ℕ)) (line : List ℕ) (later : List (List ℕ)) → joins_list (map document_line front) (document_line line) ≡ true
+    ensures { (limit : ℕ) (front : List (List ℕ)) (line : List ℕ) (later : List (List ℕ))
+        → joins_list (map document_line front) (document_line line) ≡ true
         → first_too_deep limit (front ++ line ∷ later)
         ≡ option_or (first_too_deep limit front) (option_map (λ n. length front + n) (first_too_deep limit (line ∷ later))) }
 {}
@@ -25,5 +26,6 @@ pub fn stops_tell_the_first_too_deep()
         → first_too_deep limit old.lines ≡ None
         → let s = stops setting old (edit at del add) in
         let new = (put old (edit at del add)).lines in
-        first_too_deep limit new ≡ option_map (λ line. from_line s.places + line) (first_too_deep limit (drop (from_line s.places) (take (near_line s + 1) new))) }
+        first_too_deep limit new
+        ≡ option_map (λ line. from_line s.places + line) (first_too_deep limit (drop (from_line s.places) (take (near_line s + 1) new))) }
 {}

@@ -65,7 +65,8 @@ pub fn too_deep_units_asked()
 
 /// A text in which no bracket closes asks for no label, and reads the same whatever labels are defined.
 pub fn unbracketed_texts_ask_for_none()
-    ensures asks { (entities : EntityTable) (labels : Table) (text : List ℕ) → list_any (λ byte. byte == 93) text ≡ false → asked entities labels text ≡ [] }
+    ensures asks { (entities : EntityTable) (labels : Table) (text : List ℕ) → list_any (λ byte. byte == 93) text ≡ false
+        → asked entities labels text ≡ [] }
     ensures reads { (entities : EntityTable) (one other : Table) (text : List ℕ) → list_any (λ byte. byte == 93) text ≡ false
         → inl entities one text ≡ inl entities other text }
 {}

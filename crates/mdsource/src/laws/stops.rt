@@ -1,6 +1,7 @@
 //! Where the reading of an edit stops inside a list, what a reader tells of that place, and how the units of both texts correspond then.
 
-ghost use Rattle.std.specs.Prelude.{◌≡◌, ◌+◌, ◌<◌, ◌≤◌, ◌↔◌, ◌&&◌, ℕ, Contains, List, [], ◌∷◌, ◌++◌, false, true, drop, length, map, nat_eq, take};
+ghost use Rattle.std.specs.Prelude.{◌≡◌, ◌+◌, ◌<◌, ◌≤◌, ◌↔◌, ◌&&◌, ℕ, List, [], ◌∷◌, ◌++◌};
+ghost use Rattle.std.specs.Prelude.{Contains, false, true, drop, length, map, nat_eq, take};
 ghost use Rattle.mdtext.specs.EntityTable.{EntityTable};
 ghost use Rattle.blockspec.specs.BlockLine.{document_line};
 ghost use Rattle.blockspec.specs.BlockUnits.{units};
@@ -47,7 +48,8 @@ pub fn lists_meet_inside()
 /// Of a text that is read from a line on at which it may be cut: a list of it may be parted at the last line that was read exactly where that line begins a
 /// later item behind the lines that were read before it.
 pub fn readers_tell_joins()
-    ensures { (entities : EntityTable) (text front lines : List (List ℕ)) (line : List ℕ) (later : List (List ℕ)) → IsReadStretch entities text front lines line later
+    ensures { (entities : EntityTable) (text front lines : List (List ℕ)) (line : List ℕ) (later : List (List ℕ))
+        → IsReadStretch entities text front lines line later
         → Contains (joins entities text) (length front + length lines) ↔ (joins_list (map document_line lines) (document_line line) ≡ true) }
 {}
 
@@ -76,8 +78,8 @@ pub fn readers_meet_the_near_line()
     ensures stop { (s : Stops) (line : ℕ) → line ≤ near_line s → line ≤ meeting_line s.places → line ≤ stop_line s }
 {}
 
-/// Where reading stops inside a list, one old unit has the line, and it is the last one that gives way: a later item of it begins in the line, it ends at the meeting
-/// line, and its lines behind the line follow in the new text on those that were read, up to there.
+/// Where reading stops inside a list, one old unit has the line, and it is the last one that gives way: a later item of it begins in the line, it ends at the
+/// meeting line, and its lines behind the line follow in the new text on those that were read, up to there.
 pub fn reading_stops_in_the_last_list()
     ensures holds { (setting : Setting) (old : Source) (at del : ℕ) (add : List (List ℕ)) → at + del ≤ length old.lines
         → let s = stops setting old (edit at del add) in
@@ -91,8 +93,8 @@ pub fn reading_stops_in_the_last_list()
         → IsStoppedIn setting.entities old.lines (put old (edit at del add)).lines s before one }
 {}
 
-/// Where reading stops inside a list, the units of the lines from where it begins to the meeting line are those that a reader has handed out over the lines up to
-/// the one at which it stops, that line with them, and one more.
+/// Where reading stops inside a list, the units of the lines from where it begins to the meeting line are those that a reader has handed out over the lines
+/// up to the one at which it stops, that line with them, and one more.
 pub fn stretches_are_handed_and_one_more()
     ensures { (setting : Setting) (old : Source) (at del : ℕ) (add : List (List ℕ)) → at + del ≤ length old.lines
         → let s = stops setting old (edit at del add) in

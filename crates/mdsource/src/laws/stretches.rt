@@ -14,7 +14,8 @@ ghost use Rattle.mdsource.specs.UnitTiles.{begins_from, front_of, lines_of};
 
 /// Of a text that is read from a line on at which it may be cut: a unit of it begins in the last line that was read exactly where the reader's last unit does.
 pub fn readers_tell_beginnings()
-    ensures { (entities : EntityTable) (text front lines : List (List ℕ)) (line : List ℕ) (later : List (List ℕ)) → IsReadStretch entities text front lines line later
+    ensures { (entities : EntityTable) (text front lines : List (List ℕ)) (line : List ℕ) (later : List (List ℕ))
+        → IsReadStretch entities text front lines line later
         → Contains (begins entities text) (length front + length lines) ↔ (last_of (begins entities (lines ++ line ∷ [])) ≡ Some (length lines)) }
 {}
 
@@ -43,7 +44,8 @@ pub fn reading_begins_above_the_edit()
         → begins setting.entities old.lines ≡ front ++ from ∷ back → from < at → All (λ begin. at ≤ begin) back
         → let p = places setting old (edit at del add) in
         (from_line p ≡ from) × (units_before p ≡ length front) }
-    ensures front { (setting : Setting) (old : Source) (at del : ℕ) (add : List (List ℕ)) → All (λ begin. at ≤ begin) (begins setting.entities old.lines)
+    ensures front { (setting : Setting) (old : Source) (at del : ℕ) (add : List (List ℕ))
+        → All (λ begin. at ≤ begin) (begins setting.entities old.lines)
         → let p = places setting old (edit at del add) in
         (from_line p ≡ 0) × (units_before p ≡ 0) }
 {}

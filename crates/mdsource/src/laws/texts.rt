@@ -35,5 +35,6 @@ pub fn stops_read_no_more_texts()
 
 /// A new prelude leaves all units, so of their inline texts those are read that asked for a label which leads elsewhere now.
 pub fn preludes_stop_nowhere()
-    ensures { (setting : Setting) (old : Source) (lines : List (List ℕ)) → texts_soon setting old (set_prelude lines) ≡ texts_read setting old (set_prelude lines) }
+    ensures { (setting : Setting) (old : Source) (lines : List (List ℕ))
+        → texts_soon setting old (set_prelude lines) ≡ texts_read setting old (set_prelude lines) }
 {}

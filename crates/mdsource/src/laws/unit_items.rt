@@ -1,6 +1,7 @@
 //! The own lines of each unit of a document: they tell where its lists may be parted, and an edit leaves those of most units.
 
-ghost use Rattle.std.specs.Prelude.{◌≡◌, ◌+◌, ◌-◌, ◌<◌, ◌≤◌, ◌↔◌, ℕ, Contains, List, [], ◌∷◌, ◌++◌, drop, false, length, map, nat_eq, take};
+ghost use Rattle.std.specs.Prelude.{◌≡◌, ◌+◌, ◌-◌, ◌<◌, ◌≤◌, ◌↔◌, ℕ, List, [], ◌∷◌, ◌++◌};
+ghost use Rattle.std.specs.Prelude.{Contains, drop, false, length, map, nat_eq, take};
 ghost use Rattle.std.specs.List.{list_any};
 ghost use Rattle.mdtext.specs.EntityTable.{EntityTable};
 ghost use Rattle.blockspec.specs.BlockUnits.{begins, units};
