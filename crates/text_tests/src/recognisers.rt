@@ -7,5 +7,6 @@ mod destination_examples;
 mod found;
 mod inlines;
 mod label_examples;
+mod places;
 mod tail_examples;
 mod title_examples;

@@ -2,7 +2,7 @@
 //! a `](` or a `]:` and the spacing behind it. What is wanted is from another program.
 
 use super::found::destination_at;
-use std::process::Abort;
+use super::places::compare;
 
 /// A place, and the start and the end of the inside of what stands there, and its own end.
 type Part = (usize, Option<(usize, usize, usize)>);
@@ -399,25 +399,12 @@ static DEFINITIONS: [(&str, &[Part]); 27] = [
     ("[foo]\n\n> [foo]: /url", &[(16, Some((16, 20, 20)))]),
 ];
 
-fn check_place(rt: &impl Abort, text: &str, at: usize, want: Option<(usize, usize, usize)>) {
-    assert!(rt; text.is_char_boundary(at));
-    assert_eq!(rt; destination_at(text, at), want, "at {at} of {text}");
-}
-
-fn compare(rt: &impl Abort, rows: &[(&str, &[Part])]) {
-    for &(text, places) in rows {
-        for &(at, want) in places {
-            check_place(rt, text, at, want);
-        }
-    }
-}
-
 #[test]
 fn destination_examples(rt: HostRuntime) {
-    compare(&rt, &INLINE_LINKS);
-    compare(&rt, &LINK_TEXTS);
-    compare(&rt, &REFERENCES);
-    compare(&rt, &SHORTCUTS);
-    compare(&rt, &IMAGES);
-    compare(&rt, &DEFINITIONS);
+    compare(&rt, destination_at, &INLINE_LINKS);
+    compare(&rt, destination_at, &LINK_TEXTS);
+    compare(&rt, destination_at, &REFERENCES);
+    compare(&rt, destination_at, &SHORTCUTS);
+    compare(&rt, destination_at, &IMAGES);
+    compare(&rt, destination_at, &DEFINITIONS);
 }

@@ -2,7 +2,7 @@
 //! from another program.
 
 use super::found::label_at;
-use std::process::Abort;
+use super::places::compare;
 
 /// A place, and the end of the inside of the label there.
 type Label = (usize, Option<usize>);
@@ -439,29 +439,22 @@ static DEFINITIONS: [(&str, &[Label]); 27] = [
     ("[foo]\n\n> [foo]: /url", &[(0, Some(4)), (9, Some(13))]),
 ];
 
-fn check_place(rt: &impl Abort, text: &str, at: usize, end: Option<usize>) {
-    assert!(rt; text.is_char_boundary(at));
-    let want = match end {
-        Some(end) => Some((at + 1, end)),
-        None => None,
-    };
-    assert_eq!(rt; label_at(text, at), want, "at {at} of {text}");
-}
-
-fn compare(rt: &impl Abort, rows: &[(&str, &[Label])]) {
-    for &(text, places) in rows {
-        for &(at, end) in places {
-            check_place(rt, text, at, end);
-        }
+/// The end of the inside of the label at a place, or 0 where it does not begin right behind the bracket.
+fn end_at(text: &str, at: usize) -> Option<usize> {
+    let (start, end) = label_at(text, at)?;
+    if start.checked_sub(at) == Some(1) {
+        Some(end)
+    } else {
+        Some(0)
     }
 }
 
 #[test]
 fn label_examples(rt: HostRuntime) {
-    compare(&rt, &INLINE_LINKS);
-    compare(&rt, &LINK_TEXTS);
-    compare(&rt, &REFERENCES);
-    compare(&rt, &SHORTCUTS);
-    compare(&rt, &IMAGES);
-    compare(&rt, &DEFINITIONS);
+    compare(&rt, end_at, &INLINE_LINKS);
+    compare(&rt, end_at, &LINK_TEXTS);
+    compare(&rt, end_at, &REFERENCES);
+    compare(&rt, end_at, &SHORTCUTS);
+    compare(&rt, end_at, &IMAGES);
+    compare(&rt, end_at, &DEFINITIONS);
 }

@@ -2,7 +2,7 @@
 //! another program.
 
 use super::found::{Pair, tail_at};
-use std::process::Abort;
+use super::places::compare;
 
 /// A place, and the destination, the title and the end of the inline tail there.
 type Inline = (usize, Option<(Option<Pair>, Option<Pair>, usize)>);
@@ -185,26 +185,8 @@ static IMAGES: [(&str, &[Inline]); 7] = [
     ("![](/url)", &[(3, Some((Some((4, 8)), None, 9)))]),
 ];
 
-fn check_place(
-    rt: &impl Abort,
-    text: &str,
-    at: usize,
-    want: Option<(Option<Pair>, Option<Pair>, usize)>,
-) {
-    assert!(rt; text.is_char_boundary(at));
-    assert_eq!(rt; tail_at(text, at), want, "at {at} of {text}");
-}
-
-fn compare(rt: &impl Abort, rows: &[(&str, &[Inline])]) {
-    for &(text, places) in rows {
-        for &(at, want) in places {
-            check_place(rt, text, at, want);
-        }
-    }
-}
-
 #[test]
 fn tail_examples(rt: HostRuntime) {
-    compare(&rt, &LINKS);
-    compare(&rt, &IMAGES);
+    compare(&rt, tail_at, &LINKS);
+    compare(&rt, tail_at, &IMAGES);
 }

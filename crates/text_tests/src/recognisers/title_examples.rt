@@ -2,7 +2,7 @@
 //! a destination and the spacing behind it. What is wanted is from another program.
 
 use super::found::title_at;
-use std::process::Abort;
+use super::places::compare;
 
 /// A place, and the start and the end of the inside of what stands there, and its own end.
 type Part = (usize, Option<(usize, usize, usize)>);
@@ -223,22 +223,9 @@ static DEFINITIONS: [(&str, &[Part]); 22] = [
     ),
 ];
 
-fn check_place(rt: &impl Abort, text: &str, at: usize, want: Option<(usize, usize, usize)>) {
-    assert!(rt; text.is_char_boundary(at));
-    assert_eq!(rt; title_at(text, at), want, "at {at} of {text}");
-}
-
-fn compare(rt: &impl Abort, rows: &[(&str, &[Part])]) {
-    for &(text, places) in rows {
-        for &(at, want) in places {
-            check_place(rt, text, at, want);
-        }
-    }
-}
-
 #[test]
 fn title_examples(rt: HostRuntime) {
-    compare(&rt, &LINKS);
-    compare(&rt, &IMAGES);
-    compare(&rt, &DEFINITIONS);
+    compare(&rt, title_at, &LINKS);
+    compare(&rt, title_at, &IMAGES);
+    compare(&rt, title_at, &DEFINITIONS);
 }
