@@ -1,5 +1,5 @@
 //! Why a program stopped, with what it was reading, so that it can be told in plain words.
-ghost use Rattle.std.specs.Prelude.{◌≡◌};
+ghost use Rattle.std.specs.Prelude.{◌≡◌, ◌↔◌};
 
 use crate::fault::Stop;
 use std::io::ErrorKind;
@@ -47,18 +47,12 @@ pub struct Halt {
 
 /// What the system's word for it means for a file; any other word is another cause.
 pub(crate) fn cause_of(kind: ErrorKind) -> Cause
-    ensures missing { kind ≡ ErrorKind.NotFound → result ≡ Cause.Missing }
-    ensures locked { kind ≡ ErrorKind.PermissionDenied → result ≡ Cause.Locked }
-    ensures folder { kind ≡ ErrorKind.IsADirectory → result ≡ Cause.Folder }
-    ensures no_folder { kind ≡ ErrorKind.NotADirectory → result ≡ Cause.NoFolder }
-    ensures circle { kind ≡ ErrorKind.FilesystemLoop → result ≡ Cause.Circle }
-    ensures waits { kind ≡ ErrorKind.WouldBlock → result ≡ Cause.Waits }
-    ensures only_missing { result ≡ Cause.Missing → kind ≡ ErrorKind.NotFound }
-    ensures only_locked { result ≡ Cause.Locked → kind ≡ ErrorKind.PermissionDenied }
-    ensures only_folder { result ≡ Cause.Folder → kind ≡ ErrorKind.IsADirectory }
-    ensures only_no_folder { result ≡ Cause.NoFolder → kind ≡ ErrorKind.NotADirectory }
-    ensures only_circle { result ≡ Cause.Circle → kind ≡ ErrorKind.FilesystemLoop }
-    ensures only_waits { result ≡ Cause.Waits → kind ≡ ErrorKind.WouldBlock }
+    ensures missing { (kind ≡ ErrorKind.NotFound) ↔ (result ≡ Cause.Missing) }
+    ensures locked { (kind ≡ ErrorKind.PermissionDenied) ↔ (result ≡ Cause.Locked) }
+    ensures folder { (kind ≡ ErrorKind.IsADirectory) ↔ (result ≡ Cause.Folder) }
+    ensures no_folder { (kind ≡ ErrorKind.NotADirectory) ↔ (result ≡ Cause.NoFolder) }
+    ensures circle { (kind ≡ ErrorKind.FilesystemLoop) ↔ (result ≡ Cause.Circle) }
+    ensures waits { (kind ≡ ErrorKind.WouldBlock) ↔ (result ≡ Cause.Waits) }
 {
     match kind {
         ErrorKind::NotFound => Cause::Missing,
