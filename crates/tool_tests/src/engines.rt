@@ -10,7 +10,7 @@ mod worked_texts;
 ghost use Rattle.mdhtml.specs.Limits.{HasLimits};
 
 use crate::options::SOFT;
-use crate::runs::{Devices, SOUND, served};
+use crate::runs::{Devices, Engine, SOUND, run_of};
 use mdtool::{
     Breaks, EditFault, MemoryOut, Options, Stop, TableFault, ToolFault, WordFault, ending,
 };
@@ -32,7 +32,7 @@ fn check(
     want: &str,
     want_end: &str,
 ) -> Result<(), AllocError> {
-    let run = served(alloc, script.as_bytes(), SOUND, SOFT)?;
+    let run = run_of(alloc, Engine::Serve, script.as_bytes(), SOUND, SOFT)?;
     assert!(rt; run.wrote(want), "{script}");
     assert!(rt; run.ended(want_end), "{script}");
     Ok(())
@@ -139,7 +139,7 @@ fn reads_lines(rt: HostRuntime) -> Result<(), Fail> {
         check_line(&rt, alloc, line, piece)?;
     }
     // Bytes that are no UTF-8 are read as U+FFFD.
-    let run = served(alloc, b"edit 0 0 1\na\xFF\n", SOUND, SOFT)?;
+    let run = run_of(alloc, Engine::Serve, b"edit 0 0 1\na\xFF\n", SOUND, SOFT)?;
     assert!(rt; run.wrote("ok 0 0 1 0\npiece 0 12\n<p>a\u{FFFD}</p>\n"));
     Ok(())
 }
@@ -155,7 +155,7 @@ fn writes_breaks_as_the_options_say(rt: HostRuntime) -> Result<(), Fail> {
     let alloc = rt.alloc();
     for &(breaks, want) in &BREAKS {
         let script = b"edit 0 0 3\na \nb\\\nc\nhtml\n";
-        let run = served(alloc, script, SOUND, options(breaks))?;
+        let run = run_of(alloc, Engine::Serve, script, SOUND, options(breaks))?;
         assert!(rt; run.ends_with(want), "{want}");
     }
     Ok(())
@@ -164,7 +164,7 @@ fn writes_breaks_as_the_options_say(rt: HostRuntime) -> Result<(), Fail> {
 #[test]
 fn flushes_each_reply(rt: HostRuntime) -> Result<(), Fail> {
     let devices = Devices { step: 1, ..SOUND };
-    let run = served(rt.alloc(), EDITS.as_bytes(), devices, SOFT)?;
+    let run = run_of(rt.alloc(), Engine::Serve, EDITS.as_bytes(), devices, SOFT)?;
     assert!(rt; run.wrote(REPLIES));
     assert_eq!(rt; run.flushes, 3);
     Ok(())
@@ -257,7 +257,7 @@ fn ends_at_each_device_fault(rt: HostRuntime) -> Result<(), Fail> {
             feed_fails: Some(call),
             out_fails: None,
         };
-        let run = served(alloc, EDITS.as_bytes(), devices, SOFT)?;
+        let run = run_of(alloc, Engine::Serve, EDITS.as_bytes(), devices, SOFT)?;
         assert!(rt; run.ended("Err(Read)"), "read {call}");
         assert!(rt; run.began(REPLIES), "read {call}");
     }
@@ -267,7 +267,7 @@ fn ends_at_each_device_fault(rt: HostRuntime) -> Result<(), Fail> {
             feed_fails: None,
             out_fails: Some(call),
         };
-        let run = served(alloc, EDITS.as_bytes(), devices, SOFT)?;
+        let run = run_of(alloc, Engine::Serve, EDITS.as_bytes(), devices, SOFT)?;
         assert!(rt; run.ended("Err(Write)"), "write {call}");
         assert!(rt; run.began(REPLIES), "write {call}");
         assert_eq!(rt; run.written.len(), len, "write {call}");

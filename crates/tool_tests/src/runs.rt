@@ -2,12 +2,13 @@
 //!
 //! An engine is called here alone, and so are words read: such a call is dear to prove.
 
-ghost use Rattle.std.specs.Prelude.{◌<◌};
+ghost use Rattle.std.specs.Prelude.{◌-◌, ◌^◌, ◌<◌};
 ghost use Rattle.mdhtml.specs.Limits.{HasLimits};
 
 use mdtext::Entities;
 use mdtool::{
-    MemoryFeed, MemoryOut, Options, ToolFault, WordFault, Words, convert, read_words, serve,
+    Feed, MemoryFeed, MemoryOut, Options, Out, ToolFault, WordFault, Words, convert, read_words,
+    serve,
 };
 use std::alloc::{AllocError, Global};
 
@@ -71,9 +72,39 @@ impl Run {
     }
 }
 
-/// What `convert` does with a text beside the definitions of a prelude.
-pub(crate) fn converted_beside(
+/// An engine that reads a text or a script.
+#[derive(Clone, Copy)]
+pub(crate) enum Engine {
+    /// `convert`, of a text.
+    Convert,
+    /// `serve`, of a script.
+    Serve,
+}
+
+/// How an engine ends.
+fn end_of<R: Feed, W: Out>(
     alloc: Global,
+    engine: Engine,
+    feed: &mut R,
+    out: &mut W,
+    entities: Entities,
+    options: Options,
+    prelude: &[String],
+) -> Result<(), ToolFault>
+    requires limits { HasLimits options }
+    requires feed { R.failures feed.old < 2 ^ 64 - 1 }
+    requires out { W.failures out.old < 2 ^ 64 - 1 }
+{
+    match engine {
+        Engine::Convert => convert(alloc, feed, out, entities, options, prelude),
+        Engine::Serve => serve(alloc, feed, out, entities, options, prelude),
+    }
+}
+
+/// What an engine does beside the definitions of a prelude.
+pub(crate) fn run_beside(
+    alloc: Global,
+    engine: Engine,
     entities: Entities,
     prelude: &[String],
     text: &[u8],
@@ -85,31 +116,16 @@ pub(crate) fn converted_beside(
 {
     let mut feed = MemoryFeed::new(text, devices.step, devices.feed_fails);
     let mut out = MemoryOut::new(alloc, devices.step, devices.out_fails);
-    let end = convert(alloc, &mut feed, &mut out, entities, options, prelude);
+    let end = end_of(
+        alloc, engine, &mut feed, &mut out, entities, options, prelude,
+    );
     Run::of(alloc, &out, end)
 }
 
-/// What `serve` does with a script beside the definitions of a prelude.
-pub(crate) fn served_beside(
+/// What an engine does with the usual entities and no prelude.
+pub(crate) fn run_of(
     alloc: Global,
-    prelude: &[String],
-    script: &[u8],
-    devices: Devices,
-    options: Options,
-) -> Result<Run, AllocError>
-    requires step { 0 < devices.step }
-    requires limits { HasLimits options }
-{
-    let mut feed = MemoryFeed::new(script, devices.step, devices.feed_fails);
-    let mut out = MemoryOut::new(alloc, devices.step, devices.out_fails);
-    let entities = Entities::builtin(alloc)?;
-    let end = serve(alloc, &mut feed, &mut out, entities, options, prelude);
-    Run::of(alloc, &out, end)
-}
-
-/// What `convert` does with a text.
-pub(crate) fn converted(
-    alloc: Global,
+    engine: Engine,
     text: &[u8],
     devices: Devices,
     options: Options,
@@ -117,27 +133,8 @@ pub(crate) fn converted(
     requires step { 0 < devices.step }
     requires limits { HasLimits options }
 {
-    converted_beside(
-        alloc,
-        Entities::builtin(alloc)?,
-        &[],
-        text,
-        devices,
-        options,
-    )
-}
-
-/// What `serve` does with a script.
-pub(crate) fn served(
-    alloc: Global,
-    script: &[u8],
-    devices: Devices,
-    options: Options,
-) -> Result<Run, AllocError>
-    requires step { 0 < devices.step }
-    requires limits { HasLimits options }
-{
-    served_beside(alloc, &[], script, devices, options)
+    let entities = Entities::builtin(alloc)?;
+    run_beside(alloc, engine, entities, &[], text, devices, options)
 }
 
 /// What a program's words say.

@@ -1,10 +1,7 @@
 //! Whole texts.
 
-ghost use Rattle.std.specs.Prelude.{◌<◌};
-
-use super::OPTIONS;
-use crate::runs::{self, Devices, Run, WIDE};
-use std::alloc::{AllocError, Global};
+use super::{at_once, by_bytes};
+use crate::runs::Engine;
 use std::test::Fail;
 
 /// Links, of which one has no definition; and a text with each kind of block and span.
@@ -13,40 +10,19 @@ const PAGES: [&str; 2] = [
     "# a\r\nb\n===\r> 1. c\n>    d  \ne\\\nf\n\n- [ ] g\n- [x] h\n\n\ti\n```j\nk\n```\n<div>\n\n| l | m |\n|:-:|--:|\n| `n` | \\| |\n***\n*o* __p__ ~q~ [r](s \"t\") ![u][v] <w:x> <y z> &amp;\u{E4}\0\n\n[v]: <1>\n'2'\n",
 ];
 
-/// What `convert` does with a page that comes and goes a byte a call, where a device fails.
-fn by_bytes(
-    alloc: Global,
-    page: &str,
-    feed_fails: Option<u64>,
-    out_fails: Option<u64>,
-) -> Result<Run, AllocError> {
-    let devices = Devices {
-        step: 1,
-        feed_fails,
-        out_fails,
-    };
-    converted(alloc, page, devices)
-}
-
-fn converted(alloc: Global, page: &str, devices: Devices) -> Result<Run, AllocError>
-    requires { 0 < devices.step }
-{
-    runs::converted(alloc, page.as_bytes(), devices, OPTIONS)
-}
-
 /// A byte comes with each call, and the call behind the last one finds the end: where any of them fails, nothing is written.
 #[test]
 fn a_page_ends_at_each_feed_fault(rt: HostRuntime) -> Result<(), Fail> {
     let alloc = rt.alloc();
     for page in PAGES {
-        let whole = converted(alloc, page, WIDE)?;
+        let whole = at_once(alloc, Engine::Convert, page)?;
         for calls in 0..=page.len() as u64 {
-            let run = by_bytes(alloc, page, Some(calls), None)?;
+            let run = by_bytes(alloc, Engine::Convert, page, Some(calls), None)?;
             assert!(rt; run.ended("Err(Read)"), "{calls}");
             assert!(rt; run.written.is_empty(), "{calls}");
             assert_eq!(rt; run.flushes, 0, "{calls}");
         }
-        let run = by_bytes(alloc, page, None, None)?;
+        let run = by_bytes(alloc, Engine::Convert, page, None, None)?;
         assert!(rt; run.ended("Ok(())"));
         assert!(rt; whole.ended("Ok(())"));
         assert_eq!(rt; run.written.as_slice(), whole.written.as_slice());
@@ -60,9 +36,9 @@ fn a_page_ends_at_each_feed_fault(rt: HostRuntime) -> Result<(), Fail> {
 fn a_page_ends_at_each_out_fault(rt: HostRuntime) -> Result<(), Fail> {
     let alloc = rt.alloc();
     for page in PAGES {
-        let whole = converted(alloc, page, WIDE)?;
+        let whole = at_once(alloc, Engine::Convert, page)?;
         for calls in 0..=whole.written.len() as u64 {
-            let run = by_bytes(alloc, page, None, Some(calls))?;
+            let run = by_bytes(alloc, Engine::Convert, page, None, Some(calls))?;
             assert!(rt; run.ended("Err(Write)"), "{calls}");
             assert!(rt; whole.written.starts_with(&run.written), "{calls}");
             assert_eq!(rt; run.written.len() as u64, calls);

@@ -1,10 +1,7 @@
 //! Scripts.
 
-ghost use Rattle.std.specs.Prelude.{◌<◌};
-
-use super::OPTIONS;
-use crate::runs::{self, Devices, Run, WIDE};
-use std::alloc::{AllocError, Global};
+use super::{at_once, by_bytes};
+use crate::runs::Engine;
 use std::test::Fail;
 
 /// A definition that is changed; and edits of each kind of block and span, with a prelude, the whole HTML and refusals between them.
@@ -12,27 +9,6 @@ const SCRIPTS: [&str; 2] = [
     "edit 0 0 5\n[foo]\n\nx\n\n[foo]: /a\nedit 4 1 1\n[foo]: /b\n",
     "edit 0 0 9\n# a\nb\n===\n> 1. c\n>    d  \ne\\\n\n- [ ] g\n- [x] h\nhtml\nedit 1 2 6\n\ti\n```j\nk\n```\n<div>\n\nedit 6 0 4\n| l | m |\n|:-:|--:|\n| `n` | \\| |\n***\nprelude 1\n[v]: <1> '2'\nedit 99 0 0\nedit 10 1 2\n*o* __p__ ~q~ [r](s \"t\") ![u][v]\n<w:x> <y z> &amp;\u{E4}\0\nprelude 1\n# no definition\nedit 0 1 1\na\rb\nprelude 0\nedit 3 4 0\nhtml\n",
 ];
-
-/// What `serve` does with a script that comes a byte a call, and replies that go so, where a device fails.
-fn by_bytes(
-    alloc: Global,
-    script: &str,
-    feed_fails: Option<u64>,
-    out_fails: Option<u64>,
-) -> Result<Run, AllocError> {
-    let devices = Devices {
-        step: 1,
-        feed_fails,
-        out_fails,
-    };
-    served(alloc, script, devices)
-}
-
-fn served(alloc: Global, script: &str, devices: Devices) -> Result<Run, AllocError>
-    requires { 0 < devices.step }
-{
-    runs::served(alloc, script.as_bytes(), devices, OPTIONS)
-}
 
 /// A byte comes with each call: where one fails, the replies to the commands in the lines before it are written, and each is flushed.
 #[test]
@@ -42,9 +18,9 @@ fn a_script_ends_at_each_feed_fault(rt: HostRuntime) -> Result<(), Fail> {
         let mut calls: u64 = 0;
         let mut read = String::new(alloc);
         for line in script.lines() {
-            let want = served(alloc, &read, WIDE)?;
+            let want = at_once(alloc, Engine::Serve, &read)?;
             for _ in 0..=line.len() {
-                let run = by_bytes(alloc, script, Some(calls), None)?;
+                let run = by_bytes(alloc, Engine::Serve, script, Some(calls), None)?;
                 assert!(rt; run.ended("Err(Read)"), "{calls}");
                 assert_eq!(rt; run.written.as_slice(), want.written.as_slice(), "{calls}");
                 assert_eq!(rt; run.flushes, want.flushes, "{calls}");
@@ -54,9 +30,9 @@ fn a_script_ends_at_each_feed_fault(rt: HostRuntime) -> Result<(), Fail> {
             read.push_str("\n")?;
         }
         assert_eq!(rt; read.as_str(), script);
-        let run = by_bytes(alloc, script, Some(calls), None)?;
+        let run = by_bytes(alloc, Engine::Serve, script, Some(calls), None)?;
         assert!(rt; run.ended("Err(Read)"));
-        let whole = served(alloc, script, WIDE)?;
+        let whole = at_once(alloc, Engine::Serve, script)?;
         assert!(rt; whole.ended("Ok(())"));
         assert_eq!(rt; run.written.as_slice(), whole.written.as_slice());
     }
@@ -68,9 +44,9 @@ fn a_script_ends_at_each_feed_fault(rt: HostRuntime) -> Result<(), Fail> {
 fn a_script_ends_at_each_out_fault(rt: HostRuntime) -> Result<(), Fail> {
     let alloc = rt.alloc();
     for script in SCRIPTS {
-        let whole = served(alloc, script, WIDE)?;
+        let whole = at_once(alloc, Engine::Serve, script)?;
         for calls in 0..(whole.written.len() as u64).saturating_add(whole.flushes) {
-            let run = by_bytes(alloc, script, None, Some(calls))?;
+            let run = by_bytes(alloc, Engine::Serve, script, None, Some(calls))?;
             assert!(rt; run.ended("Err(Write)"), "{calls}");
             assert!(rt; whole.written.starts_with(&run.written), "{calls}");
             assert_eq!(rt;
@@ -78,7 +54,7 @@ fn a_script_ends_at_each_out_fault(rt: HostRuntime) -> Result<(), Fail> {
                 calls
             );
         }
-        let run = by_bytes(alloc, script, None, None)?;
+        let run = by_bytes(alloc, Engine::Serve, script, None, None)?;
         assert!(rt; run.ended("Ok(())"));
         assert_eq!(rt; run.written.as_slice(), whole.written.as_slice());
         assert_eq!(rt; run.flushes, whole.flushes);

@@ -1,27 +1,13 @@
 //! Edits that read their stretch alone: worked scripts and their replies.
 
 use super::check;
+use super::tools::{EDITS, REPLIES};
 use std::test::Fail;
 
 /// Each script, and what it is answered.
 static SCRIPTS: [(&str, &str); 8] = [
     // a label that leads elsewhere
-    (
-        "edit 0 0 5\n[foo]\n\nx\n\n[foo]: /a\nedit 4 1 1\n[foo]: /b\n",
-        "ok 0 0 3 0
-piece 0 28
-<p><a href=\"/a\">foo</a></p>
-piece 1 9
-<p>x</p>
-piece 2 0
-ok 1 2 2 1
-piece 0 28
-<p><a href=\"/b\">foo</a></p>
-piece 1 9
-<p>x</p>
-piece 2 0
-",
-    ),
+    (EDITS, REPLIES),
     // the first definition of a label counts
     (
         "edit 0 0 5\n[foo]\n\nx\n\n[foo]: /a\nedit 0 0 2\n[foo]: /c\n\nedit 0 2 0\n",

@@ -4,7 +4,7 @@ ghost use Rattle.std.specs.Prelude.{◌≤◌};
 ghost use Rattle.mdhtml.specs.Limits.{HasLimits};
 
 use crate::options::SOFT;
-use crate::runs::{WIDE, converted, served, words_read};
+use crate::runs::{Engine, WIDE, run_of, words_read};
 use mdtool::Options;
 use std::alloc::{AllocError, Global};
 use std::process::Abort;
@@ -34,7 +34,7 @@ fn check(
 ) -> Result<(), AllocError>
     requires { HasLimits options }
 {
-    let run = converted(alloc, text.as_bytes(), WIDE, options)?;
+    let run = run_of(alloc, Engine::Convert, text.as_bytes(), WIDE, options)?;
     assert!(rt; run.wrote(want), "{want_end}");
     assert!(rt; run.ended(want_end), "{want_end}");
     Ok(())
@@ -187,7 +187,7 @@ fn the_deepest_texts_are_edited(rt: HostRuntime) -> Result<(), Fail> {
     let script = deep_edits(rt.alloc())?;
     let replies = deep_replies(rt.alloc())?;
     let limits = with_limits(256, 256);
-    let run = served(rt.alloc(), script.as_bytes(), WIDE, limits)?;
+    let run = run_of(rt.alloc(), Engine::Serve, script.as_bytes(), WIDE, limits)?;
     assert!(rt; run.ended("Ok(())"));
     assert!(rt; run.wrote(replies.as_str()));
     Ok(())

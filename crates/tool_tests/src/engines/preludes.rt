@@ -1,8 +1,10 @@
 //! Preludes: the worked script, those that are handed in, and their refusals.
 
+ghost use Rattle.std.specs.Prelude.{◌<◌};
+
 use super::{check, check_all};
 use crate::options::SOFT;
-use crate::runs::{Devices, Run, SOUND, WIDE, converted_beside, served, served_beside};
+use crate::runs::{Devices, Engine, Run, SOUND, WIDE, run_beside, run_of};
 use mdtext::Entities;
 use mdtool::{MemoryFeed, ToolFault, prelude_from};
 use std::alloc::Global;
@@ -85,7 +87,7 @@ fn a_prelude_makes_no_text_too_deep(rt: HostRuntime) -> Result<(), Fail> {
     script.push_str("[k]")?;
     script.push_str(&" a*".repeat(alloc, 64)?)?;
     script.push_str("\nprelude 1\n[k]: /u\nprelude 1\n[m]: /u\nedit 0 1 1\n[m]\n")?;
-    let run = served(alloc, script.as_bytes(), WIDE, SOFT)?;
+    let run = run_of(alloc, Engine::Serve, script.as_bytes(), WIDE, SOFT)?;
     assert!(rt; run.ended("Ok(())"));
     let want =
         "refused InlineTooDeep 2\nok 0 0 0 0\nok 0 1 1 0\npiece 0 26\n<p><a href=\"/u\">m</a></p>\n";
@@ -111,11 +113,19 @@ fn reads_the_lines_of_a_prelude(rt: HostRuntime) -> Result<(), Fail> {
     Ok(())
 }
 
-/// What `convert` does with a text beside a prelude.
-fn converted(alloc: Global, prelude: &[u8], text: &[u8]) -> Result<Run, Fail> {
+/// What an engine does beside a prelude.
+fn beside(
+    alloc: Global,
+    engine: Engine,
+    prelude: &[u8],
+    text: &[u8],
+    devices: Devices,
+) -> Result<Run, Fail>
+    requires { 0 < devices.step }
+{
     let lines = lines_in(alloc, prelude).map_err(|_| "not read")?;
     let entities = Entities::builtin(alloc)?;
-    Ok(converted_beside(alloc, entities, &lines, text, SOUND, SOFT)?)
+    Ok(run_beside(alloc, engine, entities, &lines, text, devices, SOFT)?)
 }
 
 static BESIDE: [(&str, &str, &str, &str); 3] = [
@@ -138,7 +148,13 @@ static BESIDE: [(&str, &str, &str, &str); 3] = [
 fn a_text_stands_beside_its_prelude(rt: HostRuntime) -> Result<(), Fail> {
     let alloc = rt.alloc();
     for &(prelude, text, want, want_end) in &BESIDE {
-        let run = converted(alloc, prelude.as_bytes(), text.as_bytes())?;
+        let run = beside(
+            alloc,
+            Engine::Convert,
+            prelude.as_bytes(),
+            text.as_bytes(),
+            SOUND,
+        )?;
         assert!(rt; run.wrote(want), "{text}");
         assert!(rt; run.ended(want_end), "{text}");
     }
@@ -149,12 +165,11 @@ fn a_text_stands_beside_its_prelude(rt: HostRuntime) -> Result<(), Fail> {
 #[test]
 fn a_refused_prelude_ends_a_script(rt: HostRuntime) -> Result<(), Fail> {
     let alloc = rt.alloc();
-    let lines = lines_in(alloc, b"# a").map_err(|_| "not read")?;
     let devices = Devices {
         feed_fails: Some(0),
         ..SOUND
     };
-    let run = served_beside(alloc, &lines, b"html\n", devices, SOFT)?;
+    let run = beside(alloc, Engine::Serve, b"# a", b"html\n", devices)?;
     assert!(rt; run.ended("Err(Refused(NotDefinitions { line: 0 }))"));
     assert!(rt; run.wrote(""));
     Ok(())

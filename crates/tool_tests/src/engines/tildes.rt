@@ -1,7 +1,7 @@
 //! Strikethrough by two tildes alone, as cmark-gfm 0.29.0.gfm.6 writes it with `--strikethrough-double-tilde`.
 
 use crate::options::SOFT;
-use crate::runs::{SOUND, converted_beside};
+use crate::runs::{Engine, SOUND, run_beside};
 use mdtext::Entities;
 use std::test::Fail;
 
@@ -30,7 +30,15 @@ fn strikes_through_between_two_tildes_alone(rt: HostRuntime) -> Result<(), Fail>
     let alloc = rt.alloc();
     for (text, want) in &TILDES {
         let entities = Entities::builtin(alloc)?.with_double_tilde(true);
-        let run = converted_beside(alloc, entities, &[], text.as_bytes(), SOUND, SOFT)?;
+        let run = run_beside(
+            alloc,
+            Engine::Convert,
+            entities,
+            &[],
+            text.as_bytes(),
+            SOUND,
+            SOFT,
+        )?;
         assert!(rt; run.wrote(want), "{text}");
         assert!(rt; run.ended("Ok(())"), "{text}");
     }

@@ -3,7 +3,7 @@
 ghost use Rattle.mdhtml.specs.Limits.{HasLimits};
 
 use crate::options::SOFT;
-use crate::runs::{Devices, Run, SOUND, converted, served, words_read};
+use crate::runs::{Devices, Engine, Run, SOUND, run_of, words_read};
 use mdtool::{Breaks, MemoryFeed, Options, Words, entities_from};
 use std::alloc::{AllocError, Global};
 use std::process::Abort;
@@ -20,7 +20,7 @@ fn check(
 ) -> Result<(), AllocError>
     requires { HasLimits options }
 {
-    let run = converted(alloc, text, SOUND, options)?;
+    let run = run_of(alloc, Engine::Convert, text, SOUND, options)?;
     assert!(rt; run.wrote(want), "{want}");
     assert!(rt; run.ended(want_end), "{want_end}");
     Ok(())
@@ -74,9 +74,11 @@ const LINKS: &[u8] = b"[foo][bar][baz]\n\n[baz]: /url1\n[foo]: /url2\n";
 
 const LINKS_HTML: &str = "<p>[foo]<a href=\"/url1\">bar</a></p>\n";
 
-/// What `convert` does with these links where a device fails.
-fn links_converted(
+/// What an engine does with a text or a script in calls of 7 bytes, where a device fails.
+fn by_sevens(
     alloc: Global,
+    engine: Engine,
+    text: &[u8],
     feed_fails: Option<u64>,
     out_fails: Option<u64>,
 ) -> Result<Run, AllocError> {
@@ -85,7 +87,7 @@ fn links_converted(
         feed_fails,
         out_fails,
     };
-    converted(alloc, LINKS, devices, SOFT)
+    run_of(alloc, engine, text, devices, SOFT)
 }
 
 /// The text comes in 7 calls of 7 bytes with one more that finds the end; its 36 bytes go in 6 calls and a flush.
@@ -93,26 +95,26 @@ fn links_converted(
 fn ends_at_each_device_fault(rt: HostRuntime) -> Result<(), Fail> {
     let alloc = rt.alloc();
     for calls in 0..8 {
-        let run = links_converted(alloc, Some(calls), None)?;
+        let run = by_sevens(alloc, Engine::Convert, LINKS, Some(calls), None)?;
         assert!(rt; run.wrote(""), "{calls}");
         assert!(rt; run.ended("Err(Read)"), "{calls}");
     }
     for calls in 0..7 {
-        let run = links_converted(alloc, None, Some(calls))?;
+        let run = by_sevens(alloc, Engine::Convert, LINKS, None, Some(calls))?;
         assert!(rt; run.began(LINKS_HTML), "{calls}");
         assert_eq!(rt; run.written.len() as u64, (calls * 7).min(36), "{calls}");
         assert!(rt; run.ended("Err(Write)"), "{calls}");
     }
-    let run = links_converted(alloc, None, Some(7))?;
+    let run = by_sevens(alloc, Engine::Convert, LINKS, None, Some(7))?;
     assert!(rt; run.wrote(LINKS_HTML));
     assert!(rt; run.ended("Ok(())"));
     Ok(())
 }
 
 /// Two edits, of which the second leads a link elsewhere.
-const EDITS: &[u8] = b"edit 0 0 5\n[foo]\n\nx\n\n[foo]: /a\nedit 4 1 1\n[foo]: /b\n";
+pub(super) const EDITS: &str = "edit 0 0 5\n[foo]\n\nx\n\n[foo]: /a\nedit 4 1 1\n[foo]: /b\n";
 
-const REPLIES: &str = "ok 0 0 3 0
+pub(super) const REPLIES: &str = "ok 0 0 3 0
 piece 0 28
 <p><a href=\"/a\">foo</a></p>
 piece 1 9
@@ -128,20 +130,6 @@ piece 2 0
 
 /// The bytes of the first of these replies; the second has as many.
 const REPLY: u64 = 79;
-
-/// What `serve` does with these edits where a device fails.
-fn replied(
-    alloc: Global,
-    feed_fails: Option<u64>,
-    out_fails: Option<u64>,
-) -> Result<Run, AllocError> {
-    let devices = Devices {
-        step: 7,
-        feed_fails,
-        out_fails,
-    };
-    served(alloc, EDITS, devices, SOFT)
-}
 
 static FEED_FAULTS: [(u64, u64); 9] = [
     (0, 0),
@@ -160,7 +148,7 @@ static FEED_FAULTS: [(u64, u64); 9] = [
 fn a_script_ends_at_each_feed_fault(rt: HostRuntime) -> Result<(), Fail> {
     let alloc = rt.alloc();
     for &(calls, replies) in &FEED_FAULTS {
-        let run = replied(alloc, Some(calls), None)?;
+        let run = by_sevens(alloc, Engine::Serve, EDITS.as_bytes(), Some(calls), None)?;
         assert!(rt; run.began(REPLIES), "{calls}");
         assert_eq!(rt; run.written.len() as u64, replies * REPLY, "{calls}");
         assert_eq!(rt; run.flushes, replies, "{calls}");
@@ -174,13 +162,13 @@ fn a_script_ends_at_each_feed_fault(rt: HostRuntime) -> Result<(), Fail> {
 fn a_script_ends_at_each_out_fault(rt: HostRuntime) -> Result<(), Fail> {
     let alloc = rt.alloc();
     for calls in 0..26 {
-        let run = replied(alloc, None, Some(calls))?;
+        let run = by_sevens(alloc, Engine::Serve, EDITS.as_bytes(), None, Some(calls))?;
         let want = calls / 13 * REPLY + (calls % 13 * 7).min(REPLY);
         assert!(rt; run.began(REPLIES), "{calls}");
         assert_eq!(rt; run.written.len() as u64, want, "{calls}");
         assert!(rt; run.ended("Err(Write)"), "{calls}");
     }
-    let run = replied(alloc, None, Some(26))?;
+    let run = by_sevens(alloc, Engine::Serve, EDITS.as_bytes(), None, Some(26))?;
     assert!(rt; run.wrote(REPLIES));
     assert!(rt; run.ended("Ok(())"));
     assert_eq!(rt; run.flushes, 2);

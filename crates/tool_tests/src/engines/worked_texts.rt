@@ -1,7 +1,7 @@
 //! Worked texts with their HTML, seen through `serve`: CommonMark 0.31.2 and GFM 0.29, and our own profile of them.
 
 use crate::options::SOFT;
-use crate::runs::{WIDE, served};
+use crate::runs::{Engine, WIDE, run_of};
 use mdtext::lines_of;
 use mdtool::Options;
 use std::alloc::{AllocError, Global};
@@ -172,7 +172,7 @@ fn replies(alloc: Global, script: &str, unsafe_html: bool) -> Result<String, All
         unsafe_html,
         ..SOFT
     };
-    let run = served(alloc, script.as_bytes(), WIDE, options)?;
+    let run = run_of(alloc, Engine::Serve, script.as_bytes(), WIDE, options)?;
     if !run.ended("Ok(())") {
         return Err(AllocError);
     }
