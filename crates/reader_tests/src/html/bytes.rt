@@ -161,11 +161,6 @@ c</p>
     ),
 ];
 
-#[test]
-fn leaves_are_written(rt: HostRuntime) -> Result<(), Fail> {
-    check(&rt, rt.alloc(), &LEAVES, &Options::plain())
-}
-
 static TABLES: [(&str, &str); 2] = [
     (
         "|a|b|\n|:-|-:|\n|1|",
@@ -191,37 +186,25 @@ static TABLES: [(&str, &str); 2] = [
     ),
 ];
 
-#[test]
-fn tables_are_written(rt: HostRuntime) -> Result<(), Fail> {
-    check(&rt, rt.alloc(), &TABLES, &Options::plain())
-}
-
-static QUOTES: [(&str, &str); 1] = [(
-    "> a\n>\n> >",
-    "<blockquote>\n<p>a</p>\n<blockquote>\n</blockquote>\n</blockquote>\n",
-)];
-
-#[test]
-fn quotes_are_written(rt: HostRuntime) -> Result<(), Fail> {
-    check(&rt, rt.alloc(), &QUOTES, &Options::plain())
-}
-
-static TASKS: [(&str, &str); 1] = [(
-    "- [ ] foo\n- [x] bar",
-    "<ul>\n<li><input disabled=\"\" type=\"checkbox\"> foo</li>\n<li><input checked=\"\" disabled=\"\" type=\"checkbox\"> bar</li>\n</ul>\n",
-)];
+static CONTAINERS: [(&str, &str); 3] = [
+    (
+        "> a\n>\n> >",
+        "<blockquote>\n<p>a</p>\n<blockquote>\n</blockquote>\n</blockquote>\n",
+    ),
+    (
+        "- [ ] foo\n- [x] bar",
+        "<ul>\n<li><input disabled=\"\" type=\"checkbox\"> foo</li>\n<li><input checked=\"\" disabled=\"\" type=\"checkbox\"> bar</li>\n</ul>\n",
+    ),
+    (
+        "3. a\n\n4. ",
+        "<ol start=\"3\">\n<li>\n<p>a</p>\n</li>\n<li></li>\n</ol>\n",
+    ),
+];
 
 #[test]
-fn task_items_are_written(rt: HostRuntime) -> Result<(), Fail> {
-    check(&rt, rt.alloc(), &TASKS, &Options::plain())
-}
-
-static LOOSE: [(&str, &str); 1] = [(
-    "3. a\n\n4. ",
-    "<ol start=\"3\">\n<li>\n<p>a</p>\n</li>\n<li></li>\n</ol>\n",
-)];
-
-#[test]
-fn loose_lists_are_written(rt: HostRuntime) -> Result<(), Fail> {
-    check(&rt, rt.alloc(), &LOOSE, &Options::plain())
+fn blocks_are_written(rt: HostRuntime) -> Result<(), Fail> {
+    let a = rt.alloc();
+    check(&rt, a, &LEAVES, &Options::plain())?;
+    check(&rt, a, &TABLES, &Options::plain())?;
+    check(&rt, a, &CONTAINERS, &Options::plain())
 }
