@@ -74,17 +74,22 @@ pub fn try_scripts(alloc: Global, said: &mut String) -> Result<(), AllocError> {
     try_long_list(alloc, said)
 }
 
+/// These lines come into an empty text.
+fn begun(lines: &str) -> Change<'_> {
+    Change::Edit {
+        at: 0,
+        del: 0,
+        add: lines,
+    }
+}
+
 /// A definition would make a link in as many spans as may be, so that it is refused.
 fn try_depth(alloc: Global, said: &mut String) -> Result<(), AllocError> {
     let opened = "*a ".repeat(alloc, 64)?;
     let closed = " a*".repeat(alloc, 64)?;
     let text = format!(in alloc; "{opened}[k]{closed}\n\nx\n\n")?;
     let changes = [
-        Change::Edit {
-            at: 0,
-            del: 0,
-            add: &text,
-        },
+        begun(&text),
         Change::Edit {
             at: 4,
             del: 0,
@@ -102,11 +107,7 @@ fn try_long_list(alloc: Global, said: &mut String) -> Result<(), AllocError> {
         "- [k]: /u\n- [k] {marks}\n- c {marks}\n- d {marks}\n- e {marks}\n- f {marks}\n"
     )?;
     let changes = [
-        Change::Edit {
-            at: 0,
-            del: 0,
-            add: &text,
-        },
+        begun(&text),
         Change::Edit {
             at: 4,
             del: 1,
