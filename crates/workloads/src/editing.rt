@@ -75,6 +75,13 @@ impl Editor {
         self.edit(at, lines.len(), &[], digest)
     }
 
+    /// A line goes to where another one is, once it is taken away.
+    pub fn move_line(&mut self, from: usize, to: usize, digest: &mut Digest) -> Result<()> {
+        let line = self.line(from)?;
+        self.edit(from, 1, &[], digest)?;
+        self.edit(to, 0, &[&line], digest)
+    }
+
     /// Types so many letters at the end of a line, each an edit.
     pub fn type_letters(&mut self, at: usize, letters: usize, digest: &mut Digest) -> Result<()> {
         let mut line = self.line(at)?;

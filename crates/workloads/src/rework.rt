@@ -80,26 +80,17 @@ fn change(
             let changed = format!(in alloc; "{front} *{word}* {rest}")?;
             editor.edit(at, 1, &[&changed], digest)
         }
-        6 => moved(editor, at, maker, digest),
+        // It goes up.
+        6 => {
+            let to = maker.chance.between(0, at);
+            editor.move_line(at, to, digest)
+        }
         7 => {
             editor.edit(at, 0, &[""], digest)?;
             editor.edit(at, 1, &[], digest)
         }
         _ => pasted(alloc, editor, at, maker, digest),
     }
-}
-
-/// A line goes up to another place.
-fn moved(
-    editor: &mut Editor,
-    from: usize,
-    maker: &mut Maker<'_>,
-    digest: &mut Digest,
-) -> Result<()> {
-    let line = editor.line(from)?;
-    let to = maker.chance.between(0, from);
-    editor.edit(from, 1, &[], digest)?;
-    editor.edit(to, 0, &[&line], digest)
 }
 
 /// Five to sixty lines of the text come once more at another place, and go again.

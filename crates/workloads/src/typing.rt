@@ -43,7 +43,7 @@ fn stretch(
             editor.edit(at, 0, &["- an item"], digest)?;
             editor.type_letters(at, 8, digest)
         }
-        33..35 => moved(editor, at, digest),
+        33..35 => editor.move_line(at, at.saturating_add(3), digest),
         35..37 => {
             editor.edit(at, 0, &["# A part", ""], digest)?;
             editor.edit(at, 1, &["## A part"], digest)
@@ -54,13 +54,6 @@ fn stretch(
         }
         _ => pasted(alloc, editor, at, maker, digest),
     }
-}
-
-/// A line goes three lines down.
-fn moved(editor: &mut Editor, at: usize, digest: &mut Digest) -> Result<()> {
-    let line = editor.line(at)?;
-    editor.edit(at, 1, &[], digest)?;
-    editor.edit(at.saturating_add(3), 0, &[&line], digest)
 }
 
 /// 20 to 500 lines come, and go again.
