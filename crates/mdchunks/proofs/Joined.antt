@@ -1,6 +1,6 @@
 -- Lists of lists, joined: where a place lies, and what a changed list leaves of the others.
 use Rattle.std.proofs.Common.{◌≡◌, ℕ, ◌+◌, ◌-◌, ◌<◌, ◌≤◌, List, [], ◌∷◌, ◌++◌, length, take, drop, get_or, ap, sym, ◌∙◌, suc, zero, arith, refl, nat_lt, true, remove, append_assoc}
-use Rattle.std.proofs.lemmas.List.{take-append-drop, drop_more, take_more, append-nil, set_split, length-append, take-append-le, drop-append-le, set-append_left, set-append_right, get_or_read}
+use Rattle.std.proofs.lemmas.List.{take-append-drop, drop_all, drop_more, take_more, append-nil, set_split, length-append, length-drop, take-append-le, drop-append-le, set-append_left, set-append_right, get_or_read}
 use Rattle.std.specs.List.{filter}
 use Rattle.std.proofs.lemmas.Bool.Decides.{nat_tests}
 use Rattle.std.proofs.lemmas.Grind.{flat_map-append}
@@ -37,6 +37,37 @@ length_front xss i d here =
     let r = joined (drop (i + 1) xss) in
     let e : length (joined xss) ≡ length p + length (q ++ r) = ap length (joined_split xss i d here) ∙ length-append p (q ++ r) in
     omega (arith, e, length-append q r)
+
+-- what is left of a list and of those behind it is no longer than all
+pub length_rest : {A : Type 0} (xss : List (List A)) (i k : ℕ) (q : List A) → i < length xss → q ≡ get_or xss i q → length (drop k q ++ joined (drop (i + 1) xss)) ≤ length (joined xss)
+length_rest xss i k q here read =
+    let p = joined (take i xss) in
+    let r = joined (drop (i + 1) xss) in
+    let all : length (joined xss) ≡ length p + length (q ++ r) =
+    ap length (joined_split xss i q here) ∙ length-append p (get_or xss i q ++ r) ∙ ap (λ ys. length p + length (ys ++ r)) (sym read) in
+    omega (arith, all, length-append q r, length-append (drop k q) r, length-drop k q)
+
+-- what stands behind the first member of the first list is fewer than all
+pub length_behind : {A : Type 0} (xs : List A) (xss : List (List A)) (q : List A) (rest : List (List A)) (x : A) (others : List A) → xss ≡ q ∷ rest → q ≡ x ∷ others →
+    length (others ++ joined rest) < length (xs ++ joined xss)
+length_behind xs xss q rest x others first member =
+    let r = joined rest in
+    let all : length (joined xss) ≡ length q + length r = ap (λ yss. length (joined yss)) first ∙ length-append q r in
+    omega (arith, all, ap length member, length-append xs (joined xss), length-append others r)
+
+-- those from a place on, in the list in which it lies and behind it; a place behind all lies in none
+pub drop_place : {A : Type 0} (xss : List (List A)) (i k at : ℕ) → k ≤ length (get_or xss i []) → length (joined (take i xss)) + k ≡ at →
+    drop k (get_or xss i []) ++ joined (drop (i + 1) xss) ≡ drop at (joined xss)
+drop_place [] i k at low e =
+    ap (λ ys. ys ++ joined (drop (i + 1) [])) (drop_all k [] (omega arith)) ∙ ap joined (drop_all (i + 1) [] (omega arith)) ∙ sym (drop_all at [] (omega arith))
+drop_place (q ∷ xss) zero k at low e =
+    let same : at ≡ k = omega (arith, e) in
+    sym (ap (λ n. drop n (q ++ joined xss)) same ∙ drop-append-le k q (joined xss) low)
+drop_place (q ∷ xss) (suc i) k at low e =
+    let front = joined (take i xss) in
+    let behind : at ≡ length q + (length front + k) = omega (arith, e, length-append q front) in
+    let one : suc i + 1 ≡ suc (i + 1) = omega arith in
+    ap (λ n. drop k (get_or xss i []) ++ joined (drop n (q ∷ xss))) one ∙ drop_place xss i k (length front + k) low refl ∙ sym (ap (λ n. drop n (q ++ joined xss)) behind ∙ drop-append-add q (joined xss) (length front + k))
 
 pub joined_set : {A : Type 0} (xss : List (List A)) (i : ℕ) (ys : List A) → i < length xss →
     joined (set xss i ys) ≡ joined (take i xss) ++ (ys ++ joined (drop (i + 1) xss))
@@ -140,11 +171,11 @@ length_same xss i ys d here e =
     omega (arith, new, old, e, length-append p (ys ++ r), length-append ys r, length-append p (q ++ r), length-append q r)
 
 -- where a member lies that stands in front of a located place
-pub record StandsAt {A : Type 0} (xss : List (List A)) (block k at : ℕ) : Type 0 where
-  pub here : block < length xss
-  pub within : k < length (get_or xss block [])
-  pub place : length (joined (take block xss)) + k ≡ at
+pub record StandsAt {A : Type 0} (xss : List (List A)) (chunk k at : ℕ) : Type 0 where
+  pub here : chunk < length xss
+  pub within : k < length (get_or xss chunk [])
+  pub place : length (joined (take chunk xss)) + k ≡ at
 
-pub in_front : {A : Type 0} (xss : List (List A)) (block inside at : ℕ) → block < length xss → 0 < inside → inside ≤ length (get_or xss block []) →
-    length (joined (take block xss)) + inside ≡ at + 1 → StandsAt xss block (inside - 1) at
-in_front xss block inside at here some long e = record { here = here; within = omega (arith, some, long); place = omega (arith, some, e) }
+pub in_front : {A : Type 0} (xss : List (List A)) (chunk inside at : ℕ) → chunk < length xss → 0 < inside → inside ≤ length (get_or xss chunk []) →
+    length (joined (take chunk xss)) + inside ≡ at + 1 → StandsAt xss chunk (inside - 1) at
+in_front xss chunk inside at here some long e = record { here = here; within = omega (arith, some, long); place = omega (arith, some, e) }

@@ -8,21 +8,21 @@ use Rattle.mdchunks.specs.Lists.{IsFilled, joined}
 use Rattle.mdchunks.proofs.Joined.{joined-append}
 
 -- one list more
-pub packed_more : {A : Type 0} (all rest later block : List A) (xss : List (List A)) (used size : ℕ) → joined (take used xss) ++ rest ≡ all → used < length xss →
-    block ≡ take size rest → later ≡ drop size rest → joined (take (used + 1) (set xss used block)) ++ later ≡ all
-packed_more all rest later block xss used size before here front behind =
+pub packed_more : {A : Type 0} (all rest later chunk : List A) (xss : List (List A)) (used size : ℕ) → joined (take used xss) ++ rest ≡ all → used < length xss →
+    chunk ≡ take size rest → later ≡ drop size rest → joined (take (used + 1) (set xss used chunk)) ++ later ≡ all
+packed_more all rest later chunk xss used size before here front behind =
     let p = joined (take used xss) in
-    let more : joined (take (used + 1) (set xss used block)) ≡ p ++ block =
-    ap joined (take_more_set xss used block here) ∙ joined-append (take used xss) (block ∷ []) ∙ ap (λ ys. p ++ ys) (append-nil block) in
-    let whole : block ++ later ≡ rest = ap (λ ys. ys ++ later) front ∙ ap (λ ys. take size rest ++ ys) behind ∙ take-append-drop size rest in
-    ap (λ ys. ys ++ later) more ∙ append_assoc p block later ∙ ap (λ ys. p ++ ys) whole ∙ before
+    let more : joined (take (used + 1) (set xss used chunk)) ≡ p ++ chunk =
+    ap joined (take_more_set xss used chunk here) ∙ joined-append (take used xss) (chunk ∷ []) ∙ ap (λ ys. p ++ ys) (append-nil chunk) in
+    let whole : chunk ++ later ≡ rest = ap (λ ys. ys ++ later) front ∙ ap (λ ys. take size rest ++ ys) behind ∙ take-append-drop size rest in
+    ap (λ ys. ys ++ later) more ∙ append_assoc p chunk later ∙ ap (λ ys. p ++ ys) whole ∙ before
 
-pub filled_more : {A : Type 0} (rest block : List A) (xss : List (List A)) (used size : ℕ) → All IsFilled (take used xss) → used < length xss →
-    block ≡ take size rest → 0 < size → 0 < length rest → All IsFilled (take (used + 1) (set xss used block))
-filled_more rest block xss used size all here front some left =
-    let long : length block ≡ min size (length rest) = ap length front ∙ length-take size rest in
-    let filled : IsFilled block = omega (arith, long, some, left) in
-    rw (take_more_set xss used block here) (All-push IsFilled (take used xss) block all filled)
+pub filled_more : {A : Type 0} (rest chunk : List A) (xss : List (List A)) (used size : ℕ) → All IsFilled (take used xss) → used < length xss →
+    chunk ≡ take size rest → 0 < size → 0 < length rest → All IsFilled (take (used + 1) (set xss used chunk))
+filled_more rest chunk xss used size all here front some left =
+    let long : length chunk ≡ min size (length rest) = ap length front ∙ length-take size rest in
+    let filled : IsFilled chunk = omega (arith, long, some, left) in
+    rw (take_more_set xss used chunk here) (All-push IsFilled (take used xss) chunk all filled)
 
 -- a number that is no more than a product that is not 0
 pub some_left : (rest size left : ℕ) → 0 < rest → rest ≤ size * left → 0 < left

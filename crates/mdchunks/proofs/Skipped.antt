@@ -1,11 +1,10 @@
 -- What is left of a list and of those behind it where some members are skipped.
-use Rattle.std.proofs.Common.{◌≡◌, ℕ, ◌+◌, ◌-◌, ◌≤◌, List, [], ◌++◌, length, take, drop, ap, sym, ◌∙◌, arith, refl}
+use Rattle.std.proofs.Common.{◌≡◌, ℕ, ◌+◌, ◌-◌, ◌≤◌, List, ◌++◌, length, take, drop, get_or, ap, sym, ◌∙◌, arith}
 use Rattle.std.specs.List.{All}
-use Rattle.std.proofs.lemmas.List.{length-append, take-append-drop, take_rest}
+use Rattle.std.proofs.lemmas.List.{get_or-append-add, length-append, take_all}
 use Rattle.std.proofs.lemmas.List.Elements.{All-append, All-same}
-use Rattle.std.proofs.Math.Seq.{drop-append-add, drop-append_seam, take-append-add, take-append_seam, take-length}
+use Rattle.std.proofs.Math.Seq.{drop-append-add, take-append-add}
 use Rattle.mdchunks.specs.Lists.{joined}
-use Rattle.mdchunks.proofs.Joined.{joined-append}
 
 -- those behind the list
 pub drop_behind : {A : Type 0} (xs ys : List A) (n : ℕ) → length xs ≤ n → drop (n - length xs) ys ≡ drop n (xs ++ ys)
@@ -13,33 +12,22 @@ drop_behind xs ys n low =
     let e : n ≡ length xs + (n - length xs) = omega (arith, low) in
     sym (ap (λ k. drop k (xs ++ ys)) e ∙ drop-append-add xs ys (n - length xs))
 
--- all members of the list are skipped, as many as `all_in`, and some lists behind it
-module _ {A : Type 0} (xs : List A) (xss : List (List A)) (all_in b n : ℕ) (all : List A) (within : all_in ≤ length xs) (whole : length xs ≤ all_in) (seen : xs ++ joined xss ≡ all)
-    (members : n ≡ all_in + length (joined (take b xss))) where
-  abbrev front : List A
-  front = joined (take b xss)
+-- all members of the list are skipped, as many as `all_in`, and `n` of those behind it
+module _ {A : Type 0} (xs : List A) (xss : List (List A)) (all_in n : ℕ) (all : List A) (within : all_in ≤ length xs) (whole : length xs ≤ all_in) (seen : xs ++ joined xss ≡ all) where
+  count : all_in + n ≡ length xs + n
+  count = omega (arith, within, whole)
 
-  abbrev rest : List A
-  rest = joined (drop b xss)
+  pub skipped_within : n ≤ length (joined xss) → all_in + n ≤ length all
+  skipped_within few = omega (arith, count, few, ap length seen, length-append xs (joined xss))
 
-  parts : all ≡ xs ++ (front ++ rest)
-  parts = sym seen ∙ ap (λ ys. xs ++ ys) (ap joined (sym (take-append-drop b xss)) ∙ joined-append (take b xss) (drop b xss))
+  pub skipped_rest : drop n (joined xss) ≡ drop (all_in + n) all
+  skipped_rest = sym (ap (λ k. drop k all) count ∙ ap (drop (length xs + n)) (sym seen) ∙ drop-append-add xs (joined xss) n)
 
-  count : n ≡ length xs + length front
-  count = omega (arith, within, whole, members)
-
-  pub skipped_within : n ≤ length all
-  skipped_within = let long = ap length parts in omega (arith, count, long, length-append xs (front ++ rest), length-append front rest)
-
-  pub skipped_rest : joined (take (length xss - b) (drop b xss)) ≡ drop n all
-  skipped_rest =
-      ap joined (take_rest xss b)
-      ∙ sym (ap (λ k. drop k all) count ∙ ap (drop (length xs + length front)) parts ∙ drop-append-add xs (front ++ rest) (length front) ∙ drop-append_seam front rest)
-
-  pub skipped_all : (P : A → Type 0) → All P (take all_in xs) → All P front → All P (take n all)
+  pub skipped_all : (P : A → Type 0) → All P (take all_in xs) → All P (take n (joined xss)) → All P (take (all_in + n) all)
   skipped_all P none so =
-      let e : all_in ≡ length xs = omega (arith, within, whole) in
-      All-same P (take n all) (xs ++ front)
-      (ap (λ k. take k all) count ∙ ap (take (length xs + length front)) parts ∙ take-append-add xs (front ++ rest) (length front)
-      ∙ ap (λ ys. xs ++ ys) (take-append_seam front rest))
-      (All-append P xs front (All-same P xs (take all_in xs) (sym (ap (λ k. take k xs) e ∙ take-length xs)) none) so)
+      All-same P (take (all_in + n) all) (xs ++ take n (joined xss))
+      (ap (λ k. take k all) count ∙ ap (take (length xs + n)) (sym seen) ∙ take-append-add xs (joined xss) n)
+      (All-append P xs (take n (joined xss)) (All-same P xs (take all_in xs) (sym (take_all all_in xs whole)) none) so)
+
+  pub skipped_next : (d : A) → get_or (joined xss) n d ≡ get_or all (all_in + n) d
+  skipped_next d = sym (ap (λ k. get_or all k d) count ∙ ap (λ ys. get_or ys (length xs + n) d) (sym seen) ∙ get_or-append-add xs (joined xss) n d)

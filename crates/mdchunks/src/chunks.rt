@@ -5,7 +5,7 @@ ghost use Rattle.std.specs.Vec.{vec_len, vec_capacity};
 ghost use Rattle.mdchunks.specs.Lists.{replaced, weigh};
 ghost use Rattle.mdchunks.specs.Sequences.{HasRoom, IsLastAt, Sequence};
 
-use crate::blocks::{Block, FULL};
+use crate::chunk::{Chunk, FULL};
 use crate::iters::{Iter, weight_ahead};
 use crate::places;
 use crate::places::{FRONT, Near, exchange, find, member, weight_before};
@@ -18,9 +18,9 @@ use std::marker::Model;
 #[derive(Drop)]
 pub struct Chunks<T: Weighed> {
     alloc: Global,
-    blocks: Vec<Block<T>>,
+    chunks: Vec<Chunk<T>>,
     /// Chunks for members that come.
-    spare: Vec<Block<T>>,
+    spare: Vec<Chunk<T>>,
     len: usize,
     /// Where the next place is looked for first.
     near: Near,
@@ -35,10 +35,10 @@ impl<T: Weighed> Model for Chunks<T> {
 
     ghost Value = { Sequence T };
 
-    ghost view = { λ c. record { items = joined c.blocks.items; room = min (vec_len c.spare) (vec_capacity c.blocks - vec_len c.blocks) } };
+    ghost view = { λ c. record { items = joined c.chunks.items; room = min (vec_len c.spare) (vec_capacity c.chunks - vec_len c.chunks) } };
 
-    ghost invariant = { λ c. All IsFilled c.blocks.items × (c.len ≡ length (joined c.blocks.items))
-        × (length (joined (take c.near.block c.blocks.items)) ≡ c.near.front) };
+    ghost invariant = { λ c. All IsFilled c.chunks.items × (c.len ≡ length (joined c.chunks.items))
+        × (length (joined (take c.near.chunk c.chunks.items)) ≡ c.near.front) };
 }
 
 impl<T: Weighed + Drop> Chunks<T> {
@@ -48,7 +48,7 @@ impl<T: Weighed + Drop> Chunks<T> {
     {
         Chunks {
             alloc,
-            blocks: Vec::new(alloc),
+            chunks: Vec::new(alloc),
             spare: Vec::new(alloc),
             len: 0,
             near: FRONT,
@@ -69,7 +69,7 @@ impl<T: Weighed + Drop> Chunks<T> {
         if i >= self.len {
             return None;
         }
-        Some(member(&self.blocks, i))
+        Some(member(&self.chunks, i))
     }
 
     /// Exchanges the member of this number for another. Takes no memory.
@@ -82,7 +82,7 @@ impl<T: Weighed + Drop> Chunks<T> {
         // a number that is read is known to fit its type
         let _len = self.len;
         self.near = FRONT;
-        exchange(&mut self.blocks, i, other);
+        exchange(&mut self.chunks, i, other);
     }
 
     /// Changes the member of this number where it lies. Where numbers rise from call to call, what is in front of the last one is not looked at again.
@@ -94,7 +94,7 @@ impl<T: Weighed + Drop> Chunks<T> {
     {
         // a number that is read is known to fit its type
         let _len = self.len;
-        self.near = places::change(&mut self.blocks, self.near, i, change);
+        self.near = places::change(&mut self.chunks, self.near, i, change);
     }
 
     /// The members from a number on, lent in order.
@@ -102,7 +102,9 @@ impl<T: Weighed + Drop> Chunks<T> {
         requires { from ≤ length self.now.items }
         ensures { result ≡ drop from self.now.items }
     {
-        Iter::from_near(&self.blocks, self.near, from)
+        // a number that is read is known to fit its type
+        let _len = self.len;
+        Iter::from_near(&self.chunks, self.near, from)
     }
 
     /// What the members in front of this number weigh together, up to the greatest number.
@@ -110,7 +112,7 @@ impl<T: Weighed + Drop> Chunks<T> {
         requires { i ≤ length self.now.items }
         ensures { result ≡ weigh T.weight (take i self.now.items) }
     {
-        weight_before(&self.blocks, i)
+        weight_before(&self.chunks, i)
     }
 
     /// What `count` members from a number on weigh together, up to the greatest number.
@@ -128,7 +130,7 @@ impl<T: Weighed + Drop> Chunks<T> {
         if self.len == 0 {
             return None;
         }
-        find(&self.blocks, weight)
+        find(&self.chunks, weight)
     }
 
     /// Makes all the room that a splice of these members may need. Where that fails no member has changed. It fails too where there would be more members than
@@ -144,9 +146,9 @@ impl<T: Weighed + Drop> Chunks<T> {
         }
         let needed = added.len() / FULL + 2;
         added.reserve(FULL)?;
-        self.blocks.reserve(needed)?;
+        self.chunks.reserve(needed)?;
         for _ in self.spare.len()..needed {
-            self.spare.push(Block::empty(self.alloc)?)?;
+            self.spare.push(Chunk::empty(self.alloc)?)?;
         }
         Ok(())
     }
@@ -160,7 +162,7 @@ impl<T: Weighed + Drop> Chunks<T> {
     {
         let count = added.len();
         self.near = splice(
-            &mut self.blocks,
+            &mut self.chunks,
             &mut self.spare,
             self.near,
             at,

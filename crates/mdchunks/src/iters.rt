@@ -1,13 +1,13 @@
 //! Members of a sequence, lent in order.
 
-ghost use Rattle.std.specs.Prelude.{◌≡◌, ◌≤◌, drop, length, take};
+ghost use Rattle.std.specs.Prelude.{◌≡◌, ◌≤◌, ◌<◌, ◌+◌, ◌^◌, ◌++◌, [], drop, get_or, length, take};
 ghost use Rattle.std.specs.List.{All};
 ghost use Rattle.std.specs.Iterator.{YieldsFirstRef, item_count};
 ghost use Rattle.mdchunks.specs.Lists.{IsFilled, joined, weigh};
-ghost use Rattle.mdchunks.specs.Marks.{IsApart};
+ghost use Rattle.mdchunks.specs.Marks.{IsApart, IsMarked};
 
-use crate::blocks::Block;
-use crate::places::{Near, count_apart, first_marked, locate, locate_near};
+use crate::chunk::Chunk;
+use crate::places::{Near, Place, count_apart, first_marked, locate, locate_near};
 use crate::weights::Weighed;
 use std::marker::Model;
 
@@ -15,11 +15,11 @@ use std::marker::Model;
 #[derive(Drop)]
 pub struct Iter<'a, T: Weighed> {
     inside: &'a [T],
-    rest: &'a [Block<T>],
+    rest: &'a [Chunk<T>],
 }
 
 impl<'a, T: Weighed> Model for Iter<'a, T> {
-    ghost use Rattle.std.specs.Prelude.{◌++◌, List};
+    ghost use Rattle.std.specs.Prelude.{◌++◌, ◌<◌, ◌^◌, List, length};
     ghost use Rattle.std.specs.List.{All};
     ghost use Rattle.mdchunks.specs.Lists.{IsFilled, joined};
 
@@ -27,7 +27,7 @@ impl<'a, T: Weighed> Model for Iter<'a, T> {
 
     ghost view = { λ i. i.inside.now ++ joined i.rest.now };
 
-    ghost invariant = { λ i. All IsFilled i.rest.now };
+    ghost invariant = { λ i. All IsFilled i.rest.now × (length (i.inside.now ++ joined i.rest.now) < 2 ^ 64) };
 }
 
 impl<'a, T: Weighed + Drop> Iter<'a, T> {
@@ -35,6 +35,8 @@ impl<'a, T: Weighed + Drop> Iter<'a, T> {
     pub fn of(items: &'a [T]) -> Iter<'a, T>
         ensures { result ≡ items.now }
     {
+        // a number that is read is known to fit its type
+        let _len = items.len();
         Iter {
             inside: items,
             rest: &[],
@@ -55,12 +57,12 @@ impl<'a, T: Weighed + Drop> Iter<'a, T> {
         Iter::from(self.rest, n - self.inside.len())
     }
 
-    /// Skips members that have none of these marks, one by one inside a chunk and by whole chunks behind it, and says how many. The first member of a chunk that
-    /// has one of them is not looked at.
+    /// Skips members that have none of these marks, up to the first that has one, and says how many. A chunk of which no member has one is skipped at once.
     pub fn skip_apart(&mut self, marks: u64) -> usize
         ensures within { result ≤ length self.old }
         ensures rest { self.new ≡ drop result self.old }
         ensures apart { All (IsApart T.marks marks) (take result self.old) }
+        ensures marked { (d : T) → result < length self.old → IsMarked T.marks marks (get_or self.old result d) }
     {
         let inside = self.inside;
         let apart = count_apart(inside, marks);
@@ -68,50 +70,54 @@ impl<'a, T: Weighed + Drop> Iter<'a, T> {
             self.inside = &inside[apart..];
             return apart;
         }
-        let rest = self.rest;
-        let place = first_marked(rest, marks, apart);
-        self.inside = &[];
-        self.rest = &rest[place.block..];
-        place.inside
+        let first = first_marked(self.rest, marks);
+        *self = Iter::at(self.rest, first.place);
+        apart + first.before
+    }
+
+    /// The members of some chunks from a number on.
+    pub(crate) fn from(chunks: &'a [Chunk<T>], at: usize) -> Iter<'a, T>
+        requires within { at ≤ length (joined chunks.now) }
+        requires few { length (joined chunks.now) < 2 ^ 64 }
+        requires filled { All IsFilled chunks.now }
+        ensures { result ≡ drop at (joined chunks.now) }
+    {
+        Iter::at(chunks, locate(chunks, at))
     }
 
     /// The members of some chunks from a place on.
-    pub(crate) fn from(blocks: &'a [Block<T>], at: usize) -> Iter<'a, T>
-        requires within { at ≤ length (joined blocks.now) }
-        requires filled { All IsFilled blocks.now }
-        ensures { result ≡ drop at (joined blocks.now) }
+    fn at(chunks: &'a [Chunk<T>], place: Place) -> Iter<'a, T>
+        requires inside { place.inside ≤ length (get_or chunks.now place.chunk []) }
+        requires few { length (joined chunks.now) < 2 ^ 64 }
+        requires filled { All IsFilled chunks.now }
+        ensures { result ≡ drop place.inside (get_or chunks.now place.chunk []) ++ joined (drop (place.chunk + 1) chunks.now) }
     {
-        let place = locate(blocks, at);
-        if place.block == blocks.len() {
+        if place.chunk >= chunks.len() {
             return Iter {
                 inside: &[],
                 rest: &[],
             };
         }
         Iter {
-            inside: &blocks[place.block].items()[place.inside..],
-            rest: &blocks[place.block + 1..],
+            inside: &chunks[place.chunk].items()[place.inside..],
+            rest: &chunks[place.chunk + 1..],
         }
     }
 }
 
 impl<'a, T: Weighed + Drop> Iter<'a, T> {
-    /// The members of some chunks from a place on, which is looked for from a chunk on if it lies behind that one's front.
-    pub(crate) fn from_near(blocks: &'a [Block<T>], near: Near, at: usize) -> Iter<'a, T>
-        requires within { at ≤ length (joined blocks.now) }
-        requires filled { All IsFilled blocks.now }
-        requires near { length (joined (take near.block blocks.now)) ≡ near.front }
-        ensures { result ≡ drop at (joined blocks.now) }
+    /// The members of some chunks from a number on, which is looked for from a chunk on if it lies behind that one's front.
+    pub(crate) fn from_near(chunks: &'a [Chunk<T>], near: Near, at: usize) -> Iter<'a, T>
+        requires within { at ≤ length (joined chunks.now) }
+        requires few { length (joined chunks.now) < 2 ^ 64 }
+        requires filled { All IsFilled chunks.now }
+        requires near { length (joined (take near.chunk chunks.now)) ≡ near.front }
+        ensures { result ≡ drop at (joined chunks.now) }
     {
         if at <= near.front {
-            return Iter::from(blocks, at);
+            return Iter::from(chunks, at);
         }
-        let place = locate_near(blocks, near, at);
-        let behind = &blocks[place.block + 1..];
-        Iter {
-            inside: &blocks[place.block].items()[place.inside..],
-            rest: behind,
-        }
+        Iter::at(chunks, locate_near(chunks, near, at))
     }
 }
 
@@ -129,8 +135,8 @@ impl<'a, T: Weighed + Drop> Iterator for Iter<'a, T> {
             return Some(first);
         }
         let rest = self.rest;
-        let (block, rest) = rest.split_first()?;
-        let (first, others) = block.items().split_first()?;
+        let (chunk, rest) = rest.split_first()?;
+        let (first, others) = chunk.items().split_first()?;
         self.inside = others;
         self.rest = rest;
         Some(first)

@@ -6,7 +6,7 @@
 //! so those that may have a mark are found without a look at the others.
 #![tactic(auto)]
 
-mod blocks;
+mod chunk;
 mod chunks;
 mod iters;
 mod moves;

@@ -5,7 +5,7 @@ ghost use Rattle.std.specs.List.{All};
 ghost use Rattle.std.specs.Vec.{vec_len, vec_capacity};
 ghost use Rattle.mdchunks.specs.Lists.{IsFilled, joined};
 
-use crate::blocks::Block;
+use crate::chunk::Chunk;
 use crate::places::locate;
 use crate::weights::Weighed;
 
@@ -13,36 +13,36 @@ use crate::weights::Weighed;
 const SMALL: usize = 48;
 
 /// Drops members. No chunk is left empty.
-pub(crate) fn remove<T: Weighed + Drop>(blocks: &mut Vec<Block<T>>, at: usize, removed: usize)
-    requires within { at + removed ≤ length (joined blocks.old.items) }
-    requires filled { All IsFilled blocks.old.items }
-    ensures members { joined blocks.new.items ≡ take at (joined blocks.old.items) ++ drop (at + removed) (joined blocks.old.items) }
-    ensures filled { All IsFilled blocks.new.items }
-    ensures fewer { vec_len blocks.new ≤ vec_len blocks.old }
-    ensures capacity { vec_capacity blocks.new ≡ vec_capacity blocks.old }
+pub(crate) fn remove<T: Weighed + Drop>(chunks: &mut Vec<Chunk<T>>, at: usize, removed: usize)
+    requires within { at + removed ≤ length (joined chunks.old.items) }
+    requires filled { All IsFilled chunks.old.items }
+    ensures members { joined chunks.new.items ≡ take at (joined chunks.old.items) ++ drop (at + removed) (joined chunks.old.items) }
+    ensures filled { All IsFilled chunks.new.items }
+    ensures fewer { vec_len chunks.new ≤ vec_len chunks.old }
+    ensures capacity { vec_capacity chunks.new ≡ vec_capacity chunks.old }
 {
-    if remove_members(blocks, at, removed) {
-        drop_empty(blocks);
+    if remove_members(chunks, at, removed) {
+        drop_empty(chunks);
     }
 }
 
 /// Drops members from their chunks, and says whether a chunk is empty then.
-fn remove_members<T: Weighed + Drop>(blocks: &mut [Block<T>], at: usize, removed: usize) -> bool
-    requires within { at + removed ≤ length (joined blocks.old) }
-    ensures members { joined blocks.new ≡ take at (joined blocks.old) ++ drop (at + removed) (joined blocks.old) }
-    ensures filled { result ≡ false → All IsFilled blocks.old → All IsFilled blocks.new }
+fn remove_members<T: Weighed + Drop>(chunks: &mut [Chunk<T>], at: usize, removed: usize) -> bool
+    requires within { at + removed ≤ length (joined chunks.old) }
+    ensures members { joined chunks.new ≡ take at (joined chunks.old) ++ drop (at + removed) (joined chunks.old) }
+    ensures filled { result ≡ false → All IsFilled chunks.old → All IsFilled chunks.new }
 {
     let mut emptied = false;
     let mut at = at;
     let mut left = removed;
-    for block in blocks.iter_mut() {
+    for chunk in chunks.iter_mut() {
         if left == 0 {
             return emptied;
         }
-        let len = block.len();
+        let len = chunk.len();
         let from = at.min(len);
         let gone = left.min(len - from);
-        block.remove(from, gone);
+        chunk.remove(from, gone);
         if gone == len {
             emptied = true;
         }
@@ -53,45 +53,45 @@ fn remove_members<T: Weighed + Drop>(blocks: &mut [Block<T>], at: usize, removed
 }
 
 /// Drops the empty chunks.
-fn drop_empty<T: Weighed + Drop>(blocks: &mut Vec<Block<T>>)
-    ensures members { joined blocks.new.items ≡ joined blocks.old.items }
-    ensures filled { All IsFilled blocks.new.items }
-    ensures fewer { vec_len blocks.new ≤ vec_len blocks.old }
-    ensures capacity { vec_capacity blocks.new ≡ vec_capacity blocks.old }
+fn drop_empty<T: Weighed + Drop>(chunks: &mut Vec<Chunk<T>>)
+    ensures members { joined chunks.new.items ≡ joined chunks.old.items }
+    ensures filled { All IsFilled chunks.new.items }
+    ensures fewer { vec_len chunks.new ≤ vec_len chunks.old }
+    ensures capacity { vec_capacity chunks.new ≡ vec_capacity chunks.old }
 {
-    blocks.retain(|block| block.len() > 0);
+    chunks.retain(|chunk| chunk.len() > 0);
 }
 
 /// Joins the chunks at a place where they are small.
-pub(crate) fn heal<T: Weighed + Drop>(blocks: &mut Vec<Block<T>>, at: usize)
-    requires within { at ≤ length (joined blocks.old.items) }
-    requires filled { All IsFilled blocks.old.items }
-    ensures members { joined blocks.new.items ≡ joined blocks.old.items }
-    ensures filled { All IsFilled blocks.new.items }
-    ensures fewer { vec_len blocks.new ≤ vec_len blocks.old }
-    ensures capacity { vec_capacity blocks.new ≡ vec_capacity blocks.old }
+pub(crate) fn heal<T: Weighed + Drop>(chunks: &mut Vec<Chunk<T>>, at: usize)
+    requires within { at ≤ length (joined chunks.old.items) }
+    requires filled { All IsFilled chunks.old.items }
+    ensures members { joined chunks.new.items ≡ joined chunks.old.items }
+    ensures filled { All IsFilled chunks.new.items }
+    ensures fewer { vec_len chunks.new ≤ vec_len chunks.old }
+    ensures capacity { vec_capacity chunks.new ≡ vec_capacity chunks.old }
 {
-    let place = locate(blocks, at);
-    join(blocks, place.block);
-    if place.block > 0 {
-        join(blocks, place.block - 1);
+    let place = locate(chunks, at);
+    join(chunks, place.chunk);
+    if place.chunk > 0 {
+        join(chunks, place.chunk - 1);
     }
 }
 
 /// Joins a chunk with the next one where both are small.
-fn join<T: Weighed + Drop>(blocks: &mut Vec<Block<T>>, i: usize)
-    requires filled { All IsFilled blocks.old.items }
-    ensures members { joined blocks.new.items ≡ joined blocks.old.items }
-    ensures filled { All IsFilled blocks.new.items }
-    ensures fewer { vec_len blocks.new ≤ vec_len blocks.old }
-    ensures capacity { vec_capacity blocks.new ≡ vec_capacity blocks.old }
+fn join<T: Weighed + Drop>(chunks: &mut Vec<Chunk<T>>, i: usize)
+    requires filled { All IsFilled chunks.old.items }
+    ensures members { joined chunks.new.items ≡ joined chunks.old.items }
+    ensures filled { All IsFilled chunks.new.items }
+    ensures fewer { vec_len chunks.new ≤ vec_len chunks.old }
+    ensures capacity { vec_capacity chunks.new ≡ vec_capacity chunks.old }
 {
-    let count = blocks.len();
+    let count = chunks.len();
     if count < 2 || i >= count - 1 {
         return;
     }
-    if blocks[i].len() + blocks[i + 1].len() <= SMALL {
-        let next = blocks.remove(i + 1);
-        blocks[i].append(next);
+    if chunks[i].len() + chunks[i + 1].len() <= SMALL {
+        let next = chunks.remove(i + 1);
+        chunks[i].append(next);
     }
 }

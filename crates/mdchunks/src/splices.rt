@@ -6,7 +6,7 @@ ghost use Rattle.std.specs.Vec.{vec_len, vec_capacity};
 ghost use Rattle.mdchunks.specs.Lists.{IsFilled, joined, replaced};
 ghost use Rattle.mdchunks.specs.Sequences.{needed};
 
-use crate::blocks::{Block, FULL};
+use crate::chunk::{Chunk, FULL};
 use crate::packing::insert;
 use crate::places::{FRONT, Near, locate_edit};
 use crate::removals::{heal, remove};
@@ -18,42 +18,42 @@ const FEW: usize = 16;
 /// Puts members in the place of others. The chunks that this may need lie in `spare`. The place is looked for from a chunk on. The
 /// answer is the chunk in which members were exchanged, or the first one.
 pub(crate) fn splice<T: Weighed + Drop>(
-    blocks: &mut Vec<Block<T>>,
-    spare: &mut Vec<Block<T>>,
+    chunks: &mut Vec<Chunk<T>>,
+    spare: &mut Vec<Chunk<T>>,
     near: Near,
     at: usize,
     removed: usize,
     added: Vec<T>,
 ) -> Near
-    requires within { at + removed ≤ length (joined blocks.old.items) }
-    requires few { length (joined blocks.old.items) < 2 ^ 64 }
-    requires filled { All IsFilled blocks.old.items }
-    requires near { length (joined (take near.block blocks.old.items)) ≡ near.front }
+    requires within { at + removed ≤ length (joined chunks.old.items) }
+    requires few { length (joined chunks.old.items) < 2 ^ 64 }
+    requires filled { All IsFilled chunks.old.items }
+    requires near { length (joined (take near.chunk chunks.old.items)) ≡ near.front }
     requires spare { needed (vec_len added) ≤ vec_len spare.old }
-    requires room { vec_len blocks.old + needed (vec_len added) ≤ vec_capacity blocks.old }
+    requires room { vec_len chunks.old + needed (vec_len added) ≤ vec_capacity chunks.old }
     requires space { vec_len added + 64 ≤ vec_capacity added }
-    ensures members { joined blocks.new.items ≡ replaced (joined blocks.old.items) at removed added.items }
-    ensures filled { All IsFilled blocks.new.items }
-    ensures near { length (joined (take result.block blocks.new.items)) ≡ result.front }
+    ensures members { joined chunks.new.items ≡ replaced (joined chunks.old.items) at removed added.items }
+    ensures filled { All IsFilled chunks.new.items }
+    ensures near { length (joined (take result.chunk chunks.new.items)) ≡ result.front }
 {
-    if blocks.is_empty() {
-        insert(blocks, spare, at, added);
+    if chunks.is_empty() {
+        insert(chunks, spare, at, added);
         return FRONT;
     }
-    let place = locate_edit(blocks, near, at, removed);
-    let len = blocks[place.block].len();
+    let place = locate_edit(chunks, near, at, removed);
+    let len = chunks[place.chunk].len();
     if removed <= len - place.inside
         && added.len() <= FULL - (len - removed)
         && len - removed + added.len() >= FEW
     {
-        blocks[place.block].splice(place.inside, removed, added);
+        chunks[place.chunk].splice(place.inside, removed, added);
         return Near {
-            block: place.block,
+            chunk: place.chunk,
             front: at - place.inside,
         };
     }
-    remove(blocks, at, removed);
-    insert(blocks, spare, at, added);
-    heal(blocks, at);
+    remove(chunks, at, removed);
+    insert(chunks, spare, at, added);
+    heal(chunks, at);
     FRONT
 }

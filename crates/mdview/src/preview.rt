@@ -36,7 +36,7 @@ use mdwalk::Walk;
 use std::alloc::{AllocError, Global};
 use std::marker::Model;
 
-/// A text that is edited by lines, and its HTML.
+/// A text that is edited by lines, and its HTML. Lines, units and pieces are numbered from 0.
 #[derive(Drop)]
 pub struct Preview {
     alloc: Global,
@@ -263,7 +263,7 @@ impl Preview {
         Ok(kept + added)
     }
 
-    /// Replaces `del` lines from line `at` on by others, which have no line ending, and says which pieces changed. Lines are counted from 0.
+    /// Replaces `del` lines from line `at` on by others, which have no line ending, and says which pieces changed.
     ///
     /// Refused, in this order: `OutOfRange`, `BreakInLine`, `TooManyLines`, `TooLarge`, whatever the memory; then
     /// `NestedTooDeep`, `InlineTooDeep`; `NoMemory` at any point behind the first four. After each the preview is as before, and after the first

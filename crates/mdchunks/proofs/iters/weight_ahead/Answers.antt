@@ -1,4 +1,4 @@
-use Rattle.std.proofs.Common.{◌≡◌, ◌+◌, ◌-◌, ◌^◌, ap, arith, drop, take, min, sym, ◌∙◌}
+use Rattle.std.proofs.Common.{◌+◌, ◌-◌, ◌^◌, ap, arith, take, min, sym, ◌∙◌}
 use Rattle.mdchunks.specs.Lists.{weigh}
 use Rattle.mdchunks.proofs.Moved.{drop_moved}
 use Rattle.mdchunks.proofs.WeightSums.{weigh_next, weigh_none}

@@ -1,4 +1,4 @@
-use Rattle.std.proofs.Common.{◌≡◌, ◌≤◌, drop, take}
+use Rattle.std.proofs.Common.{◌≡◌, drop, take}
 use Rattle.mdchunks.specs.Lists.{weigh}
 use Rattle.mdchunks.proofs.iters.weight_ahead.Given as goal
 

@@ -1,12 +1,12 @@
-use Rattle.std.proofs.Common.{◌≡◌, ◌+◌, length, take}
+use Rattle.std.proofs.Common.{◌≡◌, length, take}
 use Rattle.std.specs.List.{All}
 use Rattle.mdchunks.specs.Lists.{joined}
 use Rattle.mdchunks.specs.Marks.{IsApart}
 use Rattle.mdchunks.proofs.places.first_marked.Given as goal
 
--- so many members behind those before have none of the marks
+-- no member of the chunks before has one of the marks
 abbrev pub invariant-loop-i : goal.invariant-loop-i
 invariant-loop-i g l = record {
-  members : l.skipped ≡ l.before + length (joined (take l.i l.blocks));
-  apart : All (IsApart g.T.Weighed.marks l.marks) (joined (take l.i l.blocks));
+  before : l.before ≡ length (joined (take l.i l.chunks));
+  apart : All (IsApart g.T.Weighed.marks l.marks) (joined (take l.i l.chunks));
 }

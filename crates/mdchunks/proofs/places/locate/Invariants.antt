@@ -5,7 +5,7 @@ use Rattle.mdchunks.proofs.places.locate.Given as goal
 -- so many chunks lie in front of the place
 abbrev pub invariant-loop-i : goal.invariant-loop-i
 invariant-loop-i g l = record {
-  place : length (joined (take l.i l.blocks)) + l.left ≡ l.at;
+  place : length (joined (take l.i l.chunks)) + l.left ≡ l.at;
   behind : 0 < l.at → 0 < l.left;
   front : l.at ≡ 0 → l.i ≡ 0;
 }

@@ -4,11 +4,11 @@ use Rattle.mdchunks.proofs.places.member.Goals as goal
 
 pub returns : goal.returns
 returns g c =
-    let xss = c.args.blocks.now in
-    let block = c.locate-place.result.block in
+    let xss = c.args.chunks.now in
+    let chunk = c.locate-place.result.chunk in
     let inside = c.locate-place.result.inside in
     let at = c.locate-place.ensures in
     let here = at.found (omega arith) in
-    let is = in_front xss block inside c.args.i here (at.behind (omega arith)) (at.inside here) at.place in
-    member_at xss block (inside - 1) c.args.i c.index-blocks-place.result c.index-items-place.result here c.index-blocks-place.is is.within is.place
+    let is = in_front xss chunk inside c.args.i here (at.behind (omega arith)) at.inside at.place in
+    member_at xss chunk (inside - 1) c.args.i c.index-chunks-place.result c.index-items-place.result here c.index-chunks-place.is is.within is.place
     (rw c.items.ensures.value at c.index-items-place.is)

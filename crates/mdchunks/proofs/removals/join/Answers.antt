@@ -9,8 +9,8 @@ use Rattle.mdchunks.proofs.removals.join.Goals as goal
 pub returns-then-len-le-SMALL-clause-members : goal.returns-then-len-le-SMALL-clause-members
 returns-then-len-le-SMALL-clause-members g c =
     let one : c.args.i + 1 ≡ suc c.args.i = omega arith in
-    let here : suc c.args.i < length c.args.blocks.now.items = omega (arith, c.if-i-count.false, c.if-count-lt2.false, c.len-count.ensures, c.args.blocks.now.ok.0) in
-    let pair = joined_pair c.args.blocks.now.items c.args.i c.index_mut.result.now c.remove-next.result here in
+    let here : suc c.args.i < length c.args.chunks.now.items = omega (arith, c.if-i-count.false, c.if-count-lt2.false, c.len-count.ensures, c.args.chunks.now.ok.0) in
+    let pair = joined_pair c.args.chunks.now.items c.args.i c.index_mut.result.now c.remove-next.result here in
     let a = c.append.ensures in
     let v = c.remove-next.ensures.value in
     let m = c.index_mut.ensures.value in
@@ -19,9 +19,9 @@ returns-then-len-le-SMALL-clause-members g c =
 
 pub returns-then-len-le-SMALL-clause-filled : goal.returns-then-len-le-SMALL-clause-filled
 returns-then-len-le-SMALL-clause-filled g c =
-    let items = c.args.blocks.now.items in
+    let items = c.args.chunks.now.items in
     let at = c.args.i + 1 in
-    let here : at < length items = omega (arith, c.if-i-count.false, c.if-count-lt2.false, c.len-count.ensures, c.args.blocks.now.ok.0) in
+    let here : at < length items = omega (arith, c.if-i-count.false, c.if-count-lt2.false, c.len-count.ensures, c.args.chunks.now.ok.0) in
     let next : IsFilled (get_or items at c.remove-next.result) = All-get_or IsFilled items at c.remove-next.result here c.requires.filled in
     let long : length c.remove-next.result ≡ length (get_or items at c.remove-next.result) = ap length c.remove-next.ensures.value in
     let both : length c.append.new.self ≡ length c.index_mut.result.now + length c.remove-next.result = ap length c.append.ensures ∙ length-append c.index_mut.result.now c.remove-next.result in

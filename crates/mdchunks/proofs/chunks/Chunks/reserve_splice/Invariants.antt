@@ -4,7 +4,7 @@ use Rattle.mdchunks.proofs.chunks.Chunks.reserve_splice.Given as goal
 
 abbrev pub invariant-loop : goal.invariant-loop
 invariant-loop g l = record {
-  blocks : l.self-inside.blocks ≡ l.initial.self-inside.blocks;
+  chunks : l.self-inside.chunks ≡ l.initial.self-inside.chunks;
   len : l.self-inside.len ≡ l.initial.self-inside.len;
   near : l.self-inside.near ≡ l.initial.self-inside.near;
   spare : l.counter ≤ vec_len l.self-inside.spare;

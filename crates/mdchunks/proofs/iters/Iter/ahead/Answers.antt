@@ -1,4 +1,4 @@
-use Rattle.std.proofs.Common.{◌≡◌, ◌∙◌, ap, arith, drop}
+use Rattle.std.proofs.Common.{◌∙◌, ap, arith, drop}
 use Rattle.mdchunks.specs.Lists.{joined}
 use Rattle.mdchunks.proofs.Skipped.{drop_behind}
 use Rattle.mdchunks.proofs.iters.Iter.ahead.Goals as goal

@@ -16,13 +16,13 @@ use std::vec::IntoIter;
 pub(crate) const FULL: usize = 64;
 
 #[derive(Drop)]
-pub(crate) struct Block<T: Weighed> {
+pub(crate) struct Chunk<T: Weighed> {
     items: Vec<T>,
     weight: usize,
     marks: u64,
 }
 
-impl<T: Weighed> Model for Block<T> {
+impl<T: Weighed> Model for Chunk<T> {
     ghost use Rattle.std.specs.Prelude.{◌≡◌, ◌≤◌, List, length};
     ghost use Rattle.std.specs.Vec.{vec_capacity};
     ghost use Rattle.mdchunks.specs.Lists.{weigh};
@@ -36,12 +36,12 @@ impl<T: Weighed> Model for Block<T> {
         × AreMarksOf T.marks b.items.items b.marks };
 }
 
-impl<T: Weighed + Drop> Block<T> {
+impl<T: Weighed + Drop> Chunk<T> {
     #[tactic(auto, using(crate::proofs::MarkSums::marks_none))]
-    pub(crate) fn empty(alloc: Global) -> Result<Block<T>, AllocError>
+    pub(crate) fn empty(alloc: Global) -> Result<Chunk<T>, AllocError>
         ensures { IfOk result (λ b. b ≡ []) }
     {
-        Ok(Block {
+        Ok(Chunk {
             items: Vec::with_capacity(alloc, FULL)?,
             weight: 0,
             marks: 0,
@@ -113,7 +113,7 @@ impl<T: Weighed + Drop> Block<T> {
     }
 
     /// Takes the members of another one behind its own.
-    pub(crate) fn append(&mut self, mut other: Block<T>)
+    pub(crate) fn append(&mut self, mut other: Chunk<T>)
         requires { length self.old + length other ≤ 64 }
         ensures { self.new ≡ self.old ++ other }
     {

@@ -2,7 +2,7 @@ use Rattle.std.proofs.Common.{◌≡◌, ◌<◌, get_or, length, ap, sym, subst
 use Rattle.std.proofs.Math.ListN.{set, length-set}
 use Rattle.std.proofs.lemmas.List.{get_or_default, get_or-set_same}
 use Rattle.mdchunks.proofs.Alike.{marked_alike, weighs_alike}
-use Rattle.mdchunks.proofs.blocks.Block.change.Goals as goal
+use Rattle.mdchunks.proofs.chunk.Chunk.change.Goals as goal
 
 pub invariant_of-self : goal.invariant_of-self
 invariant_of-self g c =

@@ -1,7 +1,7 @@
 use Rattle.std.proofs.Common.{◌≡◌, ◌≤◌, take, drop}
 use Rattle.std.specs.Vec.{vec_len, vec_capacity}
 use Rattle.std.specs.Vec.Iter.{into_iter_items}
-use Rattle.mdchunks.proofs.blocks.fill_list.Given as goal
+use Rattle.mdchunks.proofs.chunk.fill_list.Given as goal
 
 -- so many members have been moved
 abbrev pub invariant-loop : goal.invariant-loop

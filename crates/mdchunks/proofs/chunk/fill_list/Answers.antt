@@ -1,7 +1,7 @@
 use Rattle.std.proofs.Common.{◌≡◌, ◌∷◌, ◌++◌, ◌∙◌, [], sym, ap, arith, drop}
 use Rattle.std.specs.Vec.Iter.{into_iter_items}
 use Rattle.mdchunks.proofs.Moved.{drop_moved, take_moved}
-use Rattle.mdchunks.proofs.blocks.fill_list.Goals as goal
+use Rattle.mdchunks.proofs.chunk.fill_list.Goals as goal
 
 pub loop-preserved : goal.loop-preserved
 loop-preserved g c =
