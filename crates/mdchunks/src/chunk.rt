@@ -30,16 +30,16 @@ impl<T: Weighed> Model for Chunk<T> {
 
     ghost Value = { List T };
 
-    ghost view = { λ b. b.items.items };
+    ghost view = { λ c. c.items.items };
 
-    ghost invariant = { λ b. (length b.items.items ≤ 64) × (64 ≤ vec_capacity b.items) × (b.weight ≡ weigh T.weight b.items.items)
-        × AreMarksOf T.marks b.items.items b.marks };
+    ghost invariant = { λ c. (length c.items.items ≤ 64) × (64 ≤ vec_capacity c.items) × (c.weight ≡ weigh T.weight c.items.items)
+        × AreMarksOf T.marks c.items.items c.marks };
 }
 
 impl<T: Weighed + Drop> Chunk<T> {
     #[tactic(auto, using(crate::proofs::MarkSums::marks_none))]
     pub(crate) fn empty(alloc: Global) -> Result<Chunk<T>, AllocError>
-        ensures { IfOk result (λ b. b ≡ []) }
+        ensures { IfOk result (λ chunk. chunk ≡ []) }
     {
         Ok(Chunk {
             items: Vec::with_capacity(alloc, FULL)?,

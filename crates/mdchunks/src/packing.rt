@@ -57,7 +57,8 @@ fn spread<T: Weighed + Drop>(
     requires spare { vec_len spare.old ≡ needed (vec_len added) }
     requires room { vec_len chunks.old + vec_len spare.old ≤ vec_capacity chunks.old }
     requires space { vec_len added + 64 ≤ vec_capacity added }
-    ensures members { joined chunks.new.items ≡ replaced (joined chunks.old.items) (length (joined (take place.chunk chunks.old.items)) + place.inside) 0 added.items }
+    ensures members { joined chunks.new.items
+        ≡ replaced (joined chunks.old.items) (length (joined (take place.chunk chunks.old.items)) + place.inside) 0 added.items }
     ensures filled { All IsFilled chunks.new.items }
 {
     let all = gather(&mut chunks[place.chunk], place.inside, added);

@@ -201,16 +201,18 @@ fn apart_in<T: Weighed + Drop>(chunk: &Chunk<T>, marks: u64) -> usize
     count_apart(chunk.items(), marks)
 }
 
-/// The first member that has one of these marks: its place in its chunk, which is that behind all where there is none, and how many members stand before it.
+/// The place of a member, and how many members stand before it.
 #[derive(Clone, Copy)]
 pub(crate) struct Marked {
     pub(crate) place: Place,
     pub(crate) before: usize,
 }
 
+/// The first member that has one of these marks. Where there is none, its place is that behind all.
 pub(crate) fn first_marked<T: Weighed + Drop>(chunks: &[Chunk<T>], marks: u64) -> Marked
     requires few { length (joined chunks.now) < 2 ^ 64 }
     ensures within { result.before ≤ length (joined chunks.now) }
+    ensures chunk { result.place.chunk ≤ length chunks.now }
     ensures inside { result.place.inside ≤ length (get_or chunks.now result.place.chunk []) }
     ensures before { result.before ≡ length (joined (take result.place.chunk chunks.now)) + result.place.inside }
     ensures apart { All (IsApart T.marks marks) (take result.before (joined chunks.now)) }
