@@ -15,7 +15,7 @@ const OPTIONS: Options = Options {
     ..SOFT
 };
 
-/// What an engine does with a text or a script that comes a byte a call, and what it writes goes so, where a device fails.
+/// What an engine does with a text or a script where all comes and goes a byte a call, and a device fails.
 fn by_bytes(
     alloc: Global,
     engine: Engine,
@@ -31,7 +31,7 @@ fn by_bytes(
     run_of(alloc, engine, text.as_bytes(), devices, OPTIONS)
 }
 
-/// What it does where no device fails.
+/// What it does in wide calls, where no device fails.
 fn at_once(alloc: Global, engine: Engine, text: &str) -> Result<Run, AllocError> {
     run_of(alloc, engine, text.as_bytes(), WIDE, OPTIONS)
 }

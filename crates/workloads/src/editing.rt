@@ -75,7 +75,7 @@ impl Editor {
         self.edit(at, lines.len(), &[], digest)
     }
 
-    /// A line goes to where another one is, once it is taken away.
+    /// Takes a line away, and puts it in front of the one that has number `to` then.
     pub fn move_line(&mut self, from: usize, to: usize, digest: &mut Digest) -> Result<()> {
         let line = self.line(from)?;
         self.edit(from, 1, &[], digest)?;

@@ -80,7 +80,7 @@ fn change(
             let changed = format!(in alloc; "{front} *{word}* {rest}")?;
             editor.edit(at, 1, &[&changed], digest)
         }
-        // It goes up.
+        // The line goes up.
         6 => {
             let to = maker.chance.between(0, at);
             editor.move_line(at, to, digest)

@@ -43,6 +43,7 @@ fn stretch(
             editor.edit(at, 0, &["- an item"], digest)?;
             editor.type_letters(at, 8, digest)
         }
+        // The line goes three lines down.
         33..35 => editor.move_line(at, at.saturating_add(3), digest),
         35..37 => {
             editor.edit(at, 0, &["# A part", ""], digest)?;

@@ -439,7 +439,7 @@ static DEFINITIONS: [(&str, &[Label]); 27] = [
     ("[foo]\n\n> [foo]: /url", &[(0, Some(4)), (9, Some(13))]),
 ];
 
-/// The end of the inside of the label at a place, or 0 where it does not begin right behind the bracket.
+/// The end of the inside of the label at a place; 0, which no row wants, where it does not begin right behind the bracket.
 fn end_at(text: &str, at: usize) -> Option<usize> {
     let (start, end) = label_at(text, at)?;
     if start.checked_sub(at) == Some(1) {
