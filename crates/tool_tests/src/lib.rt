@@ -6,6 +6,8 @@ mod devices;
 #[cfg(test)]
 mod engines;
 #[cfg(test)]
+mod io_faults;
+#[cfg(test)]
 mod options;
 #[cfg(test)]
 mod runs;
