@@ -1,2 +1,3 @@
+pub mod DueRefusals
 pub mod NumberValues
 pub mod ToolApps

@@ -1,10 +1,11 @@
 //! The words that a program is started with.
-ghost use Rattle.std.specs.Prelude.{◌≡◌, ◌≤◌, IfOk, IfSome, IsSome, OnOk, Some, codes, drop, length, map, option_map, string_bytes, true, false};
+ghost use Rattle.std.specs.Prelude.{◌≡◌, ◌≢◌, ◌≤◌, [], IfErr, IfNone, IfOk, IfSome, IsNone, IsSome, IsSomeAnd, OnOk, Some, codes, drop, length, map, option_map, string_bytes, true, false};
 ghost use Rattle.std.specs.List.{list_all, prefix_len};
-ghost use Rattle.clap.specs.Words.{first_value, found_of};
+ghost use Rattle.clap.specs.Words.{first_value, found_of, kind_of};
 ghost use Rattle.mdhtml.specs.Limits.{HasLimits};
 ghost use Rattle.mdwords.specs.Numbers.{number};
 ghost use Rattle.mdwords.specs.ToolWords.{IsBreaks, IsDoneAnyway, IsHtml, IsLimit, OptionsRead, WordsRead, is_extension, is_on, is_zero, program_of, replies_of, values_of};
+ghost use Rattle.mdwords.specs.WordRefusals.{IsNoLimit, IsReadOf, MatchesDeclined, NotUnderstoodFor, RefusesMatches, RefusesWords, TellsKind, faults_of};
 
 use crate::commands::command;
 use crate::numbers::number;
@@ -45,15 +46,25 @@ pub struct Words {
 pub fn read_words<'a>(alloc: Global, words: &'a [&'a str]) -> Result<Words, WordFault>
     ensures read { IfOk result (WordsRead (map (λ word. word.now) words.entry.now)) }
     ensures limits { IfOk result (λ words. HasLimits words.options) }
+    ensures taken { IfOk result (λ _. faults_of (map (λ word. word.now) words.entry.now) ≡ []) }
+    ensures refused { IfErr result (RefusesWords (map (λ word. word.now) words.entry.now)) }
 {
     let command = command(alloc, program_of(words))?;
-    let matches = match command.try_get_matches_from(words) {
-        Ok(matches) => matches,
-        Err(error) => return Err(fault_of(alloc, &error)),
-    };
-    let options = options_of(&matches)?;
-    require_done_anyway(&matches)?;
-    let html_entities = html_entities_of(&matches)?;
+    match command.try_get_matches_from(words) {
+        Ok(matches) => read_matches(alloc, &matches),
+        Err(error) => Err(fault_of(alloc, &error)),
+    }
+}
+
+/// What clap's matches of the words say; refused where they ask for what is not done.
+fn read_matches(alloc: Global, matches: &ArgMatches<'_>) -> Result<Words, WordFault>
+    ensures read { IfOk result (IsReadOf matches.now) }
+    ensures limits { IfOk result (λ words. HasLimits words.options) }
+    ensures refused { IfErr result (RefusesMatches matches.now) }
+{
+    let options = options_of(matches)?;
+    require_done_anyway(matches)?;
+    let html_entities = html_entities_of(matches)?;
     let entities = copied(alloc, matches.get_str("entities"))?;
     let prelude = copied(alloc, matches.get_str("prelude"))?;
     let file = copied(alloc, matches.get_str("file"))?;
@@ -61,11 +72,11 @@ pub fn read_words<'a>(alloc: Global, words: &'a [&'a str]) -> Result<Words, Word
         options,
         entities,
         html_entities,
-        double_tilde: is_on(&matches, "strikethrough-double-tilde"),
+        double_tilde: is_on(matches, "strikethrough-double-tilde"),
         prelude,
         file,
-        explains: is_on(&matches, "explain"),
-        replies: replies_of(&matches),
+        explains: is_on(matches, "explain"),
+        replies: replies_of(matches),
     })
 }
 
@@ -83,6 +94,7 @@ fn program_of<'a>(words: &'a [&'a str]) -> &'a str
 fn options_of(matches: &ArgMatches<'_>) -> Result<Options, WordFault>
     ensures read { IfOk result (OptionsRead matches.now) }
     ensures limits { IfOk result HasLimits }
+    ensures refused { IfErr result (NotUnderstoodFor (MatchesDeclined matches.now)) }
 {
     let unsafe_html = is_on(matches, "unsafe");
     let breaks = breaks_of(is_on(matches, "hardbreaks"), is_on(matches, "nobreaks"))?;
@@ -104,13 +116,15 @@ fn options_of(matches: &ArgMatches<'_>) -> Result<Options, WordFault>
 
 /// Whether all of HTML's names are known, which a file of names excludes.
 fn html_entities_of(matches: &ArgMatches<'_>) -> Result<bool, WordFault>
-    ensures { IfOk result (IsHtml (first_value (found_of matches.now) (codes "entities")) (is_on matches.now (codes "html-entities"))) }
+    ensures read { IfOk result (IsHtml (first_value (found_of matches.now) (codes "entities")) (is_on matches.now (codes "html-entities"))) }
+    ensures refused { IfErr result (NotUnderstoodFor (MatchesDeclined matches.now)) }
 {
     html_of(matches.get_str("entities"), is_on(matches, "html-entities"))
 }
 
 fn html_of(file: Option<&str>, asked: bool) -> Result<bool, WordFault>
-    ensures { IfOk result (IsHtml (option_map (λ name. name.now) file.entry) asked) }
+    ensures read { IfOk result (IsHtml (option_map (λ name. name.now) file.entry) asked) }
+    ensures refused { IfErr result (NotUnderstoodFor (IsSome (option_map (λ name. name.now) file.entry) × (asked ≡ true))) }
 {
     match file {
         None => Ok(asked),
@@ -142,7 +156,8 @@ fn replies_of(matches: &ArgMatches<'_>) -> ReplyForm
 
 /// Refuses options of cmark-gfm that ask for what is not done anyway.
 fn require_done_anyway(matches: &ArgMatches<'_>) -> Result<(), WordFault>
-    ensures { OnOk result (IsDoneAnyway matches.now) }
+    ensures done { OnOk result (IsDoneAnyway matches.now) }
+    ensures refused { IfErr result (NotUnderstoodFor (MatchesDeclined matches.now)) }
 {
     require_html(matches.get_str("to"))?;
     require_width(matches.get_str("width"))?;
@@ -153,7 +168,8 @@ fn require_done_anyway(matches: &ArgMatches<'_>) -> Result<(), WordFault>
 }
 
 fn require_html(format: Option<&str>) -> Result<(), WordFault>
-    ensures { OnOk result (IfSome (option_map (λ name. name.now) format.entry) (λ name. name ≡ codes "html")) }
+    ensures done { OnOk result (IfSome (option_map (λ name. name.now) format.entry) (λ name. name ≡ codes "html")) }
+    ensures refused { IfErr result (NotUnderstoodFor (IsSomeAnd (option_map (λ name. name.now) format.entry) (λ name. name ≢ codes "html"))) }
 {
     match format {
         Some(name) if name != "html" => Err(WordFault::NotUnderstood),
@@ -162,7 +178,8 @@ fn require_html(format: Option<&str>) -> Result<(), WordFault>
 }
 
 fn require_width(word: Option<&str>) -> Result<(), WordFault>
-    ensures { OnOk result (IfSome (option_map (λ word. word.now) word.entry) (λ word. IsSome (number word))) }
+    ensures done { OnOk result (IfSome (option_map (λ word. word.now) word.entry) (λ word. IsSome (number word))) }
+    ensures refused { IfErr result (NotUnderstoodFor (IsSomeAnd (option_map (λ word. word.now) word.entry) (λ word. IsNone (number word)))) }
 {
     match word {
         Some(word) if number(word.as_bytes()).is_none() => Err(WordFault::NotUnderstood),
@@ -172,7 +189,8 @@ fn require_width(word: Option<&str>) -> Result<(), WordFault>
 
 /// Refuses names among which one is of no extension that is always on.
 fn require_extensions(names: &[&str]) -> Result<(), WordFault>
-    ensures { OnOk result (list_all is_extension (map (λ name. name.now) names.now) ≡ true) }
+    ensures done { OnOk result (list_all is_extension (map (λ name. name.now) names.now) ≡ true) }
+    ensures refused { IfErr result (NotUnderstoodFor (list_all is_extension (map (λ name. name.now) names.now) ≡ false)) }
 {
     for name in names {
         if !is_extension(name) {
@@ -197,6 +215,7 @@ fn limit_of(word: Option<&str>) -> Result<usize, WordFault>
     ensures some { IfOk result (λ limit. 1 ≤ limit) }
     ensures few { IfOk result (λ limit. limit ≤ 256) }
     ensures said { IfOk result (IsLimit (option_map (λ word. word.now) word.entry)) }
+    ensures refused { IfErr result (NotUnderstoodFor (IsSomeAnd (option_map (λ word. word.now) word.entry) IsNoLimit)) }
 {
     match word {
         None => Ok(DEFAULT_LIMIT),
@@ -212,6 +231,7 @@ fn limit(word: &[u8]) -> Option<usize>
     ensures some { IfSome result (λ limit. 1 ≤ limit) }
     ensures few { IfSome result (λ limit. limit ≤ 256) }
     ensures said { IfSome result (λ limit. number (drop (prefix_len is_zero word.now) word.now) ≡ Some limit) }
+    ensures none { IfNone result (IsNoLimit word.now) }
 {
     let value = number(&word[zeros(word)..])?;
     if value == 0 || value > MAX_LIMIT {
@@ -229,7 +249,8 @@ fn zeros(word: &[u8]) -> usize
 }
 
 fn breaks_of(hard: bool, none: bool) -> Result<Breaks, WordFault>
-    ensures { IfOk result (IsBreaks hard none) }
+    ensures read { IfOk result (IsBreaks hard none) }
+    ensures refused { IfErr result (NotUnderstoodFor ((hard ≡ true) × (none ≡ true))) }
 {
     if hard && none {
         return Err(WordFault::NotUnderstood);
@@ -252,7 +273,9 @@ fn copied(alloc: Global, text: Option<&str>) -> Result<Option<String>, AllocErro
     }
 }
 
-fn fault_of(alloc: Global, error: &Error) -> WordFault {
+fn fault_of(alloc: Global, error: &Error) -> WordFault
+    ensures { TellsKind (kind_of error.now) result }
+{
     match error.kind() {
         ErrorKind::DisplayHelp => match format!(in alloc; "{error}") {
             Ok(text) => WordFault::Help(text),

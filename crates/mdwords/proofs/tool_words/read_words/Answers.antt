@@ -1,25 +1,30 @@
-use Rattle.std.proofs.Common.{◌≡◌, ◌∙◌, ap, map, subst}
-use Rattle.clap.specs.Words.{HasMatchesOf, app_of, matches_of}
-use Rattle.mdwords.specs.ToolWords.{tool_app}
-use Rattle.mdwords.proofs.ToolApps.{tool_is_simple}
+use Rattle.std.proofs.Common.{◌≡◌, [], map}
+use Rattle.std.proofs.lemmas.Result.{IfErr-weaker, IfOk-weaker}
+use Rattle.clap.specs.Words.{HasKind, kind_of}
+use Rattle.mdwords.proofs.DueRefusals.{due_by_error, due_by_matches, said_of_faults, said_of_rows}
 use Rattle.mdwords.proofs.tool_words.read_words.Goals as goal
 
-pub returns-clause-read : goal.returns-clause-read
-returns-clause-read c =
-    let program = c.program_of.result.now in
+pub returns-in-Ok-clause-read : goal.returns-in-Ok-clause-read
+returns-in-Ok-clause-read c =
     let words = map (λ word. word.now) c.args.words.now in
-    let app : app_of c.in_ok-command.command ≡ tool_app program = c.in_ok-command.ensures in
-    let matched : HasMatchesOf (tool_app program) words c.in-Ok.matches = subst (λ a. HasMatchesOf a words c.in-Ok.matches) app c.in-Ok.ensures.matches in
-    record {
-      matches = c.in-Ok.matches;
-      rows = (matched (tool_is_simple program)).0 ∙ ap (λ name. matches_of (tool_app name) words) c.program_of.ensures;
-      options = c.in_ok-options.ensures.read;
-      entities = c.in_ok-entities.ensures ∙ c.get_str.ensures;
-      html_entities = c.in_ok-html_entities.ensures;
-      double_tilde = c.is_on.ensures;
-      prelude = c.in_ok-prelude.ensures ∙ c.get_str-2.ensures;
-      file = c.in_ok-file.ensures ∙ c.get_str-3.ensures;
-      explains = c.is_on-2.ensures;
-      replies = c.replies_of.ensures;
-      anyway = c.in_ok-require_done_anyway.ensures;
-    }
+    let rows = said_of_rows _ _ words c.in-Ok.matches c.in_ok-command.ensures c.program_of.ensures c.in-Ok.ensures.matches in
+    IfOk-weaker c.read_matches.result _ _ (λ read said. said words rows) c.read_matches.ensures.read
+
+pub returns-in-Ok-clause-taken : goal.returns-in-Ok-clause-taken
+returns-in-Ok-clause-taken c =
+    let words = map (λ word. word.now) c.args.words.now in
+    let taken = said_of_faults (λ kinds. kinds ≡ []) _ _ words c.in_ok-command.ensures c.program_of.ensures c.in-Ok.ensures.kinds in
+    IfOk-weaker c.read_matches.result _ _ (λ read said. taken) c.read_matches.ensures.limits
+
+pub returns-in-Ok-clause-refused : goal.returns-in-Ok-clause-refused
+returns-in-Ok-clause-refused c =
+    let words = map (λ word. word.now) c.args.words.now in
+    let rows = said_of_rows _ _ words c.in-Ok.matches c.in_ok-command.ensures c.program_of.ensures c.in-Ok.ensures.matches in
+    let taken = said_of_faults (λ kinds. kinds ≡ []) _ _ words c.in_ok-command.ensures c.program_of.ensures c.in-Ok.ensures.kinds in
+    IfErr-weaker c.read_matches.result _ _ (λ fault. due_by_matches words c.in-Ok.matches fault taken rows) c.read_matches.ensures.refused
+
+pub returns-in-Err-clause-refused : goal.returns-in-Err-clause-refused
+returns-in-Err-clause-refused c =
+    let words = map (λ word. word.now) c.args.words.now in
+    let told = said_of_faults (λ kinds. HasKind kinds c.in-Err.error) _ _ words c.in_ok-command.ensures c.program_of.ensures c.in-Err.ensures.kinds in
+    due_by_error words (kind_of c.in-Err.error) c.fault_of.result told c.fault_of.ensures
