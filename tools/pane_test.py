@@ -329,6 +329,26 @@ def keeps_what_is_refused(browser, name):
         server.wait()
 
 
+# Puts in so many pieces, others in their place, each once more, and takes all but two away: how long each takes, and what is shown then.
+MANY = """(count => {
+  const taken = [], time = change => { const from = performance.now(); put(change); document.body.offsetHeight; taken.push(performance.now() - from); };
+  const made = word => Array.from({ length: count }, (_, at) => [at, `<p>${word} ${at}</p>\\n`, 2 * at]);
+  time({ first: 0, removed: 0, added: count, by: 0, pieces: made('one'), fresh: true });
+  time({ first: 0, removed: count, added: count, by: 0, pieces: made('two') });
+  time({ first: 0, removed: 0, added: 0, by: 0, pieces: made('three') });
+  time({ first: 1, removed: count - 2, added: 0, by: 0, pieces: [] });
+  return [taken, pieces.textContent];
+})(20000)"""
+
+
+def puts_many(browser, address):
+    """A page with thousands of pieces changes as fast as it loads, and not by the square of their number."""
+    browser.call("Page.navigate", url=address)
+    wait(lambda: browser.value("typeof put") == "function" and browser.value(PIECES + ".length") > 0)
+    (load, *changes), text = browser.value(MANY)
+    return text == "three 0\nthree 19999\n" and all(change < 5 * load for change in changes)
+
+
 def leaks(address, name):
     """Whether a file that is neither an image nor a text, or that lies outside of the folder, is served."""
     home = os.path.dirname(name)
@@ -393,6 +413,7 @@ def main():
                 (hands_on(browser, os.path.join(home, "pages", "names.md")), "an option of the program is not handed on"),
                 (opens_beside(browser, os.path.join(home, "pages", "links.md")), "a link does not open beside the page, or its file is not served"),
                 (not leaks(address, name), "a file that is not to be served was"),
+                (puts_many(browser, address), "a page with thousands of pieces takes long to change"),
                 (outlives(browser, os.path.join(home, "pages", "twice.md")), "a page that outlives mdpreview does not show the text"),
                 (keeps_what_is_refused(browser, os.path.join(home, "pages", "kept.md")), "a text that is refused is lost at a reload, or a post that is cut off is taken"),
                 (ends_with_a_line(address, name), "a pane that can't be begun does not say why, or goes on"),
