@@ -238,11 +238,12 @@ def ends(words, said):
 
 
 def ends_with_a_line(address, name):
-    """What can't be begun: a file that is gone, programs that are not there or are another one, words that are refused, a port that is taken."""
+    """What can't be begun: a file that is gone, a device, programs that are not there or are another one, words that are refused, a port that is taken."""
     program = ["--program", os.path.join(BIN, "mdpreview")]
     port = address.rstrip("/").rsplit(":", 1)[1]
     return all((
         ends([*program, name + ".gone"], name + ".gone: No such file or directory"),
+        ends([*program, "/dev/zero"], "/dev/zero: It is no regular file"),
         ends(["--program", "/nowhere/mdpreview", name], "/nowhere/mdpreview: No such file or directory"),
         ends(["--program", "/bin/false", name], "/bin/false: it does not answer as mdpreview does"),
         ends([*program, "--prelude", name + ".gone", name], f"mdpreview: cannot open {name}.gone"),
@@ -300,6 +301,45 @@ def outlives(browser, name):
         wait(lambda: browser.value("document.getElementById('refused').textContent") != "")
         save(name, "one\n\nTwo!!\n")
         return wait(lambda: shown(browser, rendered_of(name)))
+    finally:
+        server.terminate()
+        server.wait()
+
+
+def tells_what_is_gone(browser, name):
+    """A file that is taken away, or gives way to a pipe, is told on the page, behind a reload too, and the words are gone when it is back, as it was or not. A text
+    whose time was set back is shown, and one that does not rest."""
+    save(name, "one\n")
+    server, address = started(name)
+    said = "document.getElementById('refused').textContent"
+    told = []
+    try:
+        browser.call("Page.navigate", url=address)
+        wait(lambda: shown(browser, rendered_of(name)))
+        os.remove(name)
+        told.append(wait(lambda: "No such file" in browser.value(said)))
+        browser.call("Page.reload")
+        told.append(wait(lambda: "No such file" in (browser.value(said) or "")))
+        save(name, "one\n")
+        told.append(wait(lambda: browser.value(said) == ""))
+        os.remove(name)
+        os.mkfifo(name)
+        told.append(wait(lambda: "no regular file" in browser.value(said)))
+        save(name, "two\n")
+        told.append(wait(lambda: shown(browser, rendered_of(name)) and browser.value(said) == ""))
+        before = os.stat(name)
+        with open(name, "w", encoding="utf-8") as file:
+            file.write("TWO\n")
+        os.utime(name, ns=(before.st_atime_ns, before.st_mtime_ns))
+        told.append(wait(lambda: shown(browser, rendered_of(name))))
+        end = time.monotonic() + 2
+        with open(name, "a", encoding="utf-8") as file:
+            while time.monotonic() < end:
+                file.write("\nmore\n")
+                file.flush()
+                time.sleep(0.02)
+            told.append(browser.value(PIECES + ".length") > 1)
+        return all(told) and wait(lambda: shown(browser, rendered_of(name)))
     finally:
         server.terminate()
         server.wait()
@@ -415,6 +455,7 @@ def main():
                 (not leaks(address, name), "a file that is not to be served was"),
                 (puts_many(browser, address), "a page with thousands of pieces takes long to change"),
                 (outlives(browser, os.path.join(home, "pages", "twice.md")), "a page that outlives mdpreview does not show the text"),
+                (tells_what_is_gone(browser, os.path.join(home, "pages", "gone.md")), "a file that is gone is not told, or one that is back or does not rest is not shown"),
                 (keeps_what_is_refused(browser, os.path.join(home, "pages", "kept.md")), "a text that is refused is lost at a reload, or a post that is cut off is taken"),
                 (ends_with_a_line(address, name), "a pane that can't be begun does not say why, or goes on"),
                 (refused_at_first(browser, os.path.join(home, "pages", "other.md")), "a text that is refused at first is not said to be, or a picture is not shown"),

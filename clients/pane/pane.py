@@ -3,13 +3,14 @@
 
 usage: pane.py [--port N] [--write] [--program PATH] [--unsafe] [--hardbreaks | --nobreaks] [--github-pre-lang] [--full-info-string] [--table-prefer-style-attributes] [--entities FILE | --html-entities] [--strikethrough-double-tilde] [--prelude FILE] FILE
 
-The words behind --program are mdpreview's. One mdpreview holds the text. When FILE changes, the lines that changed are sent to it as one edit, and the page puts in only the pieces that the reply names.
+The words behind --program are mdpreview's. One mdpreview holds the text. When FILE changes, the lines that changed are sent to it as one edit, and the page puts in only the pieces that the reply names. A FILE that is gone is told on the page, which keeps the text that was read last.
 With --write the page has a text area beside the preview, for trying, and scrolls with its cursor; FILE is then its first text and is never written.
 Images and texts of FILE's folder are served too, so that the page's own pictures are shown and its relative links open beside it; nothing outside of that folder is.
 The server listens on the loopback address alone, answers only requests that name it and come from its own page, and writes no file. Ctrl-C ends it and its child.
 What can't be begun (a file or a program that is not there, a port that is taken, words that the program refuses) ends it with one line and the status 1.
 """
 import argparse
+import errno
 import http.server
 import json
 import os
@@ -17,6 +18,7 @@ import queue
 import re
 import secrets
 import signal
+import stat
 import subprocess
 import sys
 import threading
@@ -174,6 +176,14 @@ class Pane:
                 for page in self.pages:
                     page.put(answer)
 
+    def say(self, words):
+        """Tells every page why the text is not shown, once."""
+        with self.lock:
+            if self.refused != words:
+                self.refused = words
+                for page in self.pages:
+                    page.put({"refused": words})
+
     def join(self):
         """A new page: it gets all pieces first."""
         page = queue.Queue()
@@ -191,13 +201,17 @@ class Pane:
 
 
 def stamp_of(name):
+    """What changes with a file. A program may set the time of its text back, and that of its entry no program can set."""
     stamp = os.stat(name)
-    return stamp.st_mtime_ns, stamp.st_size, stamp.st_ino
+    return stamp.st_mtime_ns, stamp.st_ctime_ns, stamp.st_size, stamp.st_ino
 
 
 def text_of(name):
-    """The text of a file. A fault names it, where it comes with a read too."""
+    """The text of a file. A fault names it, where it comes with a read too. A pipe or a device is none: it has no text to come back to, or no end."""
     try:
+        kind = os.stat(name).st_mode
+        if not stat.S_ISREG(kind) and not stat.S_ISDIR(kind):
+            raise OSError(errno.EINVAL, "It is no regular file")
         with open(name, encoding="utf-8", errors="replace", newline="") as file:
             return file.read()
     except OSError as fault:
@@ -205,19 +219,31 @@ def text_of(name):
         raise
 
 
+# For how many seconds a file may be gone, or may change, before the page tells it, or shows it as it is.
+PATIENCE = 1.0
+
+
 def watch(pane, name):
-    """Shows the file whenever it was changed, once it rests: an editor may still be writing it."""
+    """Shows the file whenever it was changed, once it rests: an editor may still be writing it. One that does not rest is shown each second."""
     seen = None
+    there = shown = time.monotonic()
     while True:
         try:
             now = stamp_of(name)
             time.sleep(0.05)
-            if now != seen and now == stamp_of(name):
+            rests = now == stamp_of(name)
+            if now == seen:
+                shown = time.monotonic()
+            elif rests or time.monotonic() - shown > PATIENCE:
                 pane.show(lines_of(text_of(name)))
-                seen = now
-        except OSError:
+                seen, shown = now, time.monotonic()
+            there = time.monotonic()
+        except OSError as fault:
             # An editor may take the file away for a moment while it saves.
             time.sleep(0.05)
+            seen = None
+            if time.monotonic() - there > PATIENCE:
+                pane.say(f"{os.path.basename(name)}: {fault.strerror}. This is the text that was read last.")
 
 
 def served(folder, path):
