@@ -11,6 +11,7 @@ import re
 import shutil
 import signal
 import socket
+import struct
 import subprocess
 import sys
 import tempfile
@@ -306,6 +307,23 @@ def outlives(browser, name):
         server.wait()
 
 
+def is_quiet(name):
+    """A browser that goes away in the midst of an answer is nothing that the terminal must hear of."""
+    command = [sys.executable, os.path.join(ROOT, "clients", "pane", "pane.py"), "--program", os.path.join(BIN, "mdpreview"), name]
+    with open(os.path.join(os.path.dirname(name), "large.png"), "wb") as file:
+        file.truncate(20_000_000)
+    server = subprocess.Popen(command, stdout=subprocess.PIPE, stderr=subprocess.PIPE, text=True)
+    host = server.stdout.readline().strip().removeprefix("http://").rstrip("/")
+    for path in ("/", "/large.png", "/changes"):
+        with socket.create_connection(host.split(":")) as gone:
+            gone.sendall(f"GET {path} HTTP/1.1\r\nHost: {host}\r\n\r\n".encode())
+            # Its end is a reset, and not the end of what it sends.
+            gone.setsockopt(socket.SOL_SOCKET, socket.SO_LINGER, struct.pack("ii", 1, 0))
+    time.sleep(0.5)
+    server.terminate()
+    return server.communicate(timeout=30)[1] == ""
+
+
 def tells_what_is_gone(browser, name):
     """A file that is taken away, or gives way to a pipe, is told on the page, behind a reload too, and the words are gone when it is back, as it was or not. A text
     whose time was set back is shown, and one that does not rest."""
@@ -455,6 +473,7 @@ def main():
                 (not leaks(address, name), "a file that is not to be served was"),
                 (puts_many(browser, address), "a page with thousands of pieces takes long to change"),
                 (outlives(browser, os.path.join(home, "pages", "twice.md")), "a page that outlives mdpreview does not show the text"),
+                (is_quiet(name), "a browser that goes away is told on the terminal"),
                 (tells_what_is_gone(browser, os.path.join(home, "pages", "gone.md")), "a file that is gone is not told, or one that is back or does not rest is not shown"),
                 (keeps_what_is_refused(browser, os.path.join(home, "pages", "kept.md")), "a text that is refused is lost at a reload, or a post that is cut off is taken"),
                 (ends_with_a_line(address, name), "a pane that can't be begun does not say why, or goes on"),

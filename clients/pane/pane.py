@@ -257,6 +257,15 @@ def served(folder, path):
     return (name, kind) if kind and inside and os.path.isfile(name) else None
 
 
+class Server(http.server.ThreadingHTTPServer):
+    """A server whose requests end with it, and which has no word for a browser that goes away in the midst of one."""
+    daemon_threads = True
+
+    def handle_error(self, request, client_address):
+        if not isinstance(sys.exc_info()[1], OSError):
+            super().handle_error(request, client_address)
+
+
 def handler(pane, options, secret):
     """Answers the requests of the page."""
     folder = os.path.dirname(os.path.abspath(options.file))
@@ -396,12 +405,11 @@ def main():
         preview = Preview(options.program, words)
         pane = Pane(preview)
         pane.show(first)
-        server = http.server.ThreadingHTTPServer(("127.0.0.1", options.port), handler(pane, options, secrets.token_urlsafe(16)))
+        server = Server(("127.0.0.1", options.port), handler(pane, options, secrets.token_urlsafe(16)))
     except (NotBegun, OSError, OverflowError) as fault:
         if preview is not None:
             preview.stop()
         return "pane: " + said_of(fault, options)
-    server.daemon_threads = True
     if not options.write:
         threading.Thread(target=watch, args=(pane, options.file), daemon=True).start()
     # A stop from outside ends as Ctrl-C does.
