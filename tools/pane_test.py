@@ -307,6 +307,20 @@ def outlives(browser, name):
         server.wait()
 
 
+def names_itself(browser, folder):
+    """A tab has the name of its file, whatever stands in that, so that several can be told apart."""
+    name = os.path.join(os.fsencode(folder), b"a & <b> FIRST #%41 \xff.md")
+    with open(name, "w", encoding="utf-8") as file:
+        file.write("one\n")
+    server, address = started(os.fsdecode(name), "--write")
+    try:
+        browser.call("Page.navigate", url=address)
+        return wait(lambda: browser.value("document.title") == "a & <b> FIRST #%41 \ufffd.md" and shown(browser, "<p>one</p>\n"))
+    finally:
+        server.terminate()
+        server.wait()
+
+
 def is_quiet(name):
     """A browser that goes away in the midst of an answer is nothing that the terminal must hear of."""
     command = [sys.executable, os.path.join(ROOT, "clients", "pane", "pane.py"), "--program", os.path.join(BIN, "mdpreview"), name]
@@ -473,6 +487,7 @@ def main():
                 (not leaks(address, name), "a file that is not to be served was"),
                 (puts_many(browser, address), "a page with thousands of pieces takes long to change"),
                 (outlives(browser, os.path.join(home, "pages", "twice.md")), "a page that outlives mdpreview does not show the text"),
+                (names_itself(browser, os.path.join(home, "pages")), "a tab has not the name of its file"),
                 (is_quiet(name), "a browser that goes away is told on the terminal"),
                 (tells_what_is_gone(browser, os.path.join(home, "pages", "gone.md")), "a file that is gone is not told, or one that is back or does not rest is not shown"),
                 (keeps_what_is_refused(browser, os.path.join(home, "pages", "kept.md")), "a text that is refused is lost at a reload, or a post that is cut off is taken"),

@@ -24,6 +24,7 @@ import sys
 import threading
 import time
 import urllib.parse
+from html import escape
 
 HERE = os.path.dirname(os.path.abspath(__file__))
 
@@ -200,6 +201,11 @@ class Pane:
             self.pages.remove(page)
 
 
+def shown_name(name):
+    """A file's name without its folders, for a page: of bytes that are no UTF-8 it is as a text that has them."""
+    return os.fsencode(os.path.basename(name)).decode("utf-8", "replace")
+
+
 def stamp_of(name):
     """What changes with a file. A program may set the time of its text back, and that of its entry no program can set."""
     stamp = os.stat(name)
@@ -243,7 +249,7 @@ def watch(pane, name):
             time.sleep(0.05)
             seen = None
             if time.monotonic() - there > PATIENCE:
-                pane.say(f"{os.path.basename(name)}: {fault.strerror}. This is the text that was read last.")
+                pane.say(f"{shown_name(name)}: {fault.strerror}. This is the text that was read last.")
 
 
 def served(folder, path):
@@ -304,8 +310,8 @@ def handler(pane, options, secret):
                 with open(os.path.join(HERE, "page.html"), encoding="utf-8") as page:
                     text = page.read()
                 first = "\n".join(pane.lines) if options.write else ""
-                text = text.replace("NONCE", secret).replace("WRITE", json.dumps(options.write)).replace("FIRST", json.dumps(first).replace("<", "\\u003c"))
-                self.answer("text/html; charset=utf-8", text.encode())
+                filled = {"TITLE": escape(shown_name(options.file)), "NONCE": secret, "WRITE": json.dumps(options.write), "FIRST": json.dumps(first).replace("<", "\\u003c")}
+                self.answer("text/html; charset=utf-8", re.sub("|".join(filled), lambda word: filled[word[0]], text).encode())
             elif self.path == "/changes":
                 self.changes()
             else:
