@@ -166,9 +166,9 @@ def refusal(browser, name):
     return said and browser.value(PIECES + ".length") == before
 
 
-def started(name, *words):
+def started(name, *words, program=os.path.join(BIN, "mdpreview")):
     """A pane that shows a file, and its address."""
-    command = [sys.executable, os.path.join(ROOT, "clients", "pane", "pane.py"), "--program", os.path.join(BIN, "mdpreview"), *words, name]
+    command = [sys.executable, os.path.join(ROOT, "clients", "pane", "pane.py"), "--program", program, *words, name]
     server = subprocess.Popen(command, stdout=subprocess.PIPE, text=True)
     return server, server.stdout.readline().strip()
 
@@ -290,21 +290,31 @@ def opens_beside(browser, name):
 
 
 def outlives(browser, name):
-    """A page that is open when mdpreview dies shows what its next one holds, and nothing twice."""
-    save(name, "one\n\nTwo\n")
-    server, address = started(name)
-    try:
-        browser.call("Page.navigate", url=address)
-        wait(lambda: shown(browser, rendered_of(name)))
-        with open(f"/proc/{server.pid}/task/{server.pid}/children", encoding="ascii") as children:
-            os.kill(int(children.read()), signal.SIGKILL)
-        save(name, "one\n\nTwo!\n")
-        wait(lambda: browser.value("document.getElementById('refused').textContent") != "")
-        save(name, "one\n\nTwo!!\n")
-        return wait(lambda: shown(browser, rendered_of(name)))
-    finally:
-        server.terminate()
-        server.wait()
+    """A page that is open when mdpreview dies shows what its next one holds, and nothing twice. Of a text at which each one dies it is told so, and the next is shown."""
+    dies = os.path.join(os.path.dirname(name), "dies")
+    with open(dies, "w", encoding="utf-8") as file:
+        file.write('#!/bin/sh\nwhile IFS= read -r line; do [ "$line" != die ] || exit; printf "%s\\n" "$line"; done | "' + os.path.join(BIN, "mdpreview") + '" "$@"\n')
+    os.chmod(dies, 0o755)
+    said = "document.getElementById('refused').textContent"
+    told = []
+    for program in (os.path.join(BIN, "mdpreview"), dies):
+        save(name, "one\n\nTwo\n")
+        server, address = started(name, program=program)
+        try:
+            browser.call("Page.navigate", url=address)
+            wait(lambda: shown(browser, rendered_of(name)))
+            if program == dies:
+                save(name, "one\n\ndie\n")
+                told.append(wait(lambda: "ended twice" in browser.value(said)))
+            else:
+                with open(f"/proc/{server.pid}/task/{server.pid}/children", encoding="ascii") as children:
+                    os.kill(int(children.read()), signal.SIGKILL)
+            save(name, "one\n\nTwo!\n")
+            told.append(wait(lambda: shown(browser, rendered_of(name)) and browser.value(said) == ""))
+        finally:
+            server.terminate()
+            server.wait()
+    return all(told)
 
 
 def names_itself(browser, folder):

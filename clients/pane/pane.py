@@ -99,26 +99,32 @@ class Preview:
 
     def edit(self, new):
         """Brings the text to these lines. Answers which pieces changed, or why the text is refused; nothing where no line differs."""
-        at, gone, lines = change(self.lines, new)
-        if not gone and not lines and not self.fresh:
-            return None
-        command = f"edit {at} {gone} {len(lines)}\n" + "".join(line + "\n" for line in lines)
-        try:
-            self.child.stdin.write(command.encode("utf-8", "replace"))
-            self.child.stdin.flush()
-            answer = self.reply()
-        except (OSError, ValueError, IndexError):
-            # The child has ended, as it does where there is no memory for a reply: another begins from the empty text.
-            self.stop()
+        for _ in range(2):
+            at, gone, lines = change(self.lines, new)
+            if not gone and not lines and not self.fresh:
+                return None
             try:
-                self.start()
-            except (NotBegun, OSError) as fault:
-                return {"refused": f"The program can't be started again: {fault}"}
-            return {"refused": REASONS["NoMemory"]}
-        if "refused" not in answer:
-            self.lines = new
-            answer["fresh"], self.fresh = self.fresh, False
-        return answer
+                answer = self.ask(at, gone, lines)
+            except (OSError, ValueError, IndexError):
+                # The child has ended, as it does where there is no memory for a reply: another is told the whole text.
+                self.stop()
+                try:
+                    self.start()
+                except (NotBegun, OSError) as fault:
+                    return {"refused": f"The program can't be started again: {fault}"}
+                continue
+            if "refused" not in answer:
+                self.lines = new
+                answer["fresh"], self.fresh = self.fresh, False
+            return answer
+        return {"refused": "The program ended twice at this text. There may be no memory for it."}
+
+    def ask(self, at, gone, lines):
+        """Sends an edit, and answers what came of it."""
+        command = f"edit {at} {gone} {len(lines)}\n" + "".join(line + "\n" for line in lines)
+        self.child.stdin.write(command.encode("utf-8", "replace"))
+        self.child.stdin.flush()
+        return self.reply()
 
     def reply(self):
         words = self.child.stdout.readline().decode().split()
