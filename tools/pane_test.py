@@ -239,15 +239,17 @@ def ends(words, said):
 
 
 def ends_with_a_line(address, name):
-    """What can't be begun: a file that is gone, a device, programs that are not there or are another one, words that are refused, a port that is taken."""
+    """What can't be begun: a file that is gone, a device, programs that are not there or are another one, words and definitions that are refused, a port that is taken."""
     program = ["--program", os.path.join(BIN, "mdpreview")]
     port = address.rstrip("/").rsplit(":", 1)[1]
+    save(name + ".links", "\n# No link\n")
     return all((
         ends([*program, name + ".gone"], name + ".gone: No such file or directory"),
         ends([*program, "/dev/zero"], "/dev/zero: It is no regular file"),
-        ends(["--program", "/nowhere/mdpreview", name], "/nowhere/mdpreview: No such file or directory"),
+        ends(["--program", "/nowhere/mdpreview", name], "/nowhere/mdpreview: No such file or directory; --program names the mdpreview to start"),
         ends(["--program", "/bin/false", name], "/bin/false: it does not answer as mdpreview does"),
-        ends([*program, "--prelude", name + ".gone", name], f"mdpreview: cannot open {name}.gone"),
+        ends([*program, "--prelude", name + ".gone", name], f"{name}.gone: it can't be opened: there is no such file"),
+        ends([*program, "--prelude", name + ".links", name], f"{name}.links: line 2: the block that begins here is more than link reference definitions; leave nothing else in the file"),
         ends([*program, "--port", port, name], f"port {port}: Address already in use"),
     ))
 

@@ -73,12 +73,15 @@ class Preview:
     """An mdpreview with the lines and the pieces that it holds, and the lines on which these begin."""
 
     def __init__(self, program, words=()):
-        self.command = [program, "--lines", *words]
+        self.command = [program, "--lines", "--explain", *words]
         self.start()
 
     def start(self):
         """Starts the program, and sees that it answers: the HTML of the empty text is empty."""
-        self.child = subprocess.Popen(self.command, stdin=subprocess.PIPE, stdout=subprocess.PIPE, stderr=subprocess.PIPE)
+        try:
+            self.child = subprocess.Popen(self.command, stdin=subprocess.PIPE, stdout=subprocess.PIPE, stderr=subprocess.PIPE)
+        except OSError as fault:
+            raise NotBegun(f"{self.command[0]}: {fault.strerror}; --program names the mdpreview to start") from fault
         self.lines, self.pieces, self.begins = [], [], []
         # Pages still show what another child held.
         self.fresh = True
@@ -91,9 +94,11 @@ class Preview:
             pass
         if answer != b"html 0\n":
             self.child.kill()
-            said = self.child.stderr.read().decode(errors="replace").strip().split("\n")[0]
+            said = self.child.stderr.read().decode(errors="replace").strip().split("\n")
             self.close()
-            raise NotBegun(said or f"{self.command[0]}: it does not answer as mdpreview does")
+            # The second line of mdpreview says it in plain words, with the file and the line counted from 1.
+            explained = len(said) == 2 and said[0].startswith("mdpreview: ")
+            raise NotBegun(said[explained] or f"{self.command[0]}: it does not answer as mdpreview does")
         # What it says later is of no use here, and must not fill the pipe.
         threading.Thread(target=self.child.stderr.read, daemon=True).start()
 
@@ -110,7 +115,7 @@ class Preview:
                 self.stop()
                 try:
                     self.start()
-                except (NotBegun, OSError) as fault:
+                except NotBegun as fault:
                     return {"refused": f"The program can't be started again: {fault}"}
                 continue
             if "refused" not in answer:
