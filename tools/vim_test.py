@@ -67,12 +67,19 @@ said += [getbufline('\\[HTML\\]', 1)[0]]
 append(1, [repeat('>', 65) .. 'm'])
 g:JirmoansSettle()
 said += [Said()]
+# What a hand does in the window of the HTML is refused.
+setline(1, ['# a', '', 'b', '', 'c'])
+g:JirmoansSettle()
+win_execute(bufwinid('\\[HTML\\]'), 'silent! normal! ggdd')
+setline(5, 'd')
+g:JirmoansSettle()
+said += [string(getbufline('\\[HTML\\]', 1, '$'))]
 writefile(said, '{folder}/said')
 qall!
 '''
 SAID = ['jirmoans: {root}/nowhere is not there, or is no program; g:jirmoans_program names it | 0', 'jirmoans: /bin/false has ended with status 1 | 0',
         'jirmoans: {folder}/dies has ended with status 3 | 0', '<p><b>a</b></p>',
-        'jirmoans: the text is refused: a quote or list item in line 2 lies in too many others | 1']
+        'jirmoans: the text is refused: a quote or list item in line 2 lies in too many others | 1', "['<h1>a</h1>', '<p>b</p>', '<p>d</p>', '']"]
 
 
 def run_vim(script):

@@ -155,10 +155,13 @@ def Came(from: channel, bytes: string)
   endif
   came ..= bytes
   var lines = split(came, "\n", true)
+  # A change by hand would set the lines of the pieces apart from what is known of them.
+  setbufvar(html, '&modifiable', true)
   var [at, next] = [0, Took(lines, 0)]
   while next >= 0
     [at, next] = [next, Took(lines, next)]
   endwhile
+  setbufvar(html, '&modifiable', false)
   came = join(lines->slice(at), "\n")
 enddef
 
@@ -196,7 +199,8 @@ def Toggle()
   endif
   var buffer = bufnr()
   execute 'vnew' fnameescape('[HTML]')
-  setlocal buftype=nofile bufhidden=wipe noswapfile nobuflisted filetype=html
+  # With levels of undo each change would keep the lines that went.
+  setlocal buftype=nofile bufhidden=wipe noswapfile nobuflisted filetype=html undolevels=-1 nomodifiable
   html = bufnr()
   autocmd BufWipeout <buffer> Close()
   wincmd p
