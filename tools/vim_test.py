@@ -1,7 +1,7 @@
 #!/usr/bin/env python3
 """Edits a buffer in Vim, and compares the HTML that clients/vim keeps beside it with mdrender's after each change; where the text is refused, the HTML is to
 be as it was; with CRs in a line, a file that another program changed and that is read again, and a long text too. Then programs that are not there, end at once or end
-later, words for the program, and what is said of a refused text. The last line is 'N passed, M failed'."""
+later, words for the program, what is said of a refused text, changes by hand, and a buffer that is deleted. The last line is 'N passed, M failed'."""
 import os
 import random
 import shutil
@@ -60,6 +60,15 @@ for program in ['{root}/nowhere', '/bin/false', '{folder}/dies']
 endfor
 messages clear
 g:jirmoans_program = '{root}/bin/mdpreview'
+for options in [['--prelude', '{folder}/nowhere'], ['--lines'], '--unsafe']
+  messages clear
+  g:jirmoans_options = options
+  Jirmoans
+  g:JirmoansSettle()
+  sleep 300m
+  said += [Said()]
+  unlet g:jirmoans_options
+endfor
 g:jirmoans_options = ['--unsafe']
 Jirmoans
 g:JirmoansSettle()
@@ -74,12 +83,19 @@ win_execute(bufwinid('\\[HTML\\]'), 'silent! normal! ggdd')
 setline(5, 'd')
 g:JirmoansSettle()
 said += [string(getbufline('\\[HTML\\]', 1, '$'))]
+# A buffer that is deleted takes the window along.
+bdelete!
+sleep 50m
+said += [string(bufexists('[HTML]'))]
 writefile(said, '{folder}/said')
 qall!
 '''
 SAID = ['jirmoans: {root}/nowhere is not there, or is no program; g:jirmoans_program names it | 0', 'jirmoans: /bin/false has ended with status 1 | 0',
-        'jirmoans: {folder}/dies has ended with status 3 | 0', '<p><b>a</b></p>',
-        'jirmoans: the text is refused: a quote or list item in line 2 lies in too many others | 1', "['<h1>a</h1>', '<p>b</p>', '<p>d</p>', '']"]
+        'jirmoans: {folder}/dies has ended with status 3 | 0',
+        "jirmoans: {root}/bin/mdpreview has ended with status 1: {folder}/nowhere: it can't be opened: there is no such file | 0",
+        "jirmoans: g:jirmoans_options is to be a list of words, as ['--unsafe'], without '--lines' | 0",
+        "jirmoans: g:jirmoans_options is to be a list of words, as ['--unsafe'], without '--lines' | 0", '<p><b>a</b></p>',
+        'jirmoans: the text is refused: a quote or list item in line 2 lies in too many others | 1', "['<h1>a</h1>', '<p>b</p>', '<p>d</p>', '']", '0']
 
 
 def run_vim(script):

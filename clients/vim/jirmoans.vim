@@ -176,11 +176,13 @@ def Close()
   endif
 enddef
 
-# The program has ended while the window is open.
+# The program has ended while the window is open. Its last line says why, in plain words where it is an mdpreview.
 def Ended(ended: job, status: number)
   if text != 0 && ended == job
+    var from = job_getchannel(ended)
+    var why = ch_status(from, {part: 'err'}) == 'closed' ? [] : split(ch_readraw(from, {part: 'err', timeout: 0}), "\n")
     Close()
-    Warn(printf('%s has ended with status %d', Program(), status))
+    Warn(printf('%s has ended with status %d%s', Program(), status, empty(why) ? '' : ': ' .. why[-1]))
   endif
 enddef
 
@@ -197,6 +199,13 @@ def Toggle()
     Warn(Program() .. ' is not there, or is no program; g:jirmoans_program names it')
     return
   endif
+  var options = get(g:, 'jirmoans_options', [])
+  if type(options) != v:t_list || index(options, '--lines') >= 0
+    Warn("g:jirmoans_options is to be a list of words, as ['--unsafe'], without '--lines'")
+    return
+  endif
+  # A word that stands twice is refused.
+  var words = [Program()] + options + (index(options, '--explain') < 0 ? ['--explain'] : [])
   var buffer = bufnr()
   execute 'vnew' fnameescape('[HTML]')
   # With levels of undo each change would keep the lines that went.
@@ -205,11 +214,13 @@ def Toggle()
   autocmd BufWipeout <buffer> Close()
   wincmd p
   [held, sizes, busy, came, pieces, behind, refused] = [[], [], false, '', 0, [0, 0], NONE]
-  job = job_start([Program()] + get(g:, 'jirmoans_options', []), {mode: 'raw', out_cb: Came, exit_cb: Ended})
+  job = job_start(words, {mode: 'raw', drop: 'never', out_cb: Came, exit_cb: Ended})
   text = buffer
   augroup jirmoans
     execute printf('autocmd! BufReadPost,FileChangedShellPost <buffer=%d> Soon()', text)
     execute printf('autocmd! BufWipeout <buffer=%d> Close()', text)
+    # In the midst of it the window that is left can't be closed.
+    execute printf('autocmd! BufDelete <buffer=%d> timer_start(0, (_) => Close())', text)
   augroup END
   listener = listener_add((_, _, _, _, _) => Soon(), text)
   Send()
