@@ -56,6 +56,10 @@ class Preview:
     """A text that is edited by lines, and its HTML in pieces."""
 
     def __init__(self, library, entities=b'', **settings):
+        # A structure would take any name, and leave the field as it is.
+        unknown = sorted(set(settings) - {name for name, _ in Settings._fields_})
+        if unknown:
+            raise TypeError('there is no setting %s; they are %s' % (', '.join(unknown), ', '.join(name for name, _ in Settings._fields_)))
         self.library = ctypes.CDLL(library)
         for name, (result, arguments) in CALLS.items():
             call = getattr(self.library, name)
