@@ -50,7 +50,7 @@ enddef
 edit {folder}/words.md
 setline(1, ['<b>a</b>'])
 var said: list<string> = []
-for program in ['{root}/nowhere', '/bin/false', '{folder}/dies']
+for program in ['{root}/nowhere', '/bin/false', '{folder}/dies', '{folder}/killed']
   messages clear
   g:jirmoans_program = program
   Jirmoans
@@ -91,7 +91,7 @@ writefile(said, '{folder}/said')
 qall!
 '''
 SAID = ['jirmoans: {root}/nowhere is not there, or is no program; g:jirmoans_program names it | 0', 'jirmoans: /bin/false has ended with status 1 | 0',
-        'jirmoans: {folder}/dies has ended with status 3 | 0',
+        'jirmoans: {folder}/dies has ended with status 3 | 0', 'jirmoans: {folder}/killed has ended by the signal kill | 0',
         "jirmoans: {root}/bin/mdpreview has ended with status 1: {folder}/nowhere: it can't be opened: there is no such file | 0",
         "jirmoans: g:jirmoans_options is to be a list of words, as ['--unsafe'], without '--lines' | 0",
         "jirmoans: g:jirmoans_options is to be a list of words, as ['--unsafe'], without '--lines' | 0", '<p><b>a</b></p>',
@@ -105,12 +105,13 @@ def run_vim(script):
 
 def words(root, folder):
     """How many of the lines of SAID Vim gave, and those that it did not give."""
-    script, dies, said = (os.path.join(folder, name) for name in ('words.vim', 'dies', 'said'))
+    script, said = (os.path.join(folder, name) for name in ('words.vim', 'said'))
     with open(script, 'w', encoding='utf-8') as file:
         file.write(WORDS.format(root=root, folder=folder))
-    with open(dies, 'w', encoding='utf-8') as file:
-        file.write('#!/bin/sh\nread line\nexit 3\n')
-    os.chmod(dies, 0o755)
+    for name, last in (('dies', 'exit 3'), ('killed', 'kill -9 $$')):
+        with open(os.path.join(folder, name), 'w', encoding='utf-8') as file:
+            file.write('#!/bin/sh\nread line\n%s\n' % last)
+        os.chmod(os.path.join(folder, name), 0o755)
     run_vim(script)
     got = contents(said).decode().split('\n') if os.path.exists(said) else []
     wanted = [line.format(root=root, folder=folder) for line in SAID]

@@ -181,8 +181,9 @@ def Ended(ended: job, status: number)
   if text != 0 && ended == job
     var from = job_getchannel(ended)
     var why = ch_status(from, {part: 'err'}) == 'closed' ? [] : split(ch_readraw(from, {part: 'err', timeout: 0}), "\n")
+    var how = status < 0 ? 'by the signal ' .. job_info(ended).termsig : 'with status ' .. status
     Close()
-    Warn(printf('%s has ended with status %d%s', Program(), status, empty(why) ? '' : ': ' .. why[-1]))
+    Warn(printf('%s has ended %s%s', Program(), how, empty(why) ? '' : ': ' .. why[-1]))
   endif
 enddef
 
