@@ -319,6 +319,29 @@ def outlives(browser, name):
     return all(told)
 
 
+def asks_before_a_loss(browser, name):
+    """A page with a text that no pane has taken does not go without a question; any other does."""
+    save(name, "a\n")
+    server, address = started(name, "--write")
+    typed = "(() => { const area = document.querySelector('textarea'); area.value = '%s'; area.dispatchEvent(new Event('input')); })()"
+    asks = "(() => { const event = new Event('beforeunload', { cancelable: true }); dispatchEvent(event); return event.defaultPrevented; })()"
+    try:
+        browser.call("Page.navigate", url=address)
+        wait(lambda: browser.value("document.querySelector('textarea') !== null"))
+        first = not browser.value(asks)
+        browser.value(typed % "b")
+        sent = wait(lambda: shown(browser, "<p>b</p>\n")) and wait(lambda: not browser.value(asks))
+        server.terminate()
+        server.wait()
+        browser.value(typed % "c")
+        wait(lambda: browser.value("document.getElementById('refused').textContent") != "")
+        time.sleep(0.3)
+        return first and sent and browser.value(asks)
+    finally:
+        server.terminate()
+        server.wait()
+
+
 def names_itself(browser, folder):
     """A tab has the name of its file, whatever stands in that, so that several can be told apart."""
     name = os.path.join(os.fsencode(folder), b"a & <b> FIRST #%41 \xff.md")
@@ -499,6 +522,7 @@ def main():
                 (not leaks(address, name), "a file that is not to be served was"),
                 (puts_many(browser, address), "a page with thousands of pieces takes long to change"),
                 (outlives(browser, os.path.join(home, "pages", "twice.md")), "a page that outlives mdpreview does not show the text"),
+                (asks_before_a_loss(browser, os.path.join(home, "pages", "lost.md")), "a page goes with a text that was not taken, or asks where it was"),
                 (names_itself(browser, os.path.join(home, "pages")), "a tab has not the name of its file"),
                 (is_quiet(name), "a browser that goes away is told on the terminal"),
                 (tells_what_is_gone(browser, os.path.join(home, "pages", "gone.md")), "a file that is gone is not told, or one that is back or does not rest is not shown"),
