@@ -5,7 +5,7 @@ ghost use Rattle.mdblock.specs.BlockView.{kind_view, items_view};
 ghost use Rattle.blockspec.specs.BlockTree.{list};
 ghost use Rattle.mdblock.specs.Positions.{ItemsIn};
 ghost use Rattle.mdhtml.specs.held.UnitTexts.{shown_texts};
-ghost use Rattle.mdhtml.specs.BlockHtml.{block_html, list_open, list_close, numbered_open};
+ghost use Rattle.mdhtml.specs.BlockHtml.{block_html, fresh, list_open, list_close, numbered_open};
 
 pub(crate) mod item_ends;
 pub(crate) mod items;
@@ -32,13 +32,22 @@ pub(crate) fn write_list(
         (shown_texts texts.now) false (list (kind_view kind) tight (items_view items.now))
         (string_bytes out.old)) }
 {
-    write_fresh(out)?;
-    open_list(kind, out)?;
+    begin_list(kind, out)?;
     write_items(items, tight, texts, out)?;
     close_list(kind, out)
 }
 
-pub(crate) fn open_list(kind: ListKind, out: &mut String) -> Result<(), NoMemory>
+/// The tag with which a list begins, on a line of its own. It is inlined, so that a list takes no more calls.
+#[inline(always)]
+pub(crate) fn begin_list(kind: ListKind, out: &mut String) -> Result<(), NoMemory>
+    ensures { OnOk result (string_bytes out.new
+        ≡ fresh (string_bytes out.old) ++ list_open (kind_view kind)) }
+{
+    write_fresh(out)?;
+    open_list(kind, out)
+}
+
+fn open_list(kind: ListKind, out: &mut String) -> Result<(), NoMemory>
     ensures { OnOk result (string_bytes out.new
         ≡ string_bytes out.old ++ list_open (kind_view kind)) }
 {

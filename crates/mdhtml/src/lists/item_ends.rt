@@ -2,17 +2,17 @@
 
 ghost use Rattle.std.specs.Prelude.{◌≡◌, ◌++◌, [], MatchOption, OnOk, false, length, string_bytes};
 ghost use Rattle.blockspec.specs.BlockTree.{list, block, no_blocks};
-ghost use Rattle.mdblock.specs.BlockView.{block_view, blocks_view, items_view, kind_view};
+ghost use Rattle.mdblock.specs.BlockView.{block_view, blocks_view, items_view};
 ghost use Rattle.mdblock.specs.Positions.{BlocksIn, ItemsIn};
 ghost use Rattle.mdhtml.specs.held.ListUnits.{NoList, unit_of};
 ghost use Rattle.mdhtml.specs.held.UnitTexts.{shown_texts};
-ghost use Rattle.mdhtml.specs.BlockHtml.{fresh, list_open, texts_html, blocks_html, items_html};
+ghost use Rattle.mdhtml.specs.BlockHtml.{texts_html, blocks_html, items_html};
 ghost use Rattle.mdhtml.specs.ListEnds.{item_ends, unit_ends};
 
 use crate::blocks::write_blocks;
-use crate::lists::{close_list, open_list};
+use crate::lists::items::write_item;
+use crate::lists::{begin_list, close_list};
 use crate::options::Options;
-use crate::pieces::write_fresh;
 use crate::unit_texts::{HeldTexts, UnitTexts};
 use mdblock::{Block, Item, ListKind};
 use mdinline::Parsed;
@@ -101,15 +101,6 @@ fn write_list_ends(
     close_list(list.kind, out)
 }
 
-/// The tag with which a list begins, on a line of its own.
-pub(crate) fn begin_list(kind: ListKind, out: &mut String) -> Result<(), NoMemory>
-    ensures { OnOk result (string_bytes out.new
-        ≡ fresh (string_bytes out.old) ++ list_open (kind_view kind)) }
-{
-    write_fresh(out)?;
-    open_list(kind, out)
-}
-
 /// Items, and the lengths of the text behind each of them.
 pub(crate) fn write_item_ends(
     items: &[Item],
@@ -125,10 +116,7 @@ pub(crate) fn write_item_ends(
         (shown_texts texts.now) tight (items_view items.now) (string_bytes out.old)) }
 {
     for item in items {
-        write_fresh(out)?;
-        out.push_str("<li>")?;
-        write_blocks(&item.blocks, tight, texts, out)?;
-        out.push_str("</li>\n")?;
+        write_item(item, tight, texts, out)?;
         ends.push(out.len())?;
     }
     Ok(())

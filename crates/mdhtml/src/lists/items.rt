@@ -1,10 +1,11 @@
 //! HTML of the items of a list.
 
 ghost use Rattle.std.specs.Prelude.{◌≡◌, ◌++◌, ◌<◌, OnOk, length, string_bytes};
-ghost use Rattle.mdblock.specs.BlockView.{items_view};
-ghost use Rattle.mdblock.specs.Positions.{ItemsIn};
+ghost use Rattle.mdblock.specs.BlockView.{item_view, items_view};
+ghost use Rattle.mdblock.specs.Positions.{BlocksIn, ItemsIn};
 ghost use Rattle.mdhtml.specs.held.UnitTexts.{shown_texts};
 ghost use Rattle.mdhtml.specs.BlockHtml.{items_html};
+ghost use Rattle.mdhtml.specs.ListEnds.{item_html};
 
 use crate::blocks::write_blocks;
 use crate::pieces::write_fresh;
@@ -24,10 +25,27 @@ pub(crate) fn write_items(
         (shown_texts texts.now) tight (items_view items.now) (string_bytes out.old)) }
 {
     for item in items {
-        write_fresh(out)?;
-        out.push_str("<li>")?;
-        write_blocks(&item.blocks, tight, texts, out)?;
-        out.push_str("</li>\n")?;
+        write_item(item, tight, texts, out)?;
     }
+    Ok(())
+}
+
+/// One item. It is inlined, so that a level of blocks takes no more calls.
+#[inline(always)]
+#[cycle(block)]
+pub(crate) fn write_item(
+    item: &Item,
+    tight: bool,
+    texts: &UnitTexts<'_>,
+    out: &mut String,
+) -> Result<(), NoMemory>
+    requires { BlocksIn (length (shown_texts texts.now)) (item_view item.now) }
+    ensures { OnOk result (string_bytes out.new ≡ item_html texts.now.options.now
+        (shown_texts texts.now) tight (item_view item.now) (string_bytes out.old)) }
+{
+    write_fresh(out)?;
+    out.push_str("<li>")?;
+    write_blocks(&item.blocks, tight, texts, out)?;
+    out.push_str("</li>\n")?;
     Ok(())
 }

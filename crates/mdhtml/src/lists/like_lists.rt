@@ -11,9 +11,9 @@ ghost use Rattle.mdhtml.specs.held.ListUnits.{unit_of};
 ghost use Rattle.mdhtml.specs.BlockHtml.{texts_html, blocks_html};
 ghost use Rattle.mdhtml.specs.ListEnds.{unit_ends};
 
-use crate::lists::close_list;
-use crate::lists::item_ends::{OneList, append_unit_ends, begin_list, one_list, write_item_ends};
+use crate::lists::item_ends::{OneList, append_unit_ends, one_list, write_item_ends};
 use crate::lists::same_blocks::{SharedTexts, same_behind, same_front};
+use crate::lists::{begin_list, close_list};
 use crate::options::Options;
 use crate::unit_texts::{HeldTexts, UnitTexts};
 use mdblock::Block;
