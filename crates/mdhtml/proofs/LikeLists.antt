@@ -18,7 +18,7 @@ use Rattle.mdhtml.specs.declared.lists.like_lists.SameEnds.{SameEnds}
 use Rattle.mdhtml.specs.declared.lists.item_ends.OneList.{OneList}
 use Rattle.mdhtml.specs.declared.lists.same_blocks.SharedTexts.{SharedTexts}
 use Rattle.mdhtml.specs.held.Alike.{SharedHtml, ItemsAlike}
-use Rattle.mdhtml.specs.held.LikeLists.{SharedReadings, AreSameEnds, AreKept, between_ends}
+use Rattle.mdhtml.specs.held.LikeLists.{SharedReadings, AreSameEnds, AreInTail, AreKept, html_between, ends_between, last_ends, moved_ends}
 use Rattle.mdhtml.specs.held.ListUnits.{unit_of}
 use Rattle.mdhtml.specs.BlockHtml.{fresh, ends_line, text_html, texts_html, list_open, list_close, block_html, blocks_html, items_html}
 use Rattle.mdhtml.specs.InlineHtml.{inlines_html}
@@ -284,6 +284,15 @@ module _ (o : Options) (texts others : List ParsedText) (items olds : List i.Ite
 
 -- ---- the list, as it is written
 
+-- behind `now`, with which the list begins, stand what is taken over and what is written between: they are the list
+pub record MadeLike (o : Options) (texts : List ParsedText) (one : OneList) (same : SameEnds) (like : Like) (kept : KeptHtml) (now : List ℕ) : Type 0 where
+  pub tail : AreInTail kept (last_ends like same)
+  pub html : html_between o texts one same (now ++ kept.front.now) ++ kept.tail.now
+      ≡ items_html o (texts_html o texts) one.tight (items_view one.items.now) (list_begins (kind_view one.kind))
+  pub ends : (take same.front like.ends.now ++ ends_between o texts one same (now ++ kept.front.now))
+      ++ moved_ends kept.tail_at (length (html_between o texts one same (now ++ kept.front.now))) (last_ends like same)
+      ≡ item_ends o (texts_html o texts) one.tight (items_view one.items.now) (list_begins (kind_view one.kind))
+
 module _ (o : Options) (texts others : List ParsedText) (one other : OneList) (same : SameEnds) (S : AreSameEnds texts others one.items.now other.items.now same) (like : Like) (kept : KeptHtml)
     (begin : ℕ) (was now : List ℕ) (nothing : was ≡ []) (hb : begin ≡ length now) (hn : now ≡ fresh was ++ list_open (kind_view one.kind))
     (ek : kind_view one.kind ≡ kind_view other.kind) (et : one.tight ≡ other.tight)
@@ -308,25 +317,15 @@ module _ (o : Options) (texts others : List ParsedText) (one other : OneList) (s
         ∙ ap (λ z. item_ends o (texts_html o others) z (items_view other.items.now) (list_begins (kind_view other.kind))) (sym et)
         ∙ ap (λ z. item_ends o (texts_html o others) one.tight (items_view other.items.now) (list_begins z)) (sym ek)
 
-    pub like_list_tail : AllByRecursion (λ e. (kept.tail_at ≤ e) × (e ≤ kept.tail_at + length kept.tail.now)) (drop (length like.ends.now - same.behind) like.ends.now)
-    like_list_tail =
-        like_tail_between o texts others one.items.now other.items.now same S (kind_view one.kind) one.tight begin begin_is like.html.now html_is like.ends.now ends_is
-        kept.front.now kept.tail.now kept.tail_at K.front K.tail K.tail_at
-
-    abbrev written : List ℕ
-    written = items_html o (texts_html o texts) one.tight (between_ends one same) (now ++ kept.front.now)
-
-    pub like_list_html : written ++ kept.tail.now ≡ items_html o (texts_html o texts) one.tight (items_view one.items.now) (list_begins (kind_view one.kind))
-    like_list_html =
-        ap (λ z. items_html o (texts_html o texts) one.tight (between_ends one same) (z ++ kept.front.now) ++ kept.tail.now) now_is
-        ∙ like_whole o texts others one.items.now other.items.now same S (kind_view one.kind) one.tight begin begin_is like.html.now html_is like.ends.now ends_is
-        kept.front.now kept.tail.now kept.tail_at K.front K.tail K.tail_at
-
-    pub like_list_ends : (take same.front like.ends.now ++ item_ends o (texts_html o texts) one.tight (between_ends one same) (now ++ kept.front.now))
-        ++ map (λ e. (e - kept.tail_at) + length written) (drop (length like.ends.now - same.behind) like.ends.now)
-        ≡ item_ends o (texts_html o texts) one.tight (items_view one.items.now) (list_begins (kind_view one.kind))
-    like_list_ends =
-        ap (λ z. (take same.front like.ends.now ++ item_ends o (texts_html o texts) one.tight (between_ends one same) (z ++ kept.front.now))
-        ++ map (λ e. (e - kept.tail_at) + length (items_html o (texts_html o texts) one.tight (between_ends one same) (z ++ kept.front.now))) (drop (length like.ends.now - same.behind) like.ends.now)) now_is
-        ∙ like_whole_ends o texts others one.items.now other.items.now same S (kind_view one.kind) one.tight begin begin_is like.html.now html_is like.ends.now ends_is
-        kept.front.now kept.tail.now kept.tail_at K.front K.tail K.tail_at
+    pub like_list : MadeLike o texts one same like kept now
+    like_list = record {
+      tail = like_tail_between o texts others one.items.now other.items.now same S (kind_view one.kind) one.tight begin begin_is like.html.now html_is like.ends.now ends_is
+          kept.front.now kept.tail.now kept.tail_at K.front K.tail K.tail_at;
+      html = ap (λ z. html_between o texts one same (z ++ kept.front.now) ++ kept.tail.now) now_is
+          ∙ like_whole o texts others one.items.now other.items.now same S (kind_view one.kind) one.tight begin begin_is like.html.now html_is like.ends.now ends_is
+          kept.front.now kept.tail.now kept.tail_at K.front K.tail K.tail_at;
+      ends = ap (λ z. (take same.front like.ends.now ++ ends_between o texts one same (z ++ kept.front.now))
+          ++ moved_ends kept.tail_at (length (html_between o texts one same (z ++ kept.front.now))) (last_ends like same)) now_is
+          ∙ like_whole_ends o texts others one.items.now other.items.now same S (kind_view one.kind) one.tight begin begin_is like.html.now html_is like.ends.now ends_is
+          kept.front.now kept.tail.now kept.tail_at K.front K.tail K.tail_at;
+    }
