@@ -1,7 +1,8 @@
 -- What the writer of inlines holds after a step.
-use Rattle.std.proofs.Common.{◌≡◌, ℕ, true, false, List, [], ◌∷◌, ◌++◌, String, Global, string_bytes, length, map, reverse, refl, sym, ap, ◌∙◌, append_assoc, append-nil, arith}
+use Rattle.std.proofs.Common.{◌≡◌, ℕ, true, false, List, [], ◌∷◌, ◌++◌, Result, OnOk, String, Global, string_bytes, length, map, reverse, refl, sym, ap, ◌∙◌, append_assoc, append-nil, arith}
 use Rattle.std.proofs.lemmas.List.{reverse-append, map-append}
 use Rattle.std.proofs.lemmas.Grind.{flat_map-append}
+use Rattle.std.proofs.lemmas.Result.{on_ok_weaker}
 use Rattle.mdtext.specs.HtmlEscapes.{escaped, escaped_byte}
 use Rattle.inlinespec.specs.CodeSpans.{as_one_line}
 use Rattle.inlinespec.specs.InlineEvents.{InlineSpan, Event, Enter, Leave, written}
@@ -38,10 +39,10 @@ in_image_begins o w span e = rw e refl
 tag_there : (o : Options) (w : Writing) (span : InlineSpan) → w.in_image ≡ false → tag_begins o w span ≡ span_begins o w span
 tag_there o w span e = rw e refl
 
-pub takes_in_image : (old new : InlineWriter) (span : InlineSpan) → old.in_image ≡ true → new.options ≡ old.options
-    → writing_of new ≡ begins (writing_of old) [] NoTag → Takes old (Enter span ∷ []) new
+pub takes_in_image : {T E : Type 0} (r : Result T E) (old new : InlineWriter) (span : InlineSpan) → old.in_image ≡ true → new.options ≡ old.options
+    → OnOk r (writing_of new ≡ begins (writing_of old) [] NoTag) → OnOk r (Takes old (Enter span ∷ []) new)
 unfolding after_events
-takes_in_image old new span t o w = record { options = o; writing = w ∙ in_image_begins old.options (writing_of old) span t }
+takes_in_image r old new span t o w = on_ok_weaker r (λ begun. record { options = o; writing = begun ∙ in_image_begins old.options (writing_of old) span t }) w
 
 pub takes_tag : (old new : InlineWriter) (span : InlineSpan) → old.in_image ≡ false → new.options ≡ old.options
     → writing_of new ≡ tag_begins old.options (writing_of old) span → Takes old (Enter span ∷ []) new

@@ -6,7 +6,7 @@ use Rattle.mdhtml.proofs.inline_writer.InlineWriterInlineSink.enter.Goals as goa
 
 pub returns-then-self : goal.returns-then-self
 returns-then-self c =
-    on_ok_weaker c.begin.result (takes_in_image c.args.self.now c.begin.new.self (span_of c.args.kind) c.if-self.true c.begin.ensures.options) c.begin.ensures.begun
+    takes_in_image c.begin.result c.args.self.now c.begin.new.self (span_of c.args.kind) c.if-self.true c.begin.ensures.options c.begin.ensures.begun
 
 pub returns-in-Emph : goal.returns-in-Emph
 returns-in-Emph c =

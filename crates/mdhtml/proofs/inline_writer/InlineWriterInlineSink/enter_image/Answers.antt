@@ -1,5 +1,4 @@
 use Rattle.std.proofs.Common.{ap, ◌∙◌, ◌∷◌, ◌++◌, true, append-nil, map, reverse, string_bytes}
-use Rattle.std.proofs.lemmas.Result.{on_ok_weaker}
 use Rattle.inlinespec.specs.InlineEvents.{ImageOf}
 use Rattle.mdhtml.specs.InlineHtml.{image_begins}
 use Rattle.mdhtml.specs.InlineWriting.{EndImage, writing}
@@ -9,8 +8,7 @@ use Rattle.mdhtml.proofs.inline_writer.InlineWriterInlineSink.enter_image.Goals 
 
 pub returns-then-self : goal.returns-then-self
 returns-then-self c =
-    on_ok_weaker c.begin.result (takes_in_image c.args.self.now c.begin.new.self (ImageOf (record { url = c.args.url.now; title = c.args.title.now })) c.if-self.true c.begin.ensures.options)
-    c.begin.ensures.begun
+    takes_in_image c.begin.result c.args.self.now c.begin.new.self (ImageOf (record { url = c.args.url.now; title = c.args.title.now })) c.if-self.true c.begin.ensures.options c.begin.ensures.begun
 
 pub returns : goal.returns
 returns c =

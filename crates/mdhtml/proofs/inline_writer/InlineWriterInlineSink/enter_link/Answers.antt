@@ -8,8 +8,7 @@ use Rattle.mdhtml.proofs.inline_writer.InlineWriterInlineSink.enter_link.Goals a
 
 pub returns-then-self : goal.returns-then-self
 returns-then-self c =
-    on_ok_weaker c.begin.result (takes_in_image c.args.self.now c.begin.new.self (LinkTo (record { url = c.args.url.now; title = c.args.title.now })) c.if-self.true c.begin.ensures.options)
-    c.begin.ensures.begun
+    takes_in_image c.begin.result c.args.self.now c.begin.new.self (LinkTo (record { url = c.args.url.now; title = c.args.title.now })) c.if-self.true c.begin.ensures.options c.begin.ensures.begun
 
 pub returns : goal.returns
 returns c =
