@@ -13,7 +13,7 @@ pub(crate) mod like_lists;
 mod same_blocks;
 pub(crate) mod task_list_items;
 
-use crate::lists::items::write_items;
+use crate::lists::items::write_item;
 use crate::pieces::write_fresh;
 use crate::unit_texts::UnitTexts;
 use mdblock::{Item, ListKind};
@@ -33,7 +33,9 @@ pub(crate) fn write_list(
         (string_bytes out.old)) }
 {
     begin_list(kind, out)?;
-    write_items(items, tight, texts, out)?;
+    for item in items {
+        write_item(item, tight, texts, out)?;
+    }
     close_list(kind, out)
 }
 

@@ -1,10 +1,9 @@
-//! HTML of the items of a list.
+//! HTML of an item of a list.
 
 ghost use Rattle.std.specs.Prelude.{◌≡◌, ◌++◌, ◌<◌, OnOk, length, string_bytes};
-ghost use Rattle.mdblock.specs.BlockView.{item_view, items_view};
-ghost use Rattle.mdblock.specs.Positions.{BlocksIn, ItemsIn};
+ghost use Rattle.mdblock.specs.BlockView.{item_view};
+ghost use Rattle.mdblock.specs.Positions.{BlocksIn};
 ghost use Rattle.mdhtml.specs.held.UnitTexts.{shown_texts};
-ghost use Rattle.mdhtml.specs.BlockHtml.{items_html};
 ghost use Rattle.mdhtml.specs.ListEnds.{item_html};
 
 use crate::blocks::write_blocks;
@@ -13,24 +12,7 @@ use crate::unit_texts::UnitTexts;
 use mdblock::Item;
 use mdtext::NoMemory;
 
-#[cycle(block)]
-pub(crate) fn write_items(
-    items: &[Item],
-    tight: bool,
-    texts: &UnitTexts<'_>,
-    out: &mut String,
-) -> Result<(), NoMemory>
-    requires { ItemsIn (length (shown_texts texts.now)) (items_view items.now) }
-    ensures { OnOk result (string_bytes out.new ≡ items_html texts.now.options.now
-        (shown_texts texts.now) tight (items_view items.now) (string_bytes out.old)) }
-{
-    for item in items {
-        write_item(item, tight, texts, out)?;
-    }
-    Ok(())
-}
-
-/// One item. It is inlined, so that a level of blocks takes no more calls.
+/// An item with what it holds. It is inlined, so that a level of blocks takes no more calls.
 #[inline(always)]
 #[cycle(block)]
 pub(crate) fn write_item(
