@@ -39,8 +39,7 @@ pub(crate) fn write_list(
     close_list(kind, out)
 }
 
-/// The tag with which a list begins, on a line of its own. It is inlined, so that a list takes no more calls.
-#[inline(always)]
+/// The tag with which a list begins, on a line of its own.
 pub(crate) fn begin_list(kind: ListKind, out: &mut String) -> Result<(), NoMemory>
     ensures { OnOk result (string_bytes out.new
         ≡ fresh (string_bytes out.old) ++ list_open (kind_view kind)) }
