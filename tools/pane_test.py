@@ -125,8 +125,8 @@ def save(name, text):
     os.replace(name + ".new", name)
 
 
-def rendered_of(name):
-    return subprocess.run([os.path.join(BIN, "mdrender"), name], capture_output=True, text=True, check=True).stdout
+def rendered_of(name, *words):
+    return subprocess.run([os.path.join(BIN, "mdrender"), *words, name], capture_output=True, text=True, check=True).stdout
 
 
 def session(browser, address, name, say):
@@ -309,14 +309,72 @@ def outlives(browser, name):
                 save(name, "one\n\ndie\n")
                 told.append(wait(lambda: "ended twice" in browser.value(said)))
             else:
-                with open(f"/proc/{server.pid}/task/{server.pid}/children", encoding="ascii") as children:
-                    os.kill(int(children.read()), signal.SIGKILL)
+                kill_program(server)
             save(name, "one\n\nTwo!\n")
             told.append(wait(lambda: shown(browser, rendered_of(name)) and browser.value(said) == ""))
         finally:
             server.terminate()
             server.wait()
     return all(told)
+
+
+def kill_program(server):
+    """Ends a pane's mdpreview as if by chance."""
+    with open(f"/proc/{server.pid}/task/{server.pid}/children", encoding="ascii") as children:
+        os.kill(int(children.read()), signal.SIGKILL)
+
+
+def follows_the_prelude(browser, name):
+    """A prelude that changes is shown as a text is, in the pieces that have its labels. Of one that is refused or gone the page says so, and the one before stays, for the next
+    mdpreview too. A prelude that the text stood in the way of is shown when that changes, and the other way round."""
+    links, kept = name + ".links", name + ".kept"
+    deep = "*a " * 64 + "[site]" + " a*" * 64 + "\n"
+    said = "document.getElementById('refused').textContent"
+    told = []
+
+    def write(text=None, taken=None, refused=None):
+        """Writes the files, and keeps a prelude that is to be taken."""
+        for place, lines in ((name, text), (links, taken or refused), (kept, taken)):
+            if lines is not None:
+                save(place, lines)
+
+    def shows(words):
+        """The page shows the text with that prelude, and what it says begins with these words; where there are none it says nothing."""
+        told.append(wait(lambda: shown(browser, rendered_of(name, "--prelude", kept)) and browser.value(said).startswith(words) and (words != "") == (browser.value(said) != "")))
+
+    write("[site]\n\nother\n", "[site]: /one\n")
+    server, address = started(name, "--prelude", links)
+    try:
+        browser.call("Page.navigate", url=address)
+        shows("")
+        before = browser.value("window.replaced")
+        write(taken="[site]: /two\n")
+        shows("")
+        told.append(browser.value("window.replaced") == before + 1)
+        write(refused="[site]: /three\n\n# No link\n")
+        shows("Line 3 of the prelude: ")
+        write("[site] again\n")
+        shows("Line 3 of the prelude: ")
+        kill_program(server)
+        write("[site] anew\n")
+        shows("Line 3 of the prelude: ")
+        os.remove(links)
+        told.append(wait(lambda: "No such file" in browser.value(said)))
+        write(deep, "[other]: /other\n")
+        shows("")
+        write(refused="[site]: /four\n")
+        shows("Line 1: with the new prelude ")
+        shutil.copy(links, kept)
+        write("[site]\n")
+        shows("")
+        write(deep)
+        told.append(wait(lambda: browser.value(said).startswith("Line 1: emphasis or a link ")))
+        write(taken="[other]: /other\n")
+        shows("")
+        return all(told)
+    finally:
+        server.terminate()
+        server.wait()
 
 
 def asks_before_a_loss(browser, name):
@@ -522,6 +580,7 @@ def main():
                 (not leaks(address, name), "a file that is not to be served was"),
                 (puts_many(browser, address), "a page with thousands of pieces takes long to change"),
                 (outlives(browser, os.path.join(home, "pages", "twice.md")), "a page that outlives mdpreview does not show the text"),
+                (follows_the_prelude(browser, os.path.join(home, "pages", "prelude.md")), "a prelude that changes is not followed, or one that is refused or gone is not told"),
                 (asks_before_a_loss(browser, os.path.join(home, "pages", "lost.md")), "a page goes with a text that was not taken, or asks where it was"),
                 (names_itself(browser, os.path.join(home, "pages")), "a tab has not the name of its file"),
                 (is_quiet(name), "a browser that goes away is told on the terminal"),

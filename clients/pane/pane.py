@@ -4,6 +4,7 @@
 usage: pane.py [--port N] [--write] [--program PATH] [--unsafe] [--hardbreaks | --nobreaks] [--github-pre-lang] [--full-info-string] [--table-prefer-style-attributes] [--entities FILE | --html-entities] [--strikethrough-double-tilde] [--prelude FILE] FILE
 
 The words behind --program are mdpreview's. One mdpreview holds the text. When FILE changes, the lines that changed are sent to it as one edit, and the page puts in only the pieces that the reply names. A FILE that is gone is told on the page, which keeps the text that was read last.
+The file of --prelude is followed in the same way: one that is gone or refused is told on the page, and the definitions that were taken last stay. The file of --entities is read at the start alone, since another table of names would need another mdpreview, and one that is refused would leave none.
 With --write the page has a text area beside the preview, for trying, and scrolls with its cursor; FILE is then its first text and is never written.
 Images and texts of FILE's folder are served too, so that the page's own pictures are shown and its relative links open beside it; nothing outside of that folder is.
 The server listens on the loopback address alone, answers only requests that name it and come from its own page, and writes no file. Ctrl-C ends it and its child.
@@ -39,46 +40,56 @@ KINDS = {
 
 
 class Pane:
-    """The preview, and the pages that look at it."""
+    """The preview, the text and the prelude that it is to show, and the pages that look at it."""
 
     def __init__(self, preview):
         self.preview = preview
         self.pages = []
         self.lock = threading.Lock()
-        # Why the text that came last is refused, if it is: a page that comes later is told too.
-        self.refused = None
         # The lines that came last, refused or not.
-        self.lines = []
+        self.lines = {"prelude": [], "text": []}
+        # What is wrong with each of them and with its file, if anything is: a page that comes later is told too.
+        self.wrong = {}
 
-    def show(self, lines):
-        """Brings the preview to these lines, and tells every page what changed."""
+    def show(self, what, lines):
+        """Brings the text or the prelude to these lines, and tells every page what changed."""
         with self.lock:
-            self.lines = lines
-            answer = self.preview.edit(lines)
-            if answer is None:
-                # The text is as the preview holds it, so a refusal of another text is over.
-                answer = {"refused": ""} if self.refused else None
-            if answer is not None:
-                self.refused = answer.get("refused") or None
-                for page in self.pages:
-                    page.put(answer)
+            self.lines[what] = lines
+            self.tell(what + " file", {})
+            self.bring(what)
+            # What is refused of the other may have been so because of this one.
+            self.bring("prelude" if what == "text" else "text")
+            # A program that died at the prelude was started anew, without the text.
+            if self.preview.fresh:
+                self.bring("text")
 
-    def say(self, words):
-        """Tells every page why the text is not shown, once."""
+    def bring(self, what):
+        call = self.preview.edit if what == "text" else self.preview.define
+        self.tell(what, call(self.lines[what]) or {})
+
+    def say(self, what, words):
+        """Tells every page why the file of the text or of the prelude can't be read."""
         with self.lock:
-            if self.refused != words:
-                self.refused = words
-                for page in self.pages:
-                    page.put({"refused": words})
+            self.tell(what + " file", {"refused": words})
+
+    def tell(self, about, answer):
+        """Tells every page what changed and what is wrong, where either is news."""
+        words = answer.pop("refused", "")
+        if answer or words != self.wrong.get(about, ""):
+            self.wrong[about] = words
+            for page in self.pages:
+                page.put({**answer, "refused": self.said()})
+
+    def said(self):
+        """All that is wrong, in words."""
+        return " ".join(filter(None, self.wrong.values()))
 
     def join(self):
         """A new page: it gets all pieces first."""
         page = queue.Queue()
         with self.lock:
             pieces = list(zip(range(len(self.preview.pieces)), self.preview.pieces, self.preview.begins))
-            page.put({"first": 0, "removed": 0, "added": len(pieces), "by": 0, "pieces": pieces, "fresh": True})
-            if self.refused:
-                page.put({"refused": self.refused})
+            page.put({"first": 0, "removed": 0, "added": len(pieces), "by": 0, "pieces": pieces, "fresh": True, "refused": self.said()})
             self.pages.append(page)
         return page
 
@@ -113,10 +124,12 @@ def text_of(name):
 
 # For how many seconds a file may be gone, or may change, before the page tells it, or shows it as it is.
 PATIENCE = 1.0
+# What is said of a file that is gone.
+STAYS = {"text": "This is the text that was read last.", "prelude": "The definitions that were read last stay."}
 
 
-def watch(pane, name):
-    """Shows the file whenever it was changed, once it rests: an editor may still be writing it. One that does not rest is shown each second."""
+def watch(pane, what, name):
+    """Shows the file of the text or of the prelude whenever it was changed, once it rests: an editor may still be writing it. One that does not rest is shown each second."""
     seen = None
     there = shown = time.monotonic()
     while True:
@@ -127,7 +140,7 @@ def watch(pane, name):
             if now == seen:
                 shown = time.monotonic()
             elif rests or time.monotonic() - shown > PATIENCE:
-                pane.show(lines_of(text_of(name)))
+                pane.show(what, lines_of(text_of(name)))
                 seen, shown = now, time.monotonic()
             there = time.monotonic()
         except OSError as fault:
@@ -135,7 +148,7 @@ def watch(pane, name):
             time.sleep(0.05)
             seen = None
             if time.monotonic() - there > PATIENCE:
-                pane.say(f"{shown_name(name)}: {fault.strerror}. This is the text that was read last.")
+                pane.say(what, f"{shown_name(name)}: {fault.strerror}. {STAYS[what]}")
 
 
 def served(folder, path):
@@ -195,7 +208,7 @@ def handler(pane, options, secret):
             if self.path == "/":
                 with open(os.path.join(HERE, "page.html"), encoding="utf-8") as page:
                     text = page.read()
-                first = "\n".join(pane.lines) if options.write else ""
+                first = "\n".join(pane.lines["text"]) if options.write else ""
                 filled = {"TITLE": escape(shown_name(options.file)), "NONCE": secret, "WRITE": json.dumps(options.write), "FIRST": json.dumps(first).replace("<", "\\u003c")}
                 self.answer("text/html; charset=utf-8", re.sub("|".join(filled), lambda word: filled[word[0]], text).encode())
             elif self.path == "/changes":
@@ -251,7 +264,7 @@ def handler(pane, options, secret):
             if len(text) < int(size):
                 self.close_connection = True
                 return
-            pane.show(lines_of(text.decode("utf-8", "replace")))
+            pane.show("text", lines_of(text.decode("utf-8", "replace")))
             self.answer("text/plain", b"")
 
         def log_message(self, form, *words):
@@ -269,8 +282,9 @@ def said_of(fault, options):
     return f"port {options.port}: {getattr(fault, 'strerror', None) or fault}"
 
 
-def main():
-    parser = argparse.ArgumentParser(description="A preview of a Markdown file in the browser.")
+def parsed():
+    """The options, and the words for the program but that of the prelude."""
+    parser = argparse.ArgumentParser(description="A preview of a Markdown file in the browser. FILE and that of --prelude are followed as they change; that of --entities is read at the start alone.")
     parser.add_argument("--port", type=int, default=0, help="Listen on this port; 0 takes a free one")
     parser.add_argument("--write", action="store_true", help="Put a text area beside the preview; FILE is not watched and never written")
     parser.add_argument("--program", default="mdpreview", help="Start this mdpreview")
@@ -290,20 +304,27 @@ def main():
     options = parser.parse_args()
     flags = ("unsafe", "hardbreaks", "nobreaks", "github-pre-lang", "full-info-string", "table-prefer-style-attributes", "html-entities", "strikethrough-double-tilde")
     words = ["--" + name for name in flags if getattr(options, name.replace("-", "_"))]
-    words += [word for name in ("entities", "prelude") if getattr(options, name) for word in ("--" + name, getattr(options, name))]
+    return options, words + (["--entities=" + options.entities] if options.entities else [])
+
+
+def main():
+    options, words = parsed()
     preview = None
     try:
         first = lines_of(text_of(options.file))
-        preview = Preview(options.program, words)
+        preview = Preview(options.program, words, options.prelude)
         pane = Pane(preview)
-        pane.show(first)
+        if options.prelude:
+            pane.show("prelude", lines_of(text_of(options.prelude)))
+        pane.show("text", first)
         server = Server(("127.0.0.1", options.port), handler(pane, options, secrets.token_urlsafe(16)))
     except (NotBegun, OSError, OverflowError) as fault:
         if preview is not None:
             preview.stop()
         return "pane: " + said_of(fault, options)
-    if not options.write:
-        threading.Thread(target=watch, args=(pane, options.file), daemon=True).start()
+    for what, name in (("text", not options.write and options.file), ("prelude", options.prelude)):
+        if name:
+            threading.Thread(target=watch, args=(pane, what, name), daemon=True).start()
     # A stop from outside ends as Ctrl-C does.
     signal.signal(signal.SIGTERM, signal.default_int_handler)
     print(f"http://127.0.0.1:{server.server_port}/", flush=True)

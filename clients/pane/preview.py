@@ -12,6 +12,14 @@ REASONS = {
     "InlineTooDeep": "Line {line}: emphasis or a link lies in too many others.",
     "NoMemory": "There is no memory for it.",
 }
+# What is said in other words of a prelude.
+PRELUDE_REASONS = {
+    **REASONS,
+    "TooManyLines": "The prelude has more than 1,000,000 lines.",
+    "TooLarge": "The prelude is larger than 16 MB.",
+    "InlineTooDeep": "Line {line}: with the new prelude emphasis or a link lies in too many others.",
+    "NotDefinitions": "Line {line} of the prelude: the block that begins here is more than link reference definitions.",
+}
 
 
 class NotBegun(Exception):
@@ -38,72 +46,100 @@ def change(old, new):
     return front, len(old) - tail - front, new[front:len(new) - tail]
 
 
+def command(words, lines=()):
+    """A command of the protocol, with the lines that belong to it."""
+    return ("\n".join([words, *lines]) + "\n").encode("utf-8", "replace")
+
+
 class Preview:
-    """An mdpreview with the lines and the pieces that it holds, and the lines on which these begin."""
+    """An mdpreview with the prelude, the lines and the pieces that it holds, and the lines on which these begin."""
 
-    def __init__(self, program, words=()):
-        self.command = [program, "--lines", "--explain", *words]
-        self.start()
+    def __init__(self, program, words=(), prelude=None):
+        self.words = [program, "--lines", "--explain", *words]
+        # The lines of the prelude that was taken last.
+        self.prelude = []
+        # The first child reads the file, and says what is wrong with it; another is told the lines.
+        self.start(["--prelude=" + prelude] if prelude else [])
 
-    def start(self):
+    def start(self, more=()):
         """Starts the program, and sees that it answers: the HTML of the empty text is empty."""
         try:
-            self.child = subprocess.Popen(self.command, stdin=subprocess.PIPE, stdout=subprocess.PIPE, stderr=subprocess.PIPE)
+            self.child = subprocess.Popen([*self.words, *more], stdin=subprocess.PIPE, stdout=subprocess.PIPE, stderr=subprocess.PIPE)
         except OSError as fault:
-            raise NotBegun(f"{self.command[0]}: {fault.strerror}; --program names the mdpreview to start") from fault
+            raise NotBegun(f"{self.words[0]}: {fault.strerror}; --program names the mdpreview to start") from fault
         self.lines, self.pieces, self.begins = [], [], []
         # Pages still show what another child held.
         self.fresh = True
-        answer = b""
+        asked, wanted, answer = command("html"), [b"html 0\n"], []
+        if self.prelude:
+            asked, wanted = command(f"prelude {len(self.prelude)}", self.prelude) + asked, [b"ok 0 0 0 0\n", b"moved 0 0\n", *wanted]
         try:
-            self.child.stdin.write(b"html\n")
+            self.child.stdin.write(asked)
             self.child.stdin.flush()
-            answer = self.child.stdout.readline()
+            answer = [self.child.stdout.readline() for _ in wanted]
         except OSError:
             pass
-        if answer != b"html 0\n":
+        if answer != wanted:
             self.child.kill()
             said = self.child.stderr.read().decode(errors="replace").strip().split("\n")
             self.close()
             # The second line of mdpreview says it in plain words, with the file and the line counted from 1.
             explained = len(said) == 2 and said[0].startswith("mdpreview: ")
-            raise NotBegun(said[explained] or f"{self.command[0]}: it does not answer as mdpreview does")
+            raise NotBegun(said[explained] or f"{self.words[0]}: it does not answer as mdpreview does")
         # What it says later is of no use here, and must not fill the pipe.
         threading.Thread(target=self.child.stderr.read, daemon=True).start()
 
     def edit(self, new):
         """Brings the text to these lines. Answers which pieces changed, or why the text is refused; nothing where no line differs."""
+        return self.insist(self.tell_lines, new)
+
+    def define(self, new):
+        """Brings the prelude to these lines, and answers as `edit` does."""
+        return self.insist(self.tell_prelude, new)
+
+    def insist(self, tell, new):
+        """What comes of telling the child these lines. Where it has ended, as it does where there is no memory for a reply, another is told."""
         for _ in range(2):
-            at, gone, lines = change(self.lines, new)
-            if not gone and not lines and not self.fresh:
-                return None
             try:
-                answer = self.ask(at, gone, lines)
+                return tell(new)
             except (OSError, ValueError, IndexError):
-                # The child has ended, as it does where there is no memory for a reply: another is told the whole text.
                 self.stop()
                 try:
                     self.start()
                 except NotBegun as fault:
                     return {"refused": f"The program can't be started again: {fault}"}
-                continue
-            if "refused" not in answer:
-                self.lines = new
-                answer["fresh"], self.fresh = self.fresh, False
-            return answer
         return {"refused": "The program ended twice at this text. There may be no memory for it."}
 
-    def ask(self, at, gone, lines):
-        """Sends an edit, and answers what came of it."""
-        command = f"edit {at} {gone} {len(lines)}\n" + "".join(line + "\n" for line in lines)
-        self.child.stdin.write(command.encode("utf-8", "replace"))
-        self.child.stdin.flush()
-        return self.reply()
+    def tell_lines(self, new):
+        at, gone, lines = change(self.lines, new)
+        if not gone and not lines and not self.fresh:
+            return None
+        answer = self.ask(f"edit {at} {gone} {len(lines)}", lines, REASONS)
+        if "refused" not in answer:
+            self.lines = new
+            answer["fresh"], self.fresh = self.fresh, False
+        return answer
 
-    def reply(self):
+    def tell_prelude(self, new):
+        if new == self.prelude:
+            return None
+        answer = self.ask(f"prelude {len(new)}", new, PRELUDE_REASONS)
+        if "refused" in answer:
+            answer["refused"] += " The definitions that were taken last stay."
+        else:
+            self.prelude = new
+        return answer
+
+    def ask(self, words, lines, reasons):
+        """Sends a command, and answers what came of it."""
+        self.child.stdin.write(command(words, lines))
+        self.child.stdin.flush()
+        return self.reply(reasons)
+
+    def reply(self, reasons):
         words = self.child.stdout.readline().decode().split()
         if words[0] == "refused":
-            return {"refused": REASONS.get(words[1], words[1]).format(line=int(words[2]) + 1)}
+            return {"refused": reasons.get(words[1], words[1]).format(line=int(words[2]) + 1)}
         first, removed, added, again = map(int, words[1:])
         behind, by = map(int, self.child.stdout.readline().split()[1:])
         brought = [self.piece() for _ in range(added + again)]
