@@ -322,6 +322,32 @@ def follows_the_prelude(browser, name):
         server.wait()
 
 
+def shows_in_many_tabs(browser, name):
+    """Each of nine tabs of one pane shows the text, though a browser holds six connections to a server. One that is seen again shows what came meanwhile, and keeps its place."""
+    save(name, "".join(f"Paragraph {number}.\n\n" for number in range(200)))
+    server, address = started(name)
+    told, tabs = [], []
+    try:
+        browser.call("Page.navigate", url=address)
+        told.append(wait(lambda: shown(browser, rendered_of(name))))
+        browser.value("scrollTo(0, 3000); pieces.children[100].stays = true")
+        for _ in range(8):
+            tabs.append(browser.open(address))
+            told.append(wait(lambda: shown(browser, rendered_of(name))))
+        save(name, "".join(f"Paragraph {number}.\n\n" for number in range(-1, 200)))
+        told.append(wait(lambda: shown(browser, rendered_of(name))))
+        browser.turn_to(browser.first)
+        told.append(wait(lambda: shown(browser, rendered_of(name))))
+        told.append(browser.value("scrollY > 2000 && pieces.children[101].stays"))
+        return all(told)
+    finally:
+        for tab in tabs:
+            browser.shut(tab)
+        browser.turn_to(browser.first)
+        server.terminate()
+        server.wait()
+
+
 def asks_before_a_loss(browser, name):
     """A page with a text that no pane has taken does not go without a question; any other does."""
     save(name, "a\n")
@@ -526,6 +552,7 @@ def main():
                 (puts_many(browser, address), "a page with thousands of pieces takes long to change"),
                 (outlives(browser, os.path.join(home, "pages", "twice.md")), "a page that outlives mdpreview does not show the text"),
                 (follows_the_prelude(browser, os.path.join(home, "pages", "prelude.md")), "a prelude that changes is not followed, or one that is refused or gone is not told"),
+                (shows_in_many_tabs(browser, os.path.join(home, "pages", "tabs.md")), "one of many tabs does not show the text, or loses its place"),
                 (asks_before_a_loss(browser, os.path.join(home, "pages", "lost.md")), "a page goes with a text that was not taken, or asks where it was"),
                 (names_itself(browser, os.path.join(home, "pages")), "a tab has not the name of its file"),
                 (is_quiet(name), "a browser that goes away is told on the terminal"),
