@@ -16,6 +16,7 @@ import sys
 import tempfile
 import time
 import urllib.error
+import urllib.parse
 import urllib.request
 
 ROOT = os.path.join(os.path.dirname(os.path.abspath(__file__)), "..")
@@ -184,7 +185,7 @@ def ends(words, said):
 
 
 def ends_with_a_line(address, name):
-    """What can't be begun: a file that is gone, a device, programs that are not there or are another one, words and definitions that are refused, a port that is taken."""
+    """What can't be begun: a file that is gone, a device, programs that are not there or are another one, names, words and definitions that are refused, a port that is taken."""
     program = ["--program", os.path.join(BIN, "mdpreview")]
     port = address.rstrip("/").rsplit(":", 1)[1]
     save(name + ".links", "\n# No link\n")
@@ -195,6 +196,7 @@ def ends_with_a_line(address, name):
         ends(["--program", "/bin/false", name], "/bin/false: it does not answer as mdpreview does"),
         ends([*program, "--prelude", name + ".gone", name], f"{name}.gone: it can't be opened: there is no such file"),
         ends([*program, "--prelude", name + ".links", name], f"{name}.links: line 2: the block that begins here is more than link reference definitions; leave nothing else in the file"),
+        ends([*program, "--prelude", "\udcff.md", name], "\ufffd.md: mdpreview takes no file whose name is not UTF-8"),
         ends([*program, "--port", port, name], f"port {port}: Address already in use"),
     ))
 
@@ -372,14 +374,16 @@ def asks_before_a_loss(browser, name):
 
 
 def names_itself(browser, folder):
-    """A tab has the name of its file, whatever stands in that, so that several can be told apart."""
+    """A tab has the name of its file, whatever stands in that, so that several can be told apart, and the file is served, by its bytes."""
     name = os.path.join(os.fsencode(folder), b"a & <b> FIRST #%41 \xff.md")
     with open(name, "w", encoding="utf-8") as file:
         file.write("one\n")
     server, address = started(os.fsdecode(name), "--write")
     try:
         browser.call("Page.navigate", url=address)
-        return wait(lambda: browser.value("document.title") == "a & <b> FIRST #%41 \ufffd.md" and shown(browser, "<p>one</p>\n"))
+        with urllib.request.urlopen(address + urllib.parse.quote(os.path.basename(name))) as answer:
+            served = answer.read() == b"one\n"
+        return served and wait(lambda: browser.value("document.title") == "a & <b> FIRST #%41 \ufffd.md" and shown(browser, "<p>one</p>\n"))
     finally:
         server.terminate()
         server.wait()

@@ -153,7 +153,7 @@ def watch(pane, what, name):
 
 def served(folder, path):
     """The file of this folder that a request's path names, and its kind; nothing where there is none, or it lies outside, or is neither an image nor a text."""
-    path = urllib.parse.unquote(path.split("?")[0])
+    path = os.fsdecode(urllib.parse.unquote_to_bytes(path.split("?")[0]))
     if "\0" in path:
         return None
     name = os.path.realpath(os.path.join(folder, path.lstrip("/")))
@@ -312,6 +312,9 @@ def main():
     preview = None
     try:
         first = lines_of(text_of(options.file))
+        for name in filter(None, (options.entities, options.prelude)):
+            if any("\ud800" <= mark <= "\udfff" for mark in name):
+                raise NotBegun(f"{shown_name(name)}: mdpreview takes no file whose name is not UTF-8")
         preview = Preview(options.program, words, options.prelude)
         pane = Pane(preview)
         if options.prelude:
