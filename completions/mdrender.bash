@@ -1,12 +1,12 @@
 # Completion of mdrender's and mdpreview's words for bash: each option once but --extension, one kind of line breaks and of entities, a file behind
 # --entities and --prelude, the words that --to and --extension may have, nothing behind a number, and one file to read.
 
-# The files that begin as the word does, folders among them.
+# The files that begin as the word does, folders among them. One whose name begins with a hyphen would be taken for an option, but for its folder.
 _mdrender_files() {
     local name
     compopt -o filenames 2> /dev/null
     while IFS= read -r name; do
-        COMPREPLY+=("$name")
+        COMPREPLY+=("${name/#-/./-}")
     done < <(compgen -f -- "$1")
 }
 
