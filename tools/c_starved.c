@@ -1,5 +1,6 @@
 /* A session in which one growth after the other is refused: the call says so and has changed nothing, and the same call goes through when it is made again.
- * Linked with --wrap=malloc and --wrap=realloc. The last line is 'N passed, M failed'. */
+ * When the session is closed, the library holds as many blocks of memory as before.
+ * Linked with --wrap=malloc, --wrap=realloc and --wrap=free. The last line is 'N passed, M failed'. */
 #include <jirmoans.h>
 
 #include <stdio.h>
@@ -10,9 +11,13 @@ void *__real_malloc(size_t size);
 void *__real_realloc(void *at, size_t size);
 void *__wrap_malloc(size_t size);
 void *__wrap_realloc(void *at, size_t size);
+void __real_free(void *at);
+void __wrap_free(void *at);
 
 /* How many growths from now on the one is that is refused; 0 for none. */
 static long refused_at;
+/* How many blocks the library was given and has not given back. What is allocated here is none of them. */
+static long held;
 static int passed, failed;
 
 static bool is_refused(void) {
@@ -20,11 +25,21 @@ static bool is_refused(void) {
 }
 
 void *__wrap_malloc(size_t size) {
-    return is_refused() ? NULL : __real_malloc(size);
+    void *given = is_refused() ? NULL : __real_malloc(size);
+    held += given != NULL;
+    return given;
 }
 
 void *__wrap_realloc(void *at, size_t size) {
-    return is_refused() ? NULL : __real_realloc(at, size);
+    bool is_new = at == NULL;
+    void *given = is_refused() ? NULL : __real_realloc(at, size);
+    held += is_new && given != NULL;
+    return given;
+}
+
+void __wrap_free(void *at) {
+    held -= at != NULL;
+    __real_free(at);
 }
 
 static const char NAMES[] = "{\"&x;\":{\"characters\":\"y\"}}";
@@ -66,7 +81,7 @@ static jirmoans_fault whole(session *of) {
 
 static jirmoans_fault (*const STEPS[])(session *) = {open_it, load, prelude, change, show, whole};
 
-/* All pieces and the text that is shown, one after the other; the caller frees it. */
+/* All pieces and the text that is shown, one after the other; the caller frees it, by __real_free. */
 static char *told(session *of) {
     char *all = calloc(1, 65536);
     strcat(all, of->text.at);
@@ -82,6 +97,7 @@ static char *told(session *of) {
 /* Runs the session with this growth refused. Answers whether there was such a growth, and what the session told. */
 static bool run(long growth, char **all) {
     session of;
+    long before = held;
     memset(&of, 0, sizeof of);
     refused_at = growth;
     for (size_t i = 0; i < sizeof STEPS / sizeof *STEPS; i++) {
@@ -98,6 +114,12 @@ static bool run(long growth, char **all) {
     refused_at = 0;
     *all = told(&of);
     jirmoans_close(&of.preview);
+    if (held == before) {
+        passed++;
+    } else {
+        failed++;
+        printf("growth %ld refused: behind the session %ld blocks more are held than before\n", growth, held - before);
+    }
     return was_refused;
 }
 
@@ -109,12 +131,12 @@ int main(void) {
         growth++;
         bool more = run(growth, &got);
         strcmp(wanted, got) == 0 ? passed++ : failed++;
-        free(got);
+        __real_free(got);
         if (!more) {
             break;
         }
     } while (growth < 100000);
-    free(wanted);
+    __real_free(wanted);
     printf("%ld growths\n%d passed, %d failed\n", growth - 1, passed, failed);
     return failed > 0;
 }
