@@ -47,7 +47,8 @@ def Said(): string
   var shown = execute('messages')->split("\\n")->filter((_, line) => line =~ '^jirmoans: ')
   return (empty(shown) ? '' : shown[-1]) .. ' | ' .. string(bufexists('[HTML]'))
 enddef
-edit {folder}/words.md
+# A name that is no UTF-8.
+execute 'edit' fnameescape("{folder}/\xff.md")
 setline(1, ['<b>a</b>'])
 var said: list<string> = []
 for program in ['{root}/nowhere', '/bin/false', '{folder}/dies', '{folder}/killed']

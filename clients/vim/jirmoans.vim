@@ -16,7 +16,9 @@ var held: list<string> = []      # the lines that mdpreview holds
 var sent: list<string> = []      # those that it holds once it has accepted the edit under way
 var sizes: list<number> = []     # how many lines of the HTML each piece has
 var busy = false                 # whether an edit is under way
-var came = ''                    # what came of its reply
+var came = ''                    # what came of its reply, and is not taken yet
+var left = 0                     # how many bytes that is
+var least = 0                    # how many it is to be before it is looked at again
 var pieces = 0                   # how many pieces of the reply are still to come
 var behind = [0, 0]              # a piece, and how many lines of the HTML stand before it
 const NONE = ["\n\n"]            # what no text is
@@ -29,6 +31,7 @@ const REASONS = {
   InlineTooDeep: 'emphasis or a link of the block in line %d lies in too many others',
   NoMemory: 'there is no memory for it'}
 var refused = NONE               # the text that was refused
+var tick = -1                    # up to which change the text was looked at
 
 def Warn(words: string)
   echohl WarningMsg
@@ -49,13 +52,17 @@ def Lines(): list<string>
     return []
   endif
   # Few texts have a CR, and in a long one a look at each line takes longer than all else.
-  return match(lines, '\r') < 0 ? lines : lines->mapnew((_, line) => split(substitute(line, '\r$', '', ''), '\r', true))->flattennew()
+  return stridx(join(lines), "\r") < 0 ? lines : lines->mapnew((_, line) => split(substitute(line, '\r$', '', ''), '\r', true))->flattennew()
 enddef
 
 # Sends the lines that differ, from the first to the last one.
 def Send()
+  if text == 0 || busy || tick == getbufvar(text, 'changedtick')
+    return
+  endif
+  tick = getbufvar(text, 'changedtick')
   var now = Lines()
-  if text == 0 || busy || now == held || now == refused
+  if now == held || now == refused
     return
   endif
   var [front, tail, most] = [0, 0, min([len(held), len(now)])]
@@ -123,15 +130,20 @@ def Took(lines: list<string>, at: number): number
   var words = split(lines[at], ' ')
   var numbers = words->slice(1)->mapnew((_, word) => str2nr(word))
   var end = at + 1
+  var bytes = words[0] ==# 'piece' ? numbers[1] : 0
+  least = len(lines[at]) + 1 + bytes
+  if least > left
+    return -1
+  endif
+  left -= least
+  least = 0
   if words[0] ==# 'piece'
-    var bytes = numbers[1]
-    while bytes > 0 && end < len(lines) - 1
+    # Behind the last one nothing is left, and its lines need no counting.
+    end = left == 0 ? len(lines) - 1 : end
+    while left > 0 && bytes > 0
       bytes -= len(lines[end]) + 1
       end += 1
     endwhile
-    if bytes > 0
-      return -1
-    endif
     Put(numbers[0], lines->slice(at + 1, end))
     pieces -= 1
   elseif words[0] ==# 'ok'
@@ -154,6 +166,11 @@ def Came(from: channel, bytes: string)
     return
   endif
   came ..= bytes
+  # A long piece comes in many parts, and each look goes through all of them.
+  left = len(came)
+  if left < least
+    return
+  endif
   var lines = split(came, "\n", true)
   # A change by hand would set the lines of the pieces apart from what is known of them.
   setbufvar(html, '&modifiable', true)
@@ -214,7 +231,7 @@ def Toggle()
   html = bufnr()
   autocmd BufWipeout <buffer> Close()
   wincmd p
-  [held, sizes, busy, came, pieces, behind, refused] = [[], [], false, '', 0, [0, 0], NONE]
+  [held, sizes, busy, came, least, pieces, behind, refused, tick] = [[], [], false, '', 0, 0, [0, 0], NONE, -1]
   job = job_start(words, {mode: 'raw', drop: 'never', out_cb: Came, exit_cb: Ended})
   text = buffer
   augroup jirmoans
