@@ -1,10 +1,11 @@
 //! The units that may name a label: the others are passed by their marks, whole chunks at once where none in a chunk has one.
 
-ghost use Rattle.std.specs.Prelude.{◌≡◌, ◌≤◌, ◌<◌, ◌+◌, ◌^◌, drop, length, sum_by};
+ghost use Rattle.std.specs.Prelude.{◌≡◌, ◌≤◌, ◌<◌, ◌+◌, ◌^◌, drop, get_or, length, sum_by};
 ghost use Rattle.std.specs.List.{All};
-ghost use Rattle.mdchunks.specs.Marks.{IsApart};
+ghost use Rattle.mdchunks.specs.Marks.{IsApart, IsMarked};
 ghost use Rattle.mdview.specs.HeldBlocks.{lines_in};
 ghost use Rattle.mdview.specs.HeldTexts.{between};
+ghost use Rattle.mdview.specs.HeldUnit.{HeldUnit};
 ghost use Rattle.mdview.specs.LabelMarks.{held_marks};
 
 use crate::held::units::HeldUnit;
@@ -25,6 +26,7 @@ pub(crate) fn next_marked<'a>(
     ensures high { result ≤ next }
     ensures ahead { result < next → rest.new ≡ drop result units.now.items }
     ensures apart { All (IsApart held_marks marks) (between first result units.now.items) }
+    ensures marked { (d : HeldUnit) → result < next → IsMarked held_marks marks (get_or units.now.items result d) }
 {
     let skipped = rest.skip_apart(marks);
     if skipped < next - first {

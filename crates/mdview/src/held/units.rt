@@ -1,7 +1,7 @@
 //! A unit that is held: with what its texts read as, and its HTML.
 
-ghost use Rattle.std.specs.Prelude.{◌≡◌, ◌<◌, ◌≤◌, ◌+◌, ◌-◌, IfSome, Some, is_some, length, map, nat_eq, option_map, slice_get};
-ghost use Rattle.std.specs.List.{list_any};
+ghost use Rattle.std.specs.Prelude.{◌≡◌, ◌<◌, ◌≤◌, ◌+◌, ◌-◌, IfSome, MatchOption, Some, drop, is_some, length, map, nat_eq, option_map, slice_get};
+ghost use Rattle.std.specs.List.{All, list_any};
 ghost use Rattle.std.specs.List.Sorted.{IsNonDecreasing};
 ghost use Rattle.mdblock.specs.Spliced.{mark_at};
 ghost use Rattle.mdview.specs.HeldLists.{item_line, list_in, unplaced};
@@ -91,7 +91,10 @@ impl HeldUnit {
 
     /// The last of its later items that begins above this line of the unit, if it is a list.
     pub(crate) fn item_above(&self, line: usize) -> Option<usize>
-        ensures { IfSome result (λ i. (i < length self.now.read.items) × ((mark_at self.now.read.items i).line < line)) }
+        ensures above { IfSome result (λ i. (i < length self.now.read.items) × ((mark_at self.now.read.items i).line < line)) }
+        // The items of a list begin in rising lines: those behind the answer begin in this line or below, and all do where there is none.
+        ensures told { IsNonDecreasing (map item_line self.now.read.items) → MatchOption result (All (λ begin. line ≤ begin) (map item_line self.now.read.items))
+            (λ i. All (λ begin. line ≤ begin) (drop (i + 1) (map item_line self.now.read.items))) }
     {
         let joins = self.found.joins();
         let item = joins

@@ -1,23 +1,19 @@
-use Rattle.std.proofs.Common.{false, true, [], Some, Result, Ok, Err, ◌≡◌, ◌≤◌, ◌+◌, arith, drop, map, take, get_or, ap, ◌∙◌, sym}
+use Rattle.std.proofs.Common.{true, [], Some, Result, Ok, Err, ◌≡◌, ◌≤◌, ◌+◌, arith, drop, map, take, get_or, ap, ◌∙◌, sym}
 use Rattle.std.specs.Prelude.{OnErr, is_some}
 use Rattle.blockspec.specs.ItemMarks.{ItemMark}
 use Rattle.mdblock.specs.FoundLists.{FoundList}
 use Rattle.mdblock.specs.Spliced.{mark_at}
-use Rattle.mdblock.specs.declared.units.Join.{Join}
 use Rattle.mdblock.specs.held.ReaderState.{ReaderState}
 use Rattle.mdblock.specs.held.Reads.{Reads, handed}
 use Rattle.mdview.specs.HeldBlocks.{old_lines, places_of}
 use Rattle.mdview.specs.HeldUnit.{HeldUnit, first_line, read_of}
 use Rattle.mdview.specs.NewText.{lines_of}
-use Rattle.mdview.proofs.HeldJoins.{joined_mark}
+use Rattle.mdview.proofs.HeldJoins.{joined_mark, no_join}
 use Rattle.mdview.proofs.ReadStretches.{is_edit}
 use Rattle.mdview.proofs.ResumedReading.{res_given, res_new, res_read}
 use Rattle.mdview.proofs.blocks.reparse.begun_reader.Given.{Over}
 use Rattle.mdview.proofs.blocks.reparse.begun_reader.Goals.{In_ok-resumed}
 use Rattle.mdview.proofs.blocks.reparse.begun_reader.Goals as goal
-
-abbrev no_join : Join
-no_join = record { line = 0; texts = 0; definitions = 0; loose = false }
 
 -- A reader goes on in the list from that item, and has read the lines of the new text up to the item, and its line.
 record Begun (g : Over) (c : In_ok-resumed g) : Type 0 where

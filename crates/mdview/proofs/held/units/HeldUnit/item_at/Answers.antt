@@ -3,20 +3,16 @@ use Rattle.std.proofs.Math.ListN.{get_or-map}
 use Rattle.std.proofs.lemmas.Bool.{ltb-true, ltb-false}
 use Rattle.std.proofs.lemmas.Bool.Decides.{nat_tests}
 use Rattle.std.proofs.lemmas.List.{get_or_default, length-map}
-use Rattle.std.proofs.lemmas.Simd.{map-map}
 use Rattle.std.proofs.lemmas.List.Sorted.{IsPartitionPoint-from_clause, IsPartitionedBy-ltb}
 use Rattle.std.proofs.lemmas.Option.{slice_get-get_or}
 use Rattle.std.specs.List.{list_any}
 use Rattle.std.specs.List.Sorted.{IsNonDecreasing}
-use Rattle.mdblock.specs.FoundLists.{join_mark}
 use Rattle.mdblock.specs.declared.units.Join.{Join}
 use Rattle.mdview.specs.HeldLists.{item_line}
 use Rattle.mdview.specs.HeldUnit.{HeldUnit}
+use Rattle.mdview.proofs.HeldJoins.{item_lines, no_join}
 use Rattle.mdview.proofs.Numbers.{number_not, number_there, rise_by}
 use Rattle.mdview.proofs.held.units.HeldUnit.item_at.Goals as goal
-
-abbrev no_join : Join
-no_join = record { line = 0; texts = 0; definitions = 0; loose = false }
 
 number_at : (joins : List Join) (i : ℕ) → i < length joins → get_or (map (λ (j : Join). j.line) joins) i 0 ≡ (get_or joins i no_join).line
 number_at joins i below = get_or-map (λ (j : Join). j.line) joins i no_join
@@ -36,8 +32,7 @@ returns-in_err-get-clause-told c = λ rising.
     let joins : List Join = c.joins-joins.result.now in
     let place = c.partition_point-place.result in
     let line = c.args.line in
-    let same : map item_line c.args.self.now.read.items ≡ map (λ (j : Join). j.line) joins =
-    ap (λ (u : HeldUnit). map item_line u.read.items) (sym c.self.view_is) ∙ ap (map item_line) (sym c.joins-joins.ensures) ∙ map-map item_line join_mark joins in
+    let same = item_lines joins c.args.self.now.read.items (c.joins-joins.ensures ∙ ap (λ (u : HeldUnit). u.read.items) c.self.view_is) in
     let many = length-map joins (λ (j : Join). j.line) in
     let numbers = map (λ (j : Join). j.line) joins in
     let rise = subst IsNonDecreasing same rising in
@@ -55,8 +50,7 @@ returns-then-branch-line-clause-there c =
     let joins : List Join = c.joins-joins.result.now in
     let place = c.partition_point-place.result in
     let line = c.args.line in
-    let same : map item_line c.args.self.now.read.items ≡ map (λ (j : Join). j.line) joins =
-    ap (λ (u : HeldUnit). map item_line u.read.items) (sym c.self.view_is) ∙ ap (map item_line) (sym c.joins-joins.ensures) ∙ map-map item_line join_mark joins in
+    let same = item_lines joins c.args.self.now.read.items (c.joins-joins.ensures ∙ ap (λ (u : HeldUnit). u.read.items) c.self.view_is) in
     let many = length-map joins (λ (j : Join). j.line) in
     let inside : place < length joins = ltb-true _ _ (sym c.in_ok-get.ensures.lookup.0) in
     ap (λ xs. slice_get xs place) same ∙ slice_get-get_or (map (λ (j : Join). j.line) joins) place c.in_ok-get.field-0.now.line (omega (arith, inside, many))
@@ -71,8 +65,7 @@ returns-else-branch-line-clause-told c = λ rising.
     let place = c.partition_point-place.result in
     let line = c.args.line in
     let found : Join = c.in_ok-get.field-0.now in
-    let same : map item_line c.args.self.now.read.items ≡ map (λ (j : Join). j.line) joins =
-    ap (λ (u : HeldUnit). map item_line u.read.items) (sym c.self.view_is) ∙ ap (map item_line) (sym c.joins-joins.ensures) ∙ map-map item_line join_mark joins in
+    let same = item_lines joins c.args.self.now.read.items (c.joins-joins.ensures ∙ ap (λ (u : HeldUnit). u.read.items) c.self.view_is) in
     let inside : place < length joins = ltb-true _ _ (sym c.in_ok-get.ensures.lookup.0) in
     let many = length-map joins (λ (j : Join). j.line) in
     let numbers = map (λ (j : Join). j.line) joins in
