@@ -167,17 +167,13 @@ impl Update {
         };
         let mut room = TextRoom::new(held.alloc, held.entities);
         let head = head_behind(held.head, &reparsed);
-        let Reparsed {
-            first,
-            next,
-            from,
-            meet,
-            found,
-            kept,
-        } = reparsed;
+        let first = reparsed.first;
+        let next = reparsed.next;
+        let from = reparsed.from;
+        let found = reparsed.found;
         let mut again = Vec::new(held.alloc);
         reader.read_again(held.units, 0, first, head, &mut room, &mut again, count)?;
-        let kept = kept_readings(held.units, kept);
+        let kept = kept_readings(held.units, reparsed.kept);
         let units = reader.read_found(
             found, kept, held.units, first, next, from, &mut room, count,
         )?;
@@ -185,7 +181,7 @@ impl Update {
             held.units,
             next,
             held.units.len(),
-            meet,
+            reparsed.meet,
             &mut room,
             &mut again,
             count,

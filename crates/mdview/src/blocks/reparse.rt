@@ -55,6 +55,22 @@ pub(crate) struct Reparsed {
     pub(crate) kept: Option<KeptTexts>,
 }
 
+impl Reparsed {
+    /// The units found from where reading begins up to line `meet`, in the place of the held ones up to number `next`.
+    fn up_to(resume: Resume, next: usize, meet: usize, found: Vec<Found>) -> Reparsed
+        ensures { result ≡ record { first = resume.start.unit; next = next; from = resume.from; meet = meet; found = found; kept = None } }
+    {
+        Reparsed {
+            first: resume.start.unit,
+            next,
+            from: resume.from,
+            meet,
+            found,
+            kept: None,
+        }
+    }
+}
+
 /// Reads blocks from the last unit that begins above the edit up to where a unit begins behind it that is held, or a later item of a list is held that begins
 /// there in both texts, or to the end. Each line that is read, or taken over in its place, is counted.
 pub(crate) fn reparse<C: Count>(
@@ -78,11 +94,11 @@ pub(crate) fn reparse<C: Count>(
     ensures lines { C.lines count.new ≤ C.lines count.old + length (lines_of text.entry) }
     ensures inlines { C.inlines count.new ≡ C.inlines count.old }
 {
-    let Resume { from, start } = resume_at(held.units, held.head, text.at());
-    let first = start.unit;
-    let mut cursor = UnitCursor::at(held.units, start);
+    let resume = resume_at(held.units, held.head, text.at());
+    let from = resume.from;
+    let mut cursor = UnitCursor::at(held.units, resume.start);
     let mut found = Vec::new(held.alloc);
-    let mut reader = begun_reader(held, text, from, start, count)?;
+    let mut reader = begun_reader(held, text, from, resume.start, count)?;
     let begun = from + reader.fed();
     let mut ahead = text.lines_from(begun);
     for line in begun..text.len() {
@@ -91,25 +107,10 @@ pub(crate) fn reparse<C: Count>(
             Err(fault) => return Err(fault_in_line(fault, line)),
         }
         if let Some(next) = met_at(&reader, &mut cursor, text, from, line) {
-            return Ok(Reparsed {
-                first,
-                next,
-                from,
-                meet: line,
-                found,
-                kept: None,
-            });
+            return Ok(Reparsed::up_to(resume, next, line, found));
         }
         if let Some(item) = joined_at(&reader, &mut cursor, text, line) {
-            let read = Reparsed {
-                first,
-                next: item.number,
-                from,
-                meet: line,
-                found,
-                kept: None,
-            };
-            return join_held(reader, item, read);
+            return join_held(reader, item, resume, line, found);
         }
     }
     // Behind the last line no container begins any more.
@@ -117,14 +118,7 @@ pub(crate) fn reparse<C: Count>(
         Ok(unit) => push_some(&mut found, unit)?,
         Err(_) => return Err(EditFault::NoMemory),
     }
-    Ok(Reparsed {
-        first,
-        next: held.units.len(),
-        from,
-        meet: text.len(),
-        found,
-        kept: None,
-    })
+    Ok(Reparsed::up_to(resume, held.units.len(), text.len(), found))
 }
 
 /// A reader that begins in line `from`. Where the unit `start` begins there, is a list and has a later item above the edit, it stands for the lines up to the last
@@ -196,15 +190,21 @@ fn item_above<'a>(
     })
 }
 
-/// A list that goes on in one that is held: what was read, of which the last line begins that item, and the held list's items from there on.
-fn join_held(reader: Reader<'_>, item: HeldItem<'_>, read: Reparsed) -> Result<Reparsed, EditFault>
+/// A list that goes on in one that is held: what was read up to `line`, the last that was read, which begins that item, and the held list's items from there on.
+fn join_held(
+    reader: Reader<'_>,
+    item: HeldItem<'_>,
+    resume: Resume,
+    line: usize,
+    mut found: Vec<Found>,
+) -> Result<Reparsed, EditFault>
     requires joined { held_joined reader.held ≡ true }
     requires item { item.item < length item.unit.now.read.items }
     requires fits { reader.fed + (item.unit.now.read.lines - (mark_in item).line - 1) ≤ usize.MAX }
     ensures fault { IfErr result (λ fault. fault ≡ NoMemory) }
-    ensures place { IfOk result (λ r. (r.first ≡ read.first) × (r.from ≡ read.from) × (r.next ≡ min (item.entry.number + 1) (2 ^ 64 - 1))
-        × (r.meet ≡ min (read.meet + (item.entry.unit.now.read.lines - (mark_in item.entry).line)) (2 ^ 64 - 1))) }
-    ensures list { IfOk result (λ r. (list : FoundList) × (r.found.items ≡ read.found.items ++ list ∷ [])
+    ensures place { IfOk result (λ r. (r.first ≡ resume.start.unit) × (r.from ≡ resume.from) × (r.next ≡ min (item.entry.number + 1) (2 ^ 64 - 1))
+        × (r.meet ≡ min (line + (item.entry.unit.now.read.lines - (mark_in item.entry).line)) (2 ^ 64 - 1))) }
+    ensures list { IfOk result (λ r. (list : FoundList) × (r.found.items ≡ found.items ++ list ∷ [])
         × IsSpliced reader.entry (list_in item.entry.unit.now) item.entry.item list × (r.kept ≡ Some (kept_of item.entry list))) }
 {
     let old = item.unit.found();
@@ -216,15 +216,12 @@ fn join_held(reader: Reader<'_>, item: HeldItem<'_>, read: Reparsed) -> Result<R
         from: join.texts,
         at: list.unit().texts().len().saturating_sub(later),
     };
-    let mut found = read.found;
     found.push(list)?;
     Ok(Reparsed {
-        first: read.first,
+        first: resume.start.unit,
         next: item.number.saturating_add(1),
-        from: read.from,
-        meet: read
-            .meet
-            .saturating_add(old.lines().saturating_sub(join.line)),
+        from: resume.from,
+        meet: line.saturating_add(old.lines().saturating_sub(join.line)),
         found,
         kept: Some(kept),
     })

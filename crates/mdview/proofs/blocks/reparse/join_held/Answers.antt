@@ -1,18 +1,14 @@
-use Rattle.std.proofs.Common.{false, ◌∷◌, ℕ, List, ◌≡◌, ◌+◌, ◌-◌, ◌++◌, length, min, Some, get_or, drop, refl, ap, ◌∙◌, sym, subst, arith}
+use Rattle.std.proofs.Common.{◌∷◌, ℕ, List, ◌≡◌, ◌+◌, ◌-◌, ◌++◌, length, min, Some, get_or, drop, refl, ap, ◌∙◌, sym, subst, arith}
 use Rattle.std.specs.Prelude.{string_bytes}
 use Rattle.std.proofs.lemmas.List.{length-map}
 use Rattle.blockspec.specs.UnitTree.{UnitTree}
 use Rattle.blockspec.specs.ItemMarks.{ItemMark}
 use Rattle.mdblock.specs.FoundLists.{FoundList, StandsForUnit}
-use Rattle.mdblock.specs.declared.units.Join.{Join}
 use Rattle.mdview.specs.HeldItems.{mark_in}
 use Rattle.mdblock.specs.Spliced.{MeetsAt, mark_at}
-use Rattle.mdview.proofs.HeldJoins.{joined_mark}
+use Rattle.mdview.proofs.HeldJoins.{joined_mark, no_join}
 use Rattle.mdview.proofs.ListsStand.{stands_placed}
 use Rattle.mdview.proofs.blocks.reparse.join_held.Goals as goal
-
-abbrev no_join : Join
-no_join = record { line = 0; texts = 0; definitions = 0; loose = false }
 
 pub returns-clause-place : goal.returns-clause-place
 returns-clause-place c =
@@ -23,7 +19,7 @@ returns-clause-place c =
       refl,
       refl,
       c.saturating_add.ensures,
-      c.saturating_add-2.ensures ∙ ap (λ n. min (c.args.read.meet + n) 18446744073709551615) (c.saturating_sub-2.ensures ∙ ap (λ n. n - (get_or c.joins.result.now c.args.item.item no_join).line) lines ∙ ap (λ n. c.args.item.unit.now.read.lines - n) (sym line)),
+      c.saturating_add-2.ensures ∙ ap (λ n. min (c.args.line + n) 18446744073709551615) (c.saturating_sub-2.ensures ∙ ap (λ n. n - (get_or c.joins.result.now c.args.item.item no_join).line) lines ∙ ap (λ n. c.args.item.unit.now.read.lines - n) (sym line)),
     )
 
 pub returns-clause-list : goal.returns-clause-list

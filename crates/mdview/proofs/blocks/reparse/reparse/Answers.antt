@@ -11,7 +11,7 @@ use Rattle.mdsource.specs.Stretch.{from_line, is_meeting, meeting_line}
 use Rattle.mdsource.specs.UnitTiles.{IsAhead}
 use Rattle.mdsource.proofs.ReadLines.{none_deep}
 use Rattle.mdsource.proofs.UnitPlaces.{ahead_later}
-use Rattle.mdview.specs.HeldBlocks.{IsDeepAt, line_before, lines_in, old_lines, places_of}
+use Rattle.mdview.specs.HeldBlocks.{IsDeepAt, IsReread, line_before, lines_in, old_lines, places_of}
 use Rattle.mdview.specs.NewText.{lines_of}
 use Rattle.mdchunks.specs.Sequences.{Sequence}
 use Rattle.mdview.specs.HeldLists.{StandsAt}
@@ -35,7 +35,7 @@ use Rattle.mdsource.proofs.NearDepths.{near_deep}
 use Rattle.mdsource.specs.Stretch.{units_before}
 use Rattle.mdview.specs.HeldBlocks.{HoldsUnits}
 use Rattle.mdview.specs.HeldItems.{IsCounted, IsItemOf}
-use Rattle.mdview.specs.StopLines.{stops_of}
+use Rattle.mdview.specs.StopLines.{IsReadToStop, stops_of}
 use Rattle.mdview.specs.HeldUnit.{read_of}
 use Rattle.mdview.specs.declared.blocks.reparse.Reparsed.{Reparsed}
 use Rattle.mdview.proofs.FewUnits.{few_units}
@@ -52,8 +52,8 @@ loop-line-init g c =
     let new = lines_of text in
     let p = places_of e text in
     let limit = c.args.held.now.options.now.max_containers in
-    let r = c.resume_at-from.result in
-    let s = begins_reading e text c.args.held.now.head c.args.held.now.units.now.items c.at.result r.from r.start.unit r.start.line c.requires.held c.requires.old c.at.ensures.at c.resume_at-from.ensures.resumed in
+    let r = c.resume_at-resume.result in
+    let s = begins_reading e text c.args.held.now.head c.args.held.now.units.now.items c.at.result r.from r.start.unit r.start.line c.requires.held c.requires.old c.at.ensures.at c.resume_at-resume.ensures.resumed in
     let old = old_lines text in
     let reader = c.in_ok-reader.reader in
     let so_far = c.in_ok-reader.ensures in
@@ -72,7 +72,7 @@ loop-line-init g c =
       above = res_above e old new p (is_edit e text) limit reader (map found_unit c.new-found.result.items) begun up_to (subst (Reads limit e reader) read so_far.reads)
           (ap (handed e) (sym read) ∙ so_far.none) (ap (map found_unit) c.new-found.ensures.items);
       near = let behind = res_near e old new (stops_of e text) (is_stop e text) in omega (arith, behind, up_to);
-      counted = subst (IsCounted c.args.held.now.head c.args.held.now.units.now.items) (sym c.at-cursor.ensures.1) c.resume_at-from.ensures.counted;
+      counted = subst (IsCounted c.args.held.now.head c.args.held.now.units.now.items) (sym c.at-cursor.ensures.1) c.resume_at-resume.ensures.counted;
       ahead = subst (λ (next : UnitStart). IsAhead (map lines_in c.args.held.now.units.now.items) p.old_begins next.unit next.line (line_before p begun)) (sym c.at-cursor.ensures.1)
           (subst (λ n. IsAhead (map lines_in c.args.held.now.units.now.items) p.old_begins r.start.unit r.start.line n) was s.2);
       stands = subst (All (StandsAt e (drop (from_line p) (take begun new)))) (sym c.new-found.ensures.items) (All-nil (StandsAt e (drop (from_line p) (take begun new))));
@@ -80,13 +80,13 @@ loop-line-init g c =
 
 -- ---- what is known of a line in the loop
 
-at_line : (g : Over) (c : After-line-in-loop-line g) → AtLine c.args.held.now.entities.now c.args.text c.resume_at-from.result.from c.resume_at-from.result.start.unit c.loop-line.cursor.units.now.items c.loop-line.cursor.next c.loop-line.line
+at_line : (g : Over) (c : After-line-in-loop-line g) → AtLine c.args.held.now.entities.now c.args.text c.resume_at-resume.result.from c.resume_at-resume.result.start.unit c.loop-line.cursor.units.now.items c.loop-line.cursor.next c.loop-line.line
 at_line g c =
     let e = c.args.held.now.entities.now in
     let text = c.args.text in
     let p = places_of e text in
-    let r = c.resume_at-from.result in
-    let s = begins_reading e text c.args.held.now.head c.args.held.now.units.now.items c.at.result r.from r.start.unit r.start.line c.requires.held c.requires.old c.at.ensures.at c.resume_at-from.ensures.resumed in
+    let r = c.resume_at-resume.result in
+    let s = begins_reading e text c.args.held.now.head c.args.held.now.units.now.items c.at.result r.from r.start.unit r.start.line c.requires.held c.requires.old c.at.ensures.at c.resume_at-resume.ensures.resumed in
     let inv = c.loop-line.invariant in
     let next = c.loop-line.cursor.next in
     record {
@@ -109,7 +109,7 @@ line_read g c =
     }
 
 cursor_at : (g : Over) (c : After-joined_at g)
-    → AtLine c.args.held.now.entities.now c.args.text c.resume_at-from.result.from c.resume_at-from.result.start.unit c.loop-line.cursor.units.now.items c.loop-line.cursor.next c.loop-line.line
+    → AtLine c.args.held.now.entities.now c.args.text c.resume_at-resume.result.from c.resume_at-resume.result.start.unit c.loop-line.cursor.units.now.items c.loop-line.cursor.next c.loop-line.line
     → CursorAt c.args.held.now.entities.now c.args.text c.args.held.now.head c.args.held.now.units.now c.met_at.new.cursor.units.now c.met_at.new.cursor.next c.loop-line.line
 cursor_at g c a =
     let e = c.args.held.now.entities.now in
@@ -140,8 +140,8 @@ pub returns-in_err-reader-clause-stretch : goal.returns-in_err-reader-clause-str
 returns-in_err-reader-clause-stretch g c =
     let e = c.args.held.now.entities.now in
     let text = c.args.text in
-    let r = c.resume_at-from.result in
-    let s = begins_reading e text c.args.held.now.head c.args.held.now.units.now.items c.at.result r.from r.start.unit r.start.line c.requires.held c.requires.old c.at.ensures.at c.resume_at-from.ensures.resumed in
+    let r = c.resume_at-resume.result in
+    let s = begins_reading e text c.args.held.now.head c.args.held.now.units.now.items c.at.result r.from r.start.unit r.start.line c.requires.held c.requires.old c.at.ensures.at c.resume_at-resume.ensures.resumed in
     let few = few_above e (old_lines text) (lines_of text) (stops_of e text) (is_stop e text) in
     omega (arith, few, c.in_err-reader.ensures.no_more, s.0)
 
@@ -185,7 +185,7 @@ returns-in-Err-clause-deep g c =
 
 -- that reading ends there, all units above it are found, and no container lies too deep
 met : (g : Over) (c : In-Some g)
-    → AtLine c.args.held.now.entities.now c.args.text c.resume_at-from.result.from c.resume_at-from.result.start.unit c.loop-line.cursor.units.now.items c.loop-line.cursor.next c.loop-line.line
+    → AtLine c.args.held.now.entities.now c.args.text c.resume_at-resume.result.from c.resume_at-resume.result.start.unit c.loop-line.cursor.units.now.items c.loop-line.cursor.next c.loop-line.line
     → LineRead c.args.text c.loop-line.reader c.line-in-loop-line.new.self c.loop-line.found.items c.push_some.new.found.items c.in-Ok.unit c.loop-line.line
     → (is_meeting (places_of c.args.held.now.entities.now c.args.text) c.loop-line.line ≡ true) × (meeting_line (places_of c.args.held.now.entities.now c.args.text) ≡ c.loop-line.line)
     × (map found_unit c.push_some.new.found.items ≡ units c.args.held.now.entities.now (drop (from_line (places_of c.args.held.now.entities.now c.args.text)) (take c.loop-line.line (lines_of c.args.text))))
@@ -197,7 +197,7 @@ met g c a l =
     let line = c.loop-line.line in
     let above = c.loop-line.invariant.above in
     let lines = drop (from_line (places_of e text)) (take line (lines_of text)) in
-    met_there limit e text c.resume_at-from.result.from c.resume_at-from.result.start.unit c.loop-line.cursor.units.now.items c.loop-line.cursor.next line a c.requires.fits
+    met_there limit e text c.resume_at-resume.result.from c.resume_at-resume.result.start.unit c.loop-line.cursor.units.now.items c.loop-line.cursor.next line a c.requires.fits
     c.loop-line.reader c.line-in-loop-line.new.self c.loop-line.found.items c.push_some.new.found.items c.in-Ok.unit l above
     (c.in-Some.ensures.met limit e (up_to_line e text line) (l.reads limit e lines above.reads) a.ahead)
 
@@ -217,8 +217,9 @@ returns-in-Some-clause-soon g c =
     let a = at_line g s.After-line-in-loop-line in
     let l = line_read g s.In_ok-push_some-in-Ok in
     let m = met g s.In-Some a l in
-    read_to_stop e text c.push_some.new.found.items
-    (m.2 ∙ ap (λ n. units e (drop (from_line (places_of e text)) (take n (lines_of text)))) (sym (stops_met e text c.loop-line.line m.1 c.loop-line.invariant.near)))
+    subst (IsReadToStop e text) (sym c.up_to.ensures)
+    (read_to_stop e text c.push_some.new.found.items
+    (m.2 ∙ ap (λ n. units e (drop (from_line (places_of e text)) (take n (lines_of text)))) (sym (stops_met e text c.loop-line.line m.1 c.loop-line.invariant.near))))
 
 pub returns-in-Some-clause-read : goal.returns-in-Some-clause-read
 returns-in-Some-clause-read g c =
@@ -235,7 +236,7 @@ returns-in-Some-clause-read g c =
     let m = met g s.In-Some a l in
     let ls = drop (from_line p) (take line new) in
     let cursor = c.met_at.new.cursor in
-    record {
+    subst (IsReread e text) (sym c.up_to.ensures) (record {
       from = a.from_is;
       meet = sym m.1;
       first = a.first_is;
@@ -244,7 +245,7 @@ returns-in-Some-clause-read g c =
       found = m.2 ∙ ap (λ n. units e (drop n (take line new))) (sym a.from_is);
       stands = subst (λ n. All (StandsAt e (drop n (take line new))) c.push_some.new.found.items) (sym a.from_is)
           (stands_pushed e ls c.loop-line.found.items c.push_some.new.found.items c.in-Ok.unit l.pushed (c.in-Ok.ensures.stands limit e ls inv.above.reads) inv.stands);
-    }
+    })
 
 -- ---- no unit and no item does
 
@@ -265,7 +266,7 @@ loop-line-preserved g c =
     let at = cursor_at g s.After-joined_at a in
     let lines = drop (from_line p) (take line new) in
     let reads = l.reads limit e lines inv.above.reads in
-    let not_here = unmet_there limit e text c.resume_at-from.result.from c.resume_at-from.result.start.unit c.loop-line.cursor.units.now.items c.loop-line.cursor.next line a
+    let not_here = unmet_there limit e text c.resume_at-resume.result.from c.resume_at-resume.result.start.unit c.loop-line.cursor.units.now.items c.loop-line.cursor.next line a
     (c.in_default.ensures.met limit e (up_to_line e text line) reads a.ahead) in
     let later : line_before p line ≤ line_before p (line + 1) = omega arith in
     let then = c.joined_at.new.cursor in
@@ -291,7 +292,7 @@ loop-line-preserved g c =
 
 -- ---- the end of the text
 
-at_end : (g : Over) (c : After-finish g) → AtEnd c.args.held.now.options.now.max_containers c.args.held.now.entities.now c.args.text c.resume_at-from.result.from c.resume_at-from.result.start.unit c.loop-line.reader
+at_end : (g : Over) (c : After-finish g) → AtEnd c.args.held.now.options.now.max_containers c.args.held.now.entities.now c.args.text c.resume_at-resume.result.from c.resume_at-resume.result.start.unit c.loop-line.reader
     c.loop-line.found.items c.loop-line.line
 at_end g c =
     let e = c.args.held.now.entities.now in
@@ -299,8 +300,8 @@ at_end g c =
     let new = lines_of text in
     let p = places_of e text in
     let limit = c.args.held.now.options.now.max_containers in
-    let r = c.resume_at-from.result in
-    let s = begins_reading e text c.args.held.now.head c.args.held.now.units.now.items c.at.result r.from r.start.unit r.start.line c.requires.held c.requires.old c.at.ensures.at c.resume_at-from.ensures.resumed in
+    let r = c.resume_at-resume.result in
+    let s = begins_reading e text c.args.held.now.head c.args.held.now.units.now.items c.at.result r.from r.start.unit r.start.line c.requires.held c.requires.old c.at.ensures.at c.resume_at-resume.ensures.resumed in
     let within = in_new limit e (old_lines text) new p (is_edit e text) in
     let before : r.from + c.fed.result ≤ c.len-line-end.result = omega (arith, c.in_ok-reader.ensures.above, c.fed.ensures, within, c.len-line-end.ensures) in
     let last : c.loop-line.line ≡ length new = omega (arith, c.loop-line.auto.line-end before, c.loop-line-test.false, c.len-line-end.ensures) in
@@ -342,7 +343,7 @@ returns-clause-fits g c =
 
 -- all units from there on are found
 found_at_end : (g : Over) (c : In_ok-push_some-in-Ok-finish g)
-    → AtEnd c.args.held.now.options.now.max_containers c.args.held.now.entities.now c.args.text c.resume_at-from.result.from c.resume_at-from.result.start.unit c.loop-line.reader c.loop-line.found.items c.loop-line.line
+    → AtEnd c.args.held.now.options.now.max_containers c.args.held.now.entities.now c.args.text c.resume_at-resume.result.from c.resume_at-resume.result.start.unit c.loop-line.reader c.loop-line.found.items c.loop-line.line
     → map found_unit c.push_some-in-Ok-finish.new.found.items
     ≡ units c.args.held.now.entities.now (drop (from_line (places_of c.args.held.now.entities.now c.args.text)) (take (length (lines_of c.args.text)) (lines_of c.args.text)))
 found_at_end g c a =
@@ -360,11 +361,11 @@ returns-clause-read g c =
     let new = lines_of text in
     let p = places_of e text in
     let limit = c.args.held.now.options.now.max_containers in
-    let r = c.resume_at-from.result in
+    let r = c.resume_at-resume.result in
     let s = goal.at.returns-clause-read g c in
     let a = at_end g s.After-finish in
     let found = c.push_some-in-Ok-finish.new.found.items in
-    record {
+    subst (IsReread e text) (sym c.up_to-2.ensures) (record {
       from = a.from_is;
       meet = c.len-2.ensures ∙ sym a.meet;
       first = a.first_is;
@@ -374,7 +375,7 @@ returns-clause-read g c =
           (subst (λ n. All (StandsAt e (drop n (take (length new) new))) found) (sym a.from_is)
           (stands_pushed e (drop (from_line p) (take (length new) new)) c.loop-line.found.items found c.in-Ok-finish.unit c.in_ok-push_some-in-Ok-finish.ensures
           (c.in-Ok-finish.ensures.stands limit e (drop (from_line p) (take (length new) new)) a.above.reads) (subst (λ n. All (StandsAt e (drop (from_line p) (take n new))) c.loop-line.found.items) a.last c.loop-line.invariant.stands)));
-    }
+    })
 
 pub returns-clause-soon : goal.returns-clause-soon
 returns-clause-soon g c =
@@ -385,14 +386,15 @@ returns-clause-soon g c =
     let a = at_end g s.After-finish in
     let near = c.loop-line.invariant.near in
     let last = a.last in
-    read_to_stop e text c.push_some-in-Ok-finish.new.found.items
-    (found_at_end g s.In_ok-push_some-in-Ok-finish a ∙ ap (λ n. units e (drop (from_line (places_of e text)) (take n new))) (sym (stops_met e text (length new) a.meet (omega (arith, near, last)))))
+    subst (IsReadToStop e text) (sym c.up_to-2.ensures)
+    (read_to_stop e text c.push_some-in-Ok-finish.new.found.items
+    (found_at_end g s.In_ok-push_some-in-Ok-finish a ∙ ap (λ n. units e (drop (from_line (places_of e text)) (take n new))) (sym (stops_met e text (length new) a.meet (omega (arith, near, last))))))
 
 -- ---- a list goes on in one that is held
 
 -- where reading stops then
 stops_there : (g : Over) (c : In-Some-joined_at g)
-    → AtLine c.args.held.now.entities.now c.args.text c.resume_at-from.result.from c.resume_at-from.result.start.unit c.loop-line.cursor.units.now.items c.loop-line.cursor.next c.loop-line.line
+    → AtLine c.args.held.now.entities.now c.args.text c.resume_at-resume.result.from c.resume_at-resume.result.start.unit c.loop-line.cursor.units.now.items c.loop-line.cursor.next c.loop-line.line
     → LineRead c.args.text c.loop-line.reader c.line-in-loop-line.new.self c.loop-line.found.items c.push_some.new.found.items c.in-Ok.unit c.loop-line.line
     → CursorAt c.args.held.now.entities.now c.args.text c.args.held.now.head c.args.held.now.units.now c.met_at.new.cursor.units.now c.met_at.new.cursor.next c.loop-line.line
     → StopsAt c.args.held.now.entities.now c.args.text c.args.held.now.units.now.items c.in-Some-joined_at.item c.loop-line.line
@@ -438,7 +440,7 @@ record JoinedThere (g : Over) (c : After-join_held g) : Type 0 where
       c.in-Some-joined_at.item)
 
 joined_there : (g : Over) (c : After-join_held g)
-    → AtLine c.args.held.now.entities.now c.args.text c.resume_at-from.result.from c.resume_at-from.result.start.unit c.loop-line.cursor.units.now.items c.loop-line.cursor.next c.loop-line.line
+    → AtLine c.args.held.now.entities.now c.args.text c.resume_at-resume.result.from c.resume_at-resume.result.start.unit c.loop-line.cursor.units.now.items c.loop-line.cursor.next c.loop-line.line
     → LineRead c.args.text c.loop-line.reader c.line-in-loop-line.new.self c.loop-line.found.items c.push_some.new.found.items c.in-Ok.unit c.loop-line.line
     → CursorAt c.args.held.now.entities.now c.args.text c.args.held.now.head c.args.held.now.units.now c.met_at.new.cursor.units.now c.met_at.new.cursor.next c.loop-line.line
     → StopsAt c.args.held.now.entities.now c.args.text c.args.held.now.units.now.items c.in-Some-joined_at.item c.loop-line.line → JoinedThere g c
@@ -447,7 +449,7 @@ joined_there g c a l at stop =
     let text = c.args.text in
     let new = lines_of text in
     let limit = c.args.held.now.options.now.max_containers in
-    let r = c.resume_at-from.result in
+    let r = c.resume_at-resume.result in
     let line = c.loop-line.line in
     let inv = c.loop-line.invariant in
     let from = from_line (places_of e text) in

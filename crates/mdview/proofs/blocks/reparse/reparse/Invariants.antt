@@ -20,7 +20,7 @@ invariant-loop-line g l = record {
   lines : g.C.Count.lines l.count ≤ g.C.Count.lines l.fn.count + (l.line - l.from);
   inlines : g.C.Count.inlines l.count ≡ g.C.Count.inlines l.fn.count;
   same : l.cursor.units.now ≡ l.held.units.now;
-  forward : l.first ≤ l.cursor.next.unit;
+  forward : l.resume.start.unit ≤ l.cursor.next.unit;
   above : ReadAbove l.held.options.now.max_containers l.held.entities.now (lines_of l.text) (places_of l.held.entities.now l.text) l.reader (map found_unit l.found.items) l.line;
   near : l.line ≤ near_line (stops_of l.held.entities.now l.text);
   counted : IsCounted l.held.head l.held.units.now.items l.cursor.next;
