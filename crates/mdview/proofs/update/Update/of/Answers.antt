@@ -1,12 +1,13 @@
-use Rattle.std.proofs.Common.{◌≡◌, ℕ, List, None, arith, map, option_map, ap, ◌∙◌, sym}
+use Rattle.std.proofs.Common.{◌≡◌, ◌≤◌, ℕ, List, None, arith, map, option_map, ap, ◌∙◌, sym}
 use Rattle.std.specs.List.{All}
+use Rattle.std.specs.Prelude.{sum_by}
 use Rattle.std.proofs.lemmas.Result.{IfErr-weaker, IfOk-weaker}
 use Rattle.inlinespec.specs.LinkTails.{Table}
 use Rattle.mdsource.specs.LabelTable.{table}
 use Rattle.mdsource.specs.Refusals.{inline_too_deep, nesting_refusal}
 use Rattle.mdsource.specs.Setting.{Setting}
 use Rattle.mdsource.proofs.DeepUnits.{refused_for_spans}
-use Rattle.mdview.specs.HeldBlocks.{old_lines}
+use Rattle.mdview.specs.HeldBlocks.{lines_in, old_lines}
 use Rattle.mdview.specs.ReadUnits.{IsReadUnder}
 use Rattle.mdview.specs.HeldTexts.{IsRefusedBy, IsReread, asking_in_parts, deep_in_parts, head_read, number_again, setting_in, source_before, source_behind}
 use Rattle.mdsource.specs.TextFaults.{IsTextFault}
@@ -54,27 +55,27 @@ due_in_parts g c =
     (led_after held.labels.now c.in_ok-changes.changes) (led_behind g c) c.requires.old c.requires.few in
     nested_in_none setting (source_behind held text) c.in_ok-reparsed.ensures.fits ∙ refused_for_spans setting (source_behind held text) ∙ ap (option_map inline_too_deep) (sym deep)
 
+-- how many lines stand before the first unit then, where reading ends, and how many lines the units have that are held
+lines_small : (g : Over) (c : In_ok-reparsed g) → (head_read c.args.held.now.head c.in_ok-reparsed.reparsed ≤ 1000000) × (c.in_ok-reparsed.reparsed.meet ≤ 1000000) × (sum_by lines_in c.args.held.now.units.now.items ≤ 1000000)
+lines_small g c =
+    let held = c.args.held.now in
+    let text = c.args.text in
+    let before = table held.entities.now (source_before held text) in
+    let after = table held.entities.now (source_behind held text) in
+    let rp = c.in_ok-reparsed.reparsed in
+    let read = c.in_ok-reparsed.ensures.read in (
+      head_small (setting_in held) text held.prelude.now held.head held.units.now.items rp c.requires.held read before after c.requires.few,
+      meet_small (setting_in held) text held.prelude.now held.head held.units.now.items rp c.requires.held read before after c.requires.few,
+      held_small (setting_in held) text held.prelude.now held.head held.units.now.items rp c.requires.held read before after c.requires.old,
+    )
+
 -- ---- the answers
 
 pub behind-requires-clause-near : goal.behind-requires-clause-near
-behind-requires-clause-near g c =
-    let held = c.args.held.now in
-    let text = c.args.text in
-    let before = table held.entities.now (source_before held text) in
-    let after = table held.entities.now (source_behind held text) in
-    let a = head_small (setting_in held) text held.prelude.now held.head held.units.now.items c.in_ok-reparsed.reparsed c.requires.held c.in_ok-reparsed.ensures.read before after c.requires.few in
-    let b = held_small (setting_in held) text held.prelude.now held.head held.units.now.items c.in_ok-reparsed.reparsed c.requires.held c.in_ok-reparsed.ensures.read before after c.requires.old in
-    omega (arith, a, b)
+behind-requires-clause-near g c = let small = lines_small g (goal.at.behind-requires-clause-near g c).In_ok-reparsed in omega (arith, small.0, small.2)
 
 pub behind-requires-clause-far : goal.behind-requires-clause-far
-behind-requires-clause-far g c =
-    let held = c.args.held.now in
-    let text = c.args.text in
-    let before = table held.entities.now (source_before held text) in
-    let after = table held.entities.now (source_behind held text) in
-    let a = meet_small (setting_in held) text held.prelude.now held.head held.units.now.items c.in_ok-reparsed.reparsed c.requires.held c.in_ok-reparsed.ensures.read before after c.requires.few in
-    let b = held_small (setting_in held) text held.prelude.now held.head held.units.now.items c.in_ok-reparsed.reparsed c.requires.held c.in_ok-reparsed.ensures.read before after c.requires.old in
-    omega (arith, a, b)
+behind-requires-clause-far g c = let small = lines_small g (goal.at.behind-requires-clause-far g c).In_ok-reparsed in omega (arith, small.1, small.2)
 
 pub returns-clause-refused : goal.returns-clause-refused
 returns-clause-refused g c =
