@@ -1,6 +1,7 @@
 use Rattle.std.proofs.Common.{◌≡◌, ◌+◌, ℕ, false, ◌-◌, ◌^◌, ◌<◌, ◌≤◌, List, map, length, string_bytes, arith, ap, sym, ◌∙◌, refl, subst}
 use Rattle.std.proofs.lemmas.List.{length-map}
 use Rattle.mdsource.specs.Calls.{Call, put}
+use Rattle.mdsource.specs.ChangedPieces.{ChangedPieces}
 use Rattle.mdsource.specs.SoonTexts.{texts_soon}
 use Rattle.mdsource.specs.Stops.{lines_soon}
 use Rattle.mdsource.specs.Outcome.{accepted}
@@ -13,6 +14,7 @@ use Rattle.mdview.specs.HeldBlocks.{old_lines}
 use Rattle.mdview.specs.HeldTexts.{IsRefusedBy}
 use Rattle.mdview.specs.HeldUnit.{HeldUnit}
 use Rattle.mdview.specs.declared.preview.Preview.TheInside.{Inside}
+use Rattle.mdview.specs.declared.update.Update.{Update}
 use Rattle.mdview.specs.Lists.{replaced}
 use Rattle.mdview.specs.NewText.{lines_of}
 use Rattle.mdview.specs.Outcome.{answer_of, is_starved, outcome_of}
@@ -47,6 +49,10 @@ invariant_of-self-in_err-make_room g c =
 -- the document that a preview of these fields is
 abbrev document_in : Inside → Document
 document_in p = record { entities = p.entities; options = p.options; lines = map string_bytes p.lines.items; prelude = p.prelude.lines }
+
+-- the same with other lines
+abbrev with_lines : Inside → List (List ℕ) → Document
+with_lines p lines = record (document_in p) { lines = lines }
 
 abbrev lines_left : Inside → Call → List (List ℕ)
 lines_left p call = (put (source_of (document_in p)) call).lines
@@ -201,36 +207,51 @@ returns-clause-outcome g c =
     let call : Call = call_of c.args.at c.args.del c.args.add.now in
     let once = ap (λ (d : Document). due d.lines call) c.self.view_is ∙ c.in_ok-size.ensures.ok.0 in
     let patch = c.in_ok-patch.patch in
-    let left : List (List ℕ) → Document = λ ls. record (document_in p) { lines = ls } in
-    subst (λ (d : Document). (accepted patch, left (map string_bytes c.splice.new.self.items)) ≡ outcome_of false d call) c.self.view_is
-    (accepts (document_in p) call (left (map string_bytes c.splice.new.self.items)) patch once t.read.accepted
+    let left = with_lines p (map string_bytes c.splice.new.self.items) in
+    subst (λ (d : Document). (accepted patch, left) ≡ outcome_of false d call) c.self.view_is
+    (accepts (document_in p) call left patch once t.read.accepted
     (patch_is p.entities p.options (map string_bytes p.lines.items) p.prelude p.head p.labels p.units.items c.args.at c.args.del c.args.add.now c.new-text.result r c.self.invariant.5 c.self.invariant.7 c.self.invariant.3 is t.read
-    patch c.in_ok-patch.ensures t.small) (ap left t.lines))
+    patch c.in_ok-patch.ensures t.small) (ap (with_lines p) t.lines))
+
+-- What the patch brings: of the pieces, and of what the texts of the units read as.
+record Brought (g : Over) (c : After-commit g) : Type 0 where
+  pieces : Brings c.in_ok-patch.patch (pieces_of c.args.self.now) (pieces_of (with_lines c.self.inside (map string_bytes c.splice.new.self.items)))
+  readings : Brings c.in_ok-patch.patch (readings_of c.args.self.now) (readings_of (with_lines c.self.inside (map string_bytes c.splice.new.self.items)))
+
+brought : (g : Over) (c : After-commit g) → IsTextOf (document_in c.self.inside) c.args.at c.args.del c.args.add.now c.new-text.result → Taken g c → Brought g c
+brought g c is t = record {
+  pieces = held pieces_of
+      (pieces_brought p.entities p.options (map string_bytes p.lines.items) p.prelude p.head p.labels p.units.items c.args.at c.args.del c.args.add.now c.new-text.result r c.self.invariant.5 c.self.invariant.7 c.self.invariant.3 is t.read
+      c.commit.new.held.items t.next patch c.make_room.new.self c.commit.new.labels c.make_room.ensures.same c.commit.ensures.led c.in_ok-patch.ensures t.small);
+  readings = held readings_of
+      (readings_brought p.entities p.options (map string_bytes p.lines.items) p.prelude p.head p.labels p.units.items c.args.at c.args.del c.args.add.now c.new-text.result r c.self.invariant.5 c.self.invariant.7 c.self.invariant.3 is t.read
+      c.commit.new.held.items t.next patch c.make_room.new.self c.commit.new.labels c.make_room.ensures.same c.commit.ensures.led c.in_ok-patch.ensures t.small);
+}
+  where
+    p : Inside
+    p = c.self.inside
+
+    r : Update
+    r = c.in_ok-update.update
+
+    patch : ChangedPieces
+    patch = c.in_ok-patch.patch
+
+    -- the document before is the one that was held, and the lines then are those that are left
+    held : {A : Type 0} (shown : Document → List A) → Brings patch (shown (document_in p)) (shown (with_lines p (lines_left p (call_of c.args.at c.args.del c.args.add.now))))
+        → Brings patch (shown c.args.self.now) (shown (with_lines p (map string_bytes c.splice.new.self.items)))
+    held shown told =
+        subst (λ (d : Document). Brings patch (shown d) (shown (with_lines p (map string_bytes c.splice.new.self.items)))) c.self.view_is
+        (subst (λ ls. Brings patch (shown (document_in p)) (shown (with_lines p ls))) (sym t.lines) told)
 
 pub returns-clause-patch : goal.returns-clause-patch
 returns-clause-patch g c =
     let s = goal.at.returns-clause-patch g c in
     let is = text_is g s.After-of in
-    let t = taken g s.After-commit is in
-    let p = c.self.inside in
-    let r = c.in_ok-update.update in
-    let patch = c.in_ok-patch.patch in
-    let left : List (List ℕ) → Document = λ ls. record (document_in p) { lines = ls } in
-    subst (λ (d : Document). Brings patch (pieces_of d) (pieces_of (left (map string_bytes c.splice.new.self.items)))) c.self.view_is
-    (subst (λ ls. Brings patch (pieces_of (document_in p)) (pieces_of (left ls))) (sym t.lines)
-    (pieces_brought p.entities p.options (map string_bytes p.lines.items) p.prelude p.head p.labels p.units.items c.args.at c.args.del c.args.add.now c.new-text.result r c.self.invariant.5 c.self.invariant.7 c.self.invariant.3 is t.read
-    c.commit.new.held.items t.next patch c.make_room.new.self c.commit.new.labels c.make_room.ensures.same c.commit.ensures.led c.in_ok-patch.ensures t.small))
+    (brought g s.After-commit is (taken g s.After-commit is)).pieces
 
 pub returns-clause-units : goal.returns-clause-units
 returns-clause-units g c =
     let s = goal.at.returns-clause-units g c in
     let is = text_is g s.After-of in
-    let t = taken g s.After-commit is in
-    let p = c.self.inside in
-    let r = c.in_ok-update.update in
-    let patch = c.in_ok-patch.patch in
-    let left : List (List ℕ) → Document = λ ls. record (document_in p) { lines = ls } in
-    subst (λ (d : Document). Brings patch (readings_of d) (readings_of (left (map string_bytes c.splice.new.self.items)))) c.self.view_is
-    (subst (λ ls. Brings patch (readings_of (document_in p)) (readings_of (left ls))) (sym t.lines)
-    (readings_brought p.entities p.options (map string_bytes p.lines.items) p.prelude p.head p.labels p.units.items c.args.at c.args.del c.args.add.now c.new-text.result r c.self.invariant.5 c.self.invariant.7 c.self.invariant.3 is t.read
-    c.commit.new.held.items t.next patch c.make_room.new.self c.commit.new.labels c.make_room.ensures.same c.commit.ensures.led c.in_ok-patch.ensures t.small))
+    (brought g s.After-commit is (taken g s.After-commit is)).readings

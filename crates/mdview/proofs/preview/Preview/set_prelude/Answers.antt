@@ -20,7 +20,7 @@ use Rattle.mdview.proofs.HeldReadings.{holds_relabelled, near_still, shallow_sti
 use Rattle.mdview.proofs.Outcomes.{accepts, refused_by_reading, returns_refusal}
 use Rattle.mdview.proofs.PreludeOutcomes.{IsRenewalOf, pieces_renewed, readings_renewed, renewal_patch, renewal_refused, renewal_stands, renewed_blocks, renewed_rendered, renewed_texts, texts_of_prelude}
 use Rattle.mdview.proofs.preview.Preview.set_prelude.Given.{Over}
-use Rattle.mdview.proofs.preview.Preview.set_prelude.Goals.{After-of_prelude, In_ok-renewal}
+use Rattle.mdview.proofs.preview.Preview.set_prelude.Goals.{After-commit_readings, After-of_prelude, In_ok-renewal}
 use Rattle.mdview.proofs.preview.Preview.set_prelude.Goals as goal
 
 pub invariant_of-held-clause-shallow : goal.invariant_of-held-clause-shallow
@@ -153,22 +153,34 @@ returns-clause-outcome g c =
     (renewal_patch p.entities p.options (lines_in p) p.prelude prelude p.head p.labels p.units.items c.self.invariant.5 c.self.invariant.7 defined c.in_ok-renewal.renewal c.self.invariant.3 w.read patch c.in_ok-patch.ensures w.few added
     c.in_ok-prelude.ensures.read) (ap (document_in p) c.in_ok-prelude.ensures.read))
 
-pub returns-clause-patch : goal.returns-clause-patch
-returns-clause-patch g c =
+-- What the patch brings: of the pieces, and of what the texts of the units read as.
+record Brought (g : Over) (c : After-commit_readings g) : Type 0 where
+  pieces : Brings c.in_ok-patch.patch (pieces_of c.args.self.now) (pieces_of (document_in c.self.inside c.in_ok-prelude.prelude.lines))
+  readings : Brings c.in_ok-patch.patch (readings_of c.args.self.now) (readings_of (document_in c.self.inside c.in_ok-prelude.prelude.lines))
+
+brought : (g : Over) (c : After-commit_readings g)
+    → IsRenewalOf (setting_in c.self.inside) c.self.inside.labels c.in_ok-prelude.prelude c.self.inside.head c.self.inside.units.items c.in_ok-renewal.renewal → length c.self.inside.units.items < 2 ^ 64 → Brought g c
+brought g c read few =
     let p = c.self.inside in
     let prelude = c.in_ok-prelude.prelude in
-    let w = renewed g (goal.at.returns-clause-patch g c).In_ok-renewal in
     let patch = c.in_ok-patch.patch in
-    subst (λ (d : Document). Brings patch (pieces_of d) (pieces_of (document_in p prelude.lines))) c.self.view_is
-    (pieces_renewed p.entities p.options (lines_in p) p.prelude prelude p.head p.labels p.units.items c.self.invariant.5 c.self.invariant.7 c.in_ok-prelude.ensures.defined c.in_ok-renewal.renewal c.self.invariant.3 w.read
-    c.commit_readings.new.held.items c.commit_readings.ensures.units patch c.make_room.new.self c.commit_readings.new.labels c.make_room.ensures.same c.commit_readings.ensures.led c.in_ok-patch.ensures w.few)
+    record {
+      pieces = subst (λ (d : Document). Brings patch (pieces_of d) (pieces_of (document_in p prelude.lines))) c.self.view_is
+          (pieces_renewed p.entities p.options (lines_in p) p.prelude prelude p.head p.labels p.units.items c.self.invariant.5 c.self.invariant.7 c.in_ok-prelude.ensures.defined c.in_ok-renewal.renewal c.self.invariant.3 read
+          c.commit_readings.new.held.items c.commit_readings.ensures.units patch c.make_room.new.self c.commit_readings.new.labels c.make_room.ensures.same c.commit_readings.ensures.led c.in_ok-patch.ensures few);
+      readings = subst (λ (d : Document). Brings patch (readings_of d) (readings_of (document_in p prelude.lines))) c.self.view_is
+          (readings_renewed p.entities p.options (lines_in p) p.prelude prelude p.head p.labels p.units.items c.self.invariant.5 c.self.invariant.7 c.in_ok-prelude.ensures.defined c.in_ok-renewal.renewal c.self.invariant.3 read
+          c.commit_readings.new.held.items c.commit_readings.ensures.units patch c.make_room.new.self c.commit_readings.new.labels c.make_room.ensures.same c.commit_readings.ensures.led c.in_ok-patch.ensures few);
+    }
+
+pub returns-clause-patch : goal.returns-clause-patch
+returns-clause-patch g c =
+    let s = goal.at.returns-clause-patch g c in
+    let w = renewed g s.In_ok-renewal in
+    (brought g s.After-commit_readings w.read w.few).pieces
 
 pub returns-clause-units : goal.returns-clause-units
 returns-clause-units g c =
-    let p = c.self.inside in
-    let prelude = c.in_ok-prelude.prelude in
-    let w = renewed g (goal.at.returns-clause-units g c).In_ok-renewal in
-    let patch = c.in_ok-patch.patch in
-    subst (λ (d : Document). Brings patch (readings_of d) (readings_of (document_in p prelude.lines))) c.self.view_is
-    (readings_renewed p.entities p.options (lines_in p) p.prelude prelude p.head p.labels p.units.items c.self.invariant.5 c.self.invariant.7 c.in_ok-prelude.ensures.defined c.in_ok-renewal.renewal c.self.invariant.3 w.read
-    c.commit_readings.new.held.items c.commit_readings.ensures.units patch c.make_room.new.self c.commit_readings.new.labels c.make_room.ensures.same c.commit_readings.ensures.led c.in_ok-patch.ensures w.few)
+    let s = goal.at.returns-clause-units g c in
+    let w = renewed g s.In_ok-renewal in
+    (brought g s.After-commit_readings w.read w.few).readings
