@@ -10,6 +10,7 @@ pub mod Edit
 pub mod Outcome
 pub mod HeldBlocks
 pub mod HeldItems
+pub mod UnitCursors
 pub mod Run
 pub mod NewText
 pub mod LabelTargets

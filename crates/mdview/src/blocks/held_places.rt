@@ -91,6 +91,8 @@ pub(crate) struct UnitCursor<'a> {
 }
 
 impl<'a> UnitCursor<'a> {
+    ghost use Rattle.mdview.specs.UnitCursors.{GoesOn};
+
     /// A cursor at a unit.
     pub(crate) fn at(units: &'a Chunks<HeldUnit>, start: UnitStart) -> UnitCursor<'a>
         requires { start.unit ≤ length units.now.items }
@@ -105,15 +107,13 @@ impl<'a> UnitCursor<'a> {
 
     /// The unit that begins at a line. The lines that are asked for ascend.
     pub(crate) fn unit_at(&mut self, line: usize) -> Option<usize>
-        ensures same { self.new.units.now ≡ self.old.units.now }
-        ensures forward { self.old.next.unit ≤ self.new.next.unit }
+        ensures on { GoesOn self.old self.new }
         ensures unit { IfSome result (λ unit. (unit ≡ self.new.next.unit) × (unit < length self.new.units.now.items)) }
         ensures ahead { (e : EntityTable) (lines : List (List ℕ)) (low : ℕ) → length lines ≤ 1000000 → low ≤ line
             → IsAhead (map lines_in self.old.units.now.items) (begins e lines) self.old.next.unit self.old.next.line low
             → IsAhead (map lines_in self.old.units.now.items) (begins e lines) self.new.next.unit self.new.next.line line
             × (is_some result ≡ list_any (nat_eq line) (begins e lines)) }
         ensures here { is_some result ≡ true → self.new.next.line ≡ line }
-        ensures counted { (head : ℕ) → IsCounted head self.old.units.now.items self.old.next → IsCounted head self.old.units.now.items self.new.next }
     {
         self.pass(line);
         if self.next.unit < self.units.len() && self.next.line == line {
@@ -125,13 +125,11 @@ impl<'a> UnitCursor<'a> {
 
     /// The later item of a list that begins at a line. The lines that are asked for ascend.
     pub(crate) fn item_at(&mut self, line: usize) -> Option<HeldItem<'a>>
-        ensures same { self.new.units.now ≡ self.old.units.now }
-        ensures forward { self.old.next.unit ≤ self.new.next.unit }
+        ensures on { GoesOn self.old self.new }
         ensures item { IfSome result (IsItemOf self.new.units.now.items) }
         ensures ahead { (e : EntityTable) (lines : List (List ℕ)) (low : ℕ) → length lines ≤ 1000000 → low ≤ line
             → IsAhead (map lines_in self.old.units.now.items) (begins e lines) self.old.next.unit self.old.next.line low
             → IsAhead (map lines_in self.old.units.now.items) (begins e lines) self.new.next.unit self.new.next.line line }
-        ensures counted { (head : ℕ) → IsCounted head self.old.units.now.items self.old.next → IsCounted head self.old.units.now.items self.new.next }
         // Of units of some lines that begin where those before them end.
         ensures told { (e : EntityTable) (lines : List (List ℕ)) (head low : ℕ) → length lines ≤ 1000000 → low ≤ line → line < length lines
             → HoldsUnits e lines head (map read_of self.old.units.now.items)
@@ -148,13 +146,11 @@ impl<'a> UnitCursor<'a> {
 
     /// Passes the units that begin above a line.
     fn pass(&mut self, line: usize)
-        ensures same { self.new.units.now ≡ self.old.units.now }
-        ensures forward { self.old.next.unit ≤ self.new.next.unit }
+        ensures on { GoesOn self.old self.new }
         ensures past { self.new.next.unit < length self.new.units.now.items → line ≤ self.new.next.line }
         ensures ahead { (e : EntityTable) (lines : List (List ℕ)) (low : ℕ) → length lines ≤ 1000000 → low ≤ line
             → IsAhead (map lines_in self.old.units.now.items) (begins e lines) self.old.next.unit self.old.next.line low
             → IsAhead (map lines_in self.old.units.now.items) (begins e lines) self.new.next.unit self.new.next.line line }
-        ensures counted { (head : ℕ) → IsCounted head self.old.units.now.items self.old.next → IsCounted head self.old.units.now.items self.new.next }
     {
         while self.next.unit < self.units.len() && self.next.line < line {
             let unit = self.rest.next().unwrap();

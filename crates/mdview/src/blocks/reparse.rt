@@ -19,6 +19,7 @@ ghost use Rattle.mdview.specs.HeldLists.{list_in};
 ghost use Rattle.mdview.specs.HeldUnit.{read_of};
 ghost use Rattle.mdview.specs.KeptTexts.{IsKept};
 ghost use Rattle.mdview.specs.StopLines.{IsReadToStop, stops_of};
+ghost use Rattle.mdview.specs.UnitCursors.{GoesOn};
 ghost use Rattle.mdblock.specs.CountedLines.{counted_by};
 ghost use Rattle.mdsource.specs.SourceLimits.{size_of};
 ghost use Rattle.mdview.specs.NewText.{lines_of};
@@ -257,8 +258,7 @@ fn met_at(
     requires order { from ≤ line }
     requires old { length (old_lines text) ≤ 1000000 }
     requires new { line ≤ 1000000 }
-    ensures same { cursor.new.units.now ≡ cursor.old.units.now }
-    ensures forward { cursor.old.next.unit ≤ cursor.new.next.unit }
+    ensures on { GoesOn cursor.old cursor.new }
     ensures unit { IfSome result (λ unit. (unit ≡ cursor.new.next.unit) × (unit < length cursor.new.units.now.items)) }
     ensures ahead { (e : EntityTable) → let p = places_of e text.entry in
         IsAhead (map lines_in cursor.old.units.now.items) p.old_begins cursor.old.next.unit cursor.old.next.line (line_before p line)
@@ -267,7 +267,6 @@ fn met_at(
         IsAhead (map lines_in cursor.old.units.now.items) p.old_begins cursor.old.next.unit cursor.old.next.line (line_before p line)
         → is_some result ≡ (is_at (line - from) (open_begin e ls) && is_meeting p line) }
     ensures here { is_some result ≡ true → cursor.new.next.line ≡ line_before (places_of (usual_table []) text.entry) line }
-    ensures counted { (head : ℕ) → IsCounted head cursor.old.units.now.items cursor.old.next → IsCounted head cursor.old.units.now.items cursor.new.next }
 {
     if begins_at(reader, line - from) {
         held_at(cursor, text, line)
@@ -286,12 +285,10 @@ fn joined_at<'a>(
 ) -> Option<HeldItem<'a>>
     requires old { length (old_lines text) ≤ 1000000 }
     requires new { line ≤ 1000000 }
-    ensures same { cursor.new.units.now ≡ cursor.old.units.now }
-    ensures forward { cursor.old.next.unit ≤ cursor.new.next.unit }
+    ensures on { GoesOn cursor.old cursor.new }
     ensures ahead { (e : EntityTable) → let p = places_of e text.entry in
         IsAhead (map lines_in cursor.old.units.now.items) p.old_begins cursor.old.next.unit cursor.old.next.line (line_before p line)
         → IsAhead (map lines_in cursor.old.units.now.items) p.old_begins cursor.new.next.unit cursor.new.next.line (line_before p line) }
-    ensures counted { (head : ℕ) → IsCounted head cursor.old.units.now.items cursor.old.next → IsCounted head cursor.old.units.now.items cursor.new.next }
     ensures item { IfSome result (IsItemOf cursor.new.units.now.items) }
     ensures joined { is_some result ≡ true → held_joined reader.now.held ≡ true }
     ensures told { (limit : ℕ) (e : EntityTable) (ls : List (List ℕ)) (head : ℕ) → Reads limit e reader.now ls → let p = places_of e text.entry in
@@ -311,15 +308,13 @@ fn joined_at<'a>(
 fn held_at(cursor: &mut UnitCursor<'_>, text: NewText<'_>, line: usize) -> Option<usize>
     requires old { length (old_lines text) ≤ 1000000 }
     requires new { line ≤ 1000000 }
-    ensures same { cursor.new.units.now ≡ cursor.old.units.now }
-    ensures forward { cursor.old.next.unit ≤ cursor.new.next.unit }
+    ensures on { GoesOn cursor.old cursor.new }
     ensures unit { IfSome result (λ unit. (unit ≡ cursor.new.next.unit) × (unit < length cursor.new.units.now.items)) }
     ensures ahead { (e : EntityTable) → let p = places_of e text.entry in
         IsAhead (map lines_in cursor.old.units.now.items) p.old_begins cursor.old.next.unit cursor.old.next.line (line_before p line)
         → IsAhead (map lines_in cursor.old.units.now.items) p.old_begins cursor.new.next.unit cursor.new.next.line (line_before p line)
         × (is_some result ≡ is_meeting p line) }
     ensures here { is_some result ≡ true → cursor.new.next.line ≡ line_before (places_of (usual_table []) text.entry) line }
-    ensures counted { (head : ℕ) → IsCounted head cursor.old.units.now.items cursor.old.next → IsCounted head cursor.old.units.now.items cursor.new.next }
 {
     cursor.unit_at(text.old_line(line)?)
 }

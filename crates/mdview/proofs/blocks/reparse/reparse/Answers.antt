@@ -116,13 +116,13 @@ cursor_at g c a =
     let p = places_of e c.args.text in
     let head = c.args.held.now.head in
     let inv = c.loop-line.invariant in
-    let same = c.in_default.ensures.same in
+    let same = c.in_default.ensures.on.same in
     let next = c.met_at.new.cursor.next in
     let counted = subst (λ (us : Sequence HeldUnit). IsCounted head us.items c.loop-line.cursor.next) (sym inv.same) inv.counted in
     record {
       same = same ∙ inv.same;
       ahead = subst (λ (us : Sequence HeldUnit). IsAhead (map lines_in us.items) p.old_begins next.unit next.line (line_before p c.loop-line.line)) (sym same) (c.in_default.ensures.ahead e a.ahead);
-      counted = subst (λ (us : Sequence HeldUnit). IsCounted head us.items next) (sym same) (c.in_default.ensures.counted head counted);
+      counted = subst (λ (us : Sequence HeldUnit). IsCounted head us.items next) (sym same) (c.in_default.ensures.on.counted head counted);
       holds = subst (λ (us : Sequence HeldUnit). HoldsUnits e (old_lines c.args.text) head (map read_of us.items)) (sym (same ∙ inv.same)) c.requires.held;
     }
 
@@ -284,7 +284,7 @@ loop-line-preserved g c =
       above = read_next limit e old new p (is_edit e text) c.loop-line.reader c.line-in-loop-line.new.self (map found_unit c.loop-line.found.items) (map found_unit c.push_some.new.found.items) (option_map found_unit c.in-Ok.unit) line []
           a.order a.below l.reads l.hands (units_pushed c.loop-line.found.items c.push_some.new.found.items c.in-Ok.unit l.pushed) not_here inv.above;
       near = let up_to = inv.near in grind (arith, nat_tests, not_near, up_to);
-      counted = subst (λ (us : Sequence HeldUnit). IsCounted head us.items then.next) at.same (c.joined_at.ensures.counted head at.counted);
+      counted = subst (λ (us : Sequence HeldUnit). IsCounted head us.items then.next) at.same (c.joined_at.ensures.on.counted head at.counted);
       ahead = ahead_later (map lines_in c.args.held.now.units.now.items) p.old_begins then.next.unit then.next.line (line_before p line) (line_before p (line + 1)) later
           (subst (λ (us : Sequence HeldUnit). IsAhead (map lines_in us.items) p.old_begins then.next.unit then.next.line (line_before p line)) at.same (c.joined_at.ensures.ahead e at.ahead));
       stands = stands_read e new (from_line p) line [] c.loop-line.found.items c.push_some.new.found.items c.in-Ok.unit a.order a.below l.pushed (c.in-Ok.ensures.stands limit e lines inv.above.reads) inv.stands;
@@ -409,7 +409,7 @@ stops_there g c a l at =
     let item = c.in-Some-joined_at.item in
     let t = c.in-Some-joined_at.ensures.told limit e (up_to_line e text line) head (l.reads limit e (drop from (take line (lines_of text))) inv.above.reads) at.holds a.below at.ahead at.counted in
     stops_at e text head c.args.held.now.units.now.items limit c.loop-line.reader (map found_unit c.loop-line.found.items) line item c.requires.held a.order a.below inv.near inv.above
-    (subst (λ (us : Sequence HeldUnit). IsItemOf us.items item) (c.in-Some-joined_at.ensures.same ∙ at.same) c.in-Some-joined_at.ensures.item) t.1
+    (subst (λ (us : Sequence HeldUnit). IsItemOf us.items item) (c.in-Some-joined_at.ensures.on.same ∙ at.same) c.in-Some-joined_at.ensures.item) t.1
     (t.0 ∙ ap (λ z. is_joined e z && is_near (stops_of e text) line) (sym (stretch_next (lines_of text) from line [] a.order a.below)))
 
 pub join_held-requires-clause-fits : goal.join_held-requires-clause-fits
@@ -458,7 +458,7 @@ joined_there g c a l at stop =
     record {
       order = a.order;
       stop = stop;
-      of = subst (λ (us : Sequence HeldUnit). IsItemOf us.items c.in-Some-joined_at.item) (c.in-Some-joined_at.ensures.same ∙ at.same) c.in-Some-joined_at.ensures.item;
+      of = subst (λ (us : Sequence HeldUnit). IsItemOf us.items c.in-Some-joined_at.item) (c.in-Some-joined_at.ensures.on.same ∙ at.same) c.in-Some-joined_at.ensures.item;
       few_units_held = few_units e (old_lines text) c.args.held.now.head c.args.held.now.units.now.items c.requires.held c.requires.old;
       reads = subst (Reads limit e c.line-in-loop-line.new.self) (sym next) (l.reads limit e ls inv.above.reads);
       out =

@@ -20,8 +20,8 @@ returns-in_err-number-clause-told c = λ e lines head low few order inside w ahe
     let held : List HeldUnit = c.args.self.now.units.now.items in
     let begin = c.pass.new.self.next.line in
     let none : c.pass.new.self.next.unit ≡ 0 = nothing c.pass.new.self.next.unit c.in_err-number.ensures in
-    let many = ap (λ (us : Sequence HeldUnit). length us.items) c.pass.ensures.same in
-    let first : begin ≡ first_line head (map read_of held) 0 = c.pass.ensures.counted head counted ∙ ap (first_line head (map read_of held)) none in
+    let many = ap (λ (us : Sequence HeldUnit). length us.items) c.pass.ensures.on.same in
+    let first : begin ≡ first_line head (map read_of held) 0 = c.pass.ensures.on.counted head counted ∙ ap (first_line head (map read_of held)) none in
     let upto = front_passed e lines head held begin c.args.line inside w first (λ some. c.pass.ensures.past (omega (arith, some, many, none))) in (
       ap (λ o. is_some o) c.from_residual.ensures ∙ none_first e lines head held c.args.line w upto,
       rw c.from_residual.ensures tt,
@@ -32,7 +32,7 @@ returns-in_err-unit-clause-told c = λ e lines head low few order inside w ahead
     let held : List HeldUnit = c.args.self.now.units.now.items in
     let within = (c.pass.ensures.ahead e lines low few order ahead).within in
     let sizes = length-map held lines_in in
-    let many = ap (λ (us : Sequence HeldUnit). length us.items) c.pass.ensures.same in
+    let many = ap (λ (us : Sequence HeldUnit). length us.items) c.pass.ensures.on.same in
     absurd (something_got c.pass.new.self.units.now.items c.in_ok-number.number c.in_err-unit.ensures (omega (arith, within, sizes, many, c.in_ok-number.ensures)))
 
 -- The unit that is passed last begins last above the line.
@@ -44,10 +44,10 @@ last_is : (c : In_ok-unit) (e : EntityTable) (lines : List (List ℕ)) (head low
 last_is c e lines head low few order inside w ahead counted =
     let held : List HeldUnit = c.args.self.now.units.now.items in
     let unit : c.pass.new.self.next.unit ≡ c.in_ok-number.number + 1 = omega (arith, c.in_ok-number.ensures) in
-    let many = ap (λ (us : Sequence HeldUnit). length us.items) c.pass.ensures.same in
+    let many = ap (λ (us : Sequence HeldUnit). length us.items) c.pass.ensures.on.same in
     passed_last e lines head held c.in_ok-number.number c.in_ok-unit.unit.now c.pass.new.self.next.line c.args.line few inside w
-    (rw c.pass.ensures.same at (sym c.in_ok-unit.ensures)) (rw unit at (c.pass.ensures.ahead e lines low few order ahead))
-    (rw unit at (c.pass.ensures.counted head counted)) (λ more. c.pass.ensures.past (omega (arith, more, many, unit)))
+    (rw c.pass.ensures.on.same at (sym c.in_ok-unit.ensures)) (rw unit at (c.pass.ensures.ahead e lines low few order ahead))
+    (rw unit at (c.pass.ensures.on.counted head counted)) (λ more. c.pass.ensures.past (omega (arith, more, many, unit)))
 
 pub returns-in_err-item-clause-told : goal.returns-in_err-item-clause-told
 returns-in_err-item-clause-told c = λ e lines head low few order inside w ahead counted.

@@ -14,7 +14,7 @@ pub returns-then-self-line-clause-ahead : goal.returns-then-self-line-clause-ahe
 returns-then-self-line-clause-ahead c = λ e lines low few order w.
     let ahead = c.pass.ensures.ahead e lines low few order w in
     let sizes = map lines_in c.args.self.now.units.now.items in
-    let many : length sizes ≡ length c.pass.new.self.units.now.items = length-map c.args.self.now.units.now.items lines_in ∙ ap (λ (us : Sequence HeldUnit). length us.items) (sym c.pass.ensures.same) in
+    let many : length sizes ≡ length c.pass.new.self.units.now.items = length-map c.args.self.now.units.now.items lines_in ∙ ap (λ (us : Sequence HeldUnit). length us.items) (sym c.pass.ensures.on.same) in
     let here = c.if-self-line.true in (
       ahead,
       sym (unit_tells e lines sizes c.pass.new.self.next.unit c.pass.new.self.next.line c.args.line (omega (arith, many, c.if-self-len.true, c.len.ensures)) (omega (arith, here)) ahead
@@ -27,7 +27,7 @@ returns-else-self-len-clause-ahead c = λ e lines low few order w.
     let sizes = map lines_in c.args.self.now.units.now.items in
     let unit = c.pass.new.self.next.unit in
     let begin = c.pass.new.self.next.line in
-    let many : length sizes ≡ length c.pass.new.self.units.now.items = length-map c.args.self.now.units.now.items lines_in ∙ ap (λ (us : Sequence HeldUnit). length us.items) (sym c.pass.ensures.same) in
+    let many : length sizes ≡ length c.pass.new.self.units.now.items = length-map c.args.self.now.units.now.items lines_in ∙ ap (λ (us : Sequence HeldUnit). length us.items) (sym c.pass.ensures.on.same) in
     let told : list_any (nat_eq c.args.line) (begins e lines) ≡ false =
     elim c.else-self-len.branch [
       | else-self-len-via-then-self-len+else-self-line v ↦
