@@ -2,6 +2,7 @@ use Rattle.std.proofs.Common.{rules, ◌&&◌, nat_eq, ◌≡◌, ◌≤◌, ◌
 use Rattle.std.specs.List.{All}
 use Rattle.std.specs.Option.{option_map, option_to_list}
 use Rattle.std.proofs.lemmas.List.Elements.{All-nil}
+use Rattle.std.proofs.lemmas.Result.{IfErr-weaker}
 use Rattle.blockspec.specs.BlockUnits.{units}
 use Rattle.blockspec.specs.Nesting.{first_too_deep}
 use Rattle.mdblock.specs.FoundLists.{found_unit}
@@ -24,7 +25,10 @@ use Rattle.mdview.proofs.ListsStand.{stands_pushed}
 use Rattle.mdview.proofs.ReadStretches.{is_edit, stretch_next}
 use Rattle.mdview.proofs.Reparses.{ReadAbove, begins_reading, deep_at, deep_told, ended, found_all, new_fits, next_ends, next_is, in_new, read_next, stands_read, units_pushed}
 use Rattle.mdview.proofs.ResumedReading.{few_above, res_above, res_near}
+use Rattle.mdsource.specs.BlockFaults.{OfBlocks}
 use Rattle.mdsource.specs.Stops.{lines_to_stop, near_line}
+use Rattle.mdsource.specs.declared.fault.EditFault.{EditFault}
+use Rattle.mdsource.specs.declared.fault.EditFault.TheVariants.{NoMemory}
 use Rattle.mdsource.proofs.NearStretch.{near_told}
 use Rattle.std.specs.Prelude.{IfOk}
 use Rattle.std.proofs.lemmas.Bool.Decides.{nat_tests}
@@ -160,9 +164,6 @@ returns-in-Err-clause-stretch g c = stretch_in_loop g (goal.at.returns-in-Err-cl
 
 pub returns-in-Some-clause-stretch : goal.returns-in-Some-clause-stretch
 returns-in-Some-clause-stretch g c = stretch_in_loop g (goal.at.returns-in-Some-clause-stretch g c).After-line-in-loop-line
-
-pub returns-in-Some-joined_at-clause-stretch : goal.returns-in-Some-joined_at-clause-stretch
-returns-in-Some-joined_at-clause-stretch g c = stretch_in_loop g (goal.at.returns-in-Some-joined_at-clause-stretch g c).After-line-in-loop-line
 
 -- ---- a line that begins a container too deep
 
@@ -468,58 +469,39 @@ joined_there g c a l at stop =
       place = ok_one c.join_held.result (λ (x : Reparsed) (place : IsPlaced r.start.unit r.from line c.in-Some-joined_at.item x). (place.0 ∙ a.first_is, place.1 ∙ a.from_is, place.2, place.3)) c.join_held.ensures.place;
     }
 
-pub returns-in-Some-joined_at-clause-fits : goal.returns-in-Some-joined_at-clause-fits
-returns-in-Some-joined_at-clause-fits g c =
+pub returns-in-Some-joined_at : goal.returns-in-Some-joined_at
+returns-in-Some-joined_at g c =
     let e = c.args.held.now.entities.now in
     let text = c.args.text in
     let new = lines_of text in
     let from = from_line (places_of e text) in
     let limit = c.args.held.now.options.now.max_containers in
-    let s = goal.at.returns-in-Some-joined_at-clause-fits g c in
+    let held = c.args.held.now.units.now.items in
+    let reader = c.line-in-loop-line.new.self in
+    let found = c.push_some.new.found.items in
+    let line = c.loop-line.line in
+    let item = c.in-Some-joined_at.item in
+    let inv = c.loop-line.invariant in
+    let s = goal.at.returns-in-Some-joined_at g c in
     let a = at_line g s.After-line-in-loop-line in
     let l = line_read g s.In_ok-push_some-in-Ok in
     let at = cursor_at g s.After-joined_at a in
     let j = joined_there g s.After-join_held a l at (stops_there g s.In-Some-joined_at a l at) in
-    ok_any c.join_held.result (near_deep e limit (old_lines text) new (stops_of e text) (is_stop e text) c.requires.fits
-    ∙ ap (moved_on from) (ap (λ n. first_too_deep limit (drop from (take (n + 1) new))) j.stop.near
-    ∙ none_deep limit e c.line-in-loop-line.new.self (drop from (take (c.loop-line.line + 1) new)) j.reads))
-
-pub returns-in-Some-joined_at-clause-read : goal.returns-in-Some-joined_at-clause-read
-returns-in-Some-joined_at-clause-read g c =
-    let s = goal.at.returns-in-Some-joined_at-clause-read g c in
-    let a = at_line g s.After-line-in-loop-line in
-    let l = line_read g s.In_ok-push_some-in-Ok in
-    let at = cursor_at g s.After-joined_at a in
-    let j = joined_there g s.After-join_held a l at (stops_there g s.In-Some-joined_at a l at) in
-    ok_both c.join_held.result (joined_reread c.args.held.now.entities.now c.args.text c.args.held.now.units.now.items c.args.held.now.options.now.max_containers c.requires.fits c.line-in-loop-line.new.self c.push_some.new.found.items
-    c.loop-line.line c.in-Some-joined_at.item j.stop j.of c.requires.few j.few_units_held j.order j.reads j.out j.stands) j.place c.join_held.ensures.list
-
-pub returns-in-Some-joined_at-clause-kept : goal.returns-in-Some-joined_at-clause-kept
-returns-in-Some-joined_at-clause-kept g c =
-    let s = goal.at.returns-in-Some-joined_at-clause-kept g c in
-    let a = at_line g s.After-line-in-loop-line in
-    let l = line_read g s.In_ok-push_some-in-Ok in
-    let at = cursor_at g s.After-joined_at a in
-    let j = joined_there g s.After-join_held a l at (stops_there g s.In-Some-joined_at a l at) in
-    ok_one c.join_held.result (joined_kept c.args.held.now.entities.now c.args.text c.args.held.now.units.now.items c.args.held.now.options.now.max_containers c.requires.fits c.line-in-loop-line.new.self c.push_some.new.found.items
-    c.loop-line.line c.in-Some-joined_at.item j.stop j.of c.requires.few j.few_units_held j.order j.reads j.out j.stands) c.join_held.ensures.list
-
-pub returns-in-Some-joined_at-clause-soon : goal.returns-in-Some-joined_at-clause-soon
-returns-in-Some-joined_at-clause-soon g c =
-    let s = goal.at.returns-in-Some-joined_at-clause-soon g c in
-    let a = at_line g s.After-line-in-loop-line in
-    let l = line_read g s.In_ok-push_some-in-Ok in
-    let at = cursor_at g s.After-joined_at a in
-    let j = joined_there g s.After-join_held a l at (stops_there g s.In-Some-joined_at a l at) in
-    ok_one c.join_held.result (joined_soon c.args.held.now.entities.now c.args.text c.args.held.now.units.now.items c.args.held.now.options.now.max_containers c.requires.fits c.line-in-loop-line.new.self c.push_some.new.found.items
-    c.loop-line.line c.in-Some-joined_at.item j.stop j.of c.requires.few j.few_units_held j.order j.reads j.out j.stands) c.join_held.ensures.list
-
-pub returns-in-Some-joined_at-clause-order : goal.returns-in-Some-joined_at-clause-order
-returns-in-Some-joined_at-clause-order g c =
-    let s = goal.at.returns-in-Some-joined_at-clause-order g c in
-    let a = at_line g s.After-line-in-loop-line in
-    let l = line_read g s.In_ok-push_some-in-Ok in
-    let at = cursor_at g s.After-joined_at a in
-    let j = joined_there g s.After-join_held a l at (stops_there g s.In-Some-joined_at a l at) in
-    ok_both c.join_held.result (joined_order c.args.held.now.entities.now c.args.text c.args.held.now.units.now.items c.args.held.now.options.now.max_containers c.requires.fits c.line-in-loop-line.new.self c.push_some.new.found.items
-    c.loop-line.line c.in-Some-joined_at.item j.stop j.of c.requires.few j.few_units_held j.order j.reads j.out j.stands) j.place c.join_held.ensures.list
+    let below = a.below in
+    record {
+      fault = IfErr-weaker c.join_held.result (λ (f : EditFault). f ≡ NoMemory) OfBlocks (λ f is. subst OfBlocks (sym is) tt) c.join_held.ensures.fault;
+      deep = IfErr-weaker c.join_held.result (λ (f : EditFault). f ≡ NoMemory) (IsDeepAt (first_too_deep limit new)) (λ f is. subst (IsDeepAt (first_too_deep limit new)) (sym is) tt) c.join_held.ensures.fault;
+      fits = ok_any c.join_held.result (near_deep e limit (old_lines text) new (stops_of e text) (is_stop e text) c.requires.fits
+          ∙ ap (moved_on from) (ap (λ n. first_too_deep limit (drop from (take (n + 1) new))) j.stop.near ∙ none_deep limit e reader (drop from (take (line + 1) new)) j.reads));
+      read = ok_both c.join_held.result
+          (joined_reread e text held limit c.requires.fits reader found line item j.stop j.of c.requires.few j.few_units_held j.order j.reads j.out j.stands) j.place c.join_held.ensures.list;
+      kept = ok_one c.join_held.result
+          (joined_kept e text held limit c.requires.fits reader found line item j.stop j.of c.requires.few j.few_units_held j.order j.reads j.out j.stands) c.join_held.ensures.list;
+      soon = ok_one c.join_held.result
+          (joined_soon e text held limit c.requires.fits reader found line item j.stop j.of c.requires.few j.few_units_held j.order j.reads j.out j.stands) c.join_held.ensures.list;
+      stretch = stretch_in_loop g s.After-line-in-loop-line;
+      order = ok_both c.join_held.result
+          (joined_order e text held limit c.requires.fits reader found line item j.stop j.of c.requires.few j.few_units_held j.order j.reads j.out j.stands) j.place c.join_held.ensures.list;
+      lines = omega (arith, inv.lines, c.line-in-loop-line.ensures.lines, below);
+      inlines = c.line-in-loop-line.ensures.inlines ∙ inv.inlines;
+    }
