@@ -183,6 +183,7 @@ fn not_opened(rt: &HostRuntime, name: &str) -> Stop
 pub fn text_end<R: Read>(end: Result<(), ToolFault>, feed: &ReadFeed<R>) -> Result<(), Halt>
     ensures end { EndsBy end result }
     ensures source { IfErr result (λ halt. halt.source ≡ (if feed.now.calls_left == 2 ^ 64 - 1 then Source.Prelude else Source.Text)) }
+    ensures cause { IfErr result (λ halt. halt.cause ≡ feed.now.cause) }
 {
     match end {
         Ok(()) => Ok(()),
