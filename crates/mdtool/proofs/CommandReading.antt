@@ -3,12 +3,12 @@ use Rattle.std.proofs.Common.{◌≡◌, ℕ, ◌+◌, Bool, true, false, leb, L
 use Rattle.std.proofs.Math.Seq.{take-append_seam}
 use Rattle.std.proofs.lemmas.Bool.Decides.{nat_tests}
 use Rattle.mdtool.specs.declared.fault.ToolFault.{ToolFault}
-use Rattle.mdtool.specs.declared.fault.ToolFault.TheVariants.{Read, Write, Refused, BadCommand, Truncated, Table, NoMemory}
-use Rattle.mdtool.specs.Commands.{Command, Html, Change, Head, HtmlHead, Stop, Open, Bad, head_of, command_of, with_texts, first_command, stop_of, stop_at, script_lines, capped}
+use Rattle.mdtool.specs.declared.fault.ToolFault.TheVariants.{Read, Truncated, NoMemory}
+use Rattle.mdtool.specs.Commands.{Command, Html, Change, Head, HtmlHead, Stop, Open, Bad, Short, head_of, command_of, with_texts, first_command, stop_of, stop_at, script_lines, capped}
 use Rattle.mdsource.specs.Calls.{Call}
 use Rattle.mdtool.specs.Pending.{Pending, MayFollow, Reads, Draws, HasLine, IsOver, used}
-use Rattle.mdtool.specs.Steps.{Steps, StopsAt, ReadsCommand, FewLines, ReadsTexts, NextCommand}
-use Rattle.mdtool.proofs.Readings.{reads_on, reads_line}
+use Rattle.mdtool.specs.Steps.{Steps, StopsAt, ReadsCommand, FewLines, ReadsTexts, NextCommand, NextTexts}
+use Rattle.mdtool.proofs.Readings.{draws_on, reads_on, reads_line}
 
 stop_cons : (ended : Bool) (n : ℕ) (line : List ℕ) (lines : List (List ℕ)) → stop_at ended n (line ∷ lines) ≡ stop_of (head_of line) ended n
 stop_cons true n line lines = refl
@@ -101,8 +101,14 @@ pub fails_first : {T : Type 0} (fault : ToolFault) (ok : T → Type 0) (read mem
     → (read → StopsAt a o c Open) → (memory → Draws a o.is_ended c) → Steps {T = T} (Err fault) ok read memory → NextCommand (Err fault) a o c n
 fails_first Read ok read memory a o c n f g h = f h
 fails_first NoMemory ok read memory a o c n f g h = g h
-fails_first Write ok read memory a o c n f g h = h
-fails_first (Refused fault) ok read memory a o c n f g h = absurd h
-fails_first (BadCommand line) ok read memory a o c n f g h = absurd h
-fails_first (Truncated line) ok read memory a o c n f g h = absurd h
-fails_first (Table fault) ok read memory a o c n f g h = absurd h
+fails_first _ ok read memory a o c n f g h = absurd h
+
+-- lines that can't be read below its head end it so
+pub texts_stop : (fault : ToolFault) (a b c : Option (List ℕ)) (o p n : Pending) (line : List ℕ) (head : Head) (call : List (List ℕ) → Call) (number add : ℕ) → Reads a o (line ∷ []) b p
+    → head_of line ≡ Some head → ((lines : List (List ℕ)) → command_of (Some head) lines ≡ with_texts add call lines) → number ≡ capped (o.lines + 1)
+    → NextTexts (Err fault) number add b p c n → NextCommand (Err fault) a o c n
+texts_stop Read a b c o p n line head call number add read is asks at few = few_stops a b c o p n line head call add false read is asks few
+texts_stop (Truncated named) a b c o p n line head call number add read is asks at (same, few) =
+    subst (λ (k : ℕ). StopsAt a o c (Short k)) (sym (same ∙ at)) (few_stops a b c o p n line head call add true read is asks few)
+texts_stop NoMemory a b c o p n line head call number add read is asks at draws = draws_on a b c o p (line ∷ []) read draws
+texts_stop _ a b c o p n line head call number add read is asks at end = absurd end

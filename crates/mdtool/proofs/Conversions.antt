@@ -1,8 +1,9 @@
 -- The ends of a conversion, from those of its steps.
-use Rattle.std.proofs.Common.{◌≡◌, ℕ, List, [], Option, Some, None, Result, Ok, Err, String, refl, ap, sym, ◌∙◌, subst, inl, inr}
+use Rattle.std.proofs.Common.{◌≡◌, ℕ, List, [], Option, Some, None, Result, Ok, Err, String, string_bytes, refl, ap, sym, ◌∙◌, subst, inl, inr}
 use Rattle.std.specs.Global.{Global}
 use Rattle.std.specs.Result.{IsErrAnd}
 use Rattle.std.proofs.lemmas.Result.{err_from_is_err_and}
+use Rattle.mdsource.specs.Refusals.{refusal}
 use Rattle.mdsource.specs.Setting.{Setting}
 use Rattle.mdtext.specs.Lines.{text_lines}
 use Rattle.mdsource.specs.declared.fault.EditFault.{EditFault}
@@ -12,7 +13,7 @@ use Rattle.mdsource.specs.FaultReasons.{reason_of}
 use Rattle.mdsource.specs.Preludes.{HeldPrelude, IsDefinedBy}
 use Rattle.mdbatch.specs.ViewHtml.{ViewHtml}
 use Rattle.mdtool.specs.declared.fault.ToolFault.{ToolFault}
-use Rattle.mdtool.specs.declared.fault.ToolFault.TheVariants.{Read, Write, Refused, BadCommand, Truncated, Table, NoMemory}
+use Rattle.mdtool.specs.declared.fault.ToolFault.TheVariants.{Read, NoMemory}
 use Rattle.mdtool.specs.Convert.{Conversion, HasHtml, IsPreludeOf, PreludeRead, Reads, TextRead, WholeHtml, prelude_due, with_prelude}
 use Rattle.mdtool.specs.Drained.{TakesSome}
 use Rattle.mdtool.specs.Steps.{Steps}
@@ -57,22 +58,18 @@ module _ (setting : Setting) (given : List (List ℕ)) (left left' written : Opt
       → Steps {T = T} (Err fault) ok (TakesSome left left') (TakesSome left left') → Conversion {T = U} (Err fault) setting given left left' written written
   page_unread U Read ok stands end = (refl, stands, end)
   page_unread U NoMemory ok stands end = (refl, end)
-  page_unread U Write ok stands end = absurd end
-  page_unread U (Refused fault) ok stands end = absurd end
-  page_unread U (BadCommand line) ok stands end = absurd end
-  page_unread U (Truncated line) ok stands end = absurd end
-  page_unread U (Table fault) ok stands end = absurd end
+  page_unread U _ ok stands end = absurd end
 
   -- it was, and has no HTML
   pub page_no_html : {U : Type 0} (answer : Result U ToolFault) (fault : ToolFault) (text shown : List ℕ) → IsErrAnd answer (λ f. f ≡ fault)
       → shown ≡ text → prelude_due setting given ≡ None → TextRead left text left' → WholeHtml (Err fault) setting (with_prelude given (text_lines shown))
       → Conversion answer setting given left left' written written
   page_no_html answer fault text shown failed same stands (bytes, takes, is) end =
-      handed_on (λ f. WholeHtml (Err f) setting (with_prelude given (text_lines shown)))
-      (record { read = λ e. e; write = λ e. e; bad = λ line e. e; short = λ line e. e; table = λ why e. e })
-      (λ r. Conversion r setting given left left' written written) answer fault failed end
-      (λ why end. (refl, inr (record { lines = text_lines shown; read = (bytes, takes, ap text_lines (same ∙ is)); prelude_stands = stands; why = end })))
-      (λ end. (refl, (bytes, takes.0)))
+      handed_on (λ (html : String Global). HasHtml setting (with_prelude given (text_lines shown)) (string_bytes html))
+      (λ why. refusal setting (with_prelude given (text_lines shown)) ≡ Some (reason_of why))
+      (λ r. Conversion r setting given left left' written written)
+      (λ why refused. (refl, inr (record { lines = text_lines shown; read = (bytes, takes, ap text_lines (same ∙ is)); prelude_stands = stands; why = refused })))
+      (refl, (bytes, takes.0)) answer fault failed end
 
 -- it has
 pub page_reads : (setting : Setting) (given : List (List ℕ)) (left left' : Option (List ℕ)) (text shown html : List ℕ)
@@ -82,36 +79,21 @@ page_reads setting given left left' text shown html same stands (bytes, takes, i
     record { lines = text_lines shown; read = (bytes, takes, ap text_lines (same ∙ is)); prelude_stands = stands; has = has }
 
 -- the prelude was refused, or memory was for it; no device failed then
-module _ {U : Type 0} (answer : Result U ToolFault) (fault : ToolFault) (setting : Setting) (given : List (List ℕ))
-    (failed : IsErrAnd answer (λ f. f ≡ fault)) (end : PreludeRead (Err fault) setting given) where
-  page_ends : (P : Result U ToolFault → Type 0) → ((why : EditFault) → prelude_due setting given ≡ Some (reason_of why) → P (Err (Refused why)))
-      → P (Err NoMemory) → P answer
-  page_ends P refused starved =
-      handed_on (λ f. PreludeRead (Err f) setting given)
-      (record { read = λ e. e; write = λ e. e; bad = λ line e. e; short = λ line e. e; table = λ why e. e })
-      P answer fault failed end refused (λ e. starved)
-
-  pub page_ends_first : (left written : Option (List ℕ)) → Conversion answer setting given left left written written
-  page_ends_first left written =
-      page_ends (λ r. Conversion r setting given left left written written)
-      (λ why end. (refl, inl (record { why = end; unread = refl }))) (refl, ([], takes_nothing left))
-
-  pub page_devices_stay : (failures : ℕ) → NoDeviceFailed answer failures
-  page_devices_stay failures = page_ends (λ r. NoDeviceFailed r failures) (λ why end. (refl, refl)) (refl, refl)
+pub page_ends_first : {U : Type 0} (answer : Result U ToolFault) (fault : ToolFault) (setting : Setting) (given : List (List ℕ)) (left written : Option (List ℕ)) (feed out : ℕ)
+    → IsErrAnd answer (λ f. f ≡ fault) → PreludeRead (Err fault) setting given → Conversion answer setting given left left written written × NoDeviceFailed answer feed out
+page_ends_first answer fault setting given left written feed out failed end =
+    handed_on (λ (held : HeldPrelude). IsPreludeOf setting given held) (λ why. prelude_due setting given ≡ Some (reason_of why))
+    (λ r. Conversion r setting given left left written written × NoDeviceFailed r feed out)
+    (λ why refused. ((refl, inl (record { why = refused; unread = refl })), (refl, refl))) ((refl, ([], takes_nothing left)), (refl, refl))
+    answer fault failed end
 
 -- and none where the text was
-refusal_stays : (U : Type 0) (fault : EditFault) (failures : ℕ) → NoDeviceFailed {U = U} (Err (refusal_of fault)) failures
-refusal_stays U TooManyLines failures = (refl, refl)
-refusal_stays U TooLarge failures = (refl, refl)
-refusal_stays U (NestedTooDeep line) failures = (refl, refl)
-refusal_stays U (InlineTooDeep line) failures = (refl, refl)
-refusal_stays U EditNoMemory failures = (refl, refl)
-refusal_stays U (OutOfRange count) failures = (refl, refl)
-refusal_stays U (BreakInLine index) failures = (refl, refl)
-refusal_stays U (NotDefinitions line) failures = (refl, refl)
+refusal_stays : (U : Type 0) (fault : EditFault) (feed out : ℕ) → NoDeviceFailed {U = U} (Err (refusal_of fault)) feed out
+refusal_stays U EditNoMemory feed out = (refl, refl)
+refusal_stays U _ feed out = (refl, refl)
 
-pub page_refusal_stays : {U : Type 0} (answer : Result U ToolFault) (tool : ToolFault) (failures : ℕ) → IsErrAnd answer (λ f. f ≡ tool) → IsRefusal tool
-    → NoDeviceFailed answer failures
-page_refusal_stays {U} answer tool failures failed (fault, is) =
+pub page_refusal_stays : {U : Type 0} (answer : Result U ToolFault) (tool : ToolFault) (feed out : ℕ) → IsErrAnd answer (λ f. f ≡ tool) → IsRefusal tool
+    → NoDeviceFailed answer feed out
+page_refusal_stays {U} answer tool feed out failed (fault, is) =
     let p = err_from_is_err_and answer failed in
-    rw (p.1, p.2, is) (refusal_stays U fault failures)
+    rw (p.1, p.2, is) (refusal_stays U fault feed out)

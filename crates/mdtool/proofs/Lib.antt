@@ -12,7 +12,8 @@ pub mod CommandReading
 pub mod PatchLine
 pub mod ServeRuns
 pub mod ServeEnds
-pub mod CountRuns
+pub mod AnsweredScripts
+pub mod CountedScripts
 pub mod Rows
 pub mod OnlyRefuses
 pub mod PreludeEnds

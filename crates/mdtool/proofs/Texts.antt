@@ -1,7 +1,9 @@
 -- The lines of an edit, read one by one.
-use Rattle.std.proofs.Common.{◌≡◌, ℕ, ◌<◌, Bool, List, [], ◌∷◌, ◌++◌, take, length, Option, refl, ap, sym, ◌∙◌, subst, append-nil, arith}
+use Rattle.std.proofs.Common.{◌≡◌, ℕ, ◌<◌, Bool, false, List, [], ◌∷◌, ◌++◌, take, length, Option, Err, refl, ap, sym, ◌∙◌, subst, append-nil, arith}
+use Rattle.mdtool.specs.declared.fault.ToolFault.{ToolFault}
+use Rattle.mdtool.specs.declared.fault.ToolFault.TheVariants.{Read, NoMemory}
 use Rattle.mdtool.specs.Pending.{Pending, Reads, Draws, HasLine, IsOver, Uses, used}
-use Rattle.mdtool.specs.Steps.{FewLines}
+use Rattle.mdtool.specs.Steps.{FewLines, NextTexts, Steps}
 use Rattle.mdtool.proofs.Readings.{reads_on, reads_line, draws_of}
 
 -- bytes that were taken and gave no line
@@ -36,3 +38,10 @@ few_lines a b c o p n ended wanted lines read found over few = record {
 
 pub lines_draw : (a b c : Option (List ℕ)) (o p n : Pending) (lines : List (List ℕ)) → Reads a o lines b p → Reads b p [] c n → Draws a o.is_ended c
 lines_draw a b c o p n lines read found = draws_of a c o n lines (reads_also a b c o p n lines read found)
+
+-- the step that fails where a line is read
+pub texts_fail : {T : Type 0} (fault : ToolFault) (ok : T → Type 0) (read memory : Type 0) (number count : ℕ) (a : Option (List ℕ)) (o : Pending) (c : Option (List ℕ)) (n : Pending)
+    → (read → FewLines a o c n false count) → (memory → Draws a o.is_ended c) → Steps {T = T} (Err fault) ok read memory → NextTexts (Err fault) number count a o c n
+texts_fail Read ok read memory number count a o c n f g h = f h
+texts_fail NoMemory ok read memory number count a o c n f g h = g h
+texts_fail _ ok read memory number count a o c n f g h = absurd h

@@ -1,8 +1,7 @@
 -- The commands of a script.
-use Rattle.std.specs.Prelude.{◌≡◌, ℕ, ◌+◌, ◌-◌, ◌*◌, ◌^◌, Bool, true, false, List, [], ◌∷◌, ◌++◌, Option, Some, None, option_map, option_and_then, if◌then◌else◌, ◌==◌, ◌&&◌, not, nat_lt, nat_le, nat_eq, length, take, drop, map, fold, min, codes}
-use Rattle.std.specs.List.{list_any, list_all, before_first, after_first, position_or_len}
+use Rattle.std.specs.Prelude.{◌≡◌, ℕ, ◌+◌, ◌-◌, ◌^◌, Bool, true, false, List, [], ◌∷◌, ◌++◌, Option, Some, None, option_map, option_and_then, if◌then◌else◌, ◌==◌, nat_lt, nat_le, nat_eq, length, take, drop, map, min, codes}
+use Rattle.std.specs.List.{list_any, before_first, after_first, position_or_len}
 use Rattle.std.specs.Cmp.Lexicographic.{pointwise}
-use Rattle.std.specs.Char.{is_ascii_digit}
 use Rattle.std.specs.Str.Lossy.{utf8_lossy}
 use Rattle.mdsource.specs.Calls.{Call, edit, set_prelude}
 use Rattle.mdwords.specs.Numbers.{number}

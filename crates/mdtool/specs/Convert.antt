@@ -15,6 +15,7 @@ use Rattle.mdtool.specs.declared.fault.ToolFault.{ToolFault}
 use Rattle.mdtool.specs.declared.fault.ToolFault.TheVariants.{Read, Write, Refused, BadCommand, Truncated, Table, NoMemory}
 use Rattle.mdtool.specs.Bytes.{Gains, GainsFront}
 use Rattle.mdtool.specs.Drained.{TakesAll, TakesSome}
+use Rattle.mdtool.specs.ToolRefusals.{OnlyRefuses}
 
 -- the text of all bytes that were left; bytes that are no UTF-8 are read as U+FFFD
 abbrev pub TextRead : Option (List ℕ) → List ℕ → Option (List ℕ) → Type 0
@@ -40,14 +41,7 @@ pub record IsPreludeOf (setting : Setting) (prelude : List (List ℕ)) (held : H
 
 -- what each end of the reading of a prelude says; there is no other
 abbrev pub PreludeRead : Result HeldPrelude ToolFault → Setting → (prelude : List (List ℕ)) → Type 0
-PreludeRead (Ok held) setting prelude = IsPreludeOf setting prelude held
-PreludeRead (Err (Refused fault)) setting prelude = prelude_due setting prelude ≡ Some (reason_of fault)
-PreludeRead (Err NoMemory) setting prelude = Unit {0}
-PreludeRead (Err Read) setting prelude = ⊥
-PreludeRead (Err Write) setting prelude = ⊥
-PreludeRead (Err (BadCommand line)) setting prelude = ⊥
-PreludeRead (Err (Truncated line)) setting prelude = ⊥
-PreludeRead (Err (Table fault)) setting prelude = ⊥
+PreludeRead read setting prelude = OnlyRefuses read (λ held. IsPreludeOf setting prelude held) (λ fault. prelude_due setting prelude ≡ Some (reason_of fault))
 
 -- the text is not refused, and this is its HTML
 pub record HasHtml (setting : Setting) (source : Source) (html : List ℕ) : Type 0 where
@@ -56,14 +50,7 @@ pub record HasHtml (setting : Setting) (source : Source) (html : List ℕ) : Typ
 
 -- what each end of the reading of a whole text says; there is no other
 abbrev pub WholeHtml : Result (String Global) ToolFault → Setting → Source → Type 0
-WholeHtml (Ok html) setting source = HasHtml setting source (string_bytes html)
-WholeHtml (Err (Refused fault)) setting source = refusal setting source ≡ Some (reason_of fault)
-WholeHtml (Err NoMemory) setting source = Unit {0}
-WholeHtml (Err Read) setting source = ⊥
-WholeHtml (Err Write) setting source = ⊥
-WholeHtml (Err (BadCommand line)) setting source = ⊥
-WholeHtml (Err (Truncated line)) setting source = ⊥
-WholeHtml (Err (Table fault)) setting source = ⊥
+WholeHtml read setting source = OnlyRefuses read (λ html. HasHtml setting source (string_bytes html)) (λ fault. refusal setting source ≡ Some (reason_of fault))
 
 -- All bytes were read; neither the prelude nor the text that they make is refused, and this is its HTML.
 pub record Reads (setting : Setting) (prelude : List (List ℕ)) (left left' : Option (List ℕ)) (html : List ℕ) : Type 0 where

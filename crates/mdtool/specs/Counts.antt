@@ -1,15 +1,13 @@
 -- What a script's commands are said to have read, at each end.
-use Rattle.std.specs.Prelude.{◌≡◌, ◌⊎◌, ℕ, ◌≤◌, Bool, List, [], ◌∷◌, ◌++◌, Option, Result, Ok, Err, decimal, map}
+use Rattle.std.specs.Prelude.{◌≡◌, ℕ, ◌≤◌, Bool, List, [], ◌∷◌, ◌++◌, Option, Result, decimal, map}
 use Rattle.mdsource.specs.SoonTexts.{texts_soon}
 use Rattle.mdsource.specs.Stops.{lines_soon}
 use Rattle.mdview.specs.Document.{Document, setting_of, source_of}
 use Rattle.mdtool.specs.declared.fault.ToolFault.{ToolFault}
-use Rattle.mdtool.specs.declared.fault.ToolFault.TheVariants.{Read, Write, Refused, BadCommand, Truncated, Table, NoMemory}
 use Rattle.mdtool.specs.Bytes.{Gains, GainsFront}
-use Rattle.mdtool.specs.Commands.{Command, Html, Change, Stop, Done, Open, Bad, Short}
-use Rattle.mdtool.specs.PreludeSet.{Beside, PreludeRefused}
+use Rattle.mdtool.specs.Commands.{Command, Html, Change, Stop}
 use Rattle.mdtool.specs.Replies.{ScriptTurn, held_behind}
-use Rattle.mdtool.specs.Serve.{Begins, Ends}
+use Rattle.mdtool.specs.ScriptEnds.{Begins, Ends, EndsBeside}
 
 -- a command, and how many lines and inline texts were read for it
 pub record CountedTurn : Type 0 where
@@ -52,28 +50,13 @@ pub record CountedInPart (document : Document) (left left' written written' : Op
   pub within : AreWithin document counts
   pub said : GainsFront written (count_lines counts) written'
 
--- what each end says, where this is held at the beginning; there is no other
-abbrev pub Counts : {T : Type 0} → Result T ToolFault → Document → (left left' written written' : Option (List ℕ)) → Type 0
-Counts (Ok answer) document left left' written written' = Counted document left left' written written' Done
-Counts (Err (BadCommand line)) document left left' written written' = Counted document left left' written written' (Bad line)
-Counts (Err (Truncated line)) document left left' written written' = Counted document left left' written written' (Short line)
-Counts (Err Read) document left left' written written' = Counted document left left' written written' Open
-Counts (Err Write) document left left' written written' = CountedInPart document left left' written written'
-Counts (Err NoMemory) document left left' written written' = CountedInPart document left left' written written'
-Counts (Err (Refused fault)) document left left' written written' = ⊥
-Counts (Err (Table fault)) document left left' written written' = ⊥
-
 -- what each end says where the prelude is read first; there is no other
 abbrev pub CountsBeside : {T : Type 0} → Result T ToolFault → Document → List (List ℕ) → (left left' written written' : Option (List ℕ)) → Type 0
-CountsBeside (Ok answer) empty prelude left left' written written' = Beside empty prelude (λ held. Counted held left left' written written' Done)
-CountsBeside (Err (BadCommand line)) empty prelude left left' written written' = Beside empty prelude (λ held. Counted held left left' written written' (Bad line))
-CountsBeside (Err (Truncated line)) empty prelude left left' written written' = Beside empty prelude (λ held. Counted held left left' written written' (Short line))
-CountsBeside (Err Read) empty prelude left left' written written' = Beside empty prelude (λ held. Counted held left left' written written' Open)
-CountsBeside (Err Write) empty prelude left left' written written' = Beside empty prelude (λ held. CountedInPart held left left' written written')
-CountsBeside (Err NoMemory) empty prelude left left' written written' =
-    ((left' ≡ left) × (written' ≡ written)) ⊎ Beside empty prelude (λ held. CountedInPart held left left' written written')
-CountsBeside (Err (Refused fault)) empty prelude left left' written written' = PreludeRefused empty prelude fault left left' written written'
-CountsBeside (Err (Table fault)) empty prelude left left' written written' = ⊥
+CountsBeside answer empty prelude left left' written written' = EndsBeside Counted CountedInPart answer empty prelude left left' written written'
+
+-- a line says what was read for the command, no more than may be
+abbrev pub IsCountLine : Document → ScriptTurn → List ℕ → Type 0
+IsCountLine held turn bytes = (lines : ℕ) × (inlines : ℕ) × (bytes ≡ count_line lines inlines) × IsWithin held turn.command lines inlines
 
 -- a command was carried out, memory refused for it or not, and this was read for it
 pub record Counting (old : Document) (command : Command) (lines inlines : ℕ) (new : Document) : Type 0 where

@@ -1,7 +1,6 @@
 -- What a program says when it stops, and its status.
 use Rattle.std.specs.Prelude.{◌≡◌, ℕ, List, [], ◌∷◌, ◌++◌, Result, Ok, Err, codes, decimal, string_bytes}
 use Rattle.mdsource.specs.declared.fault.EditFault.{EditFault}
-use Rattle.mdsource.specs.declared.fault.EditFault.TheVariants.{OutOfRange, BreakInLine, TooManyLines, TooLarge, NestedTooDeep, InlineTooDeep, NotDefinitions}
 use Rattle.mdsource.specs.declared.fault.EditFault.TheVariants.{NoMemory as EditNoMemory}
 use Rattle.mdtext.specs.declared.entity_file.TableFault.TheVariants.{NotJson, BadEntry}
 use Rattle.mdtext.specs.declared.entity_file.TableFault.TheVariants.{NoMemory as TableNoMemory}
@@ -23,13 +22,7 @@ no_memory = codes "no memory"
 -- want of memory is no refusal of the text or the prelude
 abbrev pub refusal_reason_of : EditFault → List ℕ
 refusal_reason_of EditNoMemory = no_memory
-refusal_reason_of (OutOfRange lines) = fault_text (OutOfRange lines)
-refusal_reason_of (BreakInLine index) = fault_text (BreakInLine index)
-refusal_reason_of TooManyLines = fault_text TooManyLines
-refusal_reason_of TooLarge = fault_text TooLarge
-refusal_reason_of (NestedTooDeep line) = fault_text (NestedTooDeep line)
-refusal_reason_of (InlineTooDeep line) = fault_text (InlineTooDeep line)
-refusal_reason_of (NotDefinitions line) = fault_text (NotDefinitions line)
+refusal_reason_of fault = fault_text fault
 
 abbrev pub tool_reason_of : ToolFault → List ℕ
 tool_reason_of Read = codes "read failed"

@@ -11,6 +11,7 @@ pub mod Views
 pub mod LineLengths
 pub mod Pending
 pub mod Steps
+pub mod ScriptEnds
 pub mod Serve
 pub mod Counts
 pub mod Drained

@@ -1,11 +1,11 @@
 -- A prelude that is set before anything is read.
-use Rattle.std.specs.Prelude.{◌≡◌, ℕ, List, Option, Some, None, Result, Ok, Err}
+use Rattle.std.specs.Prelude.{◌≡◌, ℕ, List, Option, Some, None, Result}
 use Rattle.mdsource.specs.Calls.{due, put, set_prelude}
 use Rattle.mdtool.specs.declared.fault.ToolFault.{ToolFault}
-use Rattle.mdtool.specs.declared.fault.ToolFault.TheVariants.{Read, Write, Refused, BadCommand, Truncated, Table, NoMemory}
 use Rattle.mdsource.specs.declared.fault.EditFault.{EditFault}
 use Rattle.mdview.specs.Document.{Document, document, setting_of, source_of}
 use Rattle.mdsource.specs.FaultReasons.{reason_of}
+use Rattle.mdtool.specs.ToolRefusals.{OnlyRefuses}
 
 -- these lines are not refused as the prelude, and this is held then
 pub record Sets (empty : Document) (lines : List (List ℕ)) (held : Document) : Type 0 where
@@ -18,14 +18,7 @@ RefusesLines empty lines fault = due (setting_of empty) (source_of empty) (set_p
 
 -- what each end of the setting of a prelude says, where an answer is seen as what is held; there is no other
 abbrev pub PreludeSet : {T : Type 0} → (T → Document) → Result T ToolFault → Document → List (List ℕ) → Type 0
-PreludeSet held (Ok answer) empty lines = Sets empty lines (held answer)
-PreludeSet held (Err (Refused fault)) empty lines = RefusesLines empty lines fault
-PreludeSet held (Err NoMemory) empty lines = Unit {0}
-PreludeSet held (Err Read) empty lines = ⊥
-PreludeSet held (Err Write) empty lines = ⊥
-PreludeSet held (Err (BadCommand line)) empty lines = ⊥
-PreludeSet held (Err (Truncated line)) empty lines = ⊥
-PreludeSet held (Err (Table fault)) empty lines = ⊥
+PreludeSet held set empty lines = OnlyRefuses set (λ answer. Sets empty lines (held answer)) (λ fault. RefusesLines empty lines fault)
 
 -- the prelude is accepted, and this is so where it is held
 abbrev pub Beside : Document → List (List ℕ) → (Document → Type 0) → Type 0

@@ -1,5 +1,5 @@
 -- The replies to the commands of a script.
-use Rattle.std.specs.Prelude.{ℕ, ◌+◌, ◌-◌, Bool, List, [], ◌∷◌, ◌++◌, Option, Some, None, length, codes, decimal, nat_lt, slice_get, if◌then◌else◌}
+use Rattle.std.specs.Prelude.{◌≡◌, ℕ, ◌+◌, ◌-◌, Bool, List, [], ◌∷◌, ◌++◌, Option, Some, None, length, codes, decimal, nat_lt, slice_get, if◌then◌else◌}
 use Rattle.std.specs.List.{concat}
 use Rattle.blockspec.specs.BlockUnits.{begins as begins_of}
 use Rattle.mdwords.specs.declared.reply_forms.ReplyForm.{ReplyForm}
@@ -81,6 +81,10 @@ held_behind old (Change call) starved = (outcome_of starved old call).1
 abbrev pub reply : ReplyForm → Document → Command → (starved : Bool) → List ℕ
 reply form old Html starved = html_reply (pieces_of old)
 reply form old (Change call) starved = edit_reply form ((outcome_of starved old call).0) (length old.lines) (told_of ((outcome_of starved old call).1))
+
+-- the reply of this form to the command
+abbrev pub IsReply : ReplyForm → Document → ScriptTurn → List ℕ → Type 0
+IsReply form held turn bytes = bytes ≡ reply form held turn.command turn.starved
 
 -- the replies to the commands, one after the other
 unfoldable pub replies : ReplyForm → Document → List ScriptTurn → List ℕ

@@ -1,5 +1,5 @@
 -- What each end of a step says that reads a script.
-use Rattle.std.specs.Prelude.{◌≡◌, ℕ, ◌+◌, ◌<◌, Bool, true, List, [], ◌++◌, Option, Some, None, Result, Ok, Err, length, map}
+use Rattle.std.specs.Prelude.{◌≡◌, ℕ, ◌+◌, ◌<◌, Bool, true, false, List, [], ◌++◌, Option, Some, None, Result, Ok, Err, length, map}
 use Rattle.std.specs.Str.Lossy.{utf8_lossy}
 use Rattle.mdtool.specs.declared.fault.ToolFault.{ToolFault}
 use Rattle.mdtool.specs.declared.fault.ToolFault.TheVariants.{Read, Write, Refused, BadCommand, Truncated, Table, NoMemory}
@@ -22,14 +22,13 @@ Steps (Err (Table fault)) ok read memory = ⊥
 
 -- the feed's failures afterwards: `Read` answers one more
 abbrev pub failures_after : {T : Type 0} → Result T ToolFault → ℕ → ℕ
-failures_after (Ok answer) failures = failures
 failures_after (Err Read) failures = failures + 1
-failures_after (Err Write) failures = failures
-failures_after (Err (Refused fault)) failures = failures
-failures_after (Err (BadCommand line)) failures = failures
-failures_after (Err (Truncated line)) failures = failures
-failures_after (Err (Table fault)) failures = failures
-failures_after (Err NoMemory) failures = failures
+failures_after _ failures = failures
+
+-- the out's failures afterwards: `Write` answers one more
+abbrev pub out_failures_after : {T : Type 0} → Result T ToolFault → ℕ → ℕ
+out_failures_after (Err Write) failures = failures + 1
+out_failures_after _ failures = failures
 
 -- Bytes were taken, and among all of these no whole command stands at the front: the script goes on so.
 pub record StopsAt (left : Option (List ℕ)) (old : Pending) (left' : Option (List ℕ)) (stop : Stop) : Type 0 where
@@ -60,6 +59,17 @@ pub record ReadsTexts (left : Option (List ℕ)) (old : Pending) (left' : Option
   pub reads : Reads left old lines left' new
   pub all : length lines ≡ count
   pub texts_are : texts ≡ map utf8_lossy lines
+
+-- what each end of a reading of so many lines says, for the command in the line of this number; there is no other
+abbrev pub NextTexts : Result (List (List ℕ)) ToolFault → (number count : ℕ) → Option (List ℕ) → Pending → Option (List ℕ) → Pending → Type 0
+NextTexts (Ok texts) number count left old left' new = ReadsTexts left old left' new count texts
+NextTexts (Err Read) number count left old left' new = FewLines left old left' new false count
+NextTexts (Err (Truncated line)) number count left old left' new = (line ≡ number) × FewLines left old left' new true count
+NextTexts (Err NoMemory) number count left old left' new = Draws left old.is_ended left'
+NextTexts (Err Write) number count left old left' new = ⊥
+NextTexts (Err (Refused fault)) number count left old left' new = ⊥
+NextTexts (Err (BadCommand line)) number count left old left' new = ⊥
+NextTexts (Err (Table fault)) number count left old left' new = ⊥
 
 -- what each end of a reading of one command says
 abbrev pub NextCommand : Result (Option TheCommand) ToolFault → Option (List ℕ) → Pending → Option (List ℕ) → Pending → Type 0

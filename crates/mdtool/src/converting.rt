@@ -5,8 +5,7 @@ ghost use Rattle.mdtext.specs.Lines.{text_lines};
 ghost use Rattle.mdtool.specs.Convert.{Conversion, IsPreludeOf, PreludeRead, TextRead, WholeHtml, with_prelude};
 ghost use Rattle.mdtool.specs.ToolRefusals.{IsRefusal, refusal_of};
 ghost use Rattle.mdtool.specs.Drained.{TakesSome};
-ghost use Rattle.mdtool.specs.Serve.{out_failures_after};
-ghost use Rattle.mdtool.specs.Steps.{Steps, failures_after};
+ghost use Rattle.mdtool.specs.Steps.{Steps, failures_after, out_failures_after};
 ghost use Rattle.mdhtml.specs.Limits.{HasLimits};
 
 use crate::device::{Feed, Out};

@@ -1,17 +1,16 @@
 //! Answers a script of edits and preludes with what was read for each, so that it can be compared with what an edit may read.
 ghost use Rattle.std.specs.Prelude.{◌≡◌, ◌-◌, ◌^◌, ◌<◌, IfOk, map, string_bytes};
 ghost use Rattle.mdhtml.specs.Limits.{HasLimits};
-ghost use Rattle.mdtool.specs.Counts.{Counting, Counts, CountsBeside, count_line};
-ghost use Rattle.mdtool.specs.Serve.{out_failures_after};
-ghost use Rattle.mdtool.specs.Steps.{failures_after};
+ghost use Rattle.mdtool.specs.Counts.{Counting, CountsBeside, IsCountLine, count_line};
+ghost use Rattle.mdtool.specs.Steps.{failures_after, out_failures_after};
 ghost use Rattle.mdtool.specs.Views.{command_view};
 ghost use Rattle.mdview.specs.Document.{empty};
 
 use crate::command::Command;
 use crate::device::{Feed, Out};
 use crate::fault::ToolFault;
-use crate::script::Script;
-use crate::serving::{preview_with, send};
+use crate::replier::Replier;
+use crate::serving::{answer, preview_with};
 use mdhtml::Options;
 use mdtext::{Count, Entities, Tally};
 use mdview::Preview;
@@ -36,31 +35,25 @@ pub fn serve_counts<R: Feed, W: Out>(
     ensures out { W.failures out.new ≡ out_failures_after result (W.failures out.old) }
 {
     let mut preview = preview_with(alloc, entities, options, prelude)?;
-    count_each(alloc, feed, out, &mut preview)
+    answer(alloc, &CountLines, feed, out, &mut preview)
 }
 
-/// Writes a line for each command of a script, as it comes.
-fn count_each<R: Feed, W: Out>(
-    alloc: Global,
-    feed: &mut R,
-    out: &mut W,
-    preview: &mut Preview,
-) -> Result<(), ToolFault>
-    requires feed { R.failures feed.old < 2 ^ 64 - 1 }
-    requires out { W.failures out.old < 2 ^ 64 - 1 }
-    ensures counts { Counts result preview.old (R.left feed.old) (R.left feed.new) (W.written out.old) (W.written out.new) }
-    ensures feed { R.failures feed.new ≡ failures_after result (R.failures feed.old) }
-    ensures out { W.failures out.new ≡ out_failures_after result (W.failures out.old) }
-{
-    let mut script = Script::new(alloc);
-    while let Some(command) = script.next_command(alloc, feed)? {
-        let count = counted(alloc, preview, &command)?;
-        let line = count_line(alloc, &count)?;
-        if send(out, line.as_str().as_bytes()).is_err() {
-            return Err(ToolFault::Write);
-        }
+/// Replies by a line that says what was read for the command.
+#[derive(Clone, Copy)]
+struct CountLines;
+
+impl Replier for CountLines {
+    ghost says = { λ _. IsCountLine };
+
+    fn reply_to(
+        &self,
+        alloc: Global,
+        preview: &mut Preview,
+        command: &Command,
+    ) -> Result<String, AllocError> {
+        let count = counted(alloc, preview, command)?;
+        count_line(alloc, &count)
     }
-    Ok(())
 }
 
 /// Carries out one command, and answers what was read for it.

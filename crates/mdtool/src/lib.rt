@@ -21,6 +21,7 @@ mod line_breaks;
 mod memory_devices;
 mod preludes;
 mod programs;
+mod replier;
 mod replies;
 mod script;
 mod serving;

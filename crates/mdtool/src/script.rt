@@ -5,7 +5,7 @@ ghost use Rattle.std.specs.Prelude.{◌≡◌, ◌+◌, ◌*◌, ◌-◌, ◌^�
 ghost use Rattle.std.specs.Prelude.{ℕ, List, ◌++◌, length, take, drop, OnOk, IfOk, IfSome, OnSome, if◌then◌else◌};
 ghost use Rattle.mdtool.specs.Commands.{has_break};
 ghost use Rattle.mdtool.specs.Pending.{Reads, Draws, HasLine, IsOver, Uses, used, fresh};
-ghost use Rattle.mdtool.specs.Steps.{Steps, failures_after, FewLines, ReadsTexts, NextCommand};
+ghost use Rattle.mdtool.specs.Steps.{Steps, failures_after, NextCommand, NextTexts};
 
 use crate::command::{Command, Header};
 use crate::device::Feed;
@@ -85,48 +85,40 @@ impl Script {
         match head {
             Header::Html => Ok(Some(Command::Html)),
             Header::Prelude { add } => {
-                let Some(lines) = self.next_texts(alloc, feed, add)? else {
-                    return Err(ToolFault::Truncated(line));
-                };
+                let lines = self.next_texts(alloc, feed, line, add)?;
                 Ok(Some(Command::Prelude { lines }))
             }
             Header::Edit { at, del, add } => {
-                let Some(add) = self.next_texts(alloc, feed, add)? else {
-                    return Err(ToolFault::Truncated(line));
-                };
+                let add = self.next_texts(alloc, feed, line, add)?;
                 Ok(Some(Command::Edit { at, del, add }))
             }
         }
     }
 
-    /// The next `count` lines, or nothing where there are fewer. Bytes that are no UTF-8 are read as U+FFFD. Room is made
-    /// for the lines that come, and not for the number.
+    /// The next `count` lines, which the command in this line asks for; `Truncated` names it where there are fewer. Bytes that are no UTF-8 are read as
+    /// U+FFFD. Room is made for the lines that come, and not for the number.
     fn next_texts<R: Feed>(
         &mut self,
         alloc: Global,
         feed: &mut R,
+        line: u64,
         count: usize,
-    ) -> Result<Option<JoinedLines>, ToolFault>
+    ) -> Result<JoinedLines, ToolFault>
         requires { R.failures feed.old < 2 ^ 64 - 1 }
-        ensures steps { Steps result
-            (λ found. MatchOption found
-            (FewLines (R.left feed.old) self.old (R.left feed.new) self.new true count)
-            (ReadsTexts (R.left feed.old) self.old (R.left feed.new) self.new count))
-            (FewLines (R.left feed.old) self.old (R.left feed.new) self.new false count)
-            (Draws (R.left feed.old) self.old.is_ended (R.left feed.new)) }
+        ensures texts { NextTexts result line count (R.left feed.old) self.old (R.left feed.new) self.new }
         ensures failures { R.failures feed.new ≡ failures_after result (R.failures feed.old) }
         ensures weight { OnOk result (R.calls_left feed.new * 16384 + length self.new.bytes ≤ R.calls_left feed.old * 16384 + length self.old.bytes) }
     {
         let mut lines = ByteLines::new(alloc);
         while lines.len() < count {
             let Some(len) = self.find_line(feed)? else {
-                return Ok(None);
+                return Err(ToolFault::Truncated(line));
             };
             lines.push(self.front(len))?;
             self.use_line(len);
             self.use_whole_lines(alloc, count, &mut lines)?;
         }
-        Ok(Some(lines.into_texts(alloc)?))
+        Ok(lines.into_texts(alloc)?)
     }
 
     /// How long the next line is, without its LF, or nothing at the end.

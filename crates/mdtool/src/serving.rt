@@ -4,9 +4,10 @@ ghost use Rattle.std.specs.Result.{is_ok};
 ghost use Rattle.mdtool.specs.Bytes.{Puts};
 ghost use Rattle.mdview.specs.Document.{Document, empty};
 ghost use Rattle.mdtool.specs.PreludeSet.{PreludeSet};
-ghost use Rattle.mdtool.specs.Views.{command_view};
-ghost use Rattle.mdtool.specs.Steps.{failures_after};
-ghost use Rattle.mdtool.specs.Serve.{Served, ServedBeside, Replied, out_failures_after};
+ghost use Rattle.mdtool.specs.Replies.{IsReply};
+ghost use Rattle.mdtool.specs.ScriptEnds.{Served};
+ghost use Rattle.mdtool.specs.Serve.{ServedBeside};
+ghost use Rattle.mdtool.specs.Steps.{failures_after, out_failures_after};
 ghost use Rattle.mdhtml.specs.Limits.{HasLimits};
 ghost use Rattle.mdwords.specs.declared.reply_forms.ReplyForm.TheVariants.{Plain};
 
@@ -14,6 +15,7 @@ use crate::command::Command;
 use crate::converting::refusal;
 use crate::device::{DeviceFault, Feed, Out, put_all};
 use crate::fault::ToolFault;
+use crate::replier::Replier;
 use crate::replies::{edit_reply, html_reply};
 use crate::script::Script;
 use mdhtml::Options;
@@ -52,27 +54,28 @@ pub fn preview_with(
     }
 }
 
-/// Carries out one command and makes its reply.
-fn reply_to(
-    alloc: Global,
-    form: ReplyForm,
-    preview: &mut Preview,
-    command: &Command,
-) -> Result<String, AllocError>
-    ensures { IfOk result (λ reply. Replied form preview.old (command_view command.now) (string_bytes reply) preview.new) }
-{
-    let before = preview.len();
-    match command {
-        Command::Html => html_reply(alloc, preview),
-        Command::Prelude { lines } => {
-            let lines = lines.lent(alloc)?;
-            let answer = preview.set_prelude(&lines, &mut Tally::new());
-            edit_reply(alloc, form, preview, before, &answer)
-        }
-        Command::Edit { at, del, add } => {
-            let lines = add.lent(alloc)?;
-            let answer = preview.edit(*at, *del, &lines, &mut Tally::new());
-            edit_reply(alloc, form, preview, before, &answer)
+impl Replier for ReplyForm {
+    ghost says = { IsReply };
+
+    fn reply_to(
+        &self,
+        alloc: Global,
+        preview: &mut Preview,
+        command: &Command,
+    ) -> Result<String, AllocError> {
+        let before = preview.len();
+        match command {
+            Command::Html => html_reply(alloc, preview),
+            Command::Prelude { lines } => {
+                let lines = lines.lent(alloc)?;
+                let answer = preview.set_prelude(&lines, &mut Tally::new());
+                edit_reply(alloc, *self, preview, before, &answer)
+            }
+            Command::Edit { at, del, add } => {
+                let lines = add.lent(alloc)?;
+                let answer = preview.edit(*at, *del, &lines, &mut Tally::new());
+                edit_reply(alloc, *self, preview, before, &answer)
+            }
         }
     }
 }
@@ -111,7 +114,7 @@ pub fn serve<R: Feed, W: Out>(
     ensures out { W.failures out.new ≡ out_failures_after result (W.failures out.old) }
 {
     let mut preview = preview_with(alloc, entities, options, prelude)?;
-    answer(alloc, ReplyForm::Plain, feed, out, &mut preview)
+    answer(alloc, &ReplyForm::Plain, feed, out, &mut preview)
 }
 
 /// Answers a script as `serve` does, by replies of this form, for a program that ends then: the preview's memory goes back with the process, and not bit by bit.
@@ -132,28 +135,28 @@ pub fn serve_to_the_end<R: Feed, W: Out>(
     ensures out { W.failures out.new ≡ out_failures_after result (W.failures out.old) }
 {
     let mut preview = preview_with(alloc, entities, options, prelude)?;
-    let end = answer(alloc, form, feed, out, &mut preview);
+    let end = answer(alloc, &form, feed, out, &mut preview);
     forget(preview);
     end
 }
 
 /// Answers the commands of a script as they come, each reply flushed.
-fn answer<R: Feed, W: Out>(
+pub fn answer<A: Replier, R: Feed, W: Out>(
     alloc: Global,
-    form: ReplyForm,
+    replier: &A,
     feed: &mut R,
     out: &mut W,
     preview: &mut Preview,
 ) -> Result<(), ToolFault>
     requires feed { R.failures feed.old < 2 ^ 64 - 1 }
     requires out { W.failures out.old < 2 ^ 64 - 1 }
-    ensures served { Served form result preview.old (R.left feed.old) (R.left feed.new) (W.written out.old) (W.written out.new) }
+    ensures served { Served (A.says replier.now) result preview.old (R.left feed.old) (R.left feed.new) (W.written out.old) (W.written out.new) }
     ensures feed { R.failures feed.new ≡ failures_after result (R.failures feed.old) }
     ensures out { W.failures out.new ≡ out_failures_after result (W.failures out.old) }
 {
     let mut script = Script::new(alloc);
     while let Some(command) = script.next_command(alloc, feed)? {
-        let reply = reply_to(alloc, form, preview, &command)?;
+        let reply = replier.reply_to(alloc, preview, &command)?;
         if send(out, reply.as_str().as_bytes()).is_err() {
             return Err(ToolFault::Write);
         }

@@ -17,11 +17,11 @@ returns-in_err-html-clause-converted g c = λ given is.
 pub returns-in_err-html-clause-feed : goal.returns-in_err-html-clause-feed
 returns-in_err-html-clause-feed g c =
     c.in_ok-text.ensures.failures
-    ∙ (page_refusal_stays c.from_residual-in_err-html.result c.in_err-html.field-0.0 _ c.from_residual-in_err-html.ensures.1 c.in_err-html.ensures.refusal).0
+    ∙ (page_refusal_stays c.from_residual-in_err-html.result c.in_err-html.field-0.0 _ 0 c.from_residual-in_err-html.ensures.1 c.in_err-html.ensures.refusal).0
 
 pub returns-in_err-html-clause-out : goal.returns-in_err-html-clause-out
 returns-in_err-html-clause-out g c =
-    (page_refusal_stays c.from_residual-in_err-html.result c.in_err-html.field-0.0 _ c.from_residual-in_err-html.ensures.1 c.in_err-html.ensures.refusal).1
+    (page_refusal_stays c.from_residual-in_err-html.result c.in_err-html.field-0.0 0 _ c.from_residual-in_err-html.ensures.1 c.in_err-html.ensures.refusal).1
 
 pub returns-then-is_err-clause-converted : goal.returns-then-is_err-clause-converted
 returns-then-is_err-clause-converted g c = λ given is.

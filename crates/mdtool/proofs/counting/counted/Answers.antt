@@ -5,7 +5,7 @@ use Rattle.mdsource.specs.Stops.{lines_soon}
 use Rattle.mdsource.specs.Calls.{edit, set_prelude}
 use Rattle.mdview.specs.Document.{setting_of, source_of}
 use Rattle.mdview.specs.Outcome.{answer_of, is_starved, outcome_of}
-use Rattle.mdtool.proofs.CountRuns.{counting}
+use Rattle.mdtool.proofs.CountedScripts.{counting}
 use Rattle.mdtool.proofs.counting.counted.Goals as goal
 
 pub returns-in_ok-lines-in-Edit : goal.returns-in_ok-lines-in-Edit

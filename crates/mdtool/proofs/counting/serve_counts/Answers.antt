@@ -1,18 +1,15 @@
-use Rattle.mdtool.proofs.CountRuns.{counts_beside, prelude_ends_counts}
-use Rattle.mdtool.proofs.PreludeEnds.{no_device_failed}
+use Rattle.mdtool.specs.Counts.{Counted, CountedInPart, IsCountLine}
+use Rattle.mdtool.proofs.CountedScripts.{counted, counted_in_part}
+use Rattle.mdtool.proofs.PreludeEnds.{prelude_ends}
+use Rattle.mdtool.proofs.ServeEnds.{served_beside}
 use Rattle.mdtool.proofs.counting.serve_counts.Goals as goal
 
-pub returns-in_err-preview-clause-counts : goal.returns-in_err-preview-clause-counts
-returns-in_err-preview-clause-counts g c =
-    prelude_ends_counts c.from_residual.result c.in_err-preview.field-0.0 _ _ c.from_residual.ensures.1 c.in_err-preview.ensures _ _
-
-pub returns-in_err-preview-clause-feed : goal.returns-in_err-preview-clause-feed
-returns-in_err-preview-clause-feed g c =
-    (no_device_failed c.from_residual.result c.in_err-preview.field-0.0 _ _ c.from_residual.ensures.1 c.in_err-preview.ensures _).0
-
-pub returns-in_err-preview-clause-out : goal.returns-in_err-preview-clause-out
-returns-in_err-preview-clause-out g c =
-    (no_device_failed c.from_residual.result c.in_err-preview.field-0.0 _ _ c.from_residual.ensures.1 c.in_err-preview.ensures _).1
+pub returns-in_err-preview : goal.returns-in_err-preview
+returns-in_err-preview g c =
+    let end = prelude_ends Counted CountedInPart c.from_residual.result c.in_err-preview.field-0.0 _ _ (g.R.Feed.left c.args.feed.now) (g.W.Out.written c.args.out.now)
+    (g.R.Feed.failures c.args.feed.now) (g.W.Out.failures c.args.out.now) c.from_residual.ensures.1 c.in_err-preview.ensures in
+    record { counts = end.0; feed = end.1.0; out = end.1.1 }
 
 pub returns-clause-counts : goal.returns-clause-counts
-returns-clause-counts g c = counts_beside c.count_each.result _ _ _ _ _ _ _ c.in_ok-preview.ensures c.count_each.ensures.counts
+returns-clause-counts g c =
+    served_beside IsCountLine Counted CountedInPart counted counted_in_part c.answer.result _ _ _ _ _ _ _ c.in_ok-preview.ensures c.answer.ensures.served

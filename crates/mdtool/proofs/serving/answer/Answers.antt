@@ -15,7 +15,7 @@ loop-script-init g c = record { run = run_start _ _ _ _ _ c.new-script.ensures r
 pub returns-in_err-command-clause-served : goal.returns-in_err-command-clause-served
 returns-in_err-command-clause-served g c =
     let p = err_from_is_err_and c.from_residual.result c.from_residual.ensures.1 in
-    rw (p.1, p.2) (ends_so (Unit {0}) c.args.form c.in_err-command.field-0.0 _ _ _ _ _ _ _ _ _ c.loop-script.invariant.run c.in_err-command.ensures.next)
+    rw (p.1, p.2) (ends_so (Unit {0}) (g.A.Replier.says c.args.replier.now) c.in_err-command.field-0.0 _ _ _ _ _ _ _ _ _ c.loop-script.invariant.run c.in_err-command.ensures.next)
 
 pub returns-in_err-reply-clause-served : goal.returns-in_err-reply-clause-served
 returns-in_err-reply-clause-served g c =
@@ -31,7 +31,7 @@ returns-then-is_err-clause-served g c =
 
 -- the reply was sent, and the script goes on
 goes_on : (g : Over) (c : After-is_err g) → c.is_err.result ≡ false → record {
-  run : Run c.args.form c.args.preview.now (g.R.Feed.left c.args.feed.now) (g.R.Feed.left c.next_command.new.feed) c.next_command.new.self
+  run : Run (g.A.Replier.says c.args.replier.now) c.args.preview.now (g.R.Feed.left c.args.feed.now) (g.R.Feed.left c.next_command.new.feed) c.next_command.new.self
       (g.W.Out.written c.args.out.now) (g.W.Out.written c.send.new.out) c.reply_to.new.preview;
   feed : g.R.Feed.failures c.next_command.new.feed ≡ g.R.Feed.failures c.args.feed.now;
   out : g.W.Out.failures c.send.new.out ≡ g.W.Out.failures c.args.out.now;

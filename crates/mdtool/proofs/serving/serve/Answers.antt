@@ -1,18 +1,17 @@
 use Rattle.mdwords.specs.declared.reply_forms.ReplyForm.TheVariants.{Plain}
-use Rattle.mdtool.proofs.PreludeEnds.{serves_beside, prelude_ends_script, no_device_failed}
+use Rattle.mdtool.specs.Replies.{IsReply}
+use Rattle.mdtool.specs.Serve.{Answered, Broken}
+use Rattle.mdtool.proofs.AnsweredScripts.{answered, broken}
+use Rattle.mdtool.proofs.PreludeEnds.{prelude_ends}
+use Rattle.mdtool.proofs.ServeEnds.{served_beside}
 use Rattle.mdtool.proofs.serving.serve.Goals as goal
 
-pub returns-in_err-preview-clause-served : goal.returns-in_err-preview-clause-served
-returns-in_err-preview-clause-served g c =
-    prelude_ends_script c.from_residual.result c.in_err-preview.field-0.0 _ _ c.from_residual.ensures.1 c.in_err-preview.ensures Plain _ _
-
-pub returns-in_err-preview-clause-feed : goal.returns-in_err-preview-clause-feed
-returns-in_err-preview-clause-feed g c =
-    (no_device_failed c.from_residual.result c.in_err-preview.field-0.0 _ _ c.from_residual.ensures.1 c.in_err-preview.ensures _).0
-
-pub returns-in_err-preview-clause-out : goal.returns-in_err-preview-clause-out
-returns-in_err-preview-clause-out g c =
-    (no_device_failed c.from_residual.result c.in_err-preview.field-0.0 _ _ c.from_residual.ensures.1 c.in_err-preview.ensures _).1
+pub returns-in_err-preview : goal.returns-in_err-preview
+returns-in_err-preview g c =
+    let end = prelude_ends (Answered Plain) (Broken Plain) c.from_residual.result c.in_err-preview.field-0.0 _ _ (g.R.Feed.left c.args.feed.now) (g.W.Out.written c.args.out.now)
+    (g.R.Feed.failures c.args.feed.now) (g.W.Out.failures c.args.out.now) c.from_residual.ensures.1 c.in_err-preview.ensures in
+    record { served = end.0; feed = end.1.0; out = end.1.1 }
 
 pub returns-clause-served : goal.returns-clause-served
-returns-clause-served g c = serves_beside Plain c.answer.result _ _ _ _ _ _ _ c.in_ok-preview.ensures c.answer.ensures.served
+returns-clause-served g c =
+    served_beside (IsReply Plain) (Answered Plain) (Broken Plain) (answered Plain) (broken Plain) c.answer.result _ _ _ _ _ _ _ c.in_ok-preview.ensures c.answer.ensures.served

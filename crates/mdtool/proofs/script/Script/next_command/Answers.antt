@@ -1,12 +1,11 @@
-use Rattle.std.proofs.Common.{◌≡◌, ◌+◌, ◌∷◌, [], sym, ap, ◌∙◌, refl, Some, true, false}
+use Rattle.std.proofs.Common.{◌≡◌, ◌+◌, ◌∷◌, [], sym, ap, ◌∙◌, refl, Some}
 use Rattle.std.proofs.lemmas.Result.{err_from_is_err_and}
 use Rattle.mdsource.specs.Calls.{edit, set_prelude}
 use Rattle.mdtool.specs.Commands.{capped, head_of}
 use Rattle.mdtool.specs.Pending.{Pending, Reads}
 use Rattle.mdtool.specs.declared.command.Header.{Header}
 use Rattle.mdtool.specs.Views.{head_view}
-use Rattle.mdtool.proofs.Readings.{draws_on}
-use Rattle.mdtool.proofs.CommandReading.{over_stops, head_read, head_number, bad_stops, few_stops, html_read, texts_read, fails_first}
+use Rattle.mdtool.proofs.CommandReading.{over_stops, head_read, head_number, bad_stops, html_read, texts_read, texts_stop, fails_first}
 use Rattle.mdtool.proofs.script.Script.next_command.Given.{Over}
 use Rattle.mdtool.proofs.script.Script.next_command.Goals.{After-use_line, In-Some-head}
 use Rattle.mdtool.proofs.script.Script.next_command.Goals as goal
@@ -46,54 +45,30 @@ returns-in_default-head-clause-next g c =
 pub returns-in_err-add-in-Edit-clause-next : goal.returns-in_err-add-in-Edit-clause-next
 returns-in_err-add-in-Edit-clause-next g c =
     let at = goal.at.returns-in_err-add-in-Edit-clause-next g c in
-    let read = line_read g at.After-use_line in
     let p = err_from_is_err_and c.from_residual-in_err-add-in-Edit.result c.from_residual-in_err-add-in-Edit.ensures.1 in
-    rw (p.1, p.2) (fails_first c.in_err-add-in-Edit.field-0.0 _ _ _ _ _ _ _
-    (λ few. few_stops _ _ _ _ _ _ _ _ (edit c.in-Edit.at c.in-Edit.del) _ false read (line_head g at.In-Some-head _ c.in-Edit.is) (λ _. refl) few)
-    (λ d. draws_on _ _ _ _ _ _ read d)
-    c.in_err-add-in-Edit.ensures.steps)
+    rw (p.1, p.2) (texts_stop c.in_err-add-in-Edit.field-0.0 _ _ _ _ _ _ _ _ (edit c.in-Edit.at c.in-Edit.del) _ _
+    (line_read g at.After-use_line) (line_head g at.In-Some-head _ c.in-Edit.is) (λ _. refl) (line_number g at.After-use_line _ c.self.view_is) c.in_err-add-in-Edit.ensures.texts)
 
-pub returns-in_default-3-clause-next : goal.returns-in_default-3-clause-next
-returns-in_default-3-clause-next g c =
-    let at = goal.at.returns-in_default-3-clause-next g c in
-    let few = rw c.in_default-3.is at c.in_ok-add-in-Edit.ensures.steps in
-    rw (line_number g at.After-use_line _ c.self.view_is)
-    (few_stops _ _ _ _ _ _ _ _ (edit c.in-Edit.at c.in-Edit.del) _ true
-    (line_read g at.After-use_line) (line_head g at.In-Some-head _ c.in-Edit.is) (λ _. refl) few)
+pub returns-in_ok-add-in-Edit-clause-next : goal.returns-in_ok-add-in-Edit-clause-next
+returns-in_ok-add-in-Edit-clause-next g c =
+    let at = goal.at.returns-in_ok-add-in-Edit-clause-next g c in
+    texts_read _ _ _ _ _ _ _ _ (edit c.in-Edit.at c.in-Edit.del) _ _
+    (line_read g at.After-use_line) (line_head g at.In-Some-head _ c.in-Edit.is) (λ _. refl) c.in_ok-add-in-Edit.ensures.texts
 
 pub returns-in-Html-clause-next : goal.returns-in-Html-clause-next
 returns-in-Html-clause-next g c =
     let at = goal.at.returns-in-Html-clause-next g c in
     html_read _ _ _ _ _ (line_read g at.After-use_line) (line_head g at.In-Some-head _ c.in-Html.is)
 
-pub returns-in-Some-3-clause-next : goal.returns-in-Some-3-clause-next
-returns-in-Some-3-clause-next g c =
-    let at = goal.at.returns-in-Some-3-clause-next g c in
-    let texts = rw c.in-Some-3.is at c.in_ok-add-in-Edit.ensures.steps in
-    texts_read _ _ _ _ _ _ _ _ (edit c.in-Edit.at c.in-Edit.del) _ c.in-Some-3.add
-    (line_read g at.After-use_line) (line_head g at.In-Some-head _ c.in-Edit.is) (λ _. refl) texts
-
 pub returns-in_err-lines-in-Prelude-clause-next : goal.returns-in_err-lines-in-Prelude-clause-next
 returns-in_err-lines-in-Prelude-clause-next g c =
     let at = goal.at.returns-in_err-lines-in-Prelude-clause-next g c in
-    let read = line_read g at.After-use_line in
     let p = err_from_is_err_and c.from_residual-in_err-lines-in-Prelude.result c.from_residual-in_err-lines-in-Prelude.ensures.1 in
-    rw (p.1, p.2) (fails_first c.in_err-lines-in-Prelude.field-0.0 _ _ _ _ _ _ _
-    (λ few. few_stops _ _ _ _ _ _ _ _ set_prelude _ false read (line_head g at.In-Some-head _ c.in-Prelude.is) (λ _. refl) few)
-    (λ d. draws_on _ _ _ _ _ _ read d)
-    c.in_err-lines-in-Prelude.ensures.steps)
+    rw (p.1, p.2) (texts_stop c.in_err-lines-in-Prelude.field-0.0 _ _ _ _ _ _ _ _ set_prelude _ _
+    (line_read g at.After-use_line) (line_head g at.In-Some-head _ c.in-Prelude.is) (λ _. refl) (line_number g at.After-use_line _ c.self.view_is) c.in_err-lines-in-Prelude.ensures.texts)
 
-pub returns-in_default-2-clause-next : goal.returns-in_default-2-clause-next
-returns-in_default-2-clause-next g c =
-    let at = goal.at.returns-in_default-2-clause-next g c in
-    let few = rw c.in_default-2.is at c.in_ok-lines-in-Prelude.ensures.steps in
-    rw (line_number g at.After-use_line _ c.self.view_is)
-    (few_stops _ _ _ _ _ _ _ _ set_prelude _ true
-    (line_read g at.After-use_line) (line_head g at.In-Some-head _ c.in-Prelude.is) (λ _. refl) few)
-
-pub returns-in-Some-2-clause-next : goal.returns-in-Some-2-clause-next
-returns-in-Some-2-clause-next g c =
-    let at = goal.at.returns-in-Some-2-clause-next g c in
-    let texts = rw c.in-Some-2.is at c.in_ok-lines-in-Prelude.ensures.steps in
-    texts_read _ _ _ _ _ _ _ _ set_prelude _ c.in-Some-2.lines
-    (line_read g at.After-use_line) (line_head g at.In-Some-head _ c.in-Prelude.is) (λ _. refl) texts
+pub returns-in_ok-lines-in-Prelude-clause-next : goal.returns-in_ok-lines-in-Prelude-clause-next
+returns-in_ok-lines-in-Prelude-clause-next g c =
+    let at = goal.at.returns-in_ok-lines-in-Prelude-clause-next g c in
+    texts_read _ _ _ _ _ _ _ _ set_prelude _ _
+    (line_read g at.After-use_line) (line_head g at.In-Some-head _ c.in-Prelude.is) (λ _. refl) c.in_ok-lines-in-Prelude.ensures.texts

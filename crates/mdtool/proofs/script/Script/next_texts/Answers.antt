@@ -1,9 +1,8 @@
-use Rattle.std.proofs.Common.{◌≡◌, ◌+◌, ◌++◌, ◌∷◌, [], length, take, drop, ap, ◌∙◌, arith, length-drop}
+use Rattle.std.proofs.Common.{◌≡◌, ◌+◌, ◌++◌, ◌∷◌, [], length, take, drop, refl, ap, ◌∙◌, arith, length-drop}
 use Rattle.std.proofs.lemmas.Result.{err_from_is_err_and}
 use Rattle.mdtool.specs.Pending.{Pending}
 use Rattle.mdtool.proofs.Readings.{draws_on}
-use Rattle.mdtool.proofs.Texts.{lines_more, few_lines, lines_draw}
-use Rattle.mdtool.proofs.StepEnds.{fails_so}
+use Rattle.mdtool.proofs.Texts.{lines_more, few_lines, lines_draw, texts_fail}
 use Rattle.mdtool.proofs.script.Script.next_texts.Goals as goal
 
 pub loop-self-preserved : goal.loop-self-preserved
@@ -20,27 +19,27 @@ loop-self-preserved g c =
       weight = omega (arith, c.in_ok-len.ensures.weight, i.weight, left, whole.2.shorter, length-drop (c.in-Some.len + 1) c.find_line.new.self.bytes);
     }
 
-pub returns-in_err-len-clause-steps : goal.returns-in_err-len-clause-steps
-returns-in_err-len-clause-steps g c =
+pub returns-in_err-len-clause-texts : goal.returns-in_err-len-clause-texts
+returns-in_err-len-clause-texts g c =
     let p = err_from_is_err_and c.from_residual.result c.from_residual.ensures.1 in
-    rw (p.1, p.2) (fails_so c.in_err-len.field-0.0 _ _ _ _ _ _
+    rw (p.1, p.2) (texts_fail c.in_err-len.field-0.0 _ _ _ c.args.line c.args.count _ _ _ _
     (λ r. few_lines _ _ _ _ _ _ _ _ _ c.loop-self.invariant.read r.0 r.1 (omega (arith, c.len.ensures, c.loop-self-test.true)))
     (λ d. draws_on _ _ _ _ _ _ c.loop-self.invariant.read d)
     c.in_err-len.ensures.steps)
 
-pub returns-in_default-clause-steps : goal.returns-in_default-clause-steps
-returns-in_default-clause-steps g c =
+pub returns-in_default-clause-texts : goal.returns-in_default-clause-texts
+returns-in_default-clause-texts g c =
     let found = rw c.in_default.is at c.in_ok-len.ensures.steps in
-    few_lines _ _ _ _ _ _ _ _ _ c.loop-self.invariant.read found.0 found.1 (omega (arith, c.len.ensures, c.loop-self-test.true))
+    (refl, few_lines _ _ _ _ _ _ _ _ _ c.loop-self.invariant.read found.0 found.1 (omega (arith, c.len.ensures, c.loop-self-test.true)))
 
-pub returns-in_err-push-clause-steps : goal.returns-in_err-push-clause-steps
-returns-in_err-push-clause-steps g c =
+pub returns-in_err-push-clause-texts : goal.returns-in_err-push-clause-texts
+returns-in_err-push-clause-texts g c =
     let found = rw c.in-Some.is at c.in_ok-len.ensures.steps in
     let p = err_from_is_err_and c.from_residual-in_err-push.result c.from_residual-in_err-push.ensures.1 in
     rw (p.1, p.2) (lines_draw _ _ _ _ _ _ _ c.loop-self.invariant.read found.0)
 
-pub returns-in_err-use_whole_lines-clause-steps : goal.returns-in_err-use_whole_lines-clause-steps
-returns-in_err-use_whole_lines-clause-steps g c =
+pub returns-in_err-use_whole_lines-clause-texts : goal.returns-in_err-use_whole_lines-clause-texts
+returns-in_err-use_whole_lines-clause-texts g c =
     let found = rw c.in-Some.is at c.in_ok-len.ensures.steps in
     let p = err_from_is_err_and c.from_residual-in_err-use_whole_lines.result c.from_residual-in_err-use_whole_lines.ensures.1 in
     rw (p.1, p.2) (lines_draw _ _ _ _ _ _ _ c.loop-self.invariant.read found.0)
