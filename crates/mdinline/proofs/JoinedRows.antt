@@ -1,7 +1,6 @@
 -- Rows of a tree that is built, in which texts are joined.
-use Rattle.std.proofs.Common.{◌≡◌, ◌<◌, ◌==◌, ℕ, Bool, false, List, [], ◌∷◌, ◌++◌, Some, String, Vec, Global, length, map, string_bytes, refl, sym, ap, ◌∙◌, subst, true≢false, append_assoc, append-nil, arith}
-use Rattle.std.proofs.lemmas.List.{map-append}
-use Rattle.std.proofs.lemmas.List.Elements.{All-nil, All-push, All-pop}
+use Rattle.std.proofs.Common.{◌≡◌, ◌<◌, ◌≤◌, ◌==◌, ℕ, Bool, false, List, [], ◌∷◌, ◌++◌, String, Vec, Global, drop, length, map, reverse, string_bytes, take, refl, sym, ap, ◌∙◌, subst, true≢false, append_assoc, append-nil, arith}
+use Rattle.std.proofs.lemmas.List.{drop-append-le, drop_all, length-take-le, map-append, take_all}
 use Rattle.inlinespec.specs.InlineEvents.{InlineSpan, Emphasis, StrongEmphasis, Strikethrough, LinkTo, ImageOf, Event, span_tree, tree_of, written}
 use Rattle.inlinespec.specs.InlineTree.{Inline, Inlines, inline, inlines_of, text, code, raw, soft, hard, emph, strong, strike, link, image}
 use Rattle.inlinespec.specs.JoinedTexts.{AreJoined, IsApart, begins_with_text}
@@ -14,7 +13,10 @@ use Rattle.mdinline.specs.declared.inlines.Inline.TheBlock as made
 use Rattle.mdinline.specs.declared.inlines.Inline.TheViews.{roll-Inline}
 use Rattle.mdinline.specs.declared.trees.Frame.{Frame}
 use Rattle.mdinline.specs.declared.trees.TreeBuilder.{TreeBuilder}
-use Rattle.mdinline.specs.held.TreeBuilding.{AreFramesJoined, IsJoined, IsNoText, IsOpenRow, row_events, spread}
+use Rattle.mdinline.specs.held.OpenRows.{AreJoinedRows, AreNested, AreOpenRows, AreOuterJoined, EndsWithText, IsNoText, IsOpenRow, IsTextRow, innermost, row_events, spread}
+use Rattle.mdinline.specs.held.TreeBuilding.{IsJoined}
+use Rattle.mdinline.proofs.BuiltRows.{text_events}
+use Rattle.mdinline.proofs.NestedRows.{inner_more, nested_leave, outer_more, turned}
 use denote.Hole.Carrier.{roll}
 
 same_front : (i : Inline) (one other : Inlines) → begins_with_text (inline i one) ≡ begins_with_text (inline i other)
@@ -80,32 +82,66 @@ row_text is js t e some h =
     (h.with_text (string_bytes t) some)
 
 -- the tree at the end
-pub tree_whole : (frames : List Frame) (is : List c.Inline) (t : List ℕ) (all : List Event) → frames ≡ [] → t ≡ [] → (spread frames ++ row_events is) ++ written t ≡ all →
-    AreJoined (inlines_view is) → inlines_view is ≡ tree_of all
+pub tree_whole : (frames : List Frame) (is : List c.Inline) (t : List ℕ) (all : List Event) → frames ≡ [] → t ≡ [] →
+    (spread (reverse frames) is ++ row_events (innermost (reverse frames) is)) ++ written t ≡ all → AreJoined (inlines_view (innermost (reverse frames) is)) → inlines_view is ≡ tree_of all
 tree_whole frames is t all none empty built joined =
-    sym (tree_is (inlines_view is) joined)
-    ∙ ap tree_of (sym (append-nil (row_events is)) ∙ ap (λ s. row_events is ++ written s) (sym empty) ∙ ap (λ fs. (spread fs ++ row_events is) ++ written t) (sym none) ∙ built)
+    let whole : row_events is ++ written t ≡ all = subst (λ (fs : List Frame). (spread (reverse fs) is ++ row_events (innermost (reverse fs) is)) ++ written t ≡ all) none built in
+    let row : AreJoined (inlines_view is) = subst (λ (fs : List Frame). AreJoined (inlines_view (innermost (reverse fs) is))) none joined in
+    sym (tree_is (inlines_view is) row) ∙ ap tree_of (sym (append-nil (row_events is)) ∙ ap (λ s. row_events is ++ written s) (sym empty) ∙ whole)
 
--- the rows before the spans that are open
+-- the rows of the spans that are open
 
-pub no_frames : (fs : List Frame) → fs ≡ [] → AreFramesJoined fs
-no_frames fs none = subst AreFramesJoined (sym none) (All-nil (λ g. AreJoined (inlines_view g.before.items)))
-
-pub frames_still : (fs gs : Vec Frame Global) → gs ≡ fs → AreFramesJoined fs.items → AreFramesJoined gs.items
-frames_still fs gs e h = subst (λ (v : Vec Frame Global). AreFramesJoined v.items) (sym e) h
+pub none_joined : (fs : List Frame) (row : List c.Inline) → fs ≡ [] → row ≡ [] → AreOpenRows (reverse fs) row
+none_joined fs row none empty = subst (λ (gs : List Frame). AreOpenRows (reverse gs) row) (sym none) (record { before = tt; last = open_row row empty })
 
 -- a text behind the last inline
-pub text_kept : (old new : TreeBuilder) → IsJoined old → new.frames ≡ old.frames → new.last ≡ old.last → IsJoined new
-text_kept old new h frames last = record {
-  before = frames_still old.frames new.frames frames h.before;
-  last = subst (λ (v : Vec c.Inline Global). IsOpenRow v.items) (sym last) h.last;
+pub text_kept : (old new : TreeBuilder) → IsJoined old → new.frames ≡ old.frames → new.row ≡ old.row → IsJoined new
+text_kept old new h frames row =
+    subst (λ (v : Vec Frame Global). AreOpenRows (reverse v.items) new.row.items) (sym frames)
+    (subst (λ (v : Vec c.Inline Global). AreOpenRows (reverse old.frames.items) v.items) (sym row) h)
+
+pub text_row : (t : String Global) (s : List ℕ) → string_bytes t ≡ s → 0 < length (string_bytes t) → IsTextRow s (made.Text t ∷ [])
+text_row t s same some = record { events = text_events t s same; joined = λ is h. row_text is (is ++ made.Text t ∷ []) t refl some h }
+
+pub no_text_row : (s : List ℕ) → s ≡ [] → IsTextRow s []
+no_text_row s none = record { events = ap written (sym none); joined = λ is h. subst (λ (js : List c.Inline). AreJoined (inlines_view js)) (sym (append-nil is)) h.joined }
+
+pub cut_inside : (row next inside : List c.Inline) (begin : ℕ) (s : List ℕ) → begin ≤ length row → EndsWithText row s next → inside ≡ drop begin next → EndsWithText (drop begin row) s inside
+cut_inside row next inside begin s le h e = record { tail = h.tail; row_is = e ∙ ap (λ (is : List c.Inline). drop begin is) h.row_is ∙ drop-append-le begin row h.tail le; text = h.text }
+
+pub text_more : (fs : List Frame) (row next ts : List c.Inline) (s : List ℕ) → AreNested fs (length row) → next ≡ row ++ ts → IsTextRow s ts → AreOpenRows fs row → AreJoinedRows fs next
+text_more fs row next ts s nested e ended h = record {
+  before = outer_more fs row next ts nested e h.before;
+  last = subst (λ (is : List c.Inline). AreJoined (inlines_view is)) (sym (inner_more fs row next ts nested e)) (ended.joined (innermost fs row) h.last);
 }
 
-pub frame_more : (fs gs : List Frame) (f : Frame) → gs ≡ fs ++ f ∷ [] → AreJoined (inlines_view f.before.items) → AreFramesJoined fs → AreFramesJoined gs
-frame_more fs gs f e joined h = subst AreFramesJoined (sym e) (All-push (λ g. AreJoined (inlines_view g.before.items)) fs f h joined)
+pub inline_more : (fs : List Frame) (row next : List c.Inline) (i : c.Inline) → AreNested fs (length row) → next ≡ row ++ i ∷ [] → IsNoText (inline_view i) →
+    AreJoinedRows fs row → AreOpenRows fs next
+inline_more fs row next i nested e apart h = record {
+  before = outer_more fs row next (i ∷ []) nested e h.before;
+  last = row_more (innermost fs row) (innermost fs next) i (inner_more fs row next (i ∷ []) nested e) apart h.last;
+}
 
-pub frame_less : (fs gs : List Frame) (f : Frame) → fs ≡ gs ++ f ∷ [] → AreFramesJoined fs → AreFramesJoined gs × AreJoined (inlines_view f.before.items)
-frame_less fs gs f e h = All-pop (λ g. AreJoined (inlines_view g.before.items)) fs gs (Some f) e h
+pub span_begun : (fs gs : List Frame) (f : Frame) (row : List c.Inline) → gs ≡ fs ++ f ∷ [] → f.begin ≡ length row →
+    AreJoinedRows (reverse fs) row → AreOpenRows (reverse gs) row
+span_begun fs gs f row e same h =
+    let whole : take f.begin row ≡ row = take_all f.begin row (omega (arith, same)) in
+    let none : drop f.begin row ≡ [] = drop_all f.begin row (omega (arith, same)) in
+    subst (λ (xs : List Frame). AreOpenRows xs row) (sym (turned fs gs f e)) (record {
+      before = subst (λ (is : List c.Inline). AreJoined (inlines_view (innermost (reverse fs) is)) × AreOuterJoined (reverse fs) is) (sym whole) (h.last, h.before);
+      last = open_row (drop f.begin row) none;
+    })
+
+pub span_ended : (fs gs : List Frame) (f : Frame) (row next inside ts : List c.Inline) (i : c.Inline) (s : List ℕ) → AreNested (reverse fs) (length row) → fs ≡ gs ++ f ∷ [] →
+    next ≡ take f.begin row ++ i ∷ [] → inside ≡ drop f.begin row ++ ts → IsTextRow s ts → (AreJoined (inlines_view inside) → IsNoText (inline_view i)) →
+    AreOpenRows (reverse fs) row → AreOpenRows (reverse gs) next
+span_ended fs gs f row next inside ts i s nested e pushed cut ended apart h =
+    let parts = nested_leave fs gs f (length row) e nested in
+    let whole : length (take f.begin row) ≡ f.begin = length-take-le f.begin row parts.0 in
+    let rows = subst (λ (xs : List Frame). AreOpenRows xs row) (turned gs fs f e) h in
+    let joined = subst (λ (is : List c.Inline). AreJoined (inlines_view is)) (sym cut) (ended.joined (drop f.begin row) rows.last) in
+    inline_more (reverse gs) (take f.begin row) next i (subst (λ n. AreNested (reverse gs) n) (sym whole) parts.1) pushed (apart joined)
+    (record { before = rows.before.1; last = rows.before.0 })
 
 -- inlines that are no text
 

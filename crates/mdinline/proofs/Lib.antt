@@ -13,6 +13,7 @@ pub mod LoneMarks
 pub mod LongTagEnds
 pub mod Marks
 pub mod NearestOpeners
+pub mod NestedRows
 pub mod PaddedCode
 pub mod PairedMatches
 pub mod PlainTokens

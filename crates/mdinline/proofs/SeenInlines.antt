@@ -8,7 +8,7 @@ use Rattle.mdinline.specs.declared.inlines.Inline.TheFolds.{fold-roll-Inline}
 use Rattle.mdinline.specs.declared.inlines.Inline.TheBlock as made
 use Rattle.mdinline.specs.declared.inlines.Inline.TheViews.{roll-Inline}
 use denote.Hole.Carrier.{roll}
-use Rattle.mdinline.specs.held.TreeBuilding.{made_events}
+use Rattle.mdinline.specs.held.OpenRows.{made_events}
 
 pub hard_seen : made_events made.Hard ≡ HardBreak ∷ []
 unfolding roll-Inline roll

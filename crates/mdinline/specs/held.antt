@@ -8,6 +8,7 @@ pub mod KnownText
 pub mod LeafEvents
 pub mod LimitedSinks
 pub mod LongTags
+pub mod OpenRows
 pub mod OpenSpans
 pub mod PairedRuns
 pub mod PlainText

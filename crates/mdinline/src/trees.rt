@@ -1,19 +1,20 @@
 //! A tree of inlines that is built from left to right.
 
-ghost use Rattle.std.specs.Prelude.{◌≡◌, ◌+◌, ◌<◌, ◌≤◌, [], ◌∷◌, ◌++◌, IfOk, OnOk, length, string_bytes, vec_capacity};
+ghost use Rattle.std.specs.Prelude.{◌≡◌, ◌+◌, ◌<◌, ◌≤◌, [], ◌∷◌, ◌++◌, IfOk, OnOk, length, reverse, string_bytes, vec_capacity};
 ghost use Rattle.inlinespec.specs.CodeSpans.{as_one_line};
-ghost use Rattle.inlinespec.specs.InlineEvents.{Enter, Leave, span_tree, tree_of, within, written};
-ghost use Rattle.inlinespec.specs.JoinedTexts.{AreJoined};
+ghost use Rattle.inlinespec.specs.InlineEvents.{Enter, span_tree, tree_of, within, written};
 ghost use Rattle.inlinespec.specs.LabelMap.{target_of};
 ghost use Rattle.mdinline.specs.SpanKinds.{span_of};
 ghost use Rattle.mdinline.specs.TreeView.{inline_view, inlines_view};
 ghost use Rattle.mdinline.specs.held.HeldReadings.{row_view};
-ghost use Rattle.mdinline.specs.held.TreeBuilding.{IsJoined, IsNoText, TreeTakes, built, made_events, open_span, row_events};
-ghost use Rattle.mdinline.specs.held.TreeTakings.{tree_takes_more, tree_takes_none};
+ghost use Rattle.mdinline.specs.held.OpenRows.{AreJoinedRows, AreNested, IsNoText, made_events, nested_prop, open_span, row_events};
+
+mod insides;
 
 use crate::inlines::Inline;
 use crate::rows::Row;
 use crate::sinks::{InlineSink, SpanKind};
+use crate::trees::insides::{push_text, take_inside};
 use mdtext::{NoMemory, Target};
 use std::alloc::{AllocError, Global};
 use std::mem;
@@ -26,14 +27,14 @@ enum OpenSpan {
     Image(Target),
 }
 
-/// A span that is open, and what stands before it beside it.
+/// A span that is open, and where what stands in it begins in the row.
 #[derive(Drop)]
 struct Frame {
     span: OpenSpan,
-    before: Vec<Inline>,
+    begin: usize,
 }
 
-/// The longest row that is built in room that stays. A longer one goes out with its room, so that one long text holds no memory for the texts behind it.
+/// The longest row that is built in room that stays. A longer one goes out with what it needs of its room, so that one long text holds no memory for the texts behind it.
 const LONG_ROW: usize = 64;
 
 /// Room that a tree is built in, kept from one tree to the next. What lies in it is of no use.
@@ -53,6 +54,14 @@ impl TreeRoom {
             frames: Vec::new(alloc),
         }
     }
+
+    /// Room that was built in, of which that for a row is small.
+    fn kept(text: String, mut row: Vec<Inline>, frames: Vec<Frame>) -> TreeRoom
+        ensures { vec_capacity result.row ≤ 64 }
+    {
+        let_go(&mut row);
+        TreeRoom { text, row, frames }
+    }
 }
 
 /// A tree up to a place, with the spans that are open there.
@@ -60,12 +69,16 @@ impl TreeRoom {
 pub(crate) struct TreeBuilder {
     alloc: Global,
     frames: Vec<Frame>,
-    last: Vec<Inline>,
+    /// What stands before the spans that are open, then what stands in them, that in the innermost last.
+    row: Vec<Inline>,
     /// The text behind what stands last, to which what comes next may be joined.
     text: String,
+    ghost nested: { AreNested (reverse frames.items) (length row.items) } by { nested_prop (reverse frames.items) (length row.items) },
 }
 
 impl TreeBuilder {
+    ghost use Rattle.mdinline.specs.held.TreeBuilding.{IsJoined, built};
+
     /// No inlines yet. What `room` has is let go. Takes no memory.
     pub(crate) fn new(alloc: Global, room: TreeRoom) -> TreeBuilder
         ensures events { built result ≡ [] }
@@ -74,16 +87,16 @@ impl TreeBuilder {
     {
         let TreeRoom {
             mut text,
-            row: mut last,
+            mut row,
             mut frames,
         } = room;
         text.clear();
-        last.clear();
+        row.clear();
         frames.clear();
         TreeBuilder {
             alloc,
             frames,
-            last,
+            row,
             text,
         }
     }
@@ -93,12 +106,18 @@ impl TreeBuilder {
         ensures tree { self.frames.items ≡ [] → IsJoined self → IfOk result (λ done. row_view done.0 ≡ tree_of (built self)) }
         ensures room { IfOk result (λ done. vec_capacity done.1.row ≤ 64) }
     {
-        if self.last.is_empty() {
+        if self.row.is_empty() {
             return self.finish_text();
         }
         self.end_text()?;
-        let row = take_row(self.alloc, &mut self.last)?;
-        Ok((row, self.into_room()))
+        let TreeBuilder {
+            alloc,
+            mut row,
+            text,
+            frames,
+        } = self;
+        let taken = take_row(alloc, &mut row)?;
+        Ok((taken, TreeRoom::kept(text, row, frames)))
     }
 
     /// The room alone, of which that for a row is small.
@@ -106,18 +125,17 @@ impl TreeBuilder {
         ensures { vec_capacity result.row ≤ 64 }
     {
         let TreeBuilder {
-            last: mut row,
+            row,
             text,
             frames,
             ..
         } = self;
-        let_go(&mut row);
-        TreeRoom { text, row, frames }
+        TreeRoom::kept(text, row, frames)
     }
 
     /// The tree of a text that nothing stands before, and the room. Takes no list.
     fn finish_text(self) -> Result<(Row, TreeRoom), AllocError>
-        requires { self.last.items ≡ [] }
+        requires { self.row.items ≡ [] }
         ensures tree { self.frames.items ≡ [] → IfOk result (λ done. row_view done.0 ≡ tree_of (built self)) }
         ensures room { IfOk result (λ done. vec_capacity done.1.row ≤ 64) }
     {
@@ -133,21 +151,16 @@ impl TreeBuilder {
         ensures events { OnOk result (built self.new ≡ built self.old) }
         ensures frames { OnOk result (self.new.frames ≡ self.old.frames) }
         ensures text { OnOk result (string_bytes self.new.text ≡ []) }
-        ensures joined { IsJoined self.old → OnOk result (AreJoined (inlines_view self.new.last.items)) }
+        ensures joined { IsJoined self.old → OnOk result (AreJoinedRows (reverse self.new.frames.items) self.new.row.items) }
     {
-        if self.text.is_empty() {
-            return Ok(());
-        }
-        let text = String::from_str(self.alloc, &self.text)?;
-        self.text.clear();
-        push_inline(&mut self.last, Inline::Text(text))?;
+        push_text(self.alloc, &mut self.row, &mut self.text)?;
         Ok(())
     }
 
     fn add_text(&mut self, text: &str) -> Result<(), AllocError>
         ensures events { OnOk result (built self.new ≡ built self.old ++ written text.now) }
         ensures frames { OnOk result (self.new.frames ≡ self.old.frames) }
-        ensures last { self.new.last ≡ self.old.last }
+        ensures row { self.new.row ≡ self.old.row }
     {
         self.text.push_str(text)?;
         Ok(())
@@ -160,7 +173,7 @@ impl TreeBuilder {
         ensures joined { IsNoText (inline_view inline) → IsJoined self.old → OnOk result (IsJoined self.new) }
     {
         self.end_text()?;
-        push_inline(&mut self.last, inline)?;
+        self.row.push(inline)?;
         Ok(())
     }
 
@@ -170,8 +183,8 @@ impl TreeBuilder {
         ensures joined { IsJoined self.old → OnOk result (IsJoined self.new) }
     {
         self.end_text()?;
-        let before = mem::replace(&mut self.last, Vec::new(self.alloc));
-        self.frames.push(Frame { span, before })?;
+        let begin = self.row.len();
+        self.frames.push(Frame { span, begin })?;
         Ok(())
     }
 
@@ -186,6 +199,9 @@ impl TreeBuilder {
 }
 
 impl InlineSink for TreeBuilder {
+    ghost use Rattle.mdinline.specs.held.TreeBuilding.{TreeTakes};
+    ghost use Rattle.mdinline.specs.held.TreeTakings.{tree_takes_more, tree_takes_none};
+
     ghost takes = { TreeTakes };
 
     ghost takes_none = { tree_takes_none };
@@ -241,24 +257,25 @@ impl InlineSink for TreeBuilder {
         Ok(())
     }
 
+    #[tactic(auto, using(crate::proofs::NestedRows::nested_left))]
     fn leave(&mut self) -> Result<(), NoMemory> {
-        self.end_text()?;
         let Some(frame) = self.frames.pop() else {
             return Ok(());
         };
-        let inside = mem::replace(&mut self.last, frame.before);
-        push_inline(&mut self.last, span_of(frame.span, inside))?;
+        let inside = take_inside(self.alloc, &mut self.row, &mut self.text, frame.begin)?;
+        self.row.push(span_of(frame.span, inside))?;
         Ok(())
     }
 }
 
 /// Takes what stands in the room of a row. A lone inline needs no list, and more go to one of their own, which is no longer than it has to be; a long row takes
-/// its room with it.
+/// its room with it, without what is left over.
 fn take_row(alloc: Global, last: &mut Vec<Inline>) -> Result<Row, AllocError>
     ensures row { IfOk result (λ row. row_view row ≡ inlines_view last.old.items) }
     ensures room { 64 < length last.old.items → vec_capacity last.new ≡ 0 }
 {
     if last.len() > LONG_ROW {
+        last.shrink_to_fit();
         return Ok(Row::Many(mem::replace(last, Vec::new(alloc))));
     }
     if last.len() > 1 {
@@ -296,17 +313,6 @@ fn code_of(alloc: Global, content: &str) -> Result<String, AllocError>
     }
     code.push_str(rest)?;
     Ok(code)
-}
-
-/// Appends an inline. Most spans hold one alone, so at first there is room for no more.
-fn push_inline(inlines: &mut Vec<Inline>, inline: Inline) -> Result<(), AllocError>
-    ensures { OnOk result (inlines.new.items ≡ inlines.old.items ++ inline ∷ []) }
-{
-    if inlines.is_empty() {
-        inlines.reserve_exact(1)?;
-    }
-    inlines.push(inline)?;
-    Ok(())
 }
 
 fn span_of(span: OpenSpan, inside: Vec<Inline>) -> Inline

@@ -8,5 +8,5 @@ pub returns-clause-tree : goal.returns-clause-tree
 returns-clause-tree c = λ none joined.
     let s = c.end_text.new.self in
     let now = c.in_ok-end_text.ensures in
-    c.in_ok-row.ensures.row
-    ∙ tree_whole s.frames.items s.last.items (string_bytes s.text) (built c.args.self) (ap (λ (v : Vec Frame Global). v.items) now.frames ∙ none) now.text now.events (now.joined joined)
+    c.in_ok-taken.ensures.row
+    ∙ tree_whole s.frames.items s.row.items (string_bytes s.text) (built c.args.self) (ap (λ (v : Vec Frame Global). v.items) now.frames ∙ none) now.text now.events (now.joined joined).last

@@ -1,36 +1,41 @@
-use Rattle.std.proofs.Common.{◌∷◌, [], ap, sym, ◌∙◌, ◌++◌, Vec, Global, length, length-append, subst}
-use Rattle.inlinespec.specs.InlineEvents.{within, written}
-use Rattle.mdinline.specs.held.TreeBuilding.{built, open_span, row_events, spread}
+use Rattle.std.proofs.Common.{◌≡◌, ◌≤◌, ◌∷◌, [], ap, ◌∙◌, ◌++◌, List, arith, length, length-append, reverse, string_bytes, take}
+use Rattle.inlinespec.specs.InlineEvents.{written}
+use Rattle.mdinline.specs.TreeView.{inline_view, inlines_view}
+use Rattle.mdinline.specs.held.OpenRows.{innermost, open_span, row_events, spread}
 use Rattle.mdinline.specs.held.TreeTakings.{takes_leave}
 use Rattle.mdinline.specs.declared.inlines.Inline.{Inline}
-use Rattle.mdinline.specs.declared.trees.Frame.{Frame}
-use Rattle.mdinline.proofs.BuiltRows.{built_rows, left}
-use Rattle.inlinespec.specs.JoinedTexts.{AreJoined}
-use Rattle.mdinline.specs.TreeView.{inline_view, inlines_view}
-use Rattle.mdinline.proofs.JoinedRows.{frame_less, frames_still, row_more, span_apart}
+use Rattle.mdinline.proofs.BuiltRows.{left}
+use Rattle.mdinline.proofs.JoinedRows.{span_apart, span_ended}
+use Rattle.mdinline.proofs.NestedRows.{nested_leave, nested_left}
 use Rattle.mdinline.proofs.trees.TreeBuilderInlineSink.leave.Goals as goal
+
+pub take_inside-requires : goal.take_inside-requires
+take_inside-requires c =
+    let s = c.args.self.now in
+    (nested_leave s.frames.items c.pop.new.self.items c.in-Some.frame (length s.row.items) c.in-Some.ensures.items s.nested).0
+
+pub invariant_of-self-2 : goal.invariant_of-self-2
+invariant_of-self-2 c =
+    let s = c.args.self.now in
+    let frame = c.in-Some.frame in
+    let row = c.push.new.self in
+    let longer : frame.begin ≤ length row.items = omega (arith, c.take_inside.ensures.kept, c.push.ensures.lower_bound, c.take_inside.new.row.ok.0, row.ok.0) in
+    record { nested = nested_left s.frames.items c.pop.new.self.items frame (length row.items) (length s.row.items) c.in-Some.ensures.items longer s.nested }
 
 pub returns : goal.returns
 returns c =
-    let s = c.end_text.new.self in
-    let all = built c.args.self.now in
-    let now = c.in_ok-end_text.ensures in
+    let s = c.args.self.now in
     let frame = c.in-Some.frame in
     let popped = c.pop.new.self.items in
-    let last = c.push_inline.new.inlines.items in
-    let row = c.in_ok-push_inline.ensures ∙ ap (λ (v : Vec Inline Global). v.items ++ c.span_of.result ∷ []) c.replace-inside.ensures.after in
-    takes_leave c.args.self.now (record { alloc = s.alloc; frames = c.pop.new.self; last = c.push_inline.new.inlines; text = s.text })
-    (ap (λ t. (spread popped ++ row_events last) ++ written t) now.text
-    ∙ left s.frames.items popped frame last s.last.items c.span_of.result all c.in-Some.ensures.items
-    row
-    (c.span_of.ensures.events ∙ ap (λ (v : Vec Inline Global). within (open_span frame.span) (row_events v.items)) c.replace-inside.ensures.value)
-    (built_rows s all now.text now.events))
-    (ap (λ (v : Vec Frame Global). length v.items) (sym now.frames) ∙ ap length c.in-Some.ensures.items ∙ length-append popped (frame ∷ []))
-    (λ h.
-    let inside = subst (λ (v : Vec Inline Global). AreJoined (inlines_view v.items)) (sym c.replace-inside.ensures.value) (now.joined h) in
-    let parts = frame_less s.frames.items popped frame c.in-Some.ensures.items (frames_still c.args.self.now.frames s.frames now.frames h.before) in
-    record {
-      before = parts.0;
-      last = row_more frame.before.items last c.span_of.result row
-          (span_apart (inline_view c.span_of.result) (open_span frame.span) (inlines_view c.replace-inside.result.items) c.span_of.ensures.view inside) parts.1;
-    })
+    let row = c.push.new.self.items in
+    let span = c.span_of.result in
+    let frames = c.in-Some.ensures.items in
+    let taken = c.in_ok-inside.ensures in
+    let pushed : row ≡ take frame.begin s.row.items ++ span ∷ [] = c.in_ok-push.ensures.items ∙ ap (λ (is : List Inline). is ++ span ∷ []) taken.row in
+    takes_leave s _
+    (ap (λ t. (spread (reverse popped) row ++ row_events (innermost (reverse popped) row)) ++ written t) taken.text
+    ∙ left s.frames.items popped frame s.row.items row c.in_ok-inside.inside.items taken.inside.tail span (string_bytes s.text) s.nested frames pushed taken.inside.row_is
+    taken.inside.text.events c.span_of.ensures.events)
+    (ap length frames ∙ length-append popped (frame ∷ []))
+    (span_ended s.frames.items popped frame s.row.items row c.in_ok-inside.inside.items taken.inside.tail span (string_bytes s.text) s.nested frames pushed taken.inside.row_is taken.inside.text
+    (span_apart (inline_view span) (open_span frame.span) (inlines_view c.in_ok-inside.inside.items) c.span_of.ensures.view))

@@ -9,4 +9,4 @@ pub returns : goal.returns
 returns c =
     takes_leaf c.args.self.now c.add_text.new.self (written c.args.text.now) c.in_ok-add_text.ensures.events c.in_ok-add_text.ensures.frames
     (bytes_open (length c.args.self.now.frames.items) c.args.text.now)
-    (λ h. text_kept c.args.self.now c.add_text.new.self h c.in_ok-add_text.ensures.frames c.in_ok-add_text.ensures.last)
+    (λ h. text_kept c.args.self.now c.add_text.new.self h c.in_ok-add_text.ensures.frames c.in_ok-add_text.ensures.row)
