@@ -16,6 +16,9 @@ pub mod FenceGrows
 pub mod FirstBytes
 pub mod HtmlEnds
 pub mod Interrupts
+pub mod Exchanges
+pub mod InsetFits
+pub mod InsetLaws
 pub mod ItemParts
 pub mod LeafEndings
 pub mod LeafLaws
@@ -44,6 +47,7 @@ pub mod StartLaws
 pub mod TableLaws
 pub mod TakenBlocks
 pub mod TextOrder
+pub mod TightSeams
 pub mod TipLaws
 pub mod Turns
 pub mod Views

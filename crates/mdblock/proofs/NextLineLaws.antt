@@ -40,7 +40,6 @@ use Rattle.mdblock.specs.held.Reads.{last_of}
 use Rattle.mdblock.specs.declared.gathering.Gathering.{Gathering}
 use Rattle.mdblock.specs.declared.open_blocks.Continuation.{Continuation}
 use Rattle.mdblock.specs.declared.open_blocks.Continuation.TheVariants as continuation
-use Rattle.mdblock.specs.declared.open_blocks.Level.{Level}
 use Rattle.mdblock.specs.declared.open_blocks.OpenBlock.{OpenBlock}
 use Rattle.mdblock.specs.declared.open_blocks.OpenBlock as open_block
 use Rattle.mdblock.specs.declared.readers.OpenUnit.{OpenUnit}

@@ -1,5 +1,5 @@
 -- Each item of a list gives one item of its tree, so the items in front of a join, and those behind it, are told by their number.
-use Rattle.std.proofs.Common.{◌≡◌, ℕ, suc, ◌+◌, Bool, true, false, List, [], ◌∷◌, length, map, refl, sym, ◌∙◌, ap}
+use Rattle.std.proofs.Common.{◌≡◌, ℕ, suc, ◌+◌, Bool, true, false, List, [], ◌∷◌, length, map, refl, sym, ◌∙◌, ap, subst}
 use Rattle.mdtext.specs.EntityTable.{EntityTable}
 use Rattle.blockspec.specs.BlockLine.{BlockLine}
 use Rattle.blockspec.specs.BlockKinds.{Container, Quote, Item, Kind, Paragraph, SetextHeading, Table, AtxHeading, ThematicBreak, FencedCode, IndentedCode, HtmlBlock, Holds}
@@ -9,6 +9,7 @@ use Rattle.blockspec.specs.Lists.{Part, Leaves, Quoted, Listed, Group, is_same_l
 use Rattle.blockspec.specs.NodeTree.{ItemNodes, no_item_nodes, item_node, texts_in, texts_in_items, placed, placed_items}
 use Rattle.blockspec.specs.Stretches.{Stretch, stretches, cut_within}
 use Rattle.blockspec.specs.TopBlocks.{ListItem, TopBlock, Other, ItemList, nodes_of_items, with_item_where, with_item, item_of_group, with_part, tops_of, single_groups, top_blocks}
+use Rattle.mdblock.specs.Insets.{HasItems}
 use Rattle.mdblock.specs.Spliced.{take_items, drop_items}
 use Rattle.mdblock.specs.held.TreesBehind.{placed_before}
 use Rattle.mdblock.proofs.PlacedNodes.{placed_items_before}
@@ -139,3 +140,26 @@ front_dropped n first later more w v =
     ap (λ z. drop_items (suc (length later)) z) (placed_items_before n N more)
     ∙ ap (λ z. drop_items z (placed_before (placed_items n N) (placed_items (n + length (texts_in_items N)) more))) (sym (items_counted first later w v))
     ∙ placed_dropped n N (placed_items (n + length (texts_in_items N)) more)
+
+-- ---- that there are so many
+
+placed_has : (n : ℕ) (a : ItemNodes) (more : Items) → HasItems (count_items a) (placed_before (placed_items n a) more)
+unfolding placed_items
+placed_has n no_item_nodes more = tt
+placed_has n (item_node N a) more = placed_has (n + length (texts_in N)) a more
+
+placed_has_all : (n : ℕ) (a : ItemNodes) → HasItems (count_items a) (placed_items n a)
+unfolding placed_items
+placed_has_all n no_item_nodes = tt
+placed_has_all n (item_node N a) = placed_has_all (n + length (texts_in N)) a
+
+pub all_has : (n : ℕ) (first : ListItem) (later : List ListItem) → IsSingle first.nodes → AreSingle later → HasItems (suc (length later)) (placed_items n (nodes_of_items first later))
+all_has n first later w v = subst (λ z. HasItems z (placed_items n (nodes_of_items first later))) (items_counted first later w v) (placed_has_all n (nodes_of_items first later))
+
+pub front_has : (n : ℕ) (first : ListItem) (later : List ListItem) (more : ItemNodes) → IsSingle first.nodes → AreSingle later →
+    HasItems (suc (length later)) (placed_items n (items_before (nodes_of_items first later) more))
+front_has n first later more w v =
+    let N = nodes_of_items first later in
+    subst (HasItems (suc (length later))) (sym (placed_items_before n N more))
+    (subst (λ z. HasItems z (placed_before (placed_items n N) (placed_items (n + length (texts_in_items N)) more))) (items_counted first later w v)
+    (placed_has n N (placed_items (n + length (texts_in_items N)) more)))

@@ -22,12 +22,13 @@ use Rattle.blockspec.proofs.JoinCuts.{no_join}
 use Rattle.blockspec.proofs.LastJoins.{held_joins, joined_next}
 use Rattle.blockspec.proofs.MarkLines.{marks_join}
 use Rattle.blockspec.proofs.UnitsMeet.{units_meet_inside}
-use Rattle.mdblock.specs.FoundLists.{AreJoinsOf, FoundList, StandsForUnit, found_unit}
+use Rattle.mdblock.specs.FoundLists.{FoundList, StandsForUnit, found_unit}
+use Rattle.mdblock.specs.Seams.{IsSpliced, SplicedAt}
 use Rattle.mdblock.specs.Spliced.{IsFrontOf, MeetsAt, mark_at, spliced_list}
 use Rattle.mdblock.specs.held.ReaderState.{ReaderState, UnitSoFar, held_joined}
 use Rattle.mdblock.specs.held.Reads.{HoldsUnit, Reads, handed, open_begin}
 use Rattle.mdblock.proofs.HeldMarks.{begin_held, held_rest, lines_mapped, open_is, with_line}
-use Rattle.mdblock.proofs.SplicedLists.{StandsForLines, ListJoined, list_joined}
+use Rattle.mdblock.proofs.SplicedLists.{AreFew, StandsForLines, ListJoined, list_joined}
 use Rattle.mdblock.proofs.SplicedMarks.{most}
 
 -- ---- the units of some lines and of what comes behind the ones that are held
@@ -88,7 +89,7 @@ pub of_lines : (e : EntityTable) (f : FoundList) (lines : List (List ℕ)) (ls :
 unfolding StandsForUnit
 of_lines e f lines ls is w = let v = subst (StandsForLines e f) (sym is) w in (document_units e lines ∙ v.0, v.1, v.2)
 
-if_joined : (limit : ℕ) (e : EntityTable) (reading : ReaderState) (ls : List (List ℕ)) → held_joined reading.held ≡ true → Reads limit e reading ls → is_joined e ls ≡ true
+pub if_joined : (limit : ℕ) (e : EntityTable) (reading : ReaderState) (ls : List (List ℕ)) → held_joined reading.held ≡ true → Reads limit e reading ls → is_joined e ls ≡ true
 unfolding Reads
 if_joined limit e reading ls j r = go reading.held j r.4
   where
@@ -109,15 +110,6 @@ mark_cut (m ∷ marks) zero h = record { before = []; behind = marks; is = refl;
 mark_cut (m ∷ marks) (suc k) h =
     let c = mark_cut marks k (omega (arith, h)) in
     record { before = m ∷ c.before; behind = c.behind; is = ap (λ z. m ∷ z) c.is; size = ap suc c.size }
-
--- What is told of the answer.
-pub record SplicedAt (e : EntityTable) (found old : FoundList) (k : ℕ) (xs : List (List ℕ)) (l : List ℕ) (ys : List (List ℕ)) : Type 0 where
-  pub begin : open_begin e (xs ++ l ∷ []) ≡ Some found.begin
-  pub units : units e (xs ++ l ∷ ys) ≡ handed e (xs ++ l ∷ []) ++ found_unit found ∷ []
-  pub joins : AreJoinsOf e (xs ++ l ∷ ys) found
-  pub stands : StandsForUnit e found (drop found.begin (xs ++ l ∷ ys))
-  pub kept : List (List ℕ)
-  pub texts : found.unit.texts ≡ kept ++ drop (mark_at old.marks k).texts old.unit.texts
 
 -- ---- where the last unit begins
 
@@ -212,9 +204,8 @@ met : (limit : ℕ) (e : EntityTable) (reading : ReaderState) (front old : Found
     (let X = map document_line xs in
     let L = document_line l in
     HeldJoin X L → IsFrontOf e front xs l → MarkCut old.marks k → MeetsAt limit e reading old k xs l zs ys →
-    front.lines + (old.lines - (mark_at old.marks k).line - 1) ≤ most → length (spliced_list front old k).unit.texts ≤ most → length (spliced_list front old k).unit.definitions ≤ most →
-    SplicedAt e (spliced_list front old k) old k xs l ys)
-met limit e reading front old k xs l zs ys h w cut m fits few_texts few_definitions =
+    front.lines + (old.lines - (mark_at old.marks k).line - 1) ≤ most → AreFew front.unit old.unit → SplicedAt e (spliced_list front old k) old k xs l ys)
+met limit e reading front old k xs l zs ys h w cut m fits few =
     let X = map document_line xs in
     let L = document_line l in
     let Z = map document_line zs in
@@ -225,18 +216,15 @@ met limit e reading front old k xs l zs ys h w cut m fits few_texts few_definiti
     (list_joined e (lines_held [] X) Z L Y front old k h.joins (held_one e X)
     w.1 w.2 w.3
     (to_lines e old (zs ++ l ∷ ys) (Z ++ L ∷ Y) (map-append document_line zs (l ∷ ys)) m.1)
-    cut.before cut.behind cut.is cut.size (m.2 ∙ sym (lines_mapped zs)) fits few_texts few_definitions)
+    cut.before cut.behind cut.is cut.size (m.2 ∙ sym (lines_mapped zs)) fits few)
 
 -- What a reader holds, and an old list from a later item on, make one list of the lines of both.
-pub spliced_at : (reading : ReaderState) (front old found : FoundList) (k : ℕ) → held_joined reading.held ≡ true → k < length old.marks → reading.fed + (old.lines - (mark_at old.marks k).line - 1) ≤ most →
-    front.lines ≤ reading.fed →
-    ((limit : ℕ) (e : EntityTable) (xs : List (List ℕ)) (l : List ℕ) → Reads limit e reading (xs ++ l ∷ []) → IsFrontOf e front xs l) → found ≡ spliced_list front old k → length found.unit.texts ≤ most → length found.unit.definitions ≤ most →
-    (limit : ℕ) (e : EntityTable) (xs : List (List ℕ)) (l : List ℕ) (zs ys : List (List ℕ)) → MeetsAt limit e reading old k xs l zs ys → SplicedAt e found old k xs l ys
-spliced_at reading front old found k joined small fits lines in_front is few_texts few_definitions limit e xs l zs ys m =
+pub spliced_at : (reading : ReaderState) (front old : FoundList) (k : ℕ) → held_joined reading.held ≡ true → k < length old.marks → reading.fed + (old.lines - (mark_at old.marks k).line - 1) ≤ most →
+    front.lines ≤ reading.fed → ((limit : ℕ) (e : EntityTable) (xs : List (List ℕ)) (l : List ℕ) → Reads limit e reading (xs ++ l ∷ []) → IsFrontOf e front xs l) → AreFew front.unit old.unit →
+    IsSpliced reading old k (spliced_list front old k)
+spliced_at reading front old k joined small fits lines in_front few limit e xs l zs ys m =
     let X = map document_line xs in
     let L = document_line l in
     let h = held_join X L (sym (joined_next e xs l) ∙ if_joined limit e reading (xs ++ l ∷ []) joined m.0) in
     let lines_fit : front.lines + (old.lines - (mark_at old.marks k).line - 1) ≤ most = omega (arith, fits, lines) in
-    subst (λ z. SplicedAt e z old k xs l ys) (sym is)
-    (met limit e reading front old k xs l zs ys h (in_front limit e xs l m.0) (mark_cut old.marks k small) m lines_fit
-    (subst (λ (z : FoundList). length z.unit.texts ≤ most) is few_texts) (subst (λ (z : FoundList). length z.unit.definitions ≤ most) is few_definitions))
+    met limit e reading front old k xs l zs ys h (in_front limit e xs l m.0) (mark_cut old.marks k small) m lines_fit few

@@ -17,13 +17,13 @@ use Rattle.blockspec.specs.TopBlocks.{ListItem, ItemList, is_tight_list, nodes_o
 use Rattle.blockspec.proofs.ListsSpliced.{ListsSpliced, lists_spliced, moved_mark, marks_spliced, parted_alike, unit_of_list, unit_parted}
 use Rattle.blockspec.proofs.MarkLines.{behind_is, marks_more}
 use Rattle.blockspec.proofs.MarkedLines.{MarkedAt, marked_at}
-use Rattle.blockspec.proofs.UnitsMeet.{list_definitions, list_texts, list_together}
+use Rattle.blockspec.proofs.UnitsMeet.{list_together}
 use Rattle.mdblock.specs.FoundLists.{FoundList}
 use Rattle.mdblock.specs.Spliced.{IsListFront, front_unit, mark_at, mark_further, spliced_unit, spliced_marks, tight_list, spliced_list}
 use Rattle.mdblock.proofs.ItemParts.{last_mark}
 use Rattle.mdblock.proofs.SingleItems.{IsSingle, AreSingle, SingleTops, blocks_single}
 use Rattle.mdblock.proofs.SplicedMarks.{most, AreSmall, small_behind, marks_small, list_small, list_count, list_tight}
-use Rattle.mdblock.proofs.SplicedUnits.{list_unit, texts_of, definitions_of, unit_of_both, list_texts_behind, list_texts_both}
+use Rattle.mdblock.proofs.SplicedUnits.{list_unit, texts_of, definitions_of, few_definitions, few_texts, unit_of_both, list_texts_behind, list_texts_both}
 
 -- A unit that was found is that of these lines of a document.
 abbrev pub StandsForLines : EntityTable → FoundList → List BlockLine → Type 0
@@ -50,7 +50,7 @@ same_list e xs kind other first one later more is was =
     (k, f, l)
 
 -- the list in front, by the items that its lines give
-front_is : (e : EntityTable) (unit : UnitTree) (xs : List BlockLine) (kind : ListKind) (first : ListItem) (later : List ListItem) → top_blocks e xs ≡ ItemList kind first later ∷ [] →
+pub front_is : (e : EntityTable) (unit : UnitTree) (xs : List BlockLine) (kind : ListKind) (first : ListItem) (later : List ListItem) → top_blocks e xs ≡ ItemList kind first later ∷ [] →
     (f : IsListFront e unit xs) → unit ≡ front_unit kind f.tight (nodes_of_items first later) f.definitions f.texts
 front_is e unit xs kind first later is f =
     let same = same_list e xs f.kind kind f.first first f.later later f.top is in
@@ -76,7 +76,7 @@ nodes_together kind first later gap k item items = ap (λ (g : Group). items_in 
 -- ---- a list that stands for its lines, and the later items of an old one
 
 -- Both lists, and where they meet.
-record Known (e : EntityTable) (xs zs : List BlockLine) (l : BlockLine) (ys : List BlockLine) (front old : FoundList) (k : ℕ) (w : ListsSpliced e xs zs l ys) : Type 0 where
+pub record Known (e : EntityTable) (xs zs : List BlockLine) (l : BlockLine) (ys : List BlockLine) (front old : FoundList) (k : ℕ) (w : ListsSpliced e xs zs l ys) : Type 0 where
   pub lines : front.lines ≡ length (xs ++ l ∷ [])
   pub first : IsListFront e front.unit xs
   pub old_tight : Bool
@@ -88,16 +88,30 @@ record Known (e : EntityTable) (xs zs : List BlockLine) (l : BlockLine) (ys : Li
   pub from : mark_at old.marks k ≡ mark_behind e zs
   pub count : k ≡ length (list_marks e zs)
 
-last_is : (e : EntityTable) (xs : List BlockLine) (marks : List ItemMark) → marks ≡ list_marks e xs ++ mark_behind e xs ∷ [] → mark_at marks (length marks - 1) ≡ mark_behind e xs
+pub last_is : (e : EntityTable) (xs : List BlockLine) (marks : List ItemMark) → marks ≡ list_marks e xs ++ mark_behind e xs ∷ [] → mark_at marks (length marks - 1) ≡ mark_behind e xs
 last_is e xs marks is = ap (λ (z : List ItemMark). mark_at z (length z - 1)) is ∙ last_mark (list_marks e xs) (mark_behind e xs)
 
 pub definitions_before : (e : EntityTable) (xs : List BlockLine) (kind : ListKind) (first : ListItem) (later : List ListItem) → top_blocks e xs ≡ ItemList kind first later ∷ [] →
     (mark_behind e xs).definitions ≡ definitions_of (nodes_of_items first later)
 definitions_before e xs kind first later is = ap (λ (m : ItemMark). m.definitions) (behind_is e xs kind first later is)
 
-texts_before : (e : EntityTable) (xs : List BlockLine) (kind : ListKind) (first : ListItem) (later : List ListItem) → top_blocks e xs ≡ ItemList kind first later ∷ [] →
+pub texts_before : (e : EntityTable) (xs : List BlockLine) (kind : ListKind) (first : ListItem) (later : List ListItem) → top_blocks e xs ≡ ItemList kind first later ∷ [] →
     (mark_behind e xs).texts ≡ texts_of (nodes_of_items first later)
 texts_before e xs kind first later is = ap (λ (m : ItemMark). m.texts) (behind_is e xs kind first later is)
+
+-- how many items stand before the later ones
+pub front_count : (e : EntityTable) (xs zs : List BlockLine) (l : BlockLine) (ys : List BlockLine) (front old : FoundList) (k : ℕ) (w : ListsSpliced e xs zs l ys) → Known e xs zs l ys front old k w →
+    length front.marks ≡ suc (length w.later)
+front_count e xs zs l ys front old k w s =
+    ap length s.front_marks
+    ∙ length-append (list_marks e xs) (mark_behind e xs ∷ [])
+    ∙ ap (λ z. z + 1) (list_count e xs w.kind w.first w.later w.front)
+    ∙ (let z : length w.later + 1 ≡ suc (length w.later) = omega arith in z)
+
+pub old_count : (e : EntityTable) (xs zs : List BlockLine) (l : BlockLine) (ys : List BlockLine) (front old : FoundList) (k : ℕ) (w : ListsSpliced e xs zs l ys) → Known e xs zs l ys front old k w →
+    k + 1 ≡ suc (length w.old_later)
+old_count e xs zs l ys front old k w s =
+    ap (λ z. z + 1) (s.count ∙ list_count e zs w.old_kind w.old_first w.old_later w.old_front) ∙ (let z : length w.old_later + 1 ≡ suc (length w.old_later) = omega arith in z)
 
 -- the unit of both, whether it is tight or not
 unit_is : (e : EntityTable) (xs zs : List BlockLine) (l : BlockLine) (ys : List BlockLine) (front old : FoundList) (k : ℕ) (w : ListsSpliced e xs zs l ys) (tight : Bool) → Known e xs zs l ys front old k w →
@@ -112,12 +126,8 @@ unit_is e xs zs l ys front old k w tight s =
     let out = suc (length w.old_later) in
     let one = single_list e xs w.kind w.first w.later w.front in
     let other = single_list e zs w.old_kind w.old_first w.old_later w.old_front in
-    let many : length front.marks ≡ kept =
-    ap length s.front_marks
-    ∙ length-append (list_marks e xs) (mark_behind e xs ∷ [])
-    ∙ ap (λ z. z + 1) (list_count e xs w.kind w.first w.later w.front)
-    ∙ (let z : length w.later + 1 ≡ suc (length w.later) = omega arith in z) in
-    let left : k + 1 ≡ out = ap (λ z. z + 1) (s.count ∙ list_count e zs w.old_kind w.old_first w.old_later w.old_front) ∙ (let z : length w.old_later + 1 ≡ suc (length w.old_later) = omega arith in z) in
+    let many = front_count e xs zs l ys front old k w s in
+    let left = old_count e xs zs l ys front old k w s in
     let defined : to.definitions ≡ definitions_of N = ap (λ (m : ItemMark). m.definitions) (last_is e xs front.marks s.front_marks) ∙ definitions_before e xs w.kind w.first w.later w.front in
     let defined_from : from.definitions ≡ definitions_of O = ap (λ (m : ItemMark). m.definitions) s.from ∙ definitions_before e zs w.old_kind w.old_first w.old_later w.old_front in
     ap (λ z. spliced_unit tight z (k + 1) to.definitions from.definitions front.unit old.unit) many
@@ -160,6 +170,11 @@ marks_are e xs zs l ys front old k w s small =
     ∙ ap (λ z. F ++ z) (marks_small U V D (small_behind F (map (moved_mark U V) D) (subst AreSmall is small)))
     ∙ sym is
 
+-- The texts and definitions of both can be counted together.
+pub record AreFew (front old : UnitTree) : Type 0 where
+  pub texts : length front.texts + length old.texts ≤ most
+  pub definitions : length front.definitions + length old.definitions ≤ most
+
 -- What is told of a list that goes on with the later items of another.
 pub record ListJoined (e : EntityTable) (front old : FoundList) (k : ℕ) (ls : List BlockLine) : Type 0 where
   pub stands : StandsForLines e (spliced_list front old k) ls
@@ -167,9 +182,8 @@ pub record ListJoined (e : EntityTable) (front old : FoundList) (k : ℕ) (ls : 
   pub texts : (spliced_list front old k).unit.texts ≡ kept ++ drop (mark_at old.marks k).texts old.unit.texts
 
 joined : (e : EntityTable) (xs zs : List BlockLine) (l : BlockLine) (ys : List BlockLine) (front old : FoundList) (k : ℕ) (w : ListsSpliced e xs zs l ys) → Known e xs zs l ys front old k w →
-    front.lines + (old.lines - (mark_at old.marks k).line - 1) ≤ most → length (spliced_list front old k).unit.texts ≤ most → length (spliced_list front old k).unit.definitions ≤ most →
-    ListJoined e front old k (xs ++ l ∷ ys)
-joined e xs zs l ys front old k w s fits few_texts few_definitions =
+    front.lines + (old.lines - (mark_at old.marks k).line - 1) ≤ most → AreFew front.unit old.unit → ListJoined e front old k (xs ++ l ∷ ys)
+joined e xs zs l ys front old k w s fits few =
     let N = nodes_of_items w.first w.later in
     let O = nodes_of_items w.old_first w.old_later in
     let P = nodes_of_items w.item w.items in
@@ -180,11 +194,10 @@ joined e xs zs l ys front old k w s fits few_texts few_definitions =
     let tight = tight_list old.parted marks in
     let unit : (spliced_list front old k).unit ≡ list_unit w.kind tight (items_before N P) = unit_is e xs zs l ys front old k w tight s in
     let lines : front.lines + (old.lines - (mark_at old.marks k).line - 1) ≡ length L = lines_are e xs zs l ys front old k w s in
-    let texts : length (spliced_list front old k).unit.texts ≡ texts_of (nodes_of_items w.first all) =
-    ap (λ (u : UnitTree). length u.texts) unit ∙ ap length (list_texts w.kind tight (items_before N P)) ∙ ap texts_of (sym nodes) in
-    let definitions : length (spliced_list front old k).unit.definitions ≡ definitions_of (nodes_of_items w.first all) =
-    ap (λ (u : UnitTree). length u.definitions) unit ∙ ap length (list_definitions w.kind tight (items_before N P)) ∙ ap definitions_of (sym nodes) in
-    let small = list_small e L w.kind w.first all w.all (subst (λ z. z ≤ most) lines fits) (subst (λ z. z ≤ most) texts few_texts) (subst (λ z. z ≤ most) definitions few_definitions) in
+    let in_front = front_is e front.unit xs w.kind w.first w.later w.front s.first in
+    let texts = few_texts w.kind w.old_kind s.first.tight s.old_tight N O P s.first.definitions s.first.texts front.unit old.unit most in_front s.old_unit few.texts in
+    let definitions = few_definitions w.kind w.old_kind s.first.tight s.old_tight N O P s.first.definitions s.first.texts front.unit old.unit most in_front s.old_unit few.definitions in
+    let small = list_small e L w.kind w.first all w.all (subst (λ z. z ≤ most) lines fits) (subst (λ z. texts_of z ≤ most) (sym nodes) texts) (subst (λ z. definitions_of z ≤ most) (sym nodes) definitions) in
     let marked : marks ≡ list_marks e L = marks_are e xs zs l ys front old k w s small in
     let parted : old.parted ≡ is_parted (top_blocks e L) = s.parted ∙ sym (parted_alike e xs zs l ys w) in
     let tightness : tight ≡ is_tight_list w.first all =
@@ -209,7 +222,7 @@ joined e xs zs l ys front old k w s fits few_texts few_definitions =
           ∙ ap (λ z. texts_in_items N ++ drop z old.unit.texts) (sym before);
     }
 
-known : (e : EntityTable) (xs zs : List BlockLine) (l : BlockLine) (ys : List BlockLine) (front old : FoundList) (k : ℕ) (w : ListsSpliced e xs zs l ys) → front.lines ≡ length (xs ++ l ∷ []) → front.marks ≡ list_marks e xs ++ mark_behind e xs ∷ [] → IsListFront e front.unit xs →
+pub known : (e : EntityTable) (xs zs : List BlockLine) (l : BlockLine) (ys : List BlockLine) (front old : FoundList) (k : ℕ) (w : ListsSpliced e xs zs l ys) → front.lines ≡ length (xs ++ l ∷ []) → front.marks ≡ list_marks e xs ++ mark_behind e xs ∷ [] → IsListFront e front.unit xs →
     StandsForLines e old (zs ++ l ∷ ys) → (before : List ItemMark) → length before ≡ k → MarkedAt e zs l ys before (mark_at old.marks k) →
     Known e xs zs l ys front old k w
 known e xs zs l ys front old k w lines marks first old_stands before size m =
@@ -233,12 +246,12 @@ known e xs zs l ys front old k w lines marks first old_stands before size m =
 -- Where the last of some lines begins a later item of the list in front of it, and of an old list too, the list in front with the old one's items from there on stands for the lines of both.
 pub list_joined : (e : EntityTable) (xs zs : List BlockLine) (l : BlockLine) (ys : List BlockLine) (front old : FoundList) (k : ℕ) → joins_list xs l ≡ true → IsOne (begins_in (units_of e xs)) →
     front.lines ≡ length (xs ++ l ∷ []) → front.marks ≡ list_marks e (xs ++ l ∷ []) → IsListFront e front.unit xs → StandsForLines e old (zs ++ l ∷ ys) → (before : List ItemMark) → (behind : List ItemMark) → old.marks ≡ before ++ mark_at old.marks k ∷ behind → length before ≡ k →
-    (mark_at old.marks k).line ≡ length zs → front.lines + (old.lines - (mark_at old.marks k).line - 1) ≤ most →
-    length (spliced_list front old k).unit.texts ≤ most → length (spliced_list front old k).unit.definitions ≤ most → ListJoined e front old k (xs ++ l ∷ ys)
-list_joined e xs zs l ys front old k j one lines marks first old_stands before behind cut size line fits few_texts few_definitions =
+    (mark_at old.marks k).line ≡ length zs → front.lines + (old.lines - (mark_at old.marks k).line - 1) ≤ most → AreFew front.unit old.unit →
+    ListJoined e front old k (xs ++ l ∷ ys)
+list_joined e xs zs l ys front old k j one lines marks first old_stands before behind cut size line fits few =
     let old_one = one_unit (units_of e (zs ++ l ∷ ys)) old.lines old.unit old_stands.0 in
     let m = marked_at e zs l ys before (mark_at old.marks k) behind old_one (sym old_stands.1 ∙ cut) line in
     let w = lists_spliced e xs zs l ys j m.joins one old_one in
     joined e xs zs l ys front old k w
     (known e xs zs l ys front old k w lines (marks ∙ marks_more e xs l one j) first old_stands before size m)
-    fits few_texts few_definitions
+    fits few

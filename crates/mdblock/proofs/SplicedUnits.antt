@@ -1,5 +1,5 @@
 -- The unit of a list that goes on with the later items of another.
-use Rattle.std.proofs.Common.{◌≡◌, ℕ, suc, ◌+◌, Bool, List, [], ◌++◌, drop, length, sym, ◌∙◌, ap, arith}
+use Rattle.std.proofs.Common.{◌≡◌, ℕ, suc, ◌+◌, Bool, List, [], ◌++◌, drop, length, ◌≤◌, sym, ◌∙◌, ap, arith, length-append}
 use Rattle.std.proofs.Math.Seq.{take-append_seam, drop-append_seam}
 use Rattle.std.proofs.lemmas.List.{append-nil}
 use Rattle.std.specs.List.{range_with_len}
@@ -10,7 +10,7 @@ use Rattle.blockspec.specs.Lists.{items_before}
 use Rattle.blockspec.specs.NodeTree.{ItemNodes, no_nodes, list_node, texts_in, texts_in_items, definitions_in, definitions_in_items, placed, placed_items, unit_of}
 use Rattle.blockspec.specs.UnitTree.{UnitTree}
 use Rattle.blockspec.specs.TopBlocks.{ListItem, nodes_of_items}
-use Rattle.blockspec.proofs.UnitsMeet.{texts_together, definitions_together, list_texts}
+use Rattle.blockspec.proofs.UnitsMeet.{texts_together, definitions_together, list_definitions, list_texts}
 use Rattle.mdblock.specs.Copies.{copied_items, items_positions, texts_at}
 use Rattle.mdblock.specs.Spliced.{drop_items, front_unit, spliced_unit}
 use Rattle.mdblock.specs.held.TreesBehind.{placed_before}
@@ -110,3 +110,26 @@ list_texts_behind kind t O P =
 
 pub list_texts_both : (kind : ListKind) (t : Bool) (N P : ItemNodes) → (list_unit kind t (items_before N P)).texts ≡ texts_in_items N ++ texts_in_items P
 list_texts_both kind t N P = list_texts kind t (items_before N P) ∙ texts_together N P
+
+-- ---- they have no more texts and definitions than there are in front and in the old list
+
+pub few_texts : (kind other : ListKind) (t u : Bool) (N O P : ItemNodes) (defined : List LinkDefinition) (texts : List (List ℕ)) (front old : UnitTree) (most : ℕ) →
+    front ≡ front_unit kind t N defined texts → old ≡ list_unit other u (items_before O P) → length front.texts + length old.texts ≤ most → texts_of (items_before N P) ≤ most
+few_texts kind other t u N O P defined texts front old most front_is old_is few =
+    let a : texts_of (items_before N P) ≡ texts_of N + texts_of P = ap length (texts_together N P) ∙ length-append (texts_in_items N) (texts_in_items P) in
+    let b : length front.texts ≡ texts_of N + length texts = ap (λ (v : UnitTree). length v.texts) front_is ∙ length-append (texts_in_items N) texts in
+    let c : length old.texts ≡ texts_of O + texts_of P =
+    ap (λ (v : UnitTree). length v.texts) old_is ∙ ap length (list_texts_both other u O P) ∙ length-append (texts_in_items O) (texts_in_items P) in
+    omega (arith, a, b, c, few)
+
+pub few_definitions : (kind other : ListKind) (t u : Bool) (N O P : ItemNodes) (defined : List LinkDefinition) (texts : List (List ℕ)) (front old : UnitTree) (most : ℕ) →
+    front ≡ front_unit kind t N defined texts → old ≡ list_unit other u (items_before O P) → length front.definitions + length old.definitions ≤ most →
+    definitions_of (items_before N P) ≤ most
+few_definitions kind other t u N O P defined texts front old most front_is old_is few =
+    let a : definitions_of (items_before N P) ≡ definitions_of N + definitions_of P = ap length (definitions_together N P) ∙ length-append (definitions_in_items N) (definitions_in_items P) in
+    let b : length front.definitions ≡ definitions_of N + length defined = ap (λ (v : UnitTree). length v.definitions) front_is ∙ length-append (definitions_in_items N) defined in
+    let c : length old.definitions ≡ definitions_of O + definitions_of P =
+    ap (λ (v : UnitTree). length v.definitions) old_is
+    ∙ ap length (list_definitions other u (items_before O P) ∙ definitions_together O P)
+    ∙ length-append (definitions_in_items O) (definitions_in_items P) in
+    omega (arith, a, b, c, few)

@@ -1,5 +1,5 @@
 -- Texts with positions one after the other, in document order: copies of them are the same, and they are the first ones that there are.
-use Rattle.std.proofs.Common.{◌≡◌, ℕ, suc, ◌+◌, ◌≤◌, List, [], ◌∷◌, ◌++◌, length, drop, refl, sym, ◌∙◌, ap, subst, append_assoc, arith, length-append}
+use Rattle.std.proofs.Common.{◌≡◌, ℕ, zero, suc, ◌+◌, ◌≤◌, List, [], ◌∷◌, ◌++◌, length, drop, refl, sym, ◌∙◌, ap, subst, append_assoc, arith, length-append}
 use Rattle.std.specs.List.{flat_map, range_with_len}
 use Rattle.std.specs.Prelude.{take}
 use Rattle.blockspec.specs.BlockTree.{Block, paragraph, heading, thematic_break, code_block, html_block, block_quote, list, table, Blocks, no_blocks, block, Items, no_items, item}
@@ -26,6 +26,11 @@ behind_rest at end (p ∷ ps) qs w =
 pub behind_is : (at end : ℕ) (ps : List ℕ) → IsBehind at ps end → end ≡ at + length ps
 behind_is at end [] w = omega (arith, w)
 behind_is at end (p ∷ ps) w = let e = behind_is (at + 1) end ps w.1 in omega (arith, e)
+
+-- a row of numbers is one
+pub range_behind : (n k : ℕ) → IsBehind n (range_with_len n k) (n + k)
+range_behind n zero = omega arith
+range_behind n (suc k) = let e : (n + 1) + k ≡ n + suc k = omega arith in (refl, subst (IsBehind (n + 1) (range_with_len (n + 1) k)) e (range_behind (n + 1) k))
 
 -- ---- copies
 
@@ -70,7 +75,7 @@ mutual
 
 -- ---- texts
 
-texts_behind : (front texts : List (List ℕ)) (end : ℕ) (ps : List ℕ) → IsBehind (length front) ps end → length ps ≤ length texts → texts_at (front ++ texts) ps ≡ take (length ps) texts
+pub texts_behind : (front texts : List (List ℕ)) (end : ℕ) (ps : List ℕ) → IsBehind (length front) ps end → length ps ≤ length texts → texts_at (front ++ texts) ps ≡ take (length ps) texts
 texts_behind front texts end [] w h = refl
 texts_behind front [] end (p ∷ ps) w h = absurd (omega (arith, h))
 texts_behind front (t ∷ texts) end (p ∷ ps) w h =

@@ -2,7 +2,9 @@ pub mod BlockView
 pub mod Copies
 pub mod CountedLines
 pub mod FoundLists
+pub mod Insets
 pub mod Positions
+pub mod Seams
 pub mod Spliced
 pub mod held
 pub use Rattle.mdleaf.specs.DefinedLinks

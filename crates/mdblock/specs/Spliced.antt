@@ -109,7 +109,7 @@ spliced_marks front old k = front ++ map (mark_further (mark_at old k) (mark_at 
 abbrev pub tight_list : (parted : Bool) → List ItemMark → Bool
 tight_list parted marks = not (parted || list_any (λ (mark : ItemMark). mark.loose) marks)
 
--- A list without its last item, and behind it the items of an old one from its item k + 1 on.
+-- A list without the item of its last mark, and behind it the items of an old one from its item k + 1 on.
 abbrev pub spliced_list : (front old : FoundList) → (k : ℕ) → FoundList
 spliced_list front old k =
     let from = mark_at old.marks k in

@@ -1,57 +1,25 @@
 //! A list whose front a reader holds, and whose later items were found before (CommonMark 5.3).
 
-ghost use Rattle.std.specs.Prelude.{◌≡◌, ◌+◌, ◌-◌, ◌<◌, ◌≤◌, ◌++◌, ◌∷◌, [], ℕ, List, IfOk, OnOk, Some, drop, length, map, option_map, string_bytes, true};
-ghost use Rattle.mdtext.specs.EntityTable.{EntityTable};
-ghost use Rattle.blockspec.specs.BlockUnits.{units};
+ghost use Rattle.std.specs.Prelude.{◌≡◌, ◌<◌, ◌++◌, ℕ, IfOk, OnOk, drop, length, map, option_map, string_bytes, true};
+ghost use Rattle.blockspec.specs.BlockTree.{Items};
 ghost use Rattle.mdblock.specs.BlockView.{blocks_view, items_view, kind_view};
 ghost use Rattle.mdblock.specs.Copies.{copied_items, items_positions, texts_at};
-ghost use Rattle.mdblock.specs.FoundLists.{AreJoinsOf, StandsForUnit, found_unit, join_mark};
+ghost use Rattle.mdblock.specs.FoundLists.{join_mark};
+ghost use Rattle.mdblock.specs.Insets.{with_items};
 ghost use Rattle.mdblock.specs.Positions.{BlocksIn, ItemsIn};
-ghost use Rattle.mdblock.specs.Spliced.{MeetsAt, first_items, first_kind, further_on, list_of_kind, mark_at, mark_further, spliced_list, take_items, tight_list};
-ghost use Rattle.mdblock.specs.held.ReaderState.{held_joined};
-ghost use Rattle.mdblock.specs.held.Reads.{handed, open_begin};
+ghost use Rattle.mdblock.specs.Spliced.{first_items, first_kind, further_on, list_of_kind, mark_at, mark_further, spliced_list, take_items, tight_list};
 
 use crate::blocks::{Block, Item, ListKind};
 use crate::copies::{copied_items, push_definitions};
-use crate::readers::Reader;
 use crate::text_order::behind_items;
 use crate::units::{Found, Join};
 use mdtext::NoMemory;
 use std::alloc::Global;
 
-/// One list of what a reader holds, in whose last line a later item begins, and of an old list's items from its join `k` on, which begins with the same
-/// line: what the reader would hold if it had read the old list's lines behind that one too.
-///
-/// Asks that the reader's `joined` is true, that `k`, from 0 on, is the number of one of the old list's `joins`, and that the reader's lines with the old
-/// ones behind that join are no more than `usize::MAX`. Where the two lines differ nothing is said of the answer. Moves what the reader holds, takes memory for
-/// copies of what the old list has from there on, items, texts, definitions and joins, and spends the reader in each case. No line is read or counted again, and
-/// where the old list began does not matter.
-pub fn splice(front: Reader, old: &Found, k: usize) -> Result<Found, NoMemory>
-    requires joined { held_joined front.held ≡ true }
-    requires join { k < length old.now.marks }
-    requires fits { front.fed + (old.now.lines - (mark_at old.now.marks k).line - 1) ≤ usize.MAX }
-    ensures begin { IfOk result (λ found. (limit : ℕ) (e : EntityTable) (xs : List (List ℕ)) (l : List ℕ) (zs ys : List (List ℕ)) → MeetsAt limit e front.entry old.now k xs l zs ys
-        → open_begin e (xs ++ l ∷ []) ≡ Some found.begin) }
-    ensures units { IfOk result (λ found. (limit : ℕ) (e : EntityTable) (xs : List (List ℕ)) (l : List ℕ) (zs ys : List (List ℕ)) → MeetsAt limit e front.entry old.now k xs l zs ys
-        → units e (xs ++ l ∷ ys) ≡ handed e (xs ++ l ∷ []) ++ found_unit found ∷ []) }
-    ensures joins { IfOk result (λ found. (limit : ℕ) (e : EntityTable) (xs : List (List ℕ)) (l : List ℕ) (zs ys : List (List ℕ)) → MeetsAt limit e front.entry old.now k xs l zs ys
-        → AreJoinsOf e (xs ++ l ∷ ys) found) }
-    ensures stands { IfOk result (λ found. (limit : ℕ) (e : EntityTable) (xs : List (List ℕ)) (l : List ℕ) (zs ys : List (List ℕ)) → MeetsAt limit e front.entry old.now k xs l zs ys
-        → StandsForUnit e found (drop found.begin (xs ++ l ∷ ys))) }
-    ensures texts { IfOk result (λ found. (limit : ℕ) (e : EntityTable) (xs : List (List ℕ)) (l : List ℕ) (zs ys : List (List ℕ)) → MeetsAt limit e front.entry old.now k xs l zs ys
-        → (kept : List (List ℕ)) × (found.unit.texts ≡ kept ++ drop (mark_at old.now.marks k).texts old.now.unit.texts)) }
-{
-    let alloc = front.alloc();
-    let front = front.into_front()?;
-    spliced(alloc, front, old, k)
-}
-
-/// The items of a list but the last one, and those of an old list from its join `k` on.
-fn spliced(alloc: Global, front: Found, old: &Found, k: usize) -> Result<Found, NoMemory>
-    requires join { k < length old.now.marks }
-    ensures list { IfOk result (λ found. found ≡ spliced_list front old.now k) }
-    ensures texts { IfOk result (λ found. length found.unit.texts ≤ usize.MAX) }
-    ensures definitions { IfOk result (λ found. length found.unit.definitions ≤ usize.MAX) }
+/// A list without the item that its last join begins, and behind it the items of an old list from its join `k` on.
+pub(crate) fn spliced(alloc: Global, front: Found, old: &Found, k: usize) -> Result<Found, NoMemory>
+    requires { k < length old.now.marks }
+    ensures { IfOk result (λ found. found ≡ spliced_list front old.now k) }
 {
     let from = join_at(old.joins(), k);
     let to = join_at(front.joins(), front.joins().len().saturating_sub(1));
@@ -123,7 +91,7 @@ pub(crate) fn join_at(joins: &[Join], k: usize) -> Join
 }
 
 /// What is behind so many.
-fn behind<T>(all: &[T], count: usize) -> &[T]
+pub(crate) fn behind<T>(all: &[T], count: usize) -> &[T]
     ensures { result.now ≡ drop count all.now }
 {
     all.get(count..).unwrap_or(&[])
@@ -140,7 +108,7 @@ pub(crate) fn list_items(blocks: &[Block]) -> &[Item]
 }
 
 /// The items of a list that stands first, taken out; none where no list does.
-fn into_items(alloc: Global, blocks: Vec<Block>) -> Vec<Item>
+pub(crate) fn into_items(alloc: Global, blocks: Vec<Block>) -> Vec<Item>
     ensures { items_view result.items ≡ first_items (blocks_view blocks.items) }
 {
     match blocks.into_iter().next() {
@@ -156,6 +124,25 @@ pub(crate) fn list_kind(blocks: &[Block]) -> Option<ListKind>
     match blocks.first() {
         Some(Block::List { kind, .. }) => Some(*kind),
         _ => None,
+    }
+}
+
+/// Whether a list of this kind stands first, which is tight or not as told.
+pub(crate) fn is_list_of(blocks: &[Block], kind: Option<ListKind>, tight: bool) -> bool
+    ensures { result ≡ true → (items : Items) → list_of_kind tight items (option_map kind_view kind) ≡ with_items items (blocks_view blocks.now) }
+{
+    match (blocks.first(), kind) {
+        (
+            Some(
+                Block::List {
+                    kind: marks,
+                    tight: close,
+                    ..
+                },
+            ),
+            Some(kind),
+        ) => kind == *marks && tight == *close,
+        _ => false,
     }
 }
 
@@ -177,7 +164,7 @@ fn as_list(
 }
 
 /// Whether a list is tight, by its joins, and by whether a gap parts two blocks of its last item.
-fn is_tight(joins: &[Join], parted: bool) -> bool
+pub(crate) fn is_tight(joins: &[Join], parted: bool) -> bool
     ensures { result ≡ tight_list parted (map join_mark joins.now) }
 {
     !parted && !joins.iter().any(|join| join.loose)
@@ -195,7 +182,7 @@ fn push_joins(behind: &[Join], from: Join, to: Join, joins: &mut Vec<Join>) -> R
 }
 
 /// A join behind `from`, where it stands behind `to`.
-fn moved(join: Join, from: Join, to: Join) -> Join
+pub(crate) fn moved(join: Join, from: Join, to: Join) -> Join
     ensures { join_mark result ≡ mark_further (join_mark from) (join_mark to) (join_mark join) }
 {
     Join {

@@ -1,10 +1,12 @@
 //! Units: what is handed out of a document.
 
-ghost use Rattle.std.specs.Prelude.{◌≡◌, length, map, string_bytes};
+ghost use Rattle.std.specs.Prelude.{◌≡◌, ◌+◌, ◌≤◌, length, map, string_bytes};
 ghost use Rattle.mdleaf.specs.DefinedLinks.{definition_of};
 ghost use Rattle.mdblock.specs.BlockView.{blocks_view};
 ghost use Rattle.mdblock.specs.FoundLists.{join_mark};
 ghost use Rattle.mdblock.specs.Positions.{BlocksIn};
+
+pub(crate) mod insets;
 
 use crate::blocks::Block;
 use mdleaf::Definition;
@@ -61,6 +63,15 @@ impl Unit {
         ensures { map string_bytes result.now ≡ self.now.texts }
     {
         &self.texts
+    }
+
+    /// The definitions and the texts of two units can be counted together, since each of them lies in a vector.
+    pub(crate) fn count_with(&self, other: &Unit)
+        ensures definitions { length self.now.definitions + length other.now.definitions ≤ usize.MAX }
+        ensures texts { length self.now.texts + length other.now.texts ≤ usize.MAX }
+    {
+        let _ = &self.texts;
+        let _ = &other.texts;
     }
 }
 

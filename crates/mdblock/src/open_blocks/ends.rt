@@ -159,9 +159,7 @@ impl Level {
     {
         let Level { mut over, last, .. } = self;
         match last {
-            OpenBlock::Shut => Ok(over),
-            OpenBlock::Leaf(_) => Ok(over),
-            OpenBlock::Quote(_) => Ok(over),
+            OpenBlock::Shut | OpenBlock::Leaf(_) | OpenBlock::Quote(_) => Ok(over),
             OpenBlock::List(_, list) => {
                 push_list(&mut over, list)?;
                 Ok(over)

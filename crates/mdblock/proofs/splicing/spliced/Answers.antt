@@ -1,19 +1,19 @@
-use Rattle.std.proofs.Common.{◌≡◌, ℕ, ◌+◌, ◌-◌, Bool, List, [], ◌++◌, drop, length, map, string_bytes, refl, sym, ◌∙◌, ap, arith}
+use Rattle.std.proofs.Common.{◌≡◌, ℕ, ◌+◌, ◌-◌, Bool, List, [], ◌++◌, drop, length, map, string_bytes, sym, ◌∙◌, ap, arith}
 use Rattle.std.proofs.lemmas.List.{drop-map, take-map}
 use Rattle.std.specs.Prelude.{min, option_map, take, ◌^◌}
 use Rattle.blockspec.proofs.DocumentLaws.{map_length}
-use Rattle.blockspec.specs.BlockTree.{paragraph, heading, thematic_break, code_block, html_block, block_quote, list, table, Blocks, no_blocks, block, Items}
+use Rattle.blockspec.specs.BlockTree.{Blocks, Items}
 use Rattle.blockspec.specs.ItemMarks.{ItemMark}
 use Rattle.mdleaf.specs.DefinedLinks.{LinkDefinition, definition_of}
 use Rattle.mdblock.specs.BlockView.{blocks_view, items_view, kind_view}
 use Rattle.mdblock.specs.Copies.{copied_items, items_positions, texts_at}
 use Rattle.mdblock.specs.FoundLists.{FoundList, join_mark}
-use Rattle.mdblock.specs.Spliced.{as_first_list, drop_items, first_items, first_kind, list_of_kind, mark_at, mark_further, spliced_marks, take_items, tight_list}
+use Rattle.mdblock.specs.Spliced.{drop_items, first_items, first_kind, list_of_kind, mark_at, mark_further, spliced_marks, take_items, tight_list}
 use Rattle.mdblock.specs.held.TreesBehind.{placed_before}
 use Rattle.mdblock.specs.declared.blocks.Item as i
 use Rattle.mdblock.proofs.CopyLaws.{size_more}
 use Rattle.mdblock.proofs.CopySteps.{copies_within}
-use Rattle.mdblock.proofs.ItemParts.{items_dropped, items_together}
+use Rattle.mdblock.proofs.ItemParts.{items_dropped, items_together, kind_list}
 use Rattle.mdblock.proofs.splicing.spliced.Goals as goal
 
 -- the items that are taken, where as many are taken as there are later ones
@@ -22,17 +22,6 @@ taken_are n m is seen bs count is_first same = ap (λ z. take_items z is) count 
 
 later_items : (all later : List i.Item) (n : ℕ) (seen bs : Blocks) → later ≡ drop n all → items_view all ≡ first_items seen → seen ≡ bs → items_view later ≡ drop_items n (first_items bs)
 later_items all later n seen bs is all_is same = ap items_view is ∙ items_dropped n all ∙ ap (drop_items n) (all_is ∙ ap first_items same)
-
-kind_list : (tight : Bool) (is : Items) (bs : Blocks) → list_of_kind tight is (first_kind bs) ≡ as_first_list tight is bs
-kind_list tight is no_blocks = refl
-kind_list tight is (block (paragraph text task) rest) = refl
-kind_list tight is (block (heading level text) rest) = refl
-kind_list tight is (block thematic_break rest) = refl
-kind_list tight is (block (code_block lang meta body) rest) = refl
-kind_list tight is (block (html_block lines) rest) = refl
-kind_list tight is (block (block_quote inner) rest) = refl
-kind_list tight is (block (list kind was items) rest) = refl
-kind_list tight is (block (table aligns head rows) rest) = refl
 
 pub new-requires : goal.new-requires
 new-requires c =
@@ -64,8 +53,8 @@ same_found n m p q b c d f t u k l v w hn hp hb hd ht hk hv =
     ∙ ap (λ z. found_of m q c f u z v) hk
     ∙ ap (found_of m q c f u l) hv
 
-pub returns-clause-list : goal.returns-clause-list
-returns-clause-list c =
+pub returns : goal.returns
+returns c =
     let front = c.args.front in
     let old = c.args.old.now in
     let k = c.args.k in

@@ -1,7 +1,6 @@
 use Rattle.std.proofs.Common.{Err, IfOk, None, false, refl, sym, ap, subst, ◌∙◌}
-use Rattle.blockspec.specs.BlockLine.{BlockLine, document_line}
+use Rattle.blockspec.specs.BlockLine.{BlockLine}
 use Rattle.mdblock.specs.declared.faults.LineFault.TheVariants.{TooDeep}
-use Rattle.mdblock.specs.declared.open_blocks.Level.{Level}
 use Rattle.mdblock.specs.held.Reads.{HandsOn, SinksBehind}
 use Rattle.mdblock.proofs.CloseLaws.{if_ok}
 use Rattle.mdblock.proofs.NextLineLaws.{hands_new, sinks_new, begins_shut, begins_outside, follows_on, adds_on, sinks_on, blank_on}
