@@ -5,5 +5,6 @@ pub mod InlineWriting
 pub mod TableHtml
 pub mod Limits
 pub mod ListEnds
+pub mod SplicedLists
 pub mod WrittenUnits
 pub mod held

@@ -9,8 +9,10 @@ ghost use Rattle.mdhtml.specs.BlockHtml.{block_html, fresh, list_open, list_clos
 
 pub(crate) mod item_ends;
 pub(crate) mod items;
+mod kept_items;
 pub(crate) mod like_lists;
 mod same_blocks;
+pub(crate) mod spliced_lists;
 pub(crate) mod task_list_items;
 
 use crate::lists::items::write_item;

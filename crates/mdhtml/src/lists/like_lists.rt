@@ -1,27 +1,21 @@
 //! HTML of a unit that is one list, made from that of a list like it: what stands for the items at the front and at the end that are the same in both is
 //! taken over.
 
-ghost use Rattle.std.specs.Prelude.{◌≡◌, ◌++◌, ◌∷◌, [], ◌+◌, ◌-◌, ◌<◌, ◌≤◌, ◌^◌};
-ghost use Rattle.std.specs.Prelude.{OnOk, IfOk, IfSome, false, true, length, string_bytes, take, drop, slice_index};
-ghost use Rattle.std.specs.List.{AllByRecursion};
+ghost use Rattle.std.specs.Prelude.{◌≡◌, ◌-◌, ◌≤◌, [], OnOk, IfOk, false, true, length, string_bytes, take, drop};
 ghost use Rattle.mdblock.specs.BlockView.{blocks_view, items_view, kind_view};
 ghost use Rattle.mdblock.specs.Positions.{BlocksIn, ItemsIn};
-ghost use Rattle.mdhtml.specs.held.LikeLists.{SharedReadings, AreSameEnds, AreKept, AreInTail, html_between, ends_between, last_ends, moved_ends};
+ghost use Rattle.mdhtml.specs.held.LikeLists.{SharedReadings, AreSameEnds};
 ghost use Rattle.mdhtml.specs.held.ListUnits.{unit_of};
 ghost use Rattle.mdhtml.specs.BlockHtml.{texts_html, blocks_html};
 ghost use Rattle.mdhtml.specs.ListEnds.{unit_ends};
 
-use crate::lists::item_ends::{OneList, append_unit_ends, one_list, write_item_ends};
+use crate::lists::item_ends::{OneList, append_unit_ends, one_list};
+use crate::lists::kept_items::{Between, append_between};
 use crate::lists::same_blocks::{SharedTexts, same_behind, same_front};
-use crate::lists::{begin_list, close_list};
 use crate::options::Options;
-use crate::unit_texts::{HeldTexts, UnitTexts};
 use mdblock::Block;
 use mdinline::Parsed;
 use mdtext::NoMemory;
-
-/// Room for the items that are written between those that are taken over, so that it need not grow for a few of them.
-const WRITTEN_ROOM: usize = 1_000;
 
 /// A unit that was written before, with what a unit like it takes over.
 #[derive(Clone, Copy, Drop)]
@@ -102,21 +96,12 @@ fn append_list_like(
     ensures no_ends { IfOk result (λ done. done ≡ false → ends.new.items ≡ []) }
 {
     let same = same_ends(list, other, texts, like);
-    begin_list(list.kind, out)?;
-    match kept_html(like, out.len(), same.front, other.items.len() - same.behind) {
-        None => {
-            out.clear();
-            Ok(false)
-        }
-        Some(kept) => {
-            ends.reserve(list.items.len())?;
-            let taken_over = kept.front.len().saturating_add(kept.tail.len());
-            out.reserve(taken_over.saturating_add(WRITTEN_ROOM))?;
-            append_kept(list, texts, options, like, &same, &kept, out, ends)?;
-            close_list(list.kind, out)?;
-            Ok(true)
-        }
-    }
+    let between = Between {
+        items: &list.items[same.front..list.items.len() - same.behind],
+        front: same.front,
+        later: other.items.len() - same.behind,
+    };
+    append_between(&between, texts, options, other, like, out, ends)
 }
 
 /// How many items are the same in both lists: from the front on, and from the end on, where no item is counted twice.
@@ -143,97 +128,4 @@ fn same_ends(list: &OneList<'_>, other: &OneList<'_>, texts: &[Parsed], like: &L
     let front = same_front(list.items, other.items, at_front);
     let behind = same_behind(&list.items[front..], &other.items[front..], at_end);
     SameEnds { front, behind }
-}
-
-/// HTML of items that is taken over: of those at the front, and of those at the end and where it stands.
-#[derive(Clone, Copy, Drop)]
-pub(crate) struct KeptHtml<'a> {
-    pub(crate) front: &'a str,
-    pub(crate) tail: &'a str,
-    pub(crate) tail_at: usize,
-}
-
-/// The HTML of so many items at the front, and of those behind the first `tail` ones; the first item begins at `begin`.
-fn kept_html<'a>(like: &Like<'a>, begin: usize, front: usize, tail: usize) -> Option<KeptHtml<'a>>
-    requires front { front ≤ length like.now.ends.now }
-    requires tail { tail ≤ length like.now.ends.now }
-    ensures { IfSome result (λ kept. AreKept like.now begin front tail kept) }
-{
-    let tail_at = place(like.ends, begin, tail);
-    let front_end = place(like.ends, begin, front);
-    let tail_end = place(like.ends, begin, like.ends.len());
-    let front = like.html.get(begin..front_end)?;
-    let tail = like.html.get(tail_at..tail_end)?;
-    Some(KeptHtml {
-        front,
-        tail,
-        tail_at,
-    })
-}
-
-/// Where so many items end, if the first of them begins there.
-fn place(ends: &[usize], begin: usize, count: usize) -> usize
-    requires { count ≤ length ends.now }
-    ensures { result ≡ slice_index (begin ∷ ends.now) count }
-{
-    match count.checked_sub(1) {
-        None => begin,
-        Some(last) => ends[last],
-    }
-}
-
-/// Appends the items of a list, with the HTML of those at both ends that is taken over.
-fn append_kept(
-    list: &OneList<'_>,
-    texts: &[Parsed],
-    options: &Options,
-    like: &Like<'_>,
-    same: &SameEnds,
-    kept: &KeptHtml<'_>,
-    out: &mut String,
-    ends: &mut Vec<usize>,
-) -> Result<(), NoMemory>
-    requires within { ItemsIn (length texts.now) (items_view list.now.items.now) }
-    requires both { same.now.front + same.now.behind ≤ length list.now.items.now }
-    requires front { same.now.front ≤ length like.now.ends.now }
-    requires behind { same.now.behind ≤ length like.now.ends.now }
-    requires tail { AreInTail kept.now (last_ends like.now same.now) }
-    requires no_ends { ends.old.items ≡ [] }
-    ensures html { OnOk result (string_bytes out.new
-        ≡ html_between options.now texts.now list.now same.now (string_bytes out.old ++ kept.now.front.now) ++ kept.now.tail.now) }
-    ensures ends { OnOk result (ends.new.items
-        ≡ (take same.now.front like.now.ends.now
-        ++ ends_between options.now texts.now list.now same.now (string_bytes out.old ++ kept.now.front.now))
-        ++ moved_ends kept.now.tail_at
-        (length (html_between options.now texts.now list.now same.now (string_bytes out.old ++ kept.now.front.now)))
-        (last_ends like.now same.now)) }
-{
-    out.push_str(kept.front)?;
-    ends.extend_from_slice(&like.ends[..same.front])?;
-    let between = &list.items[same.front..list.items.len() - same.behind];
-    let texts = UnitTexts {
-        held: HeldTexts::Read(texts),
-        options,
-    };
-    write_item_ends(between, list.tight, &texts, out, ends)?;
-    out.push_str(kept.tail)?;
-    let to = out.len() - kept.tail.len();
-    let moved = &like.ends[like.ends.len() - same.behind..];
-    push_moved(moved, kept.tail_at, to, ends)
-}
-
-/// Appends numbers, each as far behind one number as it is behind another.
-fn push_moved(
-    moved: &[usize],
-    from: usize,
-    to: usize,
-    ends: &mut Vec<usize>,
-) -> Result<(), NoMemory>
-    requires { AllByRecursion (λ end. (from ≤ end) × ((end - from) + to < 2 ^ 64)) moved.now }
-    ensures { OnOk result (ends.new.items ≡ ends.old.items ++ moved_ends from to moved.now) }
-{
-    for end in moved {
-        ends.push(*end - from + to)?;
-    }
-    Ok(())
 }

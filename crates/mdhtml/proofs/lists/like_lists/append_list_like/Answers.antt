@@ -1,55 +1,48 @@
-use Rattle.std.proofs.Common.{◌≡◌, ◌≤◌, ◌∙◌, ◌++◌, length, ap, sym, string_bytes, arith}
-use Rattle.mdblock.specs.BlockView.{kind_view}
-use Rattle.mdhtml.specs.BlockHtml.{list_close, texts_html}
-use Rattle.mdhtml.proofs.LikeLists.{MadeLike, list_begins, like_list}
-use Rattle.mdhtml.proofs.ItemsTogether.{like_ends_count}
-use Rattle.mdhtml.proofs.lists.like_lists.append_list_like.Goals.{After-same_ends-same, In_ok-reserve-in-Some-2}
+use Rattle.std.proofs.Common.{◌-◌, ◌∙◌, ◌++◌, false, [], length, ap, sym}
+use Rattle.std.proofs.lemmas.Result.{IfOk-weaker}
+use Rattle.blockspec.specs.BlockTree.{list}
+use Rattle.mdblock.specs.BlockView.{items_view, kind_view}
+use Rattle.mdhtml.specs.held.KeptItems.{list_begins}
+use Rattle.mdhtml.specs.BlockHtml.{block_html, list_close, texts_html}
+use Rattle.mdhtml.specs.ListEnds.{item_ends}
+use Rattle.mdhtml.proofs.LikeLists.{like_items_in, like_around, like_ends_around}
 use Rattle.mdhtml.proofs.lists.like_lists.append_list_like.Goals as goal
 
-ends_counted : (c : After-same_ends-same) → length c.args.like.now.ends.now ≡ length c.args.other.now.items.now
-ends_counted c =
+pub append_between-requires-clause-within : goal.append_between-requires-clause-within
+append_between-requires-clause-within c =
+    let items = c.args.list.now.items.now in
+    let same = c.same_ends-same.result in
+    like_items_in (length c.args.texts.now) same.front (length items - same.behind - same.front) items c.requires.within
+
+pub returns-clause-html : goal.returns-clause-html
+returns-clause-html c =
+    let o = c.args.options.now in
+    let texts = c.args.texts.now in
+    let list' = c.args.list.now in
     let other = c.args.other.now in
-    ap length c.requires.like_ends
-    ∙ like_ends_count c.args.options.now (texts_html c.args.options.now c.args.like.now.texts.now) other.tight other.items.now (list_begins (kind_view other.kind))
+    let T = texts_html o texts in
+    let is = items_view list'.items.now in
+    IfOk-weaker c.append_between.result _ _
+    (λ done html yes.
+    html yes
+    ∙ ap (λ z. z ++ list_close (kind_view other.kind))
+    (like_around o texts c.args.like.now.texts.now list'.items.now other.items.now c.same_ends-same.result c.same_ends-same.ensures other.tight (list_begins (kind_view other.kind)))
+    ∙ ap (λ z. block_html o T false (list z other.tight is) []) (sym c.requires.kind)
+    ∙ ap (λ z. block_html o T false (list (kind_view list'.kind) z is) []) (sym c.requires.tight))
+    c.append_between.ensures.html
 
-front_within : (c : After-same_ends-same) → c.same_ends-same.result.front ≤ length c.args.like.now.ends.now
-front_within c =
-    let n = ends_counted c in
-    let w = c.same_ends-same.ensures.within_like in
-    omega (arith, n, w)
-
-made_like : (c : In_ok-reserve-in-Some-2)
-    → MadeLike c.args.options.now c.args.texts.now c.args.list.now c.same_ends-same.result c.args.like.now c.in-Some.kept (string_bytes c.reserve-in-Some.new.self)
-made_like c =
-    let stays = c.in_ok-reserve-in-Some-2.ensures.bytes in
-    like_list c.args.options.now c.args.texts.now c.args.like.now.texts.now c.args.list.now c.args.other.now c.same_ends-same.result c.same_ends-same.ensures c.args.like.now c.in-Some.kept c.len.result
-    (string_bytes c.args.out.now) (string_bytes c.reserve-in-Some.new.self) c.requires.no_text (c.len.ensures ∙ c.begin_list.new.out.bytes.ok.0 ∙ ap length (sym stays)) (stays ∙ c.in_ok-begin_list.ensures)
-    c.requires.kind c.requires.tight c.requires.like_html c.requires.like_ends c.in-Some.ensures
-
-pub kept_html-requires-clause-front : goal.kept_html-requires-clause-front
-kept_html-requires-clause-front c = front_within (goal.at.kept_html-requires-clause-front c).After-same_ends-same
-
-pub kept_html-requires-clause-tail : goal.kept_html-requires-clause-tail
-kept_html-requires-clause-tail c = let n = ends_counted (goal.at.kept_html-requires-clause-tail c).After-same_ends-same in omega (arith, n)
-
-pub append_kept-requires-clause-front : goal.append_kept-requires-clause-front
-append_kept-requires-clause-front c = front_within (goal.at.append_kept-requires-clause-front c).After-same_ends-same
-
-pub append_kept-requires-clause-behind : goal.append_kept-requires-clause-behind
-append_kept-requires-clause-behind c =
-    let n = ends_counted (goal.at.append_kept-requires-clause-behind c).After-same_ends-same in
-    let w = c.same_ends-same.ensures.within_like in
-    omega (arith, n, w)
-
-pub append_kept-requires-clause-tail : goal.append_kept-requires-clause-tail
-append_kept-requires-clause-tail c = (made_like (goal.at.append_kept-requires-clause-tail c).In_ok-reserve-in-Some-2).tail
-
-pub returns-in_ok-close_list-in-Some-clause-html : goal.returns-in_ok-close_list-in-Some-clause-html
-returns-in_ok-close_list-in-Some-clause-html c = λ _.
-    let made = made_like (goal.at.returns-in_ok-close_list-in-Some-clause-html c).In_ok-reserve-in-Some-2 in
-    c.in_ok-close_list-in-Some.ensures ∙ ap (λ z. z ++ list_close (kind_view c.args.list.now.kind)) (c.in_ok-append_kept-in-Some.ensures.html ∙ made.html)
-
-pub returns-in_ok-close_list-in-Some-clause-ends : goal.returns-in_ok-close_list-in-Some-clause-ends
-returns-in_ok-close_list-in-Some-clause-ends c = λ _.
-    let made = made_like (goal.at.returns-in_ok-close_list-in-Some-clause-ends c).In_ok-reserve-in-Some-2 in
-    c.in_ok-append_kept-in-Some.ensures.ends ∙ made.ends
+pub returns-clause-ends : goal.returns-clause-ends
+returns-clause-ends c =
+    let o = c.args.options.now in
+    let texts = c.args.texts.now in
+    let list' = c.args.list.now in
+    let other = c.args.other.now in
+    let T = texts_html o texts in
+    let is = items_view list'.items.now in
+    IfOk-weaker c.append_between.result _ _
+    (λ done ends yes.
+    ends yes
+    ∙ like_ends_around o texts c.args.like.now.texts.now list'.items.now other.items.now c.same_ends-same.result c.same_ends-same.ensures other.tight (list_begins (kind_view other.kind))
+    ∙ ap (λ z. item_ends o T other.tight is (list_begins z)) (sym c.requires.kind)
+    ∙ ap (λ z. item_ends o T z is (list_begins (kind_view list'.kind))) (sym c.requires.tight))
+    c.append_between.ensures.ends
