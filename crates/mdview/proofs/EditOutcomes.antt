@@ -1,5 +1,5 @@
 -- What an accepted edit leaves and answers, from what was read and what was put in the place of what was held.
-use Rattle.std.proofs.Common.{◌≡◌, ℕ, ◌+◌, ◌-◌, ◌^◌, ◌<◌, ◌≤◌, List, ◌++◌, None, String, Global, arith, drop, length, map, min, nat_lt, string_bytes, take, sym, subst, ◌∙◌, ap, true, false}
+use Rattle.std.proofs.Common.{◌≡◌, ℕ, ◌+◌, ◌-◌, ◌^◌, ◌<◌, List, ◌++◌, None, String, Global, arith, drop, length, map, min, nat_lt, string_bytes, take, sym, subst, ◌∙◌, ap, true, false}
 use Rattle.std.specs.Prelude.{if◌then◌else◌}
 use Rattle.std.specs.List.{All, take-map, drop-map}
 use Rattle.std.proofs.lemmas.Bool.Decides.{nat_tests}
@@ -41,7 +41,7 @@ use Rattle.mdview.specs.Lists.{replaced}
 use Rattle.mdview.specs.NewText.{lines_of}
 use Rattle.mdsource.specs.Preludes.{HeldPrelude}
 use Rattle.mdview.specs.StopLines.{stops_of}
-use Rattle.mdview.specs.Update.{IsFitFor, IsPatchOf, all_renewed, number_after}
+use Rattle.mdview.specs.Update.{IsFitFor, IsPatchOf, all_renewed, count_brought, number_after, units_brought}
 use Rattle.mdview.proofs.Committed.{committed_brings, committed_rendered}
 use Rattle.mdview.proofs.EditPlaces.{patch_numbers, same_places}
 use Rattle.mdview.proofs.EditTexts.{trees_are}
@@ -109,13 +109,13 @@ texts_of_call held at del add text w =
 
 -- what is known of an edit of units that are held, from one text to another
 pub record IsUpdateOf (setting : Setting) (prelude : List (List ℕ)) (labels : HeldLabels) (held : List HeldUnit) (old new : List (List ℕ)) (text : NewText) (r : Update) : Type 0 where
-  pub replacing : IsReplacing setting.entities text r
+  pub replacing : IsReplacing setting.entities held text r
   pub led : (label : List ℕ) → led_after labels r.changes label ≡ table setting.entities (record { lines = new; prelude = prelude }) label
-  pub read : All (IsReadUnder setting.entities (table setting.entities (record { lines = new; prelude = prelude }))) r.units.items
+  pub read : All (IsReadUnder setting.entities (table setting.entities (record { lines = new; prelude = prelude }))) (units_brought held r)
   pub reread : All (IsReread setting.entities (table setting.entities (record { lines = new; prelude = prelude })) (map unit_in held)) r.again.items
   pub numbers : map number_again r.again.items
       ≡ asking_in_parts setting.entities (table setting.entities (record { lines = old; prelude = prelude })) (table setting.entities (record { lines = new; prelude = prelude })) held r.first r.next
-  pub fit : IsFitFor setting.options (map unit_in held) r
+  pub fit : IsFitFor setting.options held r
   pub fits : first_too_deep setting.options.max_containers new ≡ None
   pub accepted : nesting_refusal setting (record { lines = new; prelude = prelude }) ≡ None
 
@@ -147,23 +147,20 @@ module _ (e : EntityTable) (options : Options) (lines : List (List ℕ)) (prelud
   left = record { entities = e; options = options; lines = new; prelude = prelude.lines }
 
   abbrev come : List HeldUnit
-  come = replaced (all_renewed units r.again.items) r.first (r.next - r.first) r.units.items
-
-  within : r.next ≤ length units
-  within = let many = length-map units unit_in in let h = w.fit.within in omega (arith, many, h)
+  come = replaced (all_renewed units r.again.items) r.first (r.next - r.first) (units_brought units r)
 
   blocks_come : HoldsUnits e new r.head (map read_of come)
   blocks_come =
       let p = places_of e text in
       let before = subst (λ ls. HoldsUnits e ls head (map read_of units)) (sym is.before) blocks in
       subst (λ ls. HoldsUnits e ls r.head (map read_of come)) is.behind
-      (holds_behind e (old_lines text) (lines_of text) p (is_edit e text) head r.head r.first r.next units r.units.items r.again.items
+      (holds_behind e (old_lines text) (lines_of text) p (is_edit e text) head r.head r.first r.next units (units_brought units r) r.again.items
       before w.fit.order w.replacing.first w.replacing.next w.replacing.head w.replacing.units w.replacing.stands)
 
   texts_come : (room led : HeldLabels) → ((label : List ℕ) → target_held room label ≡ target_held labels label) → ((label : List ℕ) → target_held led label ≡ led_after room r.changes label)
       → HoldsTexts setting new prelude led come
   texts_come room led same commits =
-      holds_texts_behind setting lines new head r.head prelude labels room led r.changes units r.units.items r.again.items r.first r.next blocks texts blocks_come w.fit.order within same commits
+      holds_texts_behind setting lines new head r.head prelude labels room led r.changes units (units_brought units r) r.again.items r.first r.next blocks texts blocks_come w.fit.order w.fit.within same commits
       w.led w.read w.reread w.numbers w.fits w.accepted
 
   rendered_come : All (IsRendered options) come
@@ -183,7 +180,7 @@ module _ (e : EntityTable) (options : Options) (lines : List (List ℕ)) (prelud
 
     -- the patch takes the old pieces to the new ones, and what it does not bring was read as it is
     module _ (patch : ChangedPieces) (room led : HeldLabels) (same : (label : List ℕ) → target_held room label ≡ target_held labels label)
-        (commits : (label : List ℕ) → target_held led label ≡ led_after room r.changes label) (of_update : IsPatchOf r patch) (small : length units + length r.units.items < 2 ^ 64) where
+        (commits : (label : List ℕ) → target_held led label ≡ led_after room r.changes label) (of_update : IsPatchOf r patch) (small : length units + count_brought r < 2 ^ 64) where
       pub pieces_brought : Brings patch (pieces_of held) (pieces_of left)
       pieces_brought =
           subst (λ ps. Brings patch ps (pieces_of left)) (pieces_are_viewed setting lines head prelude labels units blocks texts rendered)
@@ -217,31 +214,33 @@ module _ (e : EntityTable) (options : Options) (lines : List (List ℕ)) (prelud
   many_trees : length (trees_in (text_units e lines)) ≡ length units
   many_trees = sym (ap (λ us. length us) (trees_are e lines head units blocks)) ∙ length-map units unit_in
 
-  renumbered : length units + length r.units.items < 2 ^ 64
+  renumbered : length units + count_brought r < 2 ^ 64
       → map (number_after r) (asking_units e old_table new_table 0 (take r.first (trees_in (text_units e lines))) ++ asking_units e old_table new_table r.next (drop r.next (trees_in (text_units e lines))))
       ≡ asking_units e old_table new_table 0 (take r.first (trees_in (text_units e lines)))
-      ++ asking_units e old_table new_table (r.first + length r.units.items) (drop r.next (trees_in (text_units e lines)))
+      ++ asking_units e old_table new_table (r.first + count_brought r) (drop r.next (trees_in (text_units e lines)))
   renumbered small =
       map-append (number_after r) (asking_units e old_table new_table 0 (take r.first (trees_in (text_units e lines)))) (asking_units e old_table new_table r.next (drop r.next (trees_in (text_units e lines))))
       ∙ ap (λ l. l ++ map (number_after r) (asking_units e old_table new_table r.next (drop r.next (trees_in (text_units e lines)))))
       (asking_renumbered e old_table new_table (number_after r) 0 0 (take r.first (trees_in (text_units e lines))) stays)
       ∙ ap (λ l. asking_units e old_table new_table 0 (take r.first (trees_in (text_units e lines))) ++ l)
-      (asking_renumbered e old_table new_table (number_after r) r.next (r.first + length r.units.items) (drop r.next (trees_in (text_units e lines))) moves)
+      (asking_renumbered e old_table new_table (number_after r) r.next (r.first + count_brought r) (drop r.next (trees_in (text_units e lines))) moves)
     where
       stays : (k : ℕ) → k < length (take r.first (trees_in (text_units e lines))) → number_after r (0 + k) ≡ 0 + k
       stays k below =
           let order = w.fit.order in
+          let within = w.fit.within in
           let long = length-take-le r.first (trees_in (text_units e lines)) (omega (arith, within, order, many_trees)) in
           let test : nat_lt (0 + k) r.next ≡ true = grind (arith, nat_tests, below, long, order) in
-          ap (λ t. if t then 0 + k else min (0 + k - r.next + r.first + length r.units.items) (2 ^ 64 - 1)) test
+          ap (λ t. if t then 0 + k else min (0 + k - r.next + r.first + count_brought r) (2 ^ 64 - 1)) test
 
-      moves : (k : ℕ) → k < length (drop r.next (trees_in (text_units e lines))) → number_after r (r.next + k) ≡ (r.first + length r.units.items) + k
+      moves : (k : ℕ) → k < length (drop r.next (trees_in (text_units e lines))) → number_after r (r.next + k) ≡ (r.first + count_brought r) + k
       moves k below =
           let order = w.fit.order in
+          let within = w.fit.within in
           let long = length-drop r.next (trees_in (text_units e lines)) in
           let test : nat_lt (r.next + k) r.next ≡ false = grind (arith, nat_tests) in
-          let value : min (r.next + k - r.next + r.first + length r.units.items) (2 ^ 64 - 1) ≡ (r.first + length r.units.items) + k = omega (arith, small, below, long, order, within, many_trees) in
-          ap (λ t. if t then r.next + k else min (r.next + k - r.next + r.first + length r.units.items) (2 ^ 64 - 1)) test ∙ value
+          let value : min (r.next + k - r.next + r.first + count_brought r) (2 ^ 64 - 1) ≡ (r.first + count_brought r) + k = omega (arith, small, below, long, order, within, many_trees) in
+          ap (λ t. if t then r.next + k else min (r.next + k - r.next + r.first + count_brought r) (2 ^ 64 - 1)) test ∙ value
 
   abbrev p : Places
   p = places setting (record { lines = lines; prelude = prelude.lines }) (edit at del add)
@@ -255,7 +254,7 @@ module _ (e : EntityTable) (options : Options) (lines : List (List ℕ)) (prelud
   numbers_mapped : (again : List Again) → map (number_after r) (map number_again again) ≡ map (λ (one : Again). number_after r one.unit) again
   numbers_mapped again = map-map (number_after r) number_again again
 
-  again_are : length units + length r.units.items < 2 ^ 64 → r.first ≡ units_before p → length r.units.items ≡ units_added p
+  again_are : length units + count_brought r < 2 ^ 64 → r.first ≡ units_before p → count_brought r ≡ units_added p
       → map (λ (one : Again). number_after r one.unit) r.again.items ≡ asking_from old_table new_table (units_before p) (units_added p) 0 (view setting (record { lines = new; prelude = prelude.lines }))
   again_are small first_is added_is =
       let next_is : r.next ≡ units_before p + units_removed p = w.replacing.next ∙ ap (λ q. units_before q + units_removed q) is.same in
@@ -264,15 +263,15 @@ module _ (e : EntityTable) (options : Options) (lines : List (List ℕ)) (prelud
       ∙ ap (map (number_after r)) (w.numbers ∙ ap (λ ts. asking_units e old_table new_table 0 ts ++ asking_units e old_table new_table r.next (map unit_in (between r.next (length units) units))) front_units
       ∙ ap (λ ts. asking_units e old_table new_table 0 (take r.first trees) ++ asking_units e old_table new_table r.next ts) back_units)
       ∙ renumbered small
-      ∙ ap (λ n. asking_units e old_table new_table 0 (take n trees) ++ asking_units e old_table new_table (n + length r.units.items) (drop r.next trees)) first_is
+      ∙ ap (λ n. asking_units e old_table new_table 0 (take n trees) ++ asking_units e old_table new_table (n + count_brought r) (drop r.next trees)) first_is
       ∙ ap (λ n. asking_units e old_table new_table 0 (take (units_before p) trees) ++ asking_units e old_table new_table (units_before p + n) (drop r.next trees)) added_is
       ∙ ap (λ n. asking_units e old_table new_table 0 (take (units_before p) trees) ++ asking_units e old_table new_table (units_before p + units_added p) (drop n trees)) next_is
       ∙ sym (asking_spliced setting old_table new_table lines new p spliced_here)
 
-  pub patch_is : (patch : ChangedPieces) → IsPatchOf r patch → length units + length r.units.items < 2 ^ 64
+  pub patch_is : (patch : ChangedPieces) → IsPatchOf r patch → length units + count_brought r < 2 ^ 64
       → patch ≡ patch_of setting (record { lines = lines; prelude = prelude.lines }) (edit at del add)
   patch_is patch of_update small =
       let due = patch_of setting (record { lines = lines; prelude = prelude.lines }) (edit at del add) in
-      let numbers = patch_numbers setting (record { lines = lines; prelude = prelude.lines }) text at del add r patch is.same w.replacing of_update in
+      let numbers = patch_numbers setting (record { lines = lines; prelude = prelude.lines }) text at del add units r patch is.same w.replacing w.fit of_update in
       same_patch patch due numbers.0 numbers.1 numbers.2
       (of_update.again ∙ again_are small (sym of_update.first ∙ numbers.0) (sym of_update.added ∙ numbers.2))

@@ -23,9 +23,10 @@ use Rattle.mdsource.proofs.UnitPlaces.{small_begins}
 use Rattle.mdview.specs.HeldBlocks.{HoldsUnits, IsReplacing, lines_in, old_lines, places_of, tile_in}
 use Rattle.mdview.specs.HeldUnit.{HeldUnit, ReadUnit, first_line, read_of}
 use Rattle.mdview.specs.NewText.{lines_of as new_lines}
-use Rattle.mdview.specs.Update.{IsPatchOf}
+use Rattle.mdview.specs.Update.{IsFitFor, IsPatchOf, count_brought, units_brought}
 use Rattle.mdview.specs.declared.source.new_text.NewText.{NewText}
 use Rattle.mdview.specs.declared.update.Update.{Update}
+use Rattle.mdview.proofs.Committed.{brought_count}
 use Rattle.mdview.proofs.ReadStretches.{is_edit}
 
 made : (old_begins new_begins : List ℕ) (new_lines at gone come : ℕ) → Places
@@ -45,11 +46,11 @@ same_places setting source text at del add old new a d c =
     ∙ ap (λ z. made (begins e source.lines) (begins e lines) (length lines) at del z) c
 
 -- the numbers of the patch
-pub patch_numbers : (setting : Setting) (source : Source) (text : NewText) (at del : ℕ) (add : List (List ℕ)) (update : Update) (patch : ChangedPieces)
-    → places_of setting.entities text ≡ places setting source (edit at del add) → IsReplacing setting.entities text update → IsPatchOf update patch
+pub patch_numbers : (setting : Setting) (source : Source) (text : NewText) (at del : ℕ) (add : List (List ℕ)) (held : List HeldUnit) (update : Update) (patch : ChangedPieces)
+    → places_of setting.entities text ≡ places setting source (edit at del add) → IsReplacing setting.entities held text update → IsFitFor setting.options held update → IsPatchOf update patch
     → let due = patch_of setting source (edit at del add) in
     (patch.first ≡ due.first) × (patch.removed ≡ due.removed) × (patch.added ≡ due.added)
-patch_numbers setting source text at del add update patch same w is = (
+patch_numbers setting source text at del add held update patch same w fit is = (
   is.first ∙ w.first ∙ ap units_before same,
   is.removed ∙ gone ∙ ap units_removed same,
   is.added ∙ come ∙ ap units_added same,
@@ -61,10 +62,11 @@ patch_numbers setting source text at del add update patch same w is = (
     gone : update.next - update.first ≡ units_removed p
     gone = let a = w.first in let b = w.next in omega (arith, a, b)
 
-    come : length update.units.items ≡ units_added p
+    come : count_brought update ≡ units_added p
     come =
         let part = units setting.entities (drop (from_line p) (take (meeting_line p) (new_lines text))) in
-        sym (length-map update.units.items read_of) ∙ sym (length-map (map read_of update.units.items) tile_in) ∙ ap (λ z. length z) w.units ∙ length-map part tile_of
+        sym (brought_count setting.options held update fit) ∙ sym (length-map (units_brought held update) read_of) ∙ sym (length-map (map read_of (units_brought held update)) tile_in)
+        ∙ ap (λ z. length z) w.units ∙ length-map part tile_of
         ∙ sym (spliced setting.entities (old_lines text) (new_lines text) p (is_edit setting.entities text)).added
 
 -- ---- what is lent

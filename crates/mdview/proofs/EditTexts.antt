@@ -46,9 +46,10 @@ use Rattle.mdview.specs.ReadUnits.{IsReadUnder, IsShallow}
 use Rattle.mdview.specs.HeldTexts.{IsRefusedBy, IsReread, asking_in_parts, between, deep_in_parts, head_read, line_on, texts_in_parts}
 use Rattle.mdsource.specs.TextFaults.{IsTextFault}
 use Rattle.mdview.specs.HeldUnit.{HeldUnit, read_of, texts_in, unit_in}
-use Rattle.mdview.specs.KeptTexts.{kept_texts, number_kept, texts_with_kept}
+use Rattle.mdview.specs.KeptTexts.{number_kept, texts_with_kept}
 use Rattle.mdview.specs.LabelTargets.{led_by}
 use Rattle.mdview.specs.NewText.{lines_of as new_lines}
+use Rattle.mdview.specs.UnitsFound.{found_in, texts_kept, trees_found, units_found}
 use Rattle.mdsource.specs.Preludes.{HeldPrelude, IsDefinedBy, target_beside}
 use Rattle.mdview.proofs.KeptTexts.{kept_within, none_read}
 use Rattle.mdview.proofs.ReadStretches.{is_edit}
@@ -181,7 +182,7 @@ module _ (setting : Setting) (text : NewText) (prelude : HeldPrelude) (was : ℕ
   s : IsSpliced e (old_lines text) (new_lines text) p
   s = spliced e (old_lines text) (new_lines text) p (is_edit e text)
 
-  pub found_is : map found_unit reparsed.found.items ≡ stretch
+  pub found_is : units_found reparsed ≡ stretch
   found_is = r.found ∙ ap (λ n. units e (drop n (take reparsed.meet (new_lines text)))) r.from ∙ ap (λ n. units e (drop (from_line p) (take n (new_lines text)))) r.meet
 
   from_front : {A : Type 0} (xs : List A) → between 0 reparsed.first xs ≡ take (units_before p) xs
@@ -203,12 +204,12 @@ module _ (setting : Setting) (text : NewText) (prelude : HeldPrelude) (was : ℕ
   back_tiles = ap (map held_tile) (to_end held) ∙ sym (drop-map held_tile (units_before p + units_removed p) held) ∙ ap (drop (units_before p + units_removed p)) (tiles_are e (old_lines text) was held w)
 
   -- the trees behind the edit
-  pub new_trees : ((take reparsed.first (map unit_in held) ++ trees_in (map found_unit reparsed.found.items)) ++ drop reparsed.next (map unit_in held)) ≡ trees_in (units e (new_lines text))
+  pub new_trees : ((take reparsed.first (map unit_in held) ++ trees_found reparsed) ++ drop reparsed.next (map unit_in held)) ≡ trees_in (units e (new_lines text))
   unfolding s
   new_trees =
-      ap (λ n. (take n (map unit_in held) ++ trees_in (map found_unit reparsed.found.items)) ++ drop reparsed.next (map unit_in held)) r.first
-      ∙ ap (λ n. (take (units_before p) (map unit_in held) ++ trees_in (map found_unit reparsed.found.items)) ++ drop n (map unit_in held)) r.next
-      ∙ ap (λ us. (take (units_before p) us ++ trees_in (map found_unit reparsed.found.items)) ++ drop (units_before p + units_removed p) us) (trees_are e (old_lines text) was held w)
+      ap (λ n. (take n (map unit_in held) ++ trees_found reparsed) ++ drop reparsed.next (map unit_in held)) r.first
+      ∙ ap (λ n. (take (units_before p) (map unit_in held) ++ trees_found reparsed) ++ drop n (map unit_in held)) r.next
+      ∙ ap (λ us. (take (units_before p) us ++ trees_found reparsed) ++ drop (units_before p + units_removed p) us) (trees_are e (old_lines text) was held w)
       ∙ ap (λ us. (take (units_before p) (trees_in (units e (old_lines text))) ++ trees_in us) ++ drop (units_before p + units_removed p) (trees_in (units e (old_lines text)))) found_is
       ∙ sym (trees_spliced setting before after (old_lines text) (new_lines text) p s)
 
@@ -221,15 +222,15 @@ module _ (setting : Setting) (text : NewText) (prelude : HeldPrelude) (was : ℕ
 
   -- how many texts are read: those that are kept only where they asked
   pub texts_by_kept : (one two : Table) → ((label : List ℕ) → one label ≡ before label) → ((label : List ℕ) → two label ≡ after label)
-      → let kept = kept_texts (option_map number_kept reparsed.kept) (trees_in (map found_unit reparsed.found.items)) in
-      texts_in_parts e one two held reparsed + length kept ≡ texts_due before after (units_before p) (units_added p) 0 (map (viewed setting after) (units e (new_lines text))) + asking_of e one two kept
+      → texts_in_parts e one two held reparsed + length (texts_kept reparsed)
+      ≡ texts_due before after (units_before p) (units_added p) 0 (map (viewed setting after) (units e (new_lines text))) + asking_of e one two (texts_kept reparsed)
   unfolding s
   texts_by_kept one two f g =
       let a = asking_texts_under e one two before after f g (map unit_in (between 0 reparsed.first held)) ∙ ap (asking_texts e before after) front_trees in
       let b = ap (λ us. sum_by texts_in (trees_in us)) found_is in
       let c = asking_texts_under e one two before after f g (map unit_in (between reparsed.next (length held) held)) ∙ ap (asking_texts e before after) back_trees in
       let all = texts_spliced setting before after (old_lines text) (new_lines text) p s in
-      let within = kept_within (option_map number_kept reparsed.kept) (trees_in (map found_unit reparsed.found.items)) in
+      let within = kept_within (option_map number_kept reparsed.kept) (trees_found reparsed) in
       omega (arith, a, b, c, all, within)
 
   -- ---- where spans lie too deep first
@@ -254,19 +255,19 @@ module _ (setting : Setting) (text : NewText) (prelude : HeldPrelude) (was : ℕ
   unfolding s
   front_line = by (nat_eq reparsed.from 0) refl
     where
-      by : (t : Bool) → nat_eq reparsed.from 0 ≡ t → deep_from limit e after (if t then front_of reparsed.meet (map found_unit reparsed.found.items) else was) (take (units_before p) (map tile_of (units e (old_lines text))))
+      by : (t : Bool) → nat_eq reparsed.from 0 ≡ t → deep_from limit e after (if t then front_of reparsed.meet (units_found reparsed) else was) (take (units_before p) (map tile_of (units e (old_lines text))))
           ≡ deep_from limit e after (front_of (length (old_lines text)) (units e (old_lines text))) (take (units_before p) (map tile_of (units e (old_lines text))))
       by true h =
           let from : from_line p ≡ 0 = let a = r.from in grind (arith, nat_tests, h, a) in
           let none : units_before p ≡ 0 = s.first ∙ ap (λ n. length (units e (take n (old_lines text)))) from ∙ ap (λ us. length us) (no_units e) in
-          ap (λ n. deep_from limit e after (front_of reparsed.meet (map found_unit reparsed.found.items)) (take n (map tile_of (units e (old_lines text))))) none
+          ap (λ n. deep_from limit e after (front_of reparsed.meet (units_found reparsed)) (take n (map tile_of (units e (old_lines text))))) none
           ∙ ap (λ n. deep_from limit e after (front_of (length (old_lines text)) (units e (old_lines text))) (take n (map tile_of (units e (old_lines text))))) (sym none)
       by false h = ap (λ n. deep_from limit e after n (take (units_before p) (map tile_of (units e (old_lines text))))) w.before
 
   pub deep_is : (two : Table) → ((label : List ℕ) → two label ≡ after label) → length (old_lines text) ≤ 1000000 → length (new_lines text) ≤ 1000000
       → deep_in_parts limit e two (head_read was reparsed) held reparsed ≡ deep_found limit e after (units e (new_lines text))
   deep_is two g few small =
-      ap (λ o. option_or o (option_or (option_map (line_on reparsed.from) (deep_found limit e two (map found_unit reparsed.found.items))) (deep_from limit e two reparsed.meet (map held_tile (between reparsed.next (length held) held))))) front
+      ap (λ o. option_or o (option_or (option_map (line_on reparsed.from) (deep_found limit e two (units_found reparsed))) (deep_from limit e two reparsed.meet (map held_tile (between reparsed.next (length held) held))))) front
       ∙ ap (λ o. option_or inside_front (option_or o (deep_from limit e two reparsed.meet (map held_tile (between reparsed.next (length held) held))))) middle
       ∙ ap (λ o. option_or inside_front (option_or (option_map (λ line. from_line p + line) (deep_found limit e after stretch)) o)) back
       ∙ sym (deep_spliced limit e after (old_lines text) (new_lines text) p (is_edit e text))
@@ -288,9 +289,9 @@ module _ (setting : Setting) (text : NewText) (prelude : HeldPrelude) (was : ℕ
           length_take_le : (n : ℕ) (xs : List (List ℕ)) → length (take n xs) ≤ length xs
           length_take_le n xs = let size = length-take n xs in grind (arith, size)
 
-      middle : option_map (line_on reparsed.from) (deep_found limit e two (map found_unit reparsed.found.items)) ≡ option_map (λ line. from_line p + line) (deep_found limit e after stretch)
+      middle : option_map (line_on reparsed.from) (deep_found limit e two (units_found reparsed)) ≡ option_map (λ line. from_line p + line) (deep_found limit e after stretch)
       middle =
-          ap (option_map (line_on reparsed.from)) (deep_found_under limit e two after g (map found_unit reparsed.found.items) ∙ ap (deep_found limit e after) found_is)
+          ap (option_map (line_on reparsed.from)) (deep_found_under limit e two after g (units_found reparsed) ∙ ap (deep_found limit e after) found_is)
           ∙ ap (λ n. option_map (line_on n) (deep_found limit e after stretch)) r.from
           ∙ on_small (from_line p) (length (drop (from_line p) (take (meeting_line p) (new_lines text)))) stretch above (begins_within e (drop (from_line p) (take (meeting_line p) (new_lines text))))
 
@@ -305,7 +306,7 @@ module _ (setting : Setting) (text : NewText) (prelude : HeldPrelude) (was : ℕ
 
   pub head_small : length (new_lines text) ≤ 1000000 → head_read was reparsed ≤ 1000000
   head_small few =
-      let is = head_behind e text was (map read_of held) reparsed w r (head_read was reparsed) refl in
+      let is = head_behind e text was held reparsed w r (head_read was reparsed) refl in
       let end = units_end e (new_lines text) in
       omega (arith, is, end, few)
 
@@ -326,7 +327,7 @@ none_deep_before setting source none = no_line _ (sym (refused_for_spans setting
 
 -- ---- a new prelude, which leaves all units
 
-module _ (e : EntityTable) (before after : Table) (limit : ℕ) (held : List HeldUnit) (r : Reparsed) (first : r.first ≡ 0) (next : r.next ≡ 0) (found : r.found.items ≡ []) where
+module _ (e : EntityTable) (before after : Table) (limit : ℕ) (held : List HeldUnit) (r : Reparsed) (first : r.first ≡ 0) (next : r.next ≡ 0) (found : found_in r ≡ []) where
   none_front : {A : Type 0} (xs : List A) → between 0 r.first xs ≡ []
   none_front xs = let none : r.first - 0 ≡ 0 = omega (arith, first) in ap (λ n. take n xs) none
 
@@ -335,7 +336,7 @@ module _ (e : EntityTable) (before after : Table) (limit : ℕ) (held : List Hel
 
   pub deep_by_all : (head : ℕ) → deep_in_parts limit e after head held r ≡ deep_from limit e after r.meet (map held_tile held)
   deep_by_all head =
-      ap (λ us. option_or (deep_from limit e after head (map held_tile us)) (option_or (option_map (line_on r.from) (deep_found limit e after (map found_unit r.found.items))) (deep_from limit e after r.meet (map held_tile (between r.next (length held) held))))) (none_front held)
+      ap (λ us. option_or (deep_from limit e after head (map held_tile us)) (option_or (option_map (line_on r.from) (deep_found limit e after (units_found r))) (deep_from limit e after r.meet (map held_tile (between r.next (length held) held))))) (none_front held)
       ∙ ap (λ us. option_or (option_map (line_on r.from) (deep_found limit e after us)) (deep_from limit e after r.meet (map held_tile (between r.next (length held) held)))) (ap (map found_unit) found)
       ∙ ap (λ us. deep_from limit e after r.meet (map held_tile us)) (all_back held)
 

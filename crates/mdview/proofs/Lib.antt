@@ -22,6 +22,9 @@ pub mod NoneAsking
 pub mod FoundTexts
 pub mod UnitsBetween
 pub mod Splices
+pub mod PutInsets
+pub mod PutUnits
+pub mod BroughtUnits
 pub mod Committed
 pub mod BroughtLaws
 pub mod HeldTiles
@@ -36,6 +39,7 @@ pub mod EditPlaces
 pub mod CountedLaws
 pub mod Reparses
 pub mod LineReads
+pub mod JoinedLists
 pub mod JoinedTexts
 pub mod NearReadings
 pub mod NearStops
@@ -55,5 +59,8 @@ pub mod WhereReading
 pub mod LabelMarkLaws
 pub mod PassedUnits
 pub mod KeptTexts
+pub mod KeptLists
+pub mod SomeRemoved
 pub mod SoonTexts
 pub mod ResumedReading
+pub mod Refused

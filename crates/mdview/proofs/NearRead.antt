@@ -1,5 +1,5 @@
 -- What an edit reads that stops inside a list.
-use Rattle.std.proofs.Common.{◌≡◌, ℕ, ◌+◌, ◌-◌, ◌^◌, ◌<◌, ◌≤◌, List, [], ◌∷◌, ◌++◌, Some, None, Result, Ok, Err, length, map, take, drop, min, refl, ap, ◌∙◌, sym, subst, arith}
+use Rattle.std.proofs.Common.{◌≡◌, ℕ, ◌+◌, ◌-◌, ◌^◌, ◌<◌, ◌≤◌, List, [], ◌∷◌, ◌++◌, Some, None, Option, Result, Ok, Err, length, map, take, drop, min, refl, ap, ◌∙◌, sym, subst, arith}
 use Rattle.std.specs.Prelude.{IfOk, IfSome, OnOk, fold, option_map, sum_by}
 use Rattle.std.specs.List.{All}
 use Rattle.std.proofs.lemmas.List.{drop-append-le, length-drop, length-take-le, map-append, take-append-drop, take-take}
@@ -10,13 +10,16 @@ use Rattle.blockspec.specs.BlockUnits.{units}
 use Rattle.blockspec.specs.Nesting.{first_too_deep}
 use Rattle.blockspec.specs.UnitTree.{FoundUnit, UnitTree}
 use Rattle.mdblock.specs.FoundLists.{FoundList, found_unit}
+use Rattle.mdblock.specs.Insets.{MayFit}
+use Rattle.mdblock.specs.Seams.{ListSeam}
+use Rattle.mdblock.specs.Spliced.{MeetsAt}
 use Rattle.mdblock.specs.held.ReaderState.{ReaderState}
 use Rattle.mdblock.specs.held.Reads.{Reads, handed}
-use Rattle.mdsource.specs.Stops.{stop_line}
+use Rattle.mdsource.specs.Stops.{near_line, stop_line}
 use Rattle.mdsource.specs.Stretch.{Places, from_line, meeting_line, units_before}
 use Rattle.mdsource.specs.UnitTexts.{trees_in}
 use Rattle.mdview.specs.HeldBlocks.{IsReread, old_lines, places_of}
-use Rattle.mdview.specs.HeldItems.{IsItemOf, IsSpliced, kept_of, mark_in}
+use Rattle.mdview.specs.HeldItems.{IsItemOf, IsSpliced, KeepsTexts, kept_of, mark_in}
 use Rattle.mdview.specs.KeptTexts.{IsKept, kept_texts, last_texts, number_kept}
 use Rattle.mdview.specs.StopLines.{IsReadToStop, stops_of}
 use Rattle.mdsource.specs.LaterTexts.{texts_of, trees_to}
@@ -24,20 +27,32 @@ use Rattle.mdsource.proofs.TakenTexts.{many_in_trees}
 use Rattle.mdview.specs.HeldLists.{StandsAt, list_in}
 use Rattle.mdview.specs.HeldUnit.{HeldUnit, texts_in}
 use Rattle.mdview.specs.NewText.{lines_of}
+use Rattle.mdview.specs.UnitsFound.{IsHeldOn, IsSeamOf, found_in, trees_found}
 use Rattle.mdview.specs.declared.source.new_text.NewText.{NewText}
+use Rattle.mdview.specs.declared.blocks.reparse.KeptTexts.{KeptTexts}
 use Rattle.mdview.specs.declared.blocks.reparse.Reparsed.{Reparsed}
 use Rattle.mdview.specs.declared.blocks.held_places.HeldItem.{HeldItem}
 use Rattle.mdview.proofs.ListsStand.{all_longer, stands_pushed}
-use Rattle.mdview.proofs.NearReadings.{ReadInside, read_inside}
+use Rattle.mdview.proofs.NearReadings.{ReadInside, met_inside, read_inside}
+use Rattle.mdview.proofs.ReadStretches.{is_edit}
+use Rattle.mdview.proofs.SomeRemoved.{some_removed}
 use Rattle.mdview.proofs.NearStops.{StopsAt, is_stop, stops_near, sums_are}
 
 pub ok_both : {X Y : Type 0} (r : Result X Y) {P Q R : X → Type 0} → ((x : X) → P x → Q x → R x) → IfOk r P → IfOk r Q → IfOk r R
 ok_both (Ok x) f p q = f x p q
 ok_both (Err y) f p q = tt
 
+pub ok_three : {X Y : Type 0} (r : Result X Y) {P Q R S : X → Type 0} → ((x : X) → P x → Q x → R x → S x) → IfOk r P → IfOk r Q → IfOk r R → IfOk r S
+ok_three (Ok x) f p q r = f x p q r
+ok_three (Err y) f p q r = tt
+
 pub ok_one : {X Y : Type 0} (r : Result X Y) {P Q : X → Type 0} → ((x : X) → P x → Q x) → IfOk r P → IfOk r Q
 ok_one (Ok x) f p = f x p
 ok_one (Err y) f p = tt
+
+pub if_some : {X : Type 0} (o : Option X) {P Q : X → Type 0} → ((x : X) → P x → Q x) → IfSome o P → IfSome o Q
+if_some (Some x) f p = f x p
+if_some None f p = tt
 
 pub ok_any : {X Y : Type 0} (r : Result X Y) {P : Type 0} → P → OnOk r P
 ok_any (Ok x) p = p
@@ -58,7 +73,7 @@ IsPlaced first from line item r =
 -- and of the list
 abbrev pub IsListed : ReaderState → (found : List FoundList) → HeldItem → Reparsed → Type 0
 IsListed reader found item r =
-    (list : FoundList) × (r.found.items ≡ found ++ list ∷ []) × IsSpliced reader (list_in item.unit.now) item.item list × (r.kept ≡ Some (kept_of item list))
+    (list : FoundList) × (found_in r ≡ found ++ list ∷ []) × IsSpliced reader (list_in item.unit.now) item.item list × KeepsTexts reader item list r.kept
 
 -- the texts of the last of some units
 last_of_trees : (texts : List (List ℕ)) (trees : List UnitTree) (tree : UnitTree) → fold (λ (before : List (List ℕ)) (unit : UnitTree). unit.texts) texts (trees ++ tree ∷ []) ≡ tree.texts
@@ -112,6 +127,14 @@ module _ (e : EntityTable) (text : NewText) (held : List HeldUnit) (limit : ℕ)
       read_inside limit e (old_lines text) new (stops_of e text) (is_stop e text) s.small s.inside s.before s.one s.back (list_in item.unit.now) item.item s.holds fits reader (map found_unit found) list
       (subst (λ n. Reads limit e reader (drop from (take (n + 1) new))) (sym s.near) reads) (out ∙ ap (λ n. handed e (drop from (take (n + 1) new))) (sym s.near)) spliced s.behind
 
+  there : (P : Type 0) → ((limit : ℕ) (e : EntityTable) (xs : List (List ℕ)) (l : List ℕ) (zs ys : List (List ℕ)) → MeetsAt limit e reader (list_in item.unit.now) item.item xs l zs ys → P) → P
+  there P told =
+      met_inside limit e (old_lines text) new (stops_of e text) (is_stop e text) s.small s.inside s.before s.one s.back (list_in item.unit.now) item.item s.holds reader
+      (subst (λ n. Reads limit e reader (drop from (take (n + 1) new))) (sym s.near) reads) P told
+
+  kept_is : (list : FoundList) (kept : Option KeptTexts) → KeepsTexts reader item list kept → kept ≡ Some (kept_of item list)
+  kept_is list kept keeps = there (kept ≡ Some (kept_of item list)) keeps
+
   number_small : item.number + 1 ≤ 2 ^ 64 - 1
   number_small = let below = slice_get_within held item.number item.unit.now of.0 in omega (arith, below, few_held)
 
@@ -133,34 +156,34 @@ module _ (e : EntityTable) (text : NewText) (held : List HeldUnit) (limit : ℕ)
         first = at.0;
         next = at.2 ∙ grind (arith, number_small, many, count);
         found = ap (map found_unit) told.1 ∙ map-append found_unit found (told.0 ∷ []) ∙ i.found_is ∙ ap (units e) (sym lines);
-        stands = subst (λ ls. All (StandsAt e ls) r.found.items) (sym lines)
-            (stands_pushed e (drop from (take meet new)) found r.found.items (Some told.0) told.1 i.stands
+        stands = subst (λ ls. All (StandsAt e ls) (found_in r)) (sym lines)
+            (stands_pushed e (drop from (take meet new)) found (found_in r) (Some told.0) told.1 i.stands
             (subst (λ ls. All (StandsAt e ls) found) (sym long) (all_longer e (drop from (take (line + 1) new)) (drop (line + 1) (take meet new)) found stands)));
       }
 
-  pub joined_kept : (r : Reparsed) → IsListed reader found item r → IfSome r.kept (IsKept held (trees_in (map found_unit r.found.items)))
+  pub joined_kept : (r : Reparsed) → IsListed reader found item r → IfSome r.kept (IsKept held (trees_found r))
   joined_kept r told =
       let i = inside told.0 told.2 in
       let kept = kept_of item told.0 in
-      let last = last_found r.found.items found told.0 told.1 in
-      let is : IsKept held (trees_in (map found_unit r.found.items)) kept = record {
+      let last = last_found (found_in r) found told.0 told.1 in
+      let is : IsKept held (trees_found r) kept = record {
         unit = item.unit.now;
         held = of.0;
         from = i.from;
         at = (let size = ap (λ (ts : List (List ℕ)). length ts) last in omega (arith, size));
         texts = ap (drop kept.at) last ∙ i.kept;
       } in
-      subst (λ o. IfSome o (IsKept held (trees_in (map found_unit r.found.items)))) (sym told.3) is
+      subst (λ o. IfSome o (IsKept held (trees_found r))) (sym (kept_is told.0 r.kept told.3)) is
 
   pub joined_soon : (r : Reparsed) → IsListed reader found item r → IsReadToStop e text r
   joined_soon r told =
       let i = inside told.0 told.2 in
       let kept = kept_of item told.0 in
-      let trees = trees_in (map found_unit r.found.items) in
+      let trees = trees_found r in
       let small = s.small in
       let near = s.near in
       let stop = stops_near e text line near (omega (arith, small, near)) in
-      let last = last_found r.found.items found told.0 told.1 in
+      let last = last_found (found_in r) found told.0 told.1 in
       let size = length-drop kept.at (last_texts trees) in
       let long = ap (λ (ts : List (List ℕ)). length ts) last in
       let parts = ap (λ fs. sum_by texts_in (trees_in (map found_unit fs))) told.1 ∙ sum_with found told.0 in
@@ -168,9 +191,32 @@ module _ (e : EntityTable) (text : NewText) (held : List HeldUnit) (limit : ℕ)
       let all = sums_are (units e (drop from (take line new))) in
       let texts = i.texts ∙ ap (λ n. sum_by (λ (one : FoundUnit). texts_in one.unit) (units e (drop from (take n new)))) near in
       let many = many_in_trees (trees_in (units e (drop from (take line new)))) in
-      let kept_are = ap (λ o. length (kept_texts (option_map number_kept o) trees)) told.3 in
+      let kept_are = ap (λ o. length (kept_texts (option_map number_kept o) trees)) (kept_is told.0 r.kept told.3) in
       omega (arith, kept_are, size, long, parts, sums, all, texts, many)
       ∙ ap (λ n. length (texts_of (trees_in (units e (drop from (take n new)))))) (sym stop)
+
+  next_is : (r : Reparsed) → IsPlaced (units_before p) from line item r → r.next ≡ item.number + 1
+  next_is r at = at.2 ∙ grind (arith, number_small)
+
+  pub joined_list : (r : Reparsed) → IsPlaced (units_before p) from line item r → IsListed reader found item r → IfSome r.list (IsSeamOf reader item r.kept) → IfSome r.list (IsHeldOn held r)
+  joined_list r at told seam =
+      let i = inside told.0 told.2 in
+      let some = some_removed e (old_lines text) new p (is_edit e text) (near_line (stops_of e text)) s.before s.one s.back s.holds.holds s.behind s.small in
+      let many = i.next in
+      let count = s.count in
+      let first = at.0 in
+      let low : r.first ≤ item.number = omega (arith, some, many, count, first) in
+      if_some r.list (λ (list : ListSeam) (w : IsSeamOf reader item r.kept list). record {
+        unit = item.unit.now;
+        number = item.number;
+        held = of.0;
+        first = low;
+        next = next_is r at;
+        kept = w.kept;
+        old = w.old;
+        stays = w.stays;
+        fits = there (MayFit list.front list.old list.join) w.fits;
+      }) seam
 
   pub joined_order : (r : Reparsed) → IsPlaced (units_before p) from line item r → IsListed reader found item r → (r.first ≤ r.next) × (r.next ≤ length held)
   joined_order r at told =

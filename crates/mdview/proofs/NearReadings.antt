@@ -106,6 +106,11 @@ module _ (limit : ℕ) (e : EntityTable) (old new : List (List ℕ)) (s : Stops)
   meets : (reader : ReaderState) → Reads limit e reader (drop (from_line p) (take (near + 1) new)) → MeetsAt limit e reader f k xs l zs ys
   meets reader reads = (subst (Reads limit e reader) more reads, subst (StandsForUnit e f) olds h.stands, sym size)
 
+  -- what holds where the item begins in the last line that was read
+  pub met_inside : (reader : ReaderState) → Reads limit e reader (drop (from_line p) (take (near + 1) new)) → (P : Type 0)
+      → ((limit : ℕ) (e : EntityTable) (xs : List (List ℕ)) (l : List ℕ) (zs ys : List (List ℕ)) → MeetsAt limit e reader f k xs l zs ys → P) → P
+  met_inside reader reads P told = told limit e xs l zs ys (meets reader reads)
+
   joined : joins_list (map document_line xs) (document_line l) ≡ true
   joined = ap (λ d. joins_list (map document_line xs) (document_line d)) (sym same) ∙ (joins_told e old new p w.edit_there near [] (near_above e old new s w) below).0 (near_there e old new s w below).0
 

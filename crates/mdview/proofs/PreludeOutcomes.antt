@@ -33,8 +33,8 @@ use Rattle.mdview.specs.HeldUnit.{HeldUnit, IsRendered, piece_of, read_of, shown
 use Rattle.mdview.specs.LabelTargets.{led_after, led_by, target_held}
 use Rattle.mdview.specs.Lists.{replaced}
 use Rattle.mdsource.specs.Preludes.{HeldPrelude, IsDefinedBy}
-use Rattle.mdview.specs.Update.{IsFitFor, IsPatchOf, all_renewed, number_after}
-use Rattle.mdview.proofs.Committed.{committed_brings, committed_rendered}
+use Rattle.mdview.specs.Update.{IsFitFor, IsPatchOf, all_renewed, count_brought, number_after, units_brought}
+use Rattle.mdview.proofs.Committed.{brought_count, committed_brings, committed_rendered}
 use Rattle.mdview.proofs.EditTexts.{texts_refused, trees_are}
 use Rattle.mdview.proofs.HeldReadings.{holds_texts_still, led_by_held, spans_by_units}
 use Rattle.mdview.proofs.HeldTiles.{holds_still}
@@ -47,12 +47,12 @@ use Rattle.mdview.proofs.Outcomes.{same_patch}
 
 -- what is known of units that are read again for a new prelude
 pub record IsRenewalOf (setting : Setting) (labels : HeldLabels) (prelude : HeldPrelude) (head : ℕ) (held : List HeldUnit) (r : Update) : Type 0 where
-  pub none : (r.first ≡ 0) × (r.next ≡ 0) × (r.units.items ≡ [])
+  pub none : (r.first ≡ 0) × (r.next ≡ 0) × (units_brought held r ≡ [])
   pub led : (label : List ℕ) → led_after labels r.changes label ≡ led_by (map unit_in held) prelude label
   pub reread : All (IsReread setting.entities (led_by (map unit_in held) prelude) (map unit_in held)) r.again.items
   pub numbers : map number_again r.again.items ≡ asking_units setting.entities (target_held labels) (led_by (map unit_in held) prelude) 0 (map unit_in held)
   pub shallow : deep_from setting.options.max_spans setting.entities (led_by (map unit_in held) prelude) head (map held_tile held) ≡ None
-  pub fit : IsFitFor setting.options (map unit_in held) r
+  pub fit : IsFitFor setting.options held r
 
 module _ (e : EntityTable) (options : Options) (lines : List (List ℕ)) (old new : HeldPrelude) (head : ℕ) (labels : HeldLabels) (units : List HeldUnit)
     (blocks : HoldsUnits e lines head (map read_of units)) (texts : HoldsTexts (record { entities = e; options = options }) lines old labels units) (defined : IsDefinedBy e new) where
@@ -95,6 +95,9 @@ module _ (e : EntityTable) (options : Options) (lines : List (List ℕ)) (old ne
     abbrev come : List HeldUnit
     come = all_renewed units r.again.items
 
+    count_none : count_brought r ≡ 0
+    count_none = sym (brought_count options units r w.fit) ∙ ap (λ us. length us) w.none.2
+
     blocks_come : HoldsUnits e lines head (map read_of come)
     blocks_come = holds_still e lines head units r.again.items blocks
 
@@ -103,9 +106,9 @@ module _ (e : EntityTable) (options : Options) (lines : List (List ℕ)) (old ne
     texts_come room led same commits =
         holds_texts_still setting lines head old new labels room led r.changes units r.again.items blocks texts blocks_come defined same commits w.led w.reread w.numbers w.shallow
 
-    module _ (next : List HeldUnit) (next_is : next ≡ replaced (all_renewed units r.again.items) r.first (r.next - r.first) r.units.items) where
+    module _ (next : List HeldUnit) (next_is : next ≡ replaced (all_renewed units r.again.items) r.first (r.next - r.first) (units_brought units r)) where
       all_come : next ≡ all_renewed units r.again.items
-      all_come = next_is ∙ (rw (w.none.0, w.none.1, w.none.2) refl)
+      all_come = next_is ∙ (rw (w.none.2, w.none.0, w.none.1) refl)
 
       pub renewed_blocks : HoldsUnits e lines head (map read_of next)
       renewed_blocks = subst (λ us. HoldsUnits e lines head (map read_of us)) (sym all_come) blocks_come
@@ -119,8 +122,8 @@ module _ (e : EntityTable) (options : Options) (lines : List (List ℕ)) (old ne
 
       module _ (patch : ChangedPieces) (room led : HeldLabels) (same : (label : List ℕ) → target_held room label ≡ target_held labels label)
           (commits : (label : List ℕ) → target_held led label ≡ led_after room r.changes label) (of_update : IsPatchOf r patch) (small : length units < 2 ^ 64) where
-        both : length units + length r.units.items < 2 ^ 64
-        both = let none = ap (λ us. length us) w.none.2 in omega (arith, none, small)
+        both : length units + count_brought r < 2 ^ 64
+        both = omega (arith, count_none, small)
 
         pub pieces_renewed : Brings patch (pieces_of (record { entities = e; options = options; lines = lines; prelude = old.lines })) (pieces_of (record { entities = e; options = options; lines = lines; prelude = new.lines }))
         pieces_renewed =
@@ -148,17 +151,17 @@ module _ (e : EntityTable) (options : Options) (lines : List (List ℕ)) (old ne
         stays : (k : ℕ) → k < length (map unit_in units) → number_after r (0 + k) ≡ 0 + k
         stays k below =
             let many = length-map units unit_in in
-            let none = ap (λ us. length us) w.none.2 in
+            let none = count_none in
             let first = w.none.0 in
             let next = w.none.1 in
             let test : nat_lt (0 + k) r.next ≡ false = grind (arith, nat_tests, next) in
-            let value : min (0 + k - r.next + r.first + length r.units.items) (2 ^ 64 - 1) ≡ 0 + k = omega (arith, small, below, many, none, first, next) in
-            ap (λ t. if t then 0 + k else min (0 + k - r.next + r.first + length r.units.items) (2 ^ 64 - 1)) test ∙ value
+            let value : min (0 + k - r.next + r.first + count_brought r) (2 ^ 64 - 1) ≡ 0 + k = omega (arith, small, below, many, none, first, next) in
+            ap (λ t. if t then 0 + k else min (0 + k - r.next + r.first + count_brought r) (2 ^ 64 - 1)) test ∙ value
 
     pub renewal_patch : (patch : ChangedPieces) → IsPatchOf r patch → length units < 2 ^ 64 → (added : List (List ℕ)) → new.lines ≡ map without_nul added
         → patch ≡ patch_of setting (record { lines = lines; prelude = old.lines }) (set_prelude added)
     renewal_patch patch of_update small added is =
         let due = patch_of setting (record { lines = lines; prelude = old.lines }) (set_prelude added) in
         let gone : r.next - r.first ≡ 0 = let a = w.none.0 in let b = w.none.1 in omega (arith, a, b) in
-        same_patch patch due (of_update.first ∙ w.none.0) (of_update.removed ∙ gone) (of_update.added ∙ ap (λ us. length us) w.none.2)
+        same_patch patch due (of_update.first ∙ w.none.0) (of_update.removed ∙ gone) (of_update.added ∙ count_none)
         (of_update.again ∙ again_are small ∙ ap (λ ps. asking_from (table e before) (table e (record { lines = lines; prelude = ps })) 0 0 0 (view setting (record { lines = lines; prelude = ps }))) is)

@@ -7,11 +7,13 @@ use Rattle.blockspec.specs.BlockUnits.{units}
 use Rattle.mdsource.specs.Stretch.{Places, from_line, meeting_line}
 use Rattle.mdsource.specs.UnitTiles.{front_of, tile_of}
 use Rattle.mdsource.proofs.TileSplices.{front_kept, front_read}
-use Rattle.mdblock.specs.FoundLists.{found_unit}
 use Rattle.mdview.specs.HeldBlocks.{HoldsUnits, IsReplacing, IsReread, old_lines, places_of, unit_lines}
 use Rattle.mdview.specs.HeldLists.{StandForUnits, list_in, unplaced}
-use Rattle.mdview.specs.HeldUnit.{ReadUnit}
+use Rattle.mdview.specs.HeldTexts.{head_read}
+use Rattle.mdview.specs.HeldUnit.{HeldUnit, read_of}
 use Rattle.mdview.specs.NewText.{lines_of}
+use Rattle.mdview.specs.UnitsFound.{found_in, units_found}
+use Rattle.mdview.specs.Update.{units_brought}
 use Rattle.mdsource.specs.declared.fault.EditFault.{EditFault}
 use Rattle.mdview.specs.declared.source.new_text.NewText.{NewText}
 use Rattle.mdview.specs.declared.blocks.reparse.Reparsed.{Reparsed}
@@ -20,15 +22,15 @@ use Rattle.mdview.proofs.HeldTiles.{tiles_found}
 use Rattle.mdview.proofs.ListsStand.{stand_found, stand_unplaced}
 use Rattle.mdview.proofs.ReadStretches.{is_edit}
 
-module _ (e : EntityTable) (text : NewText) (was : ℕ) (held : List ReadUnit) (reparsed : Reparsed) (w : HoldsUnits e (old_lines text) was held) (r : IsReread e text reparsed) where
-  pub head_behind : (head : ℕ) → head ≡ (if nat_eq reparsed.from 0 then front_of reparsed.meet (map found_unit reparsed.found.items) else was)
+module _ (e : EntityTable) (text : NewText) (was : ℕ) (held : List HeldUnit) (reparsed : Reparsed) (w : HoldsUnits e (old_lines text) was (map read_of held)) (r : IsReread e text reparsed) where
+  pub head_behind : (head : ℕ) → head ≡ head_read was reparsed
       → head ≡ front_of (length (lines_of text)) (units e (lines_of text))
   head_behind head is = is ∙ by (nat_eq reparsed.from 0) refl
     where
       p : Places
       p = places_of e text
 
-      by : (t : Bool) → nat_eq reparsed.from 0 ≡ t → (if t then front_of reparsed.meet (map found_unit reparsed.found.items) else was) ≡ front_of (length (lines_of text)) (units e (lines_of text))
+      by : (t : Bool) → nat_eq reparsed.from 0 ≡ t → (if t then front_of reparsed.meet (units_found reparsed) else was) ≡ front_of (length (lines_of text)) (units e (lines_of text))
       by true h =
           let from : reparsed.from ≡ 0 = grind (arith, nat_tests, h) in
           ap (front_of reparsed.meet) (r.found ∙ ap (λ n. units e (drop n (take reparsed.meet (lines_of text)))) from)
@@ -42,16 +44,16 @@ module _ (e : EntityTable) (text : NewText) (was : ℕ) (held : List ReadUnit) (
           clash zero other = grind (arith, nat_tests, zero, other)
 
   pub replacing : (result : Result Update EditFault) → IfOk result (λ u. (u.first ≡ reparsed.first) × (u.next ≡ reparsed.next))
-      → IfOk result (λ u. map list_in u.units.items ≡ map unplaced reparsed.found.items)
-      → IfOk result (λ u. u.head ≡ (if nat_eq reparsed.from 0 then front_of reparsed.meet (map found_unit reparsed.found.items) else was)) → IfOk result (IsReplacing e text)
+      → IfOk result (λ u. map list_in (units_brought held u) ≡ map unplaced (found_in reparsed))
+      → IfOk result (λ u. u.head ≡ head_read was reparsed) → IfOk result (IsReplacing e held text)
   replacing (Ok update) place lists head = record {
     first = place.0 ∙ r.first;
     next = place.1 ∙ r.next;
     head = head_behind update.head head;
-    units = tiles_found update.units.items reparsed.found.items lists ∙ ap (map tile_of) (r.found ∙ ap (units e) same);
+    units = tiles_found (units_brought held update) (found_in reparsed) lists ∙ ap (map tile_of) (r.found ∙ ap (units e) same);
     stands = subst (λ fs. StandForUnits e fs (unit_lines e (drop (from_line (places_of e text)) (take (meeting_line (places_of e text)) (lines_of text))))) (sym lists)
-        (subst (λ ls. StandForUnits e (map unplaced reparsed.found.items) (unit_lines e ls)) same
-        (stand_unplaced e reparsed.found.items (unit_lines e ls) (stand_found e ls reparsed.found.items r.found r.stands)));
+        (subst (λ ls. StandForUnits e (map unplaced (found_in reparsed)) (unit_lines e ls)) same
+        (stand_unplaced e (found_in reparsed) (unit_lines e ls) (stand_found e ls (found_in reparsed) r.found r.stands)));
   }
     where
       ls : List (List ℕ)

@@ -20,7 +20,6 @@ use Rattle.mdsource.specs.LaterTexts.{asking_of, later_texts, texts_of, trees_to
 use Rattle.mdsource.proofs.NearLines.{IsStop}
 use Rattle.mdsource.proofs.StopTexts.{soon_by_later}
 use Rattle.mdsource.proofs.TakenTexts.{many_in_trees}
-use Rattle.mdblock.specs.FoundLists.{found_unit}
 use Rattle.mdview.specs.declared.source.new_text.NewText.{NewText}
 use Rattle.mdview.specs.declared.blocks.reparse.Reparsed.{Reparsed}
 use Rattle.mdview.specs.HeldBlocks.{HoldsUnits, IsReread as IsReadLines, old_lines}
@@ -28,6 +27,7 @@ use Rattle.mdview.specs.HeldTexts.{texts_in_parts}
 use Rattle.mdview.specs.HeldUnit.{HeldUnit, read_of}
 use Rattle.mdview.specs.KeptTexts.{kept_texts, last_texts, number_kept}
 use Rattle.mdview.specs.NewText.{lines_of as new_lines}
+use Rattle.mdview.specs.UnitsFound.{texts_kept, trees_found}
 use Rattle.mdsource.specs.Preludes.{HeldPrelude}
 use Rattle.mdview.specs.StopLines.{IsReadToStop, stops_of}
 use Rattle.mdview.proofs.EditTexts.{found_is, texts_by_kept}
@@ -80,10 +80,10 @@ module _ (setting : Setting) (text : NewText) (prelude : HeldPrelude) (was : ℕ
   s = stops_of e text
 
   abbrev trees : List UnitTree
-  trees = trees_in (map found_unit reparsed.found.items)
+  trees = trees_found reparsed
 
   abbrev kept : List (List ℕ)
-  kept = kept_texts (option_map number_kept reparsed.kept) trees
+  kept = texts_kept reparsed
 
   stop : IsStop e (old_lines text) (new_lines text) s
   stop = record { edit_there = is_edit e text; olds = refl; news = refl }

@@ -4,7 +4,6 @@ use Rattle.std.specs.List.{All}
 use Rattle.mdtext.specs.EntityTable.{EntityTable}
 use Rattle.blockspec.specs.BlockUnits.{begins, units}
 use Rattle.blockspec.specs.UnitTree.{UnitTree}
-use Rattle.mdblock.specs.FoundLists.{found_unit}
 use Rattle.mdsource.specs.Stretch.{Places, from_line, meeting_line, units_before, units_removed}
 use Rattle.mdsource.specs.UnitTiles.{front_of, tile_of}
 use Rattle.mdview.specs.NewText.{lines_of as new_lines}
@@ -16,6 +15,8 @@ use Rattle.mdview.specs.declared.update.Update.{Update}
 use Rattle.mdview.specs.HeldLists.{StandForUnits, StandsAt, list_in, list_read}
 use Rattle.mdview.specs.HeldUnit.{HeldUnit, ReadUnit, read_of}
 use Rattle.mdview.specs.NewText.{lines_of as new_lines}
+use Rattle.mdview.specs.UnitsFound.{found_in, units_found}
+use Rattle.mdview.specs.Update.{units_brought}
 
 -- a unit that is held without its place: how many lines it has, and the unit
 abbrev pub tile_in : ReadUnit → ℕ × UnitTree
@@ -58,20 +59,20 @@ pub record IsReread (e : EntityTable) (text : NewText) (r : Reparsed) : Type 0 w
   pub meet : r.meet ≡ meeting_line (places_of e text)
   pub first : r.first ≡ units_before (places_of e text)
   pub next : r.next ≡ units_before (places_of e text) + units_removed (places_of e text)
-  pub found : map found_unit r.found.items ≡ units e (drop r.from (take r.meet (new_lines text)))
-  pub stands : All (StandsAt e (drop r.from (take r.meet (new_lines text)))) r.found.items
+  pub found : units_found r ≡ units e (drop r.from (take r.meet (new_lines text)))
+  pub stands : All (StandsAt e (drop r.from (take r.meet (new_lines text)))) (found_in r)
 
 -- the lines from the first unit on
 abbrev pub unit_lines : EntityTable → List (List ℕ) → List (List ℕ)
 unit_lines e lines = drop (front_of (length lines) (units e lines)) lines
 
--- what it brings: units that take the place of old ones, and how many lines stand before the first unit then
-pub record IsReplacing (e : EntityTable) (text : NewText) (update : Update) : Type 0 where
+-- what it brings to the held ones: units that take the place of some, and how many lines stand before the first unit then
+pub record IsReplacing (e : EntityTable) (held : List HeldUnit) (text : NewText) (update : Update) : Type 0 where
   pub first : update.first ≡ units_before (places_of e text)
   pub next : update.next ≡ units_before (places_of e text) + units_removed (places_of e text)
   pub head : update.head ≡ front_of (length (new_lines text)) (units e (new_lines text))
-  pub units : map tile_in (map read_of update.units.items) ≡ map tile_of (units e (drop (from_line (places_of e text)) (take (meeting_line (places_of e text)) (new_lines text))))
-  pub stands : StandForUnits e (map list_in update.units.items) (unit_lines e (drop (from_line (places_of e text)) (take (meeting_line (places_of e text)) (new_lines text))))
+  pub units : map tile_in (map read_of (units_brought held update)) ≡ map tile_of (units e (drop (from_line (places_of e text)) (take (meeting_line (places_of e text)) (new_lines text))))
+  pub stands : StandForUnits e (map list_in (units_brought held update)) (unit_lines e (drop (from_line (places_of e text)) (take (meeting_line (places_of e text)) (new_lines text))))
 
 -- the line on which a container begins too deep in these lines is named
 abbrev pub IsDeepAt : Option ℕ → EditFault → Type 0

@@ -1,5 +1,5 @@
 -- Later items of lists that are held, and what is kept of a list in which the reading of an edit stops (CommonMark 5.3).
-use Rattle.std.specs.Prelude.{◌≡◌, ℕ, ◌+◌, ◌-◌, ◌<◌, List, [], ◌∷◌, ◌++◌, Some, IfSome, drop, length, map, slice_get}
+use Rattle.std.specs.Prelude.{◌≡◌, ℕ, ◌+◌, ◌-◌, ◌<◌, List, [], ◌∷◌, ◌++◌, Option, Some, IfSome, drop, length, map, slice_get}
 use Rattle.mdtext.specs.EntityTable.{EntityTable}
 use Rattle.blockspec.specs.BlockUnits.{units}
 use Rattle.blockspec.specs.ItemMarks.{ItemMark}
@@ -8,6 +8,7 @@ use Rattle.mdblock.specs.held.ReaderState.{ReaderState}
 use Rattle.mdblock.specs.held.Reads.{handed, open_begin}
 use Rattle.mdview.specs.declared.blocks.reparse.KeptTexts.{KeptTexts}
 use Rattle.mdview.specs.declared.blocks.held_places.HeldItem.{HeldItem}
+use Rattle.mdview.specs.HeldLists.{list_in}
 use Rattle.mdview.specs.HeldUnit.{HeldUnit, first_line, read_of}
 use Rattle.mdview.specs.declared.blocks.held_places.UnitStart.{UnitStart}
 use Rattle.mdblock.specs.Spliced.{MeetsAt, mark_at}
@@ -43,3 +44,8 @@ kept_of item list = record {
   from = (mark_in item).texts;
   at = length list.unit.texts - (length item.unit.now.read.unit.texts - (mark_in item).texts);
 }
+
+-- These are the texts that stay, where the item begins in the last line that was read.
+abbrev pub KeepsTexts : ReaderState → HeldItem → (list : FoundList) → Option KeptTexts → Type 0
+KeepsTexts reader item list kept = (limit : ℕ) (e : EntityTable) (xs : List (List ℕ)) (l : List ℕ) (zs ys : List (List ℕ)) → MeetsAt limit e reader (list_in item.unit.now) item.item xs l zs ys
+    → kept ≡ Some (kept_of item list)

@@ -5,11 +5,10 @@ use Rattle.std.specs.List.{All}
 use Rattle.mdtext.specs.EntityTable.{EntityTable}
 use Rattle.blockspec.specs.UnitTree.{UnitTree}
 use Rattle.inlinespec.specs.LinkTails.{Table}
-use Rattle.mdsource.specs.UnitTexts.{asking_texts, asking_units, deep_found, deep_from, readings_under, trees_in}
+use Rattle.mdsource.specs.UnitTexts.{asking_texts, asking_units, deep_found, deep_from, readings_under}
 use Rattle.mdsource.specs.UnitTiles.{front_of}
 use Rattle.mdsource.specs.Refusals.{Refusal, break_in_line, inline_refusal, inline_too_deep, nested_too_deep, not_definitions, out_of_range, too_large, too_many_lines}
 use Rattle.mdsource.specs.Setting.{Setting, Source}
-use Rattle.mdblock.specs.FoundLists.{found_unit}
 use Rattle.mdview.specs.declared.source.new_text.NewText.{NewText}
 use Rattle.mdview.specs.declared.held.HeldText.{HeldText}
 use Rattle.mdview.specs.NewText.{lines_of as new_lines}
@@ -26,6 +25,7 @@ use Rattle.mdview.specs.LabelTargets.{Leads, target_after, target_held}
 use Rattle.mdsource.specs.Preludes.{HeldPrelude, IsDefinedBy}
 use Rattle.mdview.specs.declared.held.labels.HeldLabels.{HeldLabels}
 use Rattle.mdview.specs.ReadUnits.{IsReadUnder}
+use Rattle.mdview.specs.UnitsFound.{trees_found, units_found}
 
 -- these are the readings of the unit with this number, if there is one
 abbrev pub IsReread : EntityTable → Table → List UnitTree → Again → Type 0
@@ -57,7 +57,7 @@ line_on from line = min (from + line) (2 ^ 64 - 1)
 abbrev pub deep_in_parts : (limit : ℕ) → EntityTable → Table → (head : ℕ) → List HeldUnit → Reparsed → Option ℕ
 deep_in_parts limit e labels head units r =
     option_or (deep_from limit e labels head (map held_tile (between 0 r.first units)))
-    (option_or (option_map (line_on r.from) (deep_found limit e labels (map found_unit r.found.items))) (deep_from limit e labels r.meet (map held_tile (between r.next (length units) units))))
+    (option_or (option_map (line_on r.from) (deep_found limit e labels (units_found r))) (deep_from limit e labels r.meet (map held_tile (between r.next (length units) units))))
 
 -- the units that are read again in front and behind
 abbrev pub asking_in_parts : EntityTable → (old new : Table) → List HeldUnit → (first next : ℕ) → List ℕ
@@ -67,12 +67,12 @@ asking_in_parts e old new units first next =
 -- how many texts are read: those in front and behind that ask, and of the units found all but those that are kept and do not ask
 abbrev pub texts_in_parts : EntityTable → (old new : Table) → List HeldUnit → Reparsed → ℕ
 texts_in_parts e old new units r =
-    (asking_texts e old new (map unit_in (between 0 r.first units)) + texts_with_kept e old new (option_map number_kept r.kept) (trees_in (map found_unit r.found.items)))
+    (asking_texts e old new (map unit_in (between 0 r.first units)) + texts_with_kept e old new (option_map number_kept r.kept) (trees_found r))
     + asking_texts e old new (map unit_in (between r.next (length units) units))
 
 -- how many lines stand before the first unit then
 abbrev pub head_read : ℕ → Reparsed → ℕ
-head_read held r = if nat_eq r.from 0 then front_of r.meet (map found_unit r.found.items) else held
+head_read held r = if nat_eq r.from 0 then front_of r.meet (units_found r) else held
 
 -- what a text is read with, and the source before an edit and behind it
 abbrev pub setting_in : HeldText → Setting

@@ -2,6 +2,8 @@ pub mod AlikeUnits
 pub mod HeldUnit
 pub mod HeldLists
 pub mod KeptTexts
+pub mod UnitsFound
+pub mod UnitInsets
 pub mod HeldTexts
 pub mod StopLines
 pub mod Lists
@@ -16,6 +18,9 @@ pub mod NewText
 pub mod LabelTargets
 pub mod ToldLabels
 pub mod TextSetting
+pub mod WrittenPieces
+pub mod JoinedLists
+pub mod BroughtUnits
 pub mod Update
 pub mod BroughtPieces
 pub mod LabelMarks

@@ -12,6 +12,7 @@ pub(crate) mod label_marks;
 pub(crate) mod labels;
 pub(crate) mod marked_units;
 pub(crate) mod pieces;
+pub(crate) mod unit_insets;
 pub(crate) mod units;
 
 use crate::held::labels::HeldLabels;

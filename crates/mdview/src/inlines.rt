@@ -6,9 +6,11 @@ ghost use Rattle.mdtext.specs.Counted.{counted};
 ghost use Rattle.mdview.specs.LabelTargets.{IsElsewhere};
 
 mod alike_texts;
+pub(crate) mod brought_units;
 pub(crate) mod concerned_texts;
 mod found_texts;
 pub(crate) mod kept_texts;
+pub(crate) mod spliced_lists;
 
 use crate::labels::changes::LabelsAfter;
 use crate::pieces::text_room::TextRoom;

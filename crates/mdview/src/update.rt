@@ -1,6 +1,6 @@
 //! What an edit or a new prelude changes, made before anything of the preview is.
 
-ghost use Rattle.std.specs.Prelude.{◌≡◌, ℕ, List, ◌≤◌, ◌<◌, ◌+◌, ◌^◌, ◌++◌, [], IfErr, IfOk, IfSome, None, OnOk, drop, if◌then◌else◌, length, map, nat_eq, sum_by, take};
+ghost use Rattle.std.specs.Prelude.{◌≡◌, ℕ, List, ◌≤◌, ◌<◌, ◌+◌, ◌^◌, ◌++◌, [], IfErr, IfOk, IfSome, None, OnOk, drop, if◌then◌else◌, length, map, nat_eq, option_copied, sum_by, take};
 ghost use Rattle.std.specs.List.{All};
 ghost use Rattle.blockspec.specs.Nesting.{first_too_deep};
 ghost use Rattle.mdblock.specs.FoundLists.{found_unit};
@@ -8,7 +8,7 @@ ghost use Rattle.mdsource.specs.LabelTable.{table};
 ghost use Rattle.mdsource.specs.Refusals.{nesting_refusal};
 ghost use Rattle.mdsource.specs.SoonTexts.{texts_of_read, units_read};
 ghost use Rattle.mdsource.specs.Stops.{lines_to_stop};
-ghost use Rattle.mdsource.specs.UnitTexts.{asking_texts, asking_units, deep_from, trees_in};
+ghost use Rattle.mdsource.specs.UnitTexts.{asking_texts, asking_units, deep_from};
 ghost use Rattle.mdsource.specs.UnitTiles.{front_of};
 ghost use Rattle.mdview.specs.HeldBlocks.{HoldsUnits, IsReplacing, old_lines, held_tile, lines_in};
 ghost use Rattle.mdview.specs.HeldLists.{list_in, unplaced};
@@ -21,31 +21,34 @@ ghost use Rattle.mdview.specs.LabelTargets.{IsElsewhere, LeadsAfter, led_after, 
 ghost use Rattle.mdview.specs.HeldUnit.{IsRendered, unit_in, read_of, texts_before, texts_of};
 ghost use Rattle.mdview.specs.KeptTexts.{IsKept};
 ghost use Rattle.mdview.specs.StopLines.{stops_of};
-ghost use Rattle.mdview.specs.Update.{IsFitFor, IsPatchOf, number_after};
+ghost use Rattle.mdview.specs.UnitsFound.{IsHeldOn, found_in, trees_found, with_list};
+ghost use Rattle.mdview.specs.Update.{IsFitFor, IsPatchOf, count_brought, number_after, units_brought};
 
 use crate::blocks::reparse::{Reparsed, reparse};
 use crate::held::HeldText;
+use crate::held::unit_insets::UnitInset;
 use crate::held::units::HeldUnit;
 use crate::inlines::UnitTextReader;
 use crate::inlines::concerned_texts::Again;
-use crate::inlines::kept_texts::kept_readings;
 use crate::labels::changes::{LabelChanges, LabelsAfter};
 use crate::patch::Patch;
 use crate::pieces::text_room::TextRoom;
 use crate::source::new_text::NewText;
-use mdblock::Found;
+use mdblock::{Found, Seam};
 use mdsource::{EditFault, Prelude};
 use mdtext::Count;
 use std::alloc::{AllocError, Global};
 
 /// What an edit brings: `units` take the place of those from number `first` up to `next`, and `head` lines stand before the
-/// first unit then. The units of `again` are held and read again; they are numbered as before the edit.
+/// first unit then. Where there is an inset, the last of those stays and takes it in, behind `units`. The units of `again` are held and read again; they are
+/// numbered as before the edit.
 #[derive(Drop)]
 pub(crate) struct Update {
     pub(crate) first: usize,
     pub(crate) next: usize,
     pub(crate) head: usize,
     pub(crate) units: Vec<HeldUnit>,
+    pub(crate) inset: Option<UnitInset>,
     pub(crate) again: Vec<Again>,
     pub(crate) changes: LabelChanges,
 }
@@ -68,9 +71,9 @@ impl Update {
         ensures refused { IfErr result (IsRefusedBy (nesting_refusal (setting_in held.now) (source_behind held.now text.entry))) }
         ensures accepted { OnOk result (nesting_refusal (setting_in held.now) (source_behind held.now text.entry) ≡ None) }
         ensures fits { OnOk result (first_too_deep held.now.options.now.max_containers (lines_of text.entry) ≡ None) }
-        ensures replacing { IfOk result (IsReplacing held.now.entities.now text.entry) }
+        ensures replacing { IfOk result (IsReplacing held.now.entities.now held.now.units.now.items text.entry) }
         ensures led { IfOk result (λ r. (label : List ℕ) → led_after held.now.labels.now r.changes label ≡ table held.now.entities.now (source_behind held.now text.entry) label) }
-        ensures read { IfOk result (λ r. All (IsReadUnder held.now.entities.now (table held.now.entities.now (source_behind held.now text.entry))) r.units.items) }
+        ensures read { IfOk result (λ r. All (IsReadUnder held.now.entities.now (table held.now.entities.now (source_behind held.now text.entry))) (units_brought held.now.units.now.items r)) }
         ensures reread { IfOk result (λ r. All (IsReread held.now.entities.now (table held.now.entities.now (source_behind held.now text.entry)) (map unit_in held.now.units.now.items)) r.again.items) }
         ensures numbers { IfOk result (λ r. map number_again r.again.items ≡ asking_in_parts held.now.entities.now
             (table held.now.entities.now (source_before held.now text.entry)) (table held.now.entities.now (source_behind held.now text.entry)) held.now.units.now.items r.first r.next) }
@@ -78,7 +81,7 @@ impl Update {
         ensures texts { C.inlines count.new ≤ C.inlines count.old
             + texts_of_read (setting_in held.now) (source_before held.now text.entry) (source_behind held.now text.entry)
             (units_read held.now.entities.now (lines_of text.entry) (stops_of held.now.entities.now text.entry)) }
-        ensures fit { IfOk result (IsFitFor held.now.options.now (map unit_in held.now.units.now.items)) }
+        ensures fit { IfOk result (IsFitFor held.now.options.now held.now.units.now.items) }
         ensures lines { C.lines count.new ≤ C.lines count.old + length (lines_of text.entry) }
     {
         let reparsed = reparse(held, text, count)?;
@@ -88,6 +91,7 @@ impl Update {
 
     /// What a new prelude brings: no unit comes or goes. Each inline text that is read is counted. Where several units have a
     /// text that is too deep, the first of the text is named.
+    #[tactic(auto, unfolding(crate::specs::UnitsFound::found_in))]
     pub(crate) fn of_prelude<C: Count>(
         held: &HeldText<'_>,
         prelude: &Prelude,
@@ -96,7 +100,7 @@ impl Update {
         requires read { All (IsReadUnder held.now.entities.now (target_held held.now.labels.now)) held.now.units.now.items }
         requires rendered { All (IsRendered held.now.options.now) held.now.units.now.items }
         requires near { held.now.head + sum_by lines_in held.now.units.now.items < 2 ^ 64 }
-        ensures none { IfOk result (λ r. (r.first ≡ 0) × (r.next ≡ 0) × (r.units.items ≡ [])) }
+        ensures none { IfOk result (λ r. (r.first ≡ 0) × (r.next ≡ 0) × (units_brought held.now.units.now.items r ≡ [])) }
         ensures led { IfOk result (λ r. LeadsAfter held.now.labels.now (map unit_in held.now.units.now.items) prelude.now r.changes) }
         ensures reread { IfOk result (λ r. All (IsReread held.now.entities.now (led_by (map unit_in held.now.units.now.items) prelude.now) (map unit_in held.now.units.now.items)) r.again.items) }
         ensures numbers { IfOk result (λ r. map number_again r.again.items
@@ -107,7 +111,7 @@ impl Update {
             (map held_tile held.now.units.now.items))) }
         ensures texts { C.inlines count.new ≤ C.inlines count.old
             + asking_texts held.now.entities.now (target_held held.now.labels.now) (led_by (map unit_in held.now.units.now.items) prelude.now) (map unit_in held.now.units.now.items) }
-        ensures fit { IfOk result (IsFitFor held.now.options.now (map unit_in held.now.units.now.items)) }
+        ensures fit { IfOk result (IsFitFor held.now.options.now held.now.units.now.items) }
         ensures lines { C.lines count.new ≡ C.lines count.old }
     {
         let changes = LabelChanges::of_prelude(held, prelude)?;
@@ -117,6 +121,7 @@ impl Update {
             from: 0,
             meet: held.head,
             found: Vec::new(held.alloc),
+            list: None,
             kept: None,
         };
         Update::behind(held, unread, changes, count)
@@ -126,7 +131,7 @@ impl Update {
     /// again.
     fn behind<C: Count>(
         held: &HeldText<'_>,
-        reparsed: Reparsed,
+        reparsed: Reparsed<'_>,
         changes: LabelChanges,
         count: &mut C,
     ) -> Result<Update, EditFault>
@@ -137,23 +142,24 @@ impl Update {
         requires near { head_read held.now.head reparsed + sum_by lines_in held.now.units.now.items < 2 ^ 64 }
         requires far { reparsed.meet + sum_by lines_in held.now.units.now.items < 2 ^ 64 }
         requires rendered { All (IsRendered held.now.options.now) held.now.units.now.items }
-        requires kept { IfSome reparsed.kept (IsKept held.now.units.now.items (trees_in (map found_unit reparsed.found.items))) }
-        ensures fit { IfOk result (IsFitFor held.now.options.now (map unit_in held.now.units.now.items)) }
-        ensures place { IfOk result (λ r. (r.first ≡ reparsed.first) × (r.next ≡ reparsed.next)) }
-        ensures units { IfOk result (λ r. length r.units.items ≡ length reparsed.found.items) }
-        ensures lists { IfOk result (λ r. map list_in r.units.items ≡ map unplaced reparsed.found.items) }
-        ensures head { IfOk result (λ r. r.head ≡ head_read held.now.head reparsed) }
+        requires kept { IfSome reparsed.kept (IsKept held.now.units.now.items (trees_found reparsed)) }
+        requires list { IfSome reparsed.list (IsHeldOn held.now.units.now.items reparsed) }
+        ensures fit { IfOk result (IsFitFor held.now.options.now held.now.units.now.items) }
+        ensures place { IfOk result (λ r. (r.first ≡ reparsed.entry.first) × (r.next ≡ reparsed.entry.next)) }
+        ensures units { IfOk result (λ r. length (units_brought held.now.units.now.items r) ≡ length (found_in reparsed.entry)) }
+        ensures lists { IfOk result (λ r. map list_in (units_brought held.now.units.now.items r) ≡ map unplaced (found_in reparsed.entry)) }
+        ensures head { IfOk result (λ r. r.head ≡ head_read held.now.head reparsed.entry) }
         ensures changes { IfOk result (λ r. r.changes ≡ changes) }
-        ensures read { IfOk result (λ r. All (IsReadUnder held.now.entities.now (led_after held.now.labels.now changes)) r.units.items) }
+        ensures read { IfOk result (λ r. All (IsReadUnder held.now.entities.now (led_after held.now.labels.now changes)) (units_brought held.now.units.now.items r)) }
         ensures numbers { IfOk result (λ r. map number_again r.again.items
-            ≡ asking_in_parts held.now.entities.now (target_held held.now.labels.now) (led_after held.now.labels.now changes) held.now.units.now.items reparsed.first reparsed.next) }
+            ≡ asking_in_parts held.now.entities.now (target_held held.now.labels.now) (led_after held.now.labels.now changes) held.now.units.now.items reparsed.entry.first reparsed.entry.next) }
         ensures reread { IfOk result (λ r. All (IsReread held.now.entities.now (led_after held.now.labels.now changes) (map unit_in held.now.units.now.items)) r.again.items) }
         ensures shallow { OnOk result (deep_in_parts held.now.options.now.max_spans held.now.entities.now (led_after held.now.labels.now changes)
-            (head_read held.now.head reparsed) held.now.units.now.items reparsed ≡ None) }
+            (head_read held.now.head reparsed.entry) held.now.units.now.items reparsed.entry ≡ None) }
         ensures deep { IfErr result (IsTextFault (deep_in_parts held.now.options.now.max_spans held.now.entities.now (led_after held.now.labels.now changes)
-            (head_read held.now.head reparsed) held.now.units.now.items reparsed)) }
+            (head_read held.now.head reparsed.entry) held.now.units.now.items reparsed.entry)) }
         ensures inlines { C.inlines count.new ≤ C.inlines count.old
-            + texts_in_parts held.now.entities.now (target_held held.now.labels.now) (led_after held.now.labels.now changes) held.now.units.now.items reparsed }
+            + texts_in_parts held.now.entities.now (target_held held.now.labels.now) (led_after held.now.labels.now changes) held.now.units.now.items reparsed.entry }
         ensures lines { C.lines count.new ≡ C.lines count.old }
     {
         let labels = LabelsAfter {
@@ -169,19 +175,15 @@ impl Update {
         let head = head_behind(held.head, &reparsed);
         let first = reparsed.first;
         let next = reparsed.next;
-        let from = reparsed.from;
-        let found = reparsed.found;
+        let meet = reparsed.meet;
         let mut again = Vec::new(held.alloc);
         reader.read_again(held.units, 0, first, head, &mut room, &mut again, count)?;
-        let kept = kept_readings(held.units, reparsed.kept);
-        let units = reader.read_found(
-            found, kept, held.units, first, next, from, &mut room, count,
-        )?;
+        let brought = reader.read_reparsed(reparsed, held.units, &mut room, count)?;
         reader.read_again(
             held.units,
             next,
             held.units.len(),
-            reparsed.meet,
+            meet,
             &mut room,
             &mut again,
             count,
@@ -191,7 +193,8 @@ impl Update {
             first,
             next,
             head,
-            units,
+            units: brought.units,
+            inset: brought.inset,
             again,
             changes,
         })
@@ -202,7 +205,7 @@ impl Update {
         requires { self.now.first ≤ self.now.next }
         ensures { IfOk result (IsPatchOf self.now) }
     {
-        let added = self.units.len();
+        let added = self.count_brought();
         let mut again = Vec::with_capacity(alloc, self.again.len())?;
         for one in &self.again {
             again.push(self.number_after(one.unit))?;
@@ -224,27 +227,42 @@ impl Update {
         }
         (unit - self.next)
             .saturating_add(self.first)
-            .saturating_add(self.units.len())
+            .saturating_add(self.count_brought())
+    }
+
+    /// How many units come.
+    #[tactic(auto, unfolding(crate::specs::Update::count_brought))]
+    fn count_brought(&self) -> usize
+        ensures { result ≡ count_brought self.now }
+    {
+        match &self.inset {
+            None => self.units.len(),
+            Some(_) => self.units.len() + 1,
+        }
     }
 }
 
 /// How many lines stand before the first unit then; where reading does not begin with the first line, as many as are held.
-fn head_behind(held: usize, reparsed: &Reparsed) -> usize
+#[tactic(auto, unfolding(crate::specs::UnitsFound::found_in))]
+fn head_behind(held: usize, reparsed: &Reparsed<'_>) -> usize
     ensures { result ≡ head_read held reparsed.now }
 {
     if reparsed.from == 0 {
-        head_of(&reparsed.found, reparsed.meet)
+        head_of(&reparsed.found, reparsed.list.as_ref(), reparsed.meet)
     } else {
         held
     }
 }
 
 /// How many lines stand before the first unit of a text of which these were found from its front up to line `meet`.
-fn head_of(found: &[Found], meet: usize) -> usize
-    ensures { result ≡ front_of meet (map found_unit found.now) }
+fn head_of(found: &[Found], list: Option<&Seam<'_>>, meet: usize) -> usize
+    ensures { result ≡ front_of meet (map found_unit (with_list found.now (option_copied list.entry))) }
 {
-    match found.first() {
-        Some(one) => one.begin(),
+    if let Some(one) = found.first() {
+        return one.begin();
+    }
+    match list {
+        Some(list) => list.front().begin(),
         None => meet,
     }
 }

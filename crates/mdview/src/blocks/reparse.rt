@@ -7,18 +7,20 @@ ghost use Rattle.blockspec.specs.BlockUnits.{begins, units};
 ghost use Rattle.blockspec.specs.Nesting.{first_too_deep};
 ghost use Rattle.blockspec.specs.Joins.{is_joined};
 ghost use Rattle.mdsource.specs.Stops.{is_near, lines_to_stop};
-ghost use Rattle.mdblock.specs.FoundLists.{FoundList, found_unit};
+ghost use Rattle.mdblock.specs.FoundLists.{FoundList};
+ghost use Rattle.mdblock.specs.Insets.{MayFit};
+ghost use Rattle.mdblock.specs.Seams.{seam_list};
 ghost use Rattle.mdblock.specs.held.ReaderState.{held_joined};
 ghost use Rattle.mdblock.specs.held.Reads.{Reads, handed, open_begin};
 ghost use Rattle.mdsource.specs.Stretch.{is_meeting};
-ghost use Rattle.mdsource.specs.UnitTexts.{trees_in};
 ghost use Rattle.mdsource.specs.UnitTiles.{IsAhead};
 ghost use Rattle.mdview.specs.HeldBlocks.{HoldsUnits, IsDeepAt, IsReread, is_at, line_before, lines_in, old_lines, places_of};
-ghost use Rattle.mdview.specs.HeldItems.{IsCounted, IsItemAt, IsItemOf, IsSpliced, kept_of, mark_in};
-ghost use Rattle.mdview.specs.HeldLists.{list_in};
+ghost use Rattle.mdview.specs.HeldItems.{IsCounted, IsItemAt, IsItemOf, IsSpliced, KeepsTexts, kept_of, mark_in};
+ghost use Rattle.mdview.specs.HeldLists.{list_in, unplaced};
 ghost use Rattle.mdview.specs.HeldUnit.{read_of};
 ghost use Rattle.mdview.specs.KeptTexts.{IsKept};
 ghost use Rattle.mdview.specs.StopLines.{IsReadToStop, stops_of};
+ghost use Rattle.mdview.specs.UnitsFound.{CanStay, IsHeldOn, IsSeamOf, found_in, kept_behind, trees_found, with_list};
 ghost use Rattle.mdview.specs.UnitCursors.{GoesOn};
 ghost use Rattle.mdblock.specs.CountedLines.{counted_by};
 ghost use Rattle.mdsource.specs.SourceLimits.{size_of};
@@ -30,7 +32,7 @@ use crate::blocks::held_places::{HeldItem, Resume, UnitCursor, UnitStart, resume
 use crate::held::HeldText;
 use crate::held::units::HeldUnit;
 use crate::source::new_text::NewText;
-use mdblock::{Found, Reader, splice};
+use mdblock::{Found, Reader, Seam};
 use mdchunks::Chunks;
 use mdsource::{EditFault, fault_in_line};
 use mdtext::Count;
@@ -44,22 +46,23 @@ pub(crate) struct KeptTexts {
     pub(crate) at: usize,
 }
 
-/// What an edit reads: from line `from` up to line `meet` there are the units `found`, in the place of those from number `first`
-/// up to `next`. Where reading stopped inside a list, some texts of the last one are kept.
+/// What an edit reads: from line `from` up to line `meet` there are the units `found`, and behind them `list`, which is not put together, in the place of those from number
+/// `first` up to `next`. Where reading stopped inside a list, some texts of the last one are kept.
 #[derive(Drop)]
-pub(crate) struct Reparsed {
+pub(crate) struct Reparsed<'a> {
     pub(crate) first: usize,
     pub(crate) next: usize,
     pub(crate) from: usize,
     pub(crate) meet: usize,
     pub(crate) found: Vec<Found>,
+    pub(crate) list: Option<Seam<'a>>,
     pub(crate) kept: Option<KeptTexts>,
 }
 
-impl Reparsed {
+impl<'a> Reparsed<'a> {
     /// The units found from where reading begins up to line `meet`, in the place of the held ones up to number `next`.
-    fn up_to(resume: Resume, next: usize, meet: usize, found: Vec<Found>) -> Reparsed
-        ensures { result ≡ record { first = resume.start.unit; next = next; from = resume.from; meet = meet; found = found; kept = None } }
+    fn up_to(resume: Resume, next: usize, meet: usize, found: Vec<Found>) -> Reparsed<'a>
+        ensures { result ≡ record { first = resume.start.unit; next = next; from = resume.from; meet = meet; found = found; list = None; kept = None } }
     {
         Reparsed {
             first: resume.start.unit,
@@ -67,6 +70,7 @@ impl Reparsed {
             from: resume.from,
             meet,
             found,
+            list: None,
             kept: None,
         }
     }
@@ -74,11 +78,11 @@ impl Reparsed {
 
 /// Reads blocks from the last unit that begins above the edit up to where a unit begins behind it that is held, or a later item of a list is held that begins
 /// there in both texts, or to the end. Each line that is read, or taken over in its place, is counted.
-pub(crate) fn reparse<C: Count>(
-    held: &HeldText<'_>,
+pub(crate) fn reparse<'a, C: Count>(
+    held: &HeldText<'a>,
     text: NewText<'_>,
     count: &mut C,
-) -> Result<Reparsed, EditFault>
+) -> Result<Reparsed<'a>, EditFault>
     requires few { length (lines_of text) ≤ 1000000 }
     requires small { size_of (lines_of text) ≤ 16777216 }
     requires old { length (old_lines text) ≤ 1000000 }
@@ -88,7 +92,8 @@ pub(crate) fn reparse<C: Count>(
     ensures deep { IfErr result (IsDeepAt (first_too_deep held.now.options.now.max_containers (lines_of text.entry))) }
     ensures fits { OnOk result (first_too_deep held.now.options.now.max_containers (lines_of text.entry) ≡ None) }
     ensures read { IfOk result (IsReread held.now.entities.now text.entry) }
-    ensures kept { IfOk result (λ reparsed. IfSome reparsed.kept (IsKept held.now.units.now.items (trees_in (map found_unit reparsed.found.items)))) }
+    ensures kept { IfOk result (λ reparsed. IfSome reparsed.kept (IsKept held.now.units.now.items (trees_found reparsed))) }
+    ensures list { IfOk result (λ reparsed. IfSome reparsed.list (IsHeldOn held.now.units.now.items reparsed)) }
     ensures soon { IfOk result (IsReadToStop held.now.entities.now text.entry) }
     ensures stretch { C.lines count.new ≤ C.lines count.old + lines_to_stop (stops_of held.now.entities.now text.entry) }
     ensures order { IfOk result (λ reparsed. (reparsed.first ≤ reparsed.next) × (reparsed.next ≤ length held.now.units.now.items)) }
@@ -192,40 +197,85 @@ fn item_above<'a>(
 }
 
 /// A list that goes on in one that is held: what was read up to `line`, the last that was read, which begins that item, and the held list's items from there on.
-fn join_held(
+fn join_held<'a>(
     reader: Reader<'_>,
-    item: HeldItem<'_>,
+    item: HeldItem<'a>,
     resume: Resume,
     line: usize,
     mut found: Vec<Found>,
-) -> Result<Reparsed, EditFault>
+) -> Result<Reparsed<'a>, EditFault>
     requires joined { held_joined reader.held ≡ true }
     requires item { item.item < length item.unit.now.read.items }
     requires fits { reader.fed + (item.unit.now.read.lines - (mark_in item).line - 1) ≤ usize.MAX }
     ensures fault { IfErr result (λ fault. fault ≡ NoMemory) }
     ensures place { IfOk result (λ r. (r.first ≡ resume.start.unit) × (r.from ≡ resume.from) × (r.next ≡ min (item.entry.number + 1) (2 ^ 64 - 1))
         × (r.meet ≡ min (line + (item.entry.unit.now.read.lines - (mark_in item.entry).line)) (2 ^ 64 - 1))) }
-    ensures list { IfOk result (λ r. (list : FoundList) × (r.found.items ≡ found.items ++ list ∷ [])
-        × IsSpliced reader.entry (list_in item.entry.unit.now) item.entry.item list × (r.kept ≡ Some (kept_of item.entry list))) }
+    ensures list { IfOk result (λ r. (list : FoundList) × (found_in r ≡ found.items ++ list ∷ [])
+        × IsSpliced reader.entry (list_in item.entry.unit.now) item.entry.item list × KeepsTexts reader.entry item.entry list r.kept) }
+    ensures seam { IfOk result (λ r. IfSome r.list (IsSeamOf reader.entry item.entry r.kept)) }
 {
     let old = item.unit.found();
     let join = old.joins()[item.item];
-    let list = splice(reader, old, item.item)?;
-    let later = old.unit().texts().len().saturating_sub(join.texts);
-    let kept = KeptTexts {
-        unit: item.number,
-        from: join.texts,
-        at: list.unit().texts().len().saturating_sub(later),
-    };
-    found.push(list)?;
+    let seam = Seam::new(reader, old, item.item)?;
+    let (list, kept) = push_joined(seam, item, join.texts, &mut found)?;
     Ok(Reparsed {
         first: resume.start.unit,
         next: item.number.saturating_add(1),
         from: resume.from,
         meet: line.saturating_add(old.lines().saturating_sub(join.line)),
         found,
+        list,
         kept: Some(kept),
     })
+}
+
+/// Puts a list that goes on in one that is held behind the units found. It is put together, but where the held list's items can stay where they are: then it is handed
+/// back. Tells which of its texts stay; so many stand in front of the item in the held list.
+fn push_joined<'a>(
+    seam: Seam<'a>,
+    item: HeldItem<'_>,
+    from: usize,
+    found: &mut Vec<Found>,
+) -> Result<(Option<Seam<'a>>, KeptTexts), AllocError>
+    requires old { unplaced seam.old ≡ list_in item.unit.now }
+    requires join { seam.join ≡ item.item }
+    requires from { from ≡ (mark_in item).texts }
+    ensures list { IfOk result (λ r. with_list found.new.items r.0 ≡ found.old.items ++ seam_list seam.entry ∷ []) }
+    ensures seam { IfOk result (λ r. IfSome r.0 (λ s. (s ≡ seam.entry) × CanStay s × (r.1 ≡ kept_behind item.entry.number s))) }
+    ensures kept { IfOk result (λ r. MayFit seam.entry.front seam.entry.old seam.entry.join → r.1 ≡ kept_of item.entry (seam_list seam.entry)) }
+{
+    let old = item.unit.unit().texts().len();
+    if can_stay(&seam, item.unit) {
+        let kept = KeptTexts {
+            unit: item.number,
+            from,
+            at: from,
+        };
+        return Ok((Some(seam), kept));
+    }
+    let list = seam.made()?;
+    let kept = KeptTexts {
+        unit: item.number,
+        from,
+        at: list
+            .unit()
+            .texts()
+            .len()
+            .saturating_sub(old.saturating_sub(from)),
+    };
+    found.push(list)?;
+    Ok((None, kept))
+}
+
+/// Whether the items of a held list from the join on can stay where they are. For long lists alone, of which it is known where the items end.
+fn can_stay(seam: &Seam<'_>, unit: &HeldUnit) -> bool
+    requires { unplaced seam.now.old ≡ list_in unit.now }
+    ensures { result ≡ true → CanStay seam.now }
+{
+    unit.ends().is_some()
+        && unit.unit().definitions().is_empty()
+        && seam.is_even()
+        && seam.is_alike()
 }
 
 fn push_some(found: &mut Vec<Found>, unit: Option<Found>) -> Result<(), AllocError>

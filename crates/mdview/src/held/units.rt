@@ -1,18 +1,20 @@
 //! A unit that is held: with what its texts read as, and its HTML.
 
-ghost use Rattle.std.specs.Prelude.{◌≡◌, ◌<◌, ◌≤◌, ◌+◌, ◌-◌, IfSome, MatchOption, Some, drop, is_some, length, map, nat_eq, option_map, slice_get};
+ghost use Rattle.std.specs.Prelude.{◌≡◌, ◌<◌, ◌≤◌, ◌+◌, ◌-◌, ◌++◌, IfSome, MatchOption, Some, drop, is_some, length, map, nat_eq, option_map, slice_get};
 ghost use Rattle.std.specs.List.{All, list_any};
 ghost use Rattle.std.specs.List.Sorted.{IsNonDecreasing};
-ghost use Rattle.mdblock.specs.Spliced.{mark_at};
+ghost use Rattle.mdblock.specs.Insets.{FitsInto};
+ghost use Rattle.mdblock.specs.Spliced.{mark_at, spliced_list};
 ghost use Rattle.mdview.specs.HeldLists.{item_line, list_in, unplaced};
 ghost use Rattle.mdview.specs.LabelMarks.{held_marks};
 
 use crate::held::label_marks::marks_in;
 use crate::held::pieces::Piece;
-use mdblock::{Found, Unit};
+use mdblock::{Found, Inset, Unit};
 use mdchunks::Weighed;
 use mdinline::Parsed;
 use std::marker::Model;
+use std::mem;
 
 /// A unit, what each of its texts reads as, and its piece of HTML.
 #[derive(Drop)]
@@ -163,6 +165,34 @@ impl HeldUnit {
         self.marks = marks_in(self.found.unit(), &inlines);
         self.inlines = inlines;
         self.piece = piece;
+    }
+
+    /// Takes the front of a list in, where its own items stood up to a join, with what the texts of the front read as; and another piece. It takes no memory.
+    pub(crate) fn put(&mut self, inset: Inset, inlines: Vec<Parsed>, piece: Piece)
+        requires fits { FitsInto inset.front (list_in self.old) inset.join }
+        requires texts { length inlines.items ≡ (mark_at self.old.read.items inset.join).texts }
+        ensures { let list = spliced_list inset.front (list_in self.old) inset.join in
+            self.new ≡ record {
+              read = record { lines = list.lines; unit = list.unit; readings = inlines.items ++ drop (length inlines.items) self.old.read.readings; items = list.marks; parted = list.parted };
+              piece = piece.html;
+              ends = piece.ends;
+            } }
+    {
+        self.found.put(inset);
+        put_first(&mut self.inlines, inlines);
+        self.marks = marks_in(self.found.unit(), &self.inlines);
+        self.piece = piece;
+    }
+}
+
+/// Puts readings in the place of as many first ones.
+fn put_first(inlines: &mut Vec<Parsed>, first: Vec<Parsed>)
+    requires { length first.items ≤ length inlines.old.items }
+    ensures { inlines.new.items ≡ first.items ++ drop (length first.items) inlines.old.items }
+{
+    let mut first = first;
+    for i in 0..first.len() {
+        mem::swap(&mut inlines[i], &mut first[i]);
     }
 }
 

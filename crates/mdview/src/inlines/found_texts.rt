@@ -4,11 +4,12 @@ ghost use Rattle.std.specs.Prelude.{◌≡◌, ◌+◌, ◌≤◌, ◌∷◌, No
 ghost use Rattle.std.specs.List.{All};
 ghost use Rattle.mdblock.specs.FoundLists.{found_unit};
 ghost use Rattle.mdsource.specs.UnitTexts.{trees_in};
-ghost use Rattle.mdview.specs.HeldUnit.{IsRendered, texts_in};
-ghost use Rattle.mdview.specs.HeldTexts.{line_on};
+ghost use Rattle.mdview.specs.HeldUnit.{AreEnds, IsRendered, html_of, texts_in};
+ghost use Rattle.mdview.specs.HeldTexts.{entities_in, line_on};
 ghost use Rattle.mdview.specs.TextSetting.{AreReadFrom, DidReadIn, IsReadFrom, ReadSo, Stays, TellsDeep, TellsLine, are_deep, deep_place, texts_under};
 
 use crate::held::SPLICE_ROOM;
+use crate::held::pieces::Piece;
 use crate::held::units::HeldUnit;
 use crate::inlines::UnitTextReader;
 use crate::pieces::text_room::{Alike, TextRoom};
@@ -16,7 +17,7 @@ use mdblock::{Found, Unit};
 use mdchunks::{Chunks, Iter};
 use mdinline::{InlineFault, Parsed};
 use mdsource::{EditFault, fault_in_unit};
-use mdtext::Count;
+use mdtext::{Count, NoMemory};
 
 impl<'a> UnitTextReader<'a> {
     /// Reads the texts of the units that were found in the lines from `from` on. They may have texts of the held units from
@@ -74,19 +75,39 @@ impl<'a> UnitTextReader<'a> {
         ensures inlines { C.inlines count.new ≤ C.inlines count.old + texts_in found.unit }
     {
         let (inlines, same) = self.read_texts(found.unit(), held, room, count)?;
-        let blocks = found.unit().blocks();
-        let piece = match held {
-            Some(unit) => {
+        let piece = self.unit_piece(found.unit(), &inlines, held, same, room)?;
+        Ok(HeldUnit::new(found, inlines, piece))
+    }
+
+    /// The piece of a unit whose texts read so. Where it comes in the place of a held one, both have so many texts alike from the front on.
+    fn unit_piece(
+        &self,
+        unit: &Unit,
+        inlines: &[Parsed],
+        held: Option<&HeldUnit>,
+        same: usize,
+        room: &mut TextRoom<'a>,
+    ) -> Result<Piece, NoMemory>
+        requires readings { ReadSo (texts_under self.now room.old) unit.now.texts inlines.now }
+        requires held { IfSome held (λ u. DidReadIn (texts_under self.now room.old) u.now) }
+        requires rendered { IfSome held (λ u. IsRendered self.now.options.now u.now) }
+        requires front { (same ≤ length unit.now.texts) × IfSome held (λ u. take same unit.now.texts ≡ take same u.now.read.unit.texts) }
+        ensures html { IfOk result (λ piece. piece.html ≡ html_of self.now.options.now unit.now inlines.now) }
+        ensures ends { IfOk result (λ piece. AreEnds self.now.options.now inlines.now unit.now.blocks piece.ends) }
+        ensures room { entities_in room.new ≡ entities_in room.old }
+    {
+        let blocks = unit.blocks();
+        match held {
+            Some(there) => {
                 let like = Alike {
-                    unit,
+                    unit: there,
                     front: self.read_alike_in(same),
                     behind: 0,
                 };
-                room.piece_like(blocks, &inlines, self.options, like)?
+                room.piece_like(blocks, inlines, self.options, like)
             }
-            None => room.unit_piece(blocks, &inlines, self.options, 0)?,
-        };
-        Ok(HeldUnit::new(found, inlines, piece))
+            None => room.unit_piece(blocks, inlines, self.options, 0),
+        }
     }
 
     fn read_texts<C: Count>(

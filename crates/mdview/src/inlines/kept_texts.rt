@@ -106,7 +106,8 @@ impl<'a> UnitTextReader<'a> {
             front: self.read_alike_in(same),
             behind: self.read_alike_in(kept.readings.len()),
         };
-        let piece = room.piece_like(found.unit().blocks(), &inlines, self.options, like)?;
+        let blocks = found.unit().blocks();
+        let piece = room.piece_like(blocks, &inlines, self.options, like)?;
         Ok(HeldUnit::new(found, inlines, piece))
     }
 

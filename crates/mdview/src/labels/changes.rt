@@ -1,6 +1,6 @@
 //! What an edit or a new prelude changes of where labels lead.
 
-ghost use Rattle.std.specs.Prelude.{◌≡◌, ◌≤◌, ◌++◌, ℕ, List, IfOk, None, drop, false, is_some, length, map, option_copied, take, true, OnOk};
+ghost use Rattle.std.specs.Prelude.{◌≡◌, ◌≤◌, ◌++◌, ℕ, List, IfOk, IfSome, None, drop, false, is_some, length, map, option_copied, take, true, OnOk};
 ghost use Rattle.std.specs.BTreeMap.{keys};
 ghost use Rattle.std.specs.Int.RustNames.{bit_and};
 ghost use Rattle.std.specs.Cmp.Lexicographic.{slice_cmp};
@@ -9,11 +9,10 @@ ghost use Rattle.std.specs.Map.Iter.{ShowsInOrder, deref};
 ghost use Rattle.std.specs.Option.{option_to_list};
 ghost use Rattle.std.specs.Ordering.{eq_by_cmp, nat_cmp};
 ghost use Rattle.std.specs.Set.{is_member};
-ghost use Rattle.mdblock.specs.FoundLists.{found_unit};
-ghost use Rattle.mdsource.specs.UnitTexts.{trees_in};
 ghost use Rattle.mdview.specs.HeldUnit.{unit_in};
 ghost use Rattle.mdview.specs.LabelMarks.{label_mark};
 ghost use Rattle.mdview.specs.LabelTargets.{HasRoom, IsElsewhere, LeadsAfter, at, led_after, target_held, leading, target_after};
+ghost use Rattle.mdview.specs.UnitsFound.{IsHeldOn, trees_found};
 
 use crate::blocks::reparse::Reparsed;
 use crate::held::HeldText;
@@ -35,15 +34,17 @@ pub(crate) struct LabelChanges {
 
 impl LabelChanges {
     /// What an edit changes that reads this. The first definition of a label in the text counts (CommonMark 4.7).
-    pub(crate) fn of(held: &HeldText<'_>, reparsed: &Reparsed) -> Result<LabelChanges, NoMemory>
+    pub(crate) fn of(held: &HeldText<'_>, reparsed: &Reparsed<'_>) -> Result<LabelChanges, NoMemory>
         requires first { reparsed.now.first ≤ reparsed.now.next }
         requires next { reparsed.now.next ≤ length held.now.units.now.items }
+        requires list { IfSome reparsed.now.list (IsHeldOn held.now.units.now.items reparsed.now) }
         ensures led { IfOk result (LeadsAfter held.now.labels.now
-            (take reparsed.now.first (map unit_in held.now.units.now.items) ++ trees_in (map found_unit reparsed.now.found.items) ++ drop reparsed.now.next (map unit_in held.now.units.now.items))
+            (take reparsed.now.first (map unit_in held.now.units.now.items) ++ trees_found reparsed.now ++ drop reparsed.now.next (map unit_in held.now.units.now.items))
             held.now.prelude.now) }
         ensures elsewhere { IfOk result (IsElsewhere held.now.labels.now) }
     {
         let mut touched = TouchedLabels::new(held.alloc);
+        // A list that is not put together defines no label.
         touched.touch_held(held.units, reparsed.first, reparsed.next)?;
         touched.touch_found(&reparsed.found)?;
         touched.define_all(held.units, reparsed.first, &reparsed.found, reparsed.next)?;

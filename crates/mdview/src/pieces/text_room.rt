@@ -1,17 +1,24 @@
 //! What the reading of texts and the writing of units use again.
 
-ghost use Rattle.std.specs.Prelude.{◌≡◌, [], false, IfOk, IfSome, Some, length, string_bytes};
-ghost use Rattle.mdblock.specs.BlockView.{blocks_view};
-ghost use Rattle.mdblock.specs.Positions.{BlocksIn};
+ghost use Rattle.std.specs.Prelude.{◌≡◌, ◌≤◌, [], false, IfOk, IfSome, Some, length, string_bytes, take};
+ghost use Rattle.std.specs.List.{AllByRecursion};
+ghost use Rattle.mdblock.specs.BlockView.{blocks_view, items_view};
+ghost use Rattle.mdblock.specs.Copies.{items_positions};
+ghost use Rattle.mdblock.specs.Positions.{BlocksIn, ItemsIn};
+ghost use Rattle.mdblock.specs.Spliced.{drop_items, first_items};
 ghost use Rattle.mdhtml.specs.BlockHtml.{blocks_html, texts_html};
+ghost use Rattle.mdhtml.specs.SplicedLists.{spliced_blocks, spliced_readings};
 ghost use Rattle.mdview.specs.HeldTexts.{entities_in};
 ghost use Rattle.mdview.specs.HeldUnit.{AreEnds, IsRendered};
 ghost use Rattle.mdview.specs.AlikeUnits.{AreAlike};
+ghost use Rattle.mdview.specs.WrittenPieces.{IsPieceOf};
 
 use crate::held::pieces::Piece;
 use crate::held::units::HeldUnit;
-use mdblock::Block;
-use mdhtml::{Like, Options, append_unit_ends, append_unit_html, append_unit_like};
+use mdblock::{Block, Item};
+use mdhtml::{
+    Like, Options, append_spliced_list, append_unit_ends, append_unit_html, append_unit_like,
+};
 use mdinline::{Parsed, TextReader};
 use mdtext::{Entities, NoMemory};
 use std::alloc::Global;
@@ -103,6 +110,51 @@ impl<'a> TextRoom<'a> {
         let mut ends = Vec::new(self.alloc);
         append_unit_like(blocks, texts, options, &was, &mut self.html, &mut ends)?;
         self.written(ends)
+    }
+
+    /// The piece of a list of `items` and, behind them, the items of a held list from number `later` on, which stay where they are, of the same kind, and tight
+    /// or loose as that is. `None` where it is not known where the items of the held list end.
+    pub(crate) fn spliced_piece(
+        &mut self,
+        items: &[Item],
+        later: usize,
+        texts: &[Parsed],
+        options: &Options,
+        like: Alike<'_>,
+    ) -> Result<Option<Piece>, NoMemory>
+        requires within { ItemsIn (length texts.now) (items_view items.now) }
+        requires behind { AllByRecursion (λ at. length texts.now ≤ at) (items_positions (drop_items later (first_items like.unit.now.read.unit.blocks))) }
+        requires rendered { IsRendered options.now like.unit.now }
+        requires front { take like.front texts.now ≡ take like.front like.unit.now.read.readings }
+        ensures piece { IfOk result (λ piece. IfSome piece (IsPieceOf options.now (spliced_readings texts.now like.entry.unit.now.read.readings)
+            (spliced_blocks (items_view items.now) later like.entry.unit.now.read.unit.blocks))) }
+        ensures room { entities_in self.new ≡ entities_in self.old }
+    {
+        let Some(like_ends) = like.unit.ends() else {
+            return Ok(None);
+        };
+        let was = Like {
+            blocks: like.unit.unit().blocks(),
+            texts: like.unit.inlines(),
+            html: like.unit.piece(),
+            ends: like_ends,
+            front: like.front,
+            behind: 0,
+        };
+        self.html.clear();
+        let mut ends = Vec::new(self.alloc);
+        if !append_spliced_list(
+            items,
+            later,
+            texts,
+            options,
+            &was,
+            &mut self.html,
+            &mut ends,
+        )? {
+            return Ok(None);
+        }
+        Ok(Some(self.written(ends)?))
     }
 
     /// The piece of a unit: the HTML of its blocks, whose texts read as `texts`. It takes as much memory as it has bytes; `like` is the length of the piece in

@@ -5,4 +5,4 @@ pub commit-requires : goal.commit-requires
 commit-requires c = record { room = c.requires.labels }
 
 pub returns-clause-units : goal.returns-clause-units
-returns-clause-units c = c.renew_units.ensures.value ∙ (rw (c.requires.none.0, c.requires.none.1, c.requires.none.2) refl)
+returns-clause-units c = c.renew_units.ensures.value ∙ (rw (c.requires.none.2, c.requires.none.0, c.requires.none.1) refl)

@@ -5,9 +5,14 @@ use Rattle.blockspec.specs.UnitTree.{UnitTree}
 use Rattle.blockspec.specs.ItemMarks.{ItemMark}
 use Rattle.mdblock.specs.FoundLists.{FoundList, StandsForUnit}
 use Rattle.mdview.specs.HeldItems.{mark_in}
-use Rattle.mdblock.specs.Spliced.{MeetsAt, mark_at}
+use Rattle.mdview.specs.UnitsFound.{found_in}
+use Rattle.mdblock.specs.Seams.{ListSeam, seam_list}
+use Rattle.mdblock.specs.Insets.{MayFit}
+use Rattle.mdblock.specs.Spliced.{mark_at}
+use Rattle.mdview.specs.HeldLists.{unplaced}
+use Rattle.mdview.proofs.KeptLists.{meets_placed}
+use Rattle.mdview.proofs.NearRead.{if_some}
 use Rattle.mdview.proofs.HeldJoins.{joined_mark, no_join}
-use Rattle.mdview.proofs.ListsStand.{stands_placed}
 use Rattle.mdview.proofs.blocks.reparse.join_held.Goals as goal
 
 pub returns-clause-place : goal.returns-clause-place
@@ -19,31 +24,43 @@ returns-clause-place c =
       refl,
       refl,
       c.saturating_add.ensures,
-      c.saturating_add-2.ensures ∙ ap (λ n. min (c.args.line + n) 18446744073709551615) (c.saturating_sub-2.ensures ∙ ap (λ n. n - (get_or c.joins.result.now c.args.item.item no_join).line) lines ∙ ap (λ n. c.args.item.unit.now.read.lines - n) (sym line)),
+      c.saturating_add-2.ensures ∙ ap (λ n. min (c.args.line + n) 18446744073709551615) (c.saturating_sub.ensures ∙ ap (λ n. n - (get_or c.joins.result.now c.args.item.item no_join).line) lines ∙ ap (λ n. c.args.item.unit.now.read.lines - n) (sym line)),
     )
 
+pub push_joined-requires-clause-from : goal.push_joined-requires-clause-from
+push_joined-requires-clause-from c =
+    let mark = joined_mark c.joins.result.now c.args.item.unit.now.read.items c.args.item.item no_join (c.joins.ensures ∙ ap (λ (f : FoundList). f.marks) c.found-old.ensures) c.requires.item in
+    ap (λ (m : ItemMark). m.texts) (sym mark)
+
 pub returns-clause-list : goal.returns-clause-list
+unfolding found_in
 returns-clause-list c =
     let same = c.found-old.ensures in
-    let mark = joined_mark c.joins.result.now c.args.item.unit.now.read.items c.args.item.item no_join (c.joins.ensures ∙ ap (λ (f : FoundList). f.marks) same) c.requires.item in
+    let old = c.found-old.result.now in
     let k = c.args.item.item in
-    let listed = sym (length-map c.texts-2.result.now string_bytes) ∙ ap (λ (ts : List (List ℕ)). length ts) (c.texts-2.ensures ∙ ap (λ (u : UnitTree). u.texts) c.unit-2.ensures) in
-    let olds = sym (length-map c.texts.result.now string_bytes) ∙ ap (λ (ts : List (List ℕ)). length ts) (c.texts.ensures ∙ ap (λ (u : UnitTree). u.texts) c.unit.ensures ∙ ap (λ (f : FoundList). f.unit.texts) same) in
-    let taken = ap (λ (m : ItemMark). m.texts) mark in
-    let at : c.saturating_sub.result ≡ length c.in_ok-list.list.unit.texts - (length c.args.item.unit.now.read.unit.texts - (mark_in c.args.item).texts) =
-    omega (arith, c.saturating_sub.ensures, c.saturating_sub-later.ensures, listed, olds, taken) in (
-      c.in_ok-list.list,
-      c.in_ok-push.ensures.items,
+    let list = seam_list c.in_ok-seam.seam in (
+      list,
+      c.in_ok-list.ensures.list,
       λ limit e xs l zs ys m.
-          let old = c.found-old.result.now in
-          let stands : StandsForUnit e old (zs ++ l ∷ ys) = stands_placed e old (zs ++ l ∷ ys) (subst (λ f. StandsForUnit e f (zs ++ l ∷ ys)) (sym same) m.1) in
-          let line : (mark_at old.marks k).line ≡ length zs = subst (λ (f : FoundList). (mark_at f.marks k).line ≡ length zs) (sym same) m.2 in
-          let meets : MeetsAt limit e c.args.reader old k xs l zs ys = (m.0, stands, line) in (
-            c.in_ok-list.ensures.begin limit e xs l zs ys meets,
-            c.in_ok-list.ensures.units limit e xs l zs ys meets,
-            c.in_ok-list.ensures.stands limit e xs l zs ys meets,
-            subst (λ (f : FoundList). (kept : List (List ℕ)) × (c.in_ok-list.list.unit.texts ≡ kept ++ drop (mark_at f.marks k).texts f.unit.texts)) same (c.in_ok-list.ensures.texts limit e xs l zs ys meets),
+          let at = c.in_ok-seam.ensures.list limit e xs l zs ys (meets_placed limit e c.args.reader old c.args.item.unit.now same k xs l zs ys m) in (
+            at.begin,
+            at.units,
+            at.stands,
+            subst (λ (f : FoundList). (kept : List (List ℕ)) × (list.unit.texts ≡ kept ++ drop (mark_at f.marks k).texts f.unit.texts)) same (at.kept, at.texts),
           ),
-      ap (λ n. Some (record { unit = c.args.item.number; from = n; at = c.saturating_sub.result })) (ap (λ (m : ItemMark). m.texts) (sym mark))
-          ∙ ap (λ n. Some (record { unit = c.args.item.number; from = (mark_in c.args.item).texts; at = n })) at,
+      λ limit e xs l zs ys m.
+          ap (λ kept. Some kept) (c.in_ok-list.ensures.kept (c.in_ok-seam.ensures.fits limit e xs l zs ys (meets_placed limit e c.args.reader old c.args.item.unit.now same k xs l zs ys m))),
     )
+
+pub returns-clause-seam : goal.returns-clause-seam
+returns-clause-seam c =
+    let old = c.found-old.result.now in
+    let u = c.args.item.unit.now in
+    let parts = c.in_ok-seam.ensures.parts in
+    if_some c.in_ok-list.list (λ (s : ListSeam) w. record {
+      old = ap (λ (z : ListSeam). unplaced z.old) w.0 ∙ ap unplaced parts.0 ∙ c.found-old.ensures;
+      stays = w.1;
+      kept = ap (λ kept. Some kept) w.2;
+      fits = λ limit e xs l zs ys m. subst (λ (z : ListSeam). MayFit z.front z.old z.join) (sym w.0)
+          (c.in_ok-seam.ensures.fits limit e xs l zs ys (meets_placed limit e c.args.reader old u c.found-old.ensures c.args.item.item xs l zs ys m));
+    }) c.in_ok-list.ensures.seam

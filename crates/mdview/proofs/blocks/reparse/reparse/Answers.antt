@@ -40,10 +40,11 @@ use Rattle.mdsource.specs.Stretch.{units_before}
 use Rattle.mdview.specs.HeldBlocks.{HoldsUnits}
 use Rattle.mdview.specs.HeldItems.{IsCounted, IsItemOf}
 use Rattle.mdview.specs.StopLines.{IsReadToStop, stops_of}
+use Rattle.mdview.specs.UnitsFound.{found_in}
 use Rattle.mdview.specs.HeldUnit.{read_of}
 use Rattle.mdview.specs.declared.blocks.reparse.Reparsed.{Reparsed}
 use Rattle.mdview.proofs.FewUnits.{few_units}
-use Rattle.mdview.proofs.NearRead.{IsPlaced, joined_kept, joined_order, joined_reread, joined_soon, ok_any, ok_both, ok_one, read_to_stop}
+use Rattle.mdview.proofs.NearRead.{IsPlaced, joined_kept, joined_list, joined_order, joined_reread, joined_soon, ok_any, ok_both, ok_one, ok_three, read_to_stop}
 use Rattle.mdview.proofs.NearStops.{StopsAt, few_soon, is_stop, stops_at, stops_met}
 use Rattle.mdview.proofs.blocks.reparse.reparse.Given.{Over}
 use Rattle.mdview.proofs.blocks.reparse.reparse.Goals.{After-finish, After-join_held, After-joined_at, After-line-in-loop-line, In-Some, In-Some-joined_at, In_ok-push_some-in-Ok, In_ok-push_some-in-Ok-finish}
@@ -211,6 +212,7 @@ returns-in-Some-clause-fits g c =
     m.3
 
 pub returns-in-Some-clause-soon : goal.returns-in-Some-clause-soon
+unfolding found_in
 returns-in-Some-clause-soon g c =
     let e = c.args.held.now.entities.now in
     let text = c.args.text in
@@ -223,6 +225,7 @@ returns-in-Some-clause-soon g c =
     (m.2 ∙ ap (λ n. units e (drop (from_line (places_of e text)) (take n (lines_of text)))) (sym (stops_met e text c.loop-line.line m.1 c.loop-line.invariant.near))))
 
 pub returns-in-Some-clause-read : goal.returns-in-Some-clause-read
+unfolding found_in
 returns-in-Some-clause-read g c =
     let e = c.args.held.now.entities.now in
     let text = c.args.text in
@@ -355,6 +358,7 @@ found_at_end g c a =
     c.in-Ok-finish.ensures.hands a.above
 
 pub returns-clause-read : goal.returns-clause-read
+unfolding found_in
 returns-clause-read g c =
     let e = c.args.held.now.entities.now in
     let text = c.args.text in
@@ -379,6 +383,7 @@ returns-clause-read g c =
     })
 
 pub returns-clause-soon : goal.returns-clause-soon
+unfolding found_in
 returns-clause-soon g c =
     let e = c.args.held.now.entities.now in
     let text = c.args.text in
@@ -499,6 +504,8 @@ returns-in-Some-joined_at g c =
           (joined_kept e text held limit c.requires.fits reader found line item j.stop j.of c.requires.few j.few_units_held j.order j.reads j.out j.stands) c.join_held.ensures.list;
       soon = ok_one c.join_held.result
           (joined_soon e text held limit c.requires.fits reader found line item j.stop j.of c.requires.few j.few_units_held j.order j.reads j.out j.stands) c.join_held.ensures.list;
+      list = ok_three c.join_held.result
+          (joined_list e text held limit c.requires.fits reader found line item j.stop j.of c.requires.few j.few_units_held j.order j.reads j.out j.stands) j.place c.join_held.ensures.list c.join_held.ensures.seam;
       stretch = stretch_in_loop g s.After-line-in-loop-line;
       order = ok_both c.join_held.result
           (joined_order e text held limit c.requires.fits reader found line item j.stop j.of c.requires.few j.few_units_held j.order j.reads j.out j.stands) j.place c.join_held.ensures.list;

@@ -18,8 +18,10 @@ use Rattle.mdview.specs.declared.update.Update.{Update}
 use Rattle.mdview.specs.Lists.{replaced}
 use Rattle.mdview.specs.NewText.{lines_of}
 use Rattle.mdview.specs.Outcome.{answer_of, is_starved, outcome_of}
-use Rattle.mdview.specs.Update.{all_renewed}
+use Rattle.mdview.specs.Update.{all_renewed, count_brought, units_brought, with_inset}
+use Rattle.mdview.proofs.Committed.{brought_count}
 use Rattle.mdview.proofs.EditOutcomes.{IsTextOf, IsUpdateOf, lines_of_call, next_blocks, next_rendered, next_texts, patch_is, pieces_brought, readings_brought, text_of_edit, texts_of_call, update_of_call}
+use Rattle.mdview.proofs.FewUnits.{come_few, held_few}
 use Rattle.mdview.proofs.HeldReadings.{holds_relabelled, shallow_still}
 use Rattle.mdview.proofs.Outcomes.{accepts, refused_by_reading, returns_refusal}
 use Rattle.mdview.proofs.Sizes.{map_replaced}
@@ -133,10 +135,12 @@ record Taken (g : Over) (c : After-commit g) : Type 0 where
       (lines_left c.self.inside (call_of c.args.at c.args.del c.args.add.now)) c.new-text.result c.in_ok-update.update
   lines : map string_bytes c.splice.new.self.items ≡ lines_left c.self.inside (call_of c.args.at c.args.del c.args.add.now)
   next : c.commit.new.held.items
-      ≡ replaced (all_renewed c.self.inside.units.items c.in_ok-update.update.again.items) c.in_ok-update.update.first (c.in_ok-update.update.next - c.in_ok-update.update.first) c.in_ok-update.update.units.items
-  small : length c.self.inside.units.items + length c.in_ok-update.update.units.items < 2 ^ 64
+      ≡ replaced (all_renewed c.self.inside.units.items c.in_ok-update.update.again.items) c.in_ok-update.update.first (c.in_ok-update.update.next - c.in_ok-update.update.first)
+      (units_brought c.self.inside.units.items c.in_ok-update.update)
+  small : length c.self.inside.units.items + count_brought c.in_ok-update.update < 2 ^ 64
 
 taken : (g : Over) (c : After-commit g) → IsTextOf (document_in c.self.inside) c.args.at c.args.del c.args.add.now c.new-text.result → Taken g c
+unfolding units_brought count_brought
 taken g c is =
     let p = c.self.inside in
     let at = c.args.at in
@@ -157,17 +161,23 @@ taken g c is =
     let spliced : c.splice.new.self.items ≡ replaced p.lines.items at del come =
     c.splice.ensures ∙ ap (λ xs. replaced xs at del c.reserve_splice.new.added.items) c.in_ok-reserve_splice.ensures.items
     ∙ ap (λ xs. replaced p.lines.items at del xs) c.in_ok-reserve_splice.ensures.added in
-    let many : length c.reserve_splice-2.new.self.items ≡ length units = ap (λ us. length us) c.in_ok-reserve_splice-2.ensures.items in
-    let added : length c.reserve_splice-2.new.added.items ≡ length r.units.items = ap (λ us. length us) c.in_ok-reserve_splice-2.ensures.added in
+    let call : Call = call_of at del c.args.add.now in
+    let few : length (lines_left p call) ≤ 1000000 = subst (λ (d : Document). length (put (source_of d) call).lines ≤ 1000000) (sym c.self.view_is) c.in_ok-size.ensures.small.0 in
+    let left : length (lines_of c.new-text.result) ≡ length (lines_left p call) = ap (λ ls. length ls) is.behind in
+    let added = come_few p.entities units c.new-text.result r c.in_ok-update.ensures.replacing in
+    let count = brought_count p.options units r c.in_ok-update.ensures.fit in
+    let held = held_few p.entities (map string_bytes p.lines.items) p.head units c.self.invariant.5 in
+    let long = length-map p.lines.items string_bytes in
     record {
       read = update_of_call (document_in p) at del c.args.add.now c.new-text.result p.labels units units r refl is read;
       lines =
           ap (map string_bytes) spliced ∙ map_replaced string_bytes p.lines.items come at del
           ∙ ap (λ xs. replaced (map string_bytes p.lines.items) at del xs) c.in_ok-new_lines.ensures;
       next =
-          c.commit.ensures.units ∙ ap (λ us. replaced (all_renewed us r.again.items) r.first (r.next - r.first) c.reserve_splice-2.new.added.items) c.in_ok-reserve_splice-2.ensures.items
-          ∙ ap (λ xs. replaced (all_renewed units r.again.items) r.first (r.next - r.first) xs) c.in_ok-reserve_splice-2.ensures.added;
-      small = omega (arith, many, added, c.in_ok-reserve_splice-2.ensures.room.1, c.reserve_splice-2.new.added.ok.0);
+          c.commit.ensures.units
+          ∙ ap (λ us. replaced (all_renewed us r.again.items) r.first (r.next - r.first) (with_inset us c.reserve_splice-2.new.added.items r.inset)) c.in_ok-reserve_splice-2.ensures.items
+          ∙ ap (λ xs. replaced (all_renewed units r.again.items) r.first (r.next - r.first) (with_inset units xs r.inset)) c.in_ok-reserve_splice-2.ensures.added;
+      small = omega (arith, few, left, added, count, held, long, c.self.invariant.2);
     }
 
 pub invariant_of-self-2 : goal.invariant_of-self-2

@@ -11,9 +11,10 @@ use Rattle.mdview.specs.HeldBlocks.{lines_in, old_lines}
 use Rattle.mdview.specs.ReadUnits.{IsReadUnder}
 use Rattle.mdview.specs.HeldTexts.{IsRefusedBy, IsReread, asking_in_parts, deep_in_parts, head_read, number_again, setting_in, source_before, source_behind}
 use Rattle.mdsource.specs.TextFaults.{IsTextFault}
-use Rattle.mdview.specs.HeldUnit.{HeldUnit, read_of, unit_in}
+use Rattle.mdview.specs.HeldUnit.{HeldUnit, unit_in}
 use Rattle.mdview.specs.LabelTargets.{led_after, led_by, target_held}
 use Rattle.mdview.specs.NewText.{lines_of}
+use Rattle.mdview.specs.Update.{units_brought}
 use Rattle.mdview.specs.declared.update.Update.{Update}
 use Rattle.mdview.proofs.EditTexts.{all_read_under, all_reread_under, both_ok, deep_is, head_small, held_small, led_by_text, meet_small, nested_in_none, new_trees, numbers_are, texts_refused, trees_are, when_ok}
 use Rattle.mdview.proofs.Replacing.{replacing}
@@ -96,7 +97,7 @@ returns-clause-accepted g c =
 
 pub returns-clause-replacing : goal.returns-clause-replacing
 returns-clause-replacing g c =
-    replacing c.args.held.now.entities.now c.args.text c.args.held.now.head (map read_of c.args.held.now.units.now.items) c.in_ok-reparsed.reparsed c.requires.held c.in_ok-reparsed.ensures.read
+    replacing c.args.held.now.entities.now c.args.text c.args.held.now.head c.args.held.now.units.now.items c.in_ok-reparsed.reparsed c.requires.held c.in_ok-reparsed.ensures.read
     c.behind.result c.behind.ensures.place c.behind.ensures.lists c.behind.ensures.head
 
 pub returns-clause-led : goal.returns-clause-led
@@ -114,8 +115,9 @@ returns-clause-read g c =
     let new = led_after held.labels.now c.in_ok-changes.changes in
     let after = table E (source_behind held c.args.text) in
     let led = led_behind g (goal.at.returns-clause-read g c).In_ok-changes in
-    IfOk-weaker c.behind.result (λ (r : Update). All (IsReadUnder E new) r.units.items) (λ (r : Update). All (IsReadUnder E after) r.units.items)
-    (λ r all. all_read_under E new after led r.units.items all) c.behind.ensures.read
+    let units : List HeldUnit = held.units.now.items in
+    IfOk-weaker c.behind.result (λ (r : Update). All (IsReadUnder E new) (units_brought units r)) (λ (r : Update). All (IsReadUnder E after) (units_brought units r))
+    (λ r all. all_read_under E new after led (units_brought units r) all) c.behind.ensures.read
 
 pub returns-clause-reread : goal.returns-clause-reread
 returns-clause-reread g c =

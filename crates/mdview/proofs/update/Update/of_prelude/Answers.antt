@@ -1,4 +1,4 @@
-use Rattle.std.proofs.Common.{◌≡◌, List, None, arith, map, ◌∙◌, refl}
+use Rattle.std.proofs.Common.{◌≡◌, List, [], None, arith, map, ◌∙◌, refl}
 use Rattle.std.specs.List.{All}
 use Rattle.std.proofs.lemmas.Result.{IfOk-weaker}
 use Rattle.inlinespec.specs.LinkTails.{Table}
@@ -8,6 +8,7 @@ use Rattle.mdview.specs.HeldBlocks.{held_tile}
 use Rattle.mdview.specs.HeldTexts.{IsReread, asking_in_parts, deep_in_parts, head_read, texts_in_parts}
 use Rattle.mdview.specs.HeldUnit.{HeldUnit, unit_in}
 use Rattle.mdview.specs.LabelTargets.{led_after, led_by, target_held}
+use Rattle.mdview.specs.UnitsFound.{found_in}
 use Rattle.mdview.specs.declared.blocks.reparse.Reparsed.{Reparsed}
 use Rattle.mdview.specs.declared.held.HeldText.{HeldText}
 use Rattle.mdview.specs.declared.update.Update.{Update}
@@ -31,23 +32,27 @@ module _ (g : Over) (c : After-new g) where
   after = led_by (map unit_in held.units.now.items) c.args.prelude.now
 
   abbrev unread : Reparsed
-  unread = record { first = 0; next = 0; from = 0; meet = held.head; found = c.new.result; kept = None }
+  unread = record { first = 0; next = 0; from = 0; meet = held.head; found = c.new.result; list = None; kept = None }
+
+  none : found_in unread ≡ []
+  unfolding found_in
+  none = c.new.ensures.items
 
   numbers_are : asking_in_parts held.entities.now old new held.units.now.items 0 0
       ≡ asking_units held.entities.now old after 0 (map unit_in held.units.now.items)
   numbers_are =
-      numbers_by_all held.entities.now old new held.options.now.max_spans held.units.now.items unread refl refl c.new.ensures.items
+      numbers_by_all held.entities.now old new held.options.now.max_spans held.units.now.items unread refl refl none
       ∙ asking_units_under held.entities.now old new old after (λ label. refl) c.in_ok-changes.ensures.led 0 (map unit_in held.units.now.items)
 
   texts_are : texts_in_parts held.entities.now old new held.units.now.items unread ≡ asking_texts held.entities.now old after (map unit_in held.units.now.items)
   texts_are =
-      texts_by_all held.entities.now old new held.options.now.max_spans held.units.now.items unread refl refl c.new.ensures.items
+      texts_by_all held.entities.now old new held.options.now.max_spans held.units.now.items unread refl refl none
       ∙ asking_texts_under held.entities.now old new old after (λ label. refl) c.in_ok-changes.ensures.led (map unit_in held.units.now.items)
 
   deep_is : deep_in_parts held.options.now.max_spans held.entities.now new (head_read held.head unread) held.units.now.items unread
       ≡ deep_from held.options.now.max_spans held.entities.now after held.head (map held_tile held.units.now.items)
   deep_is =
-      deep_by_all held.entities.now old new held.options.now.max_spans held.units.now.items unread refl refl c.new.ensures.items (head_read held.head unread)
+      deep_by_all held.entities.now old new held.options.now.max_spans held.units.now.items unread refl refl none (head_read held.head unread)
       ∙ deep_from_under held.options.now.max_spans held.entities.now new after c.in_ok-changes.ensures.led held.head (map held_tile held.units.now.items)
 
 pub returns-clause-reread : goal.returns-clause-reread
