@@ -46,18 +46,24 @@ pub all_items_copied : (copies all : List i.Item) (n many : ℕ) (whole : Items)
 all_items_copied copies all n many whole past was =
     sym (no_items_behind (items_view copies)) ∙ ap (λ z. placed_before (items_view copies) (copied_items many (items_view z))) (sym (drop_all n all past)) ∙ was
 
-pub block_copied : (copies made : List b.Block) (all : List b.Block) (copy x : b.Block) (n : ℕ) (old new T : List (List ℕ)) (whole : Blocks) → n < length all → x ≡ get_or all n x →
-    made ≡ copies ++ copy ∷ [] → block_view copy ≡ copied_block (length old) (block_view x) → new ≡ old ++ texts_at T (block_positions (block_view x)) →
-    blocks_before (blocks_view copies) (copied_blocks (length old) (blocks_view (drop n all))) ≡ whole →
-    blocks_before (blocks_view made) (copied_blocks (length new) (blocks_view (drop (n + 1) all))) ≡ whole
-block_copied copies made all copy x n old new T whole lt is pushed copy_is new_is was =
+-- how many texts stand before the next copy
+pub more_before : (before : ℕ) (old new T : List (List ℕ)) (ps : List ℕ) → new ≡ old ++ texts_at T ps → before + length new ≡ (before + length old) + length ps
+more_before before old new T ps is = let e = size_more old new T ps is in omega (arith, e)
+
+pub block_copied : (copies made : List b.Block) (all : List b.Block) (copy x : b.Block) (n before : ℕ) (old new T : List (List ℕ)) (whole : Blocks) → n < length all → x ≡ get_or all n x →
+    made ≡ copies ++ copy ∷ [] → block_view copy ≡ copied_block (before + length old) (block_view x) → new ≡ old ++ texts_at T (block_positions (block_view x)) →
+    blocks_before (blocks_view copies) (copied_blocks (before + length old) (blocks_view (drop n all))) ≡ whole →
+    blocks_before (blocks_view made) (copied_blocks (before + length new) (blocks_view (drop (n + 1) all))) ≡ whole
+block_copied copies made all copy x n before old new T whole lt is pushed copy_is new_is was =
     let R = blocks_view (drop (n + 1) all) in
-    ap (λ z. blocks_before (blocks_view z) (copied_blocks (length new) R)) pushed
-    ∙ ap (λ z. blocks_before z (copied_blocks (length new) R)) (pushed_blocks copies copy)
-    ∙ block_assoc (blocks_view copies) (block_view copy) (copied_blocks (length new) R)
-    ∙ ap (λ z. blocks_before (blocks_view copies) (block z (copied_blocks (length new) R))) copy_is
-    ∙ ap (λ z. blocks_before (blocks_view copies) (block (copied_block (length old) (block_view x)) (copied_blocks z R))) (size_more old new T (block_positions (block_view x)) new_is)
-    ∙ ap (λ z. blocks_before (blocks_view copies) (copied_blocks (length old) (blocks_view z))) (sym (next_first all n x lt is))
+    let m = before + length old in
+    let k = before + length new in
+    ap (λ z. blocks_before (blocks_view z) (copied_blocks k R)) pushed
+    ∙ ap (λ z. blocks_before z (copied_blocks k R)) (pushed_blocks copies copy)
+    ∙ block_assoc (blocks_view copies) (block_view copy) (copied_blocks k R)
+    ∙ ap (λ z. blocks_before (blocks_view copies) (block z (copied_blocks k R))) copy_is
+    ∙ ap (λ z. blocks_before (blocks_view copies) (block (copied_block m (block_view x)) (copied_blocks z R))) (more_before before old new T (block_positions (block_view x)) new_is)
+    ∙ ap (λ z. blocks_before (blocks_view copies) (copied_blocks m (blocks_view z))) (sym (next_first all n x lt is))
     ∙ was
 
 pub block_texts : (all : List b.Block) (x : b.Block) (n : ℕ) (old new T whole : List (List ℕ)) → n < length all → x ≡ get_or all n x → new ≡ old ++ texts_at T (block_positions (block_view x)) →
@@ -67,18 +73,18 @@ block_texts all x n old new T whole lt is new_is was =
     ∙ ap (λ z. old ++ texts_at T (blocks_positions (blocks_view z))) (sym (next_first all n x lt is))
     ∙ was
 
-pub item_copied : (copies made : List i.Item) (all : List i.Item) (copy x : i.Item) (n : ℕ) (old new T : List (List ℕ)) (whole : Items) → n < length all → x ≡ get_or all n x →
-    made ≡ copies ++ copy ∷ [] → item_view copy ≡ copied_blocks (length old) (item_view x) → new ≡ old ++ texts_at T (blocks_positions (item_view x)) →
-    placed_before (items_view copies) (copied_items (length old) (items_view (drop n all))) ≡ whole →
-    placed_before (items_view made) (copied_items (length new) (items_view (drop (n + 1) all))) ≡ whole
-item_copied copies made all copy x n old new T whole lt is pushed copy_is new_is was =
+pub item_placed : (copies made : List i.Item) (all : List i.Item) (copy x : i.Item) (n m k : ℕ) (whole : Items) → n < length all → x ≡ get_or all n x →
+    made ≡ copies ++ copy ∷ [] → item_view copy ≡ copied_blocks m (item_view x) → k ≡ m + length (blocks_positions (item_view x)) →
+    placed_before (items_view copies) (copied_items m (items_view (drop n all))) ≡ whole →
+    placed_before (items_view made) (copied_items k (items_view (drop (n + 1) all))) ≡ whole
+item_placed copies made all copy x n m k whole lt is pushed copy_is k_is was =
     let R = items_view (drop (n + 1) all) in
-    ap (λ z. placed_before (items_view z) (copied_items (length new) R)) pushed
-    ∙ ap (λ z. placed_before z (copied_items (length new) R)) (pushed_items copies copy)
-    ∙ item_assoc (items_view copies) (item_view copy) (copied_items (length new) R)
-    ∙ ap (λ z. placed_before (items_view copies) (item z (copied_items (length new) R))) copy_is
-    ∙ ap (λ z. placed_before (items_view copies) (item (copied_blocks (length old) (item_view x)) (copied_items z R))) (size_more old new T (blocks_positions (item_view x)) new_is)
-    ∙ ap (λ z. placed_before (items_view copies) (copied_items (length old) (items_view z))) (sym (next_first all n x lt is))
+    ap (λ z. placed_before (items_view z) (copied_items k R)) pushed
+    ∙ ap (λ z. placed_before z (copied_items k R)) (pushed_items copies copy)
+    ∙ item_assoc (items_view copies) (item_view copy) (copied_items k R)
+    ∙ ap (λ z. placed_before (items_view copies) (item z (copied_items k R))) copy_is
+    ∙ ap (λ z. placed_before (items_view copies) (item (copied_blocks m (item_view x)) (copied_items z R))) k_is
+    ∙ ap (λ z. placed_before (items_view copies) (copied_items m (items_view z))) (sym (next_first all n x lt is))
     ∙ was
 
 pub item_texts : (all : List i.Item) (x : i.Item) (n : ℕ) (old new T whole : List (List ℕ)) → n < length all → x ≡ get_or all n x → new ≡ old ++ texts_at T (blocks_positions (item_view x)) →

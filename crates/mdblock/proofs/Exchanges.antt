@@ -1,12 +1,12 @@
--- Members of two lists exchanged one by one, from the front on.
-use Rattle.std.proofs.Common.{◌≡◌, ℕ, suc, ◌+◌, ◌<◌, List, [], ◌∷◌, ◌++◌, length, take, drop, ap, sym, ◌∙◌, arith, get_or}
+-- Members of two lists exchanged one by one.
+use Rattle.std.proofs.Common.{◌≡◌, ℕ, suc, ◌+◌, ◌<◌, List, [], ◌∷◌, ◌++◌, length, take, drop, append_assoc, ap, sym, ◌∙◌, arith, get_or}
 use Rattle.std.proofs.lemmas.List.{drop-set-lt, get_or-drop, take_more_set}
 use Rattle.std.proofs.Math.ListN.{set}
 use Rattle.std.proofs.Math.Seq.{drop-drop, take-suc}
 
-pub front_swapped : {A : Type 0} (others xs rest : List A) (i : ℕ) (x d : A) → i < length xs → i < length rest → length rest ≡ length others →
-    take i xs ≡ take i others → drop i rest ≡ drop i others → x ≡ get_or rest i d → take (i + 1) (set xs i x) ≡ take (i + 1) others
-front_swapped others xs rest i x d room more same front behind is =
+pub between_swapped : {A : Type 0} (front others xs rest : List A) (j i : ℕ) (x d : A) → j < length xs → i < length rest → length rest ≡ length others →
+    take j xs ≡ front ++ take i others → drop i rest ≡ drop i others → x ≡ get_or rest i d → take (j + 1) (set xs j x) ≡ front ++ take (i + 1) others
+between_swapped front others xs rest j i x d room more same before behind is =
     let next : i + 1 ≡ suc i = omega arith in
     let zero_more : i + 0 ≡ i = omega arith in
     let here : x ≡ get_or others i d =
@@ -16,10 +16,11 @@ front_swapped others xs rest i x d room more same front behind is =
     ∙ ap (λ ys. get_or ys 0 d) behind
     ∙ get_or-drop i others 0 d
     ∙ ap (λ k. get_or others k d) zero_more in
-    take_more_set xs i x room
-    ∙ ap (λ ys. ys ++ x ∷ []) front
-    ∙ ap (λ y. take i others ++ y ∷ []) here
-    ∙ sym (ap (λ k. take k others) next ∙ take-suc others i d (omega (arith, more, same)))
+    take_more_set xs j x room
+    ∙ ap (λ ys. ys ++ x ∷ []) before
+    ∙ append_assoc front (take i others) (x ∷ [])
+    ∙ ap (λ y. front ++ (take i others ++ y ∷ [])) here
+    ∙ ap (λ ys. front ++ ys) (sym (ap (λ k. take k others) next ∙ take-suc others i d (omega (arith, more, same))))
 
 pub back_swapped : {A : Type 0} (xs old : List A) (n i : ℕ) (x : A) → n ≡ i + 1 → drop i xs ≡ drop i old → drop n (set xs i x) ≡ drop n old
 back_swapped xs old n i x e same =

@@ -1,5 +1,5 @@
 -- A list in whose last line an item begins: what is held of it without that item is the list of the lines before that one.
-use Rattle.std.proofs.Common.{◌≡◌, ℕ, suc, ◌+◌, ◌-◌, Bool, true, false, not, ◌&&◌, List, [], ◌∷◌, ◌++◌, length, length-append, map, Some, refl, sym, ◌∙◌, ap, subst, arith}
+use Rattle.std.proofs.Common.{◌≡◌, ℕ, suc, ◌+◌, ◌-◌, Bool, true, false, not, ◌&&◌, List, [], ◌∷◌, ◌++◌, length, length-append, map, Option, Some, refl, sym, ◌∙◌, ap, subst, arith}
 use Rattle.std.specs.Prelude.{unwrap_or}
 use Rattle.mdtext.specs.EntityTable.{EntityTable}
 use Rattle.mdleaf.specs.DefinedLinks.{LinkDefinition}
@@ -13,7 +13,7 @@ use Rattle.blockspec.specs.BlockTree.{ListKind, no_blocks, block}
 use Rattle.blockspec.specs.BlockUnits.{visible_in}
 use Rattle.blockspec.specs.ContainerLines.{opened}
 use Rattle.blockspec.specs.ItemMarks.{list_marks}
-use Rattle.blockspec.specs.LineSummary.{Summary, summary, open_container, no_summary, last_in, closed, last_groups, summary_gap, summary_of, begin_after, line_added, is_apart_after}
+use Rattle.blockspec.specs.LineSummary.{Summary, summary, nothing_yet, ended_block, open_leaf, open_container, no_summary, last_in, closed, last_groups, summary_gap, summary_of, begin_after, line_added, is_apart_after, mark_of}
 use Rattle.blockspec.specs.Lists.{Listed, Group, kind_of, is_same_list, merged, nodes_of}
 use Rattle.blockspec.specs.NodeTree.{ItemNodes, texts_in, texts_in_items, definitions_in, definitions_in_items, placed, placed_items}
 use Rattle.blockspec.specs.SummaryJoins.{joins_after}
@@ -31,6 +31,7 @@ use Rattle.mdblock.specs.Spliced.{IsFrontOf}
 use Rattle.mdblock.specs.held.HandedIn.{gathered_texts, gathered_definitions}
 use Rattle.mdblock.specs.held.HeldLevel.{StandsFor, StandsForLast, HasGathered}
 use Rattle.mdblock.specs.held.HeldNodes.{ListSoFar, list_of, list_where, handed_nodes, tasked}
+use Rattle.mdblock.specs.held.LevelSteps.{last_mark}
 use Rattle.mdblock.specs.held.ReaderState.{front_blocks, held_front, unit_so_far}
 use Rattle.mdblock.specs.held.Reads.{Reads, open_begin}
 use Rattle.mdblock.specs.declared.gathering.Gathering.{Gathering}
@@ -40,16 +41,59 @@ use Rattle.mdblock.specs.declared.open_blocks.OpenBlock as open_block
 use Rattle.mdblock.specs.declared.readers.OpenUnit.{OpenUnit}
 use Rattle.mdblock.proofs.HeldMarks.{lines_mapped, with_line}
 use Rattle.mdblock.proofs.HeldNodesLaws.{none_over}
+use Rattle.mdblock.proofs.LevelBegins.{last_marks}
 use Rattle.mdblock.proofs.LevelContainers.{begun_container, definitions_to_item, into_item, item_front, texts_to_item}
 use Rattle.mdblock.proofs.LevelGroups.{group_with}
 use Rattle.mdblock.proofs.LevelLines.{apart_added}
-use Rattle.mdblock.proofs.ResumedGiven.{joins_mark, mark_kind}
-use Rattle.mdblock.proofs.ResumedItems.{first_list, joins_parts, no_definitions, no_texts}
 use Rattle.mdblock.proofs.SplicedLines.{begin_at, held_join}
 use Rattle.mdblock.proofs.SplicedUnits.{same_unit}
 
 -- ---- the line begins an item
 
+-- what a line tells that begins a later item
+joins_parts : (s : Summary) (l : BlockLine) → joins_after s l ≡ true → (is_apart_after (last_in s) l ≡ true) × (is_blank_line l ≡ false)
+unfolding joins_after
+joins_parts (summary before last blank lines) l j = go (is_apart_after last l) (is_blank_line l) (same_mark (mark_of last) (list_mark (begun l))) refl refl j
+  where
+    go : (a b c : Bool) → is_apart_after last l ≡ a → is_blank_line l ≡ b → (a && not b && c) ≡ true → (is_apart_after last l ≡ true) × (is_blank_line l ≡ false)
+    go true false c x y h = (x, y)
+    go true true c x y h = absurd (let z : ⊥ = cc in z)
+    go false b c x y h = absurd (let z : ⊥ = cc in z)
+
+no_texts : texts_in (tasked false (nodes_of [])) ≡ []
+unfolding nodes_of texts_in
+no_texts = refl
+
+no_definitions : definitions_in (tasked false (nodes_of [])) ≡ []
+unfolding nodes_of definitions_in
+no_definitions = refl
+
+-- a list with no group before it
+abbrev first_list : ListKind → (tight : Bool) → ItemNodes → ListSoFar
+first_list kind tight items = record { front = []; kind = kind; tight = tight; items = items }
+
+joins_mark : (s : Summary) (l : BlockLine) → joins_after s l ≡ true → same_mark (mark_of (last_in s)) (list_mark (begun l)) ≡ true
+unfolding joins_after
+joins_mark (summary before last blank lines) l j = go (is_apart_after last l) (is_blank_line l) (same_mark (mark_of last) (list_mark (begun l))) j
+  where
+    go : (a b c : Bool) → (a && not b && c) ≡ true → c ≡ true
+    go true false c h = h
+    go true true c h = absurd (let z : ⊥ = cc in z)
+    go false b c h = absurd (let z : ⊥ = cc in z)
+
+-- what goes on with the last item goes on with its list
+mark_kind : (e : EntityTable) (s : Summary) (m : Option ListKind) (b : ℕ) (g : Bool) (kind : ListKind) (t : Bool) (items : ItemNodes) → closed e s ≡ group_with b g (Listed kind t items) ∷ [] →
+    same_mark (mark_of (last_in s)) m ≡ true → same_mark (Some kind) m ≡ true
+unfolding closed mark_of
+mark_kind e (summary before nothing_yet blank lines) m b g kind t items is same = absurd (let z : ⊥ = cc in z)
+mark_kind e (summary before (ended_block h) blank lines) m b g kind t items is same =
+    ap (λ z. same_mark (last_mark z) m) (sym is) ∙ last_marks e before (ended_block h) m tt ∙ same
+mark_kind e (summary before (open_leaf begin gap leaf) blank lines) m b g kind t items is same =
+    ap (λ z. same_mark (last_mark z) m) (sym is) ∙ last_marks e before (open_leaf begin gap leaf) m tt ∙ same
+mark_kind e (summary before (open_container begin gap bare container inner) blank lines) m b g kind t items is same =
+    ap (λ z. same_mark (last_mark z) m) (sym is) ∙ last_marks e before (open_container begin gap bare container inner) m tt ∙ same
+
+-- the line's marker
 record BeginsItem (k : Kind) (kind : ListKind) : Type 0 where
   pub marker : Marker
   pub needed : ℕ

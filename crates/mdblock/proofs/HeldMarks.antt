@@ -85,9 +85,20 @@ held_rest xs (l ∷ ls) = go (begins_unit xs l) (held_rest (l ∷ []) ls) (held_
     go true new old = new ∙ sym (drop-append-add xs (l ∷ ls) (front_lines (l ∷ []) ls))
     go false new old = old ∙ ap (drop (front_lines (xs ++ l ∷ []) ls)) (for_next_line xs l ls)
 
+begin_zero : (k : ℕ) (ns : List ℕ) → Some 0 ≡ begin_held k ns → k ≡ 0
+begin_zero k [] e = absurd (let x : ⊥ = cc in x)
+begin_zero k (n ∷ ns) e = cc
+
+-- lines that are one unit from the first one on
+pub all_held : (e : EntityTable) (xs : List BlockLine) (v : FoundUnit) → units_of e xs ≡ v ∷ [] → v.begin ≡ 0 → lines_held [] xs ≡ xs
+all_held e xs v is zero =
+    let k = front_lines [] xs in
+    let begins : Some 0 ≡ begin_held k (begins_in (units_of e (lines_held [] xs))) = ap (λ z. Some z) (sym zero) ∙ sym (ap (λ z. last_of (begins_in z)) is) ∙ begin_is e xs in
+    held_rest [] xs ∙ ap (λ z. drop z xs) (begin_zero k (begins_in (units_of e (lines_held [] xs))) begins)
+
 -- ---- what is handed out has the later items of its lines
 
-begun_at : (k : ℕ) (ns : List ℕ) (P : ℕ → Type 0) → P k → IfSome (begin_held k ns) P
+pub begun_at : (k : ℕ) (ns : List ℕ) (P : ℕ → Type 0) → P k → IfSome (begin_held k ns) P
 begun_at k [] P p = tt
 begun_at k (n ∷ ns) P p = p
 

@@ -5,6 +5,7 @@ use Rattle.std.specs.List.{range_with_len}
 use Rattle.mdtext.specs.EntityTable.{EntityTable}
 use Rattle.blockspec.specs.BlockLine.{BlockLine, document_line}
 use Rattle.blockspec.specs.ItemMarks.{ItemMark, list_marks}
+use Rattle.blockspec.specs.Joins.{is_joined}
 use Rattle.blockspec.specs.Meetings.{joins_list}
 use Rattle.blockspec.specs.UnitBegin.{units_of}
 use Rattle.blockspec.specs.UnitReader.{lines_held}
@@ -20,7 +21,7 @@ use Rattle.blockspec.proofs.MarkLines.{marks_more}
 use Rattle.blockspec.proofs.MarkedLines.{marked_at}
 use Rattle.blockspec.proofs.UnitReaderLaws.{IsOne}
 use Rattle.mdblock.specs.Copies.{IsBehind, items_positions}
-use Rattle.mdblock.specs.FoundLists.{FoundList}
+use Rattle.mdblock.specs.FoundLists.{FoundList, StandsForUnit}
 use Rattle.mdblock.specs.Insets.{HasItems, MayFit}
 use Rattle.mdblock.specs.Spliced.{IsFrontOf, IsListFront, MeetsAt, drop_items, first_items, first_kind, mark_at, take_items}
 use Rattle.mdblock.specs.held.ReaderState.{ReaderState, held_joined}
@@ -102,19 +103,24 @@ list_fits e xs zs l ys front old k j one lines marks first old_stands before beh
     let w = lists_spliced e xs zs l ys j m.joins one old_one in
     may_fit e xs zs l ys front old k w (known e xs zs l ys front old k w lines (marks ∙ marks_more e xs l one j) first old_stands before size m)
 
--- What a reader holds may take the place of an old list's items before one that begins in the same line.
-pub fits_at : (reading : ReaderState) (front old : FoundList) (k : ℕ) → held_joined reading.held ≡ true → k < length old.marks →
-    ((limit : ℕ) (e : EntityTable) (xs : List (List ℕ)) (l : List ℕ) → Reads limit e reading (xs ++ l ∷ []) → IsFrontOf e front xs l) →
-    (limit : ℕ) (e : EntityTable) (xs : List (List ℕ)) (l : List ℕ) (zs ys : List (List ℕ)) → MeetsAt limit e reading old k xs l zs ys → MayFit front old k
-fits_at reading front old k joined small in_front limit e xs l zs ys m =
+-- A front may take the place of an old list's items before one that begins in the same line.
+pub fits_behind : (e : EntityTable) (front old : FoundList) (k : ℕ) (xs : List (List ℕ)) (l : List ℕ) (zs ys : List (List ℕ)) → is_joined e (xs ++ l ∷ []) ≡ true → IsFrontOf e front xs l → k < length old.marks →
+    StandsForUnit e old (zs ++ l ∷ ys) → (mark_at old.marks k).line ≡ length zs → MayFit front old k
+fits_behind e front old k xs l zs ys joined w small stands line =
     let X = map document_line xs in
     let L = document_line l in
     let Z = map document_line zs in
     let Y = map document_line ys in
-    let h = held_join X L (sym (joined_next e xs l) ∙ if_joined limit e reading (xs ++ l ∷ []) joined m.0) in
+    let h = held_join X L (sym (joined_next e xs l) ∙ joined) in
     let cut = mark_cut old.marks k small in
-    let w = in_front limit e xs l m.0 in
     list_fits e (lines_held [] X) Z L Y front old k h.joins (held_one e X)
     w.1 w.2 w.3
-    (to_lines e old (zs ++ l ∷ ys) (Z ++ L ∷ Y) (map-append document_line zs (l ∷ ys)) m.1)
-    cut.before cut.behind cut.is cut.size (m.2 ∙ sym (lines_mapped zs))
+    (to_lines e old (zs ++ l ∷ ys) (Z ++ L ∷ Y) (map-append document_line zs (l ∷ ys)) stands)
+    cut.before cut.behind cut.is cut.size (line ∙ sym (lines_mapped zs))
+
+-- What a reader holds may.
+pub fits_at : (reading : ReaderState) (front old : FoundList) (k : ℕ) → held_joined reading.held ≡ true → k < length old.marks →
+    ((limit : ℕ) (e : EntityTable) (xs : List (List ℕ)) (l : List ℕ) → Reads limit e reading (xs ++ l ∷ []) → IsFrontOf e front xs l) →
+    (limit : ℕ) (e : EntityTable) (xs : List (List ℕ)) (l : List ℕ) (zs ys : List (List ℕ)) → MeetsAt limit e reading old k xs l zs ys → MayFit front old k
+fits_at reading front old k joined small in_front limit e xs l zs ys m =
+    fits_behind e front old k xs l zs ys (if_joined limit e reading (xs ++ l ∷ []) joined m.0) (in_front limit e xs l m.0) small m.1 m.2

@@ -1,6 +1,6 @@
 -- The front of a list in the place of an old list's first items: where it fits, nothing behind it has to change but the lines of later items.
-use Rattle.std.proofs.Common.{◌≡◌, ℕ, zero, suc, ◌+◌, ◌-◌, ◌≤◌, ◌<◌, Bool, List, [], ◌∷◌, ◌++◌, Some, drop, length, map, refl, sym, ◌∙◌, ap, subst, arith, length-append}
-use Rattle.std.proofs.lemmas.List.{drop-map, map-append, take-append-drop, take-map, take_all, length-take-le}
+use Rattle.std.proofs.Common.{◌≡◌, ℕ, zero, suc, ◌+◌, ◌-◌, ◌≤◌, ◌<◌, Bool, List, [], ◌∷◌, ◌++◌, Some, drop, length, map, refl, sym, ◌∙◌, ap, append_assoc, subst, arith, length-append}
+use Rattle.std.proofs.lemmas.List.{drop-map, map-append, take-append-drop, take-map, take_all, length-drop, length-take-le}
 use Rattle.std.proofs.lemmas.List.Edits.{map_over_more}
 use Rattle.std.proofs.Math.ListN.{get_or, set}
 use Rattle.std.specs.Prelude.{min, take, ◌^◌}
@@ -10,7 +10,7 @@ use Rattle.blockspec.specs.UnitTree.{UnitTree}
 use Rattle.mdblock.specs.BlockView.{block_view, blocks_view, items_view}
 use Rattle.mdblock.specs.Copies.{IsBehind, copied_items, items_positions, texts_at}
 use Rattle.mdblock.specs.FoundLists.{FoundList, join_mark}
-use Rattle.mdblock.specs.Insets.{FitsInto, HasItems, IsAlone, PutsInto, put_blocks}
+use Rattle.mdblock.specs.Insets.{FitsInto, HasItems, IsAlone, PutsInto, items_between, parts_between, put_blocks}
 use Rattle.mdblock.specs.Positions.{BlocksIn, ItemsIn}
 use Rattle.mdblock.specs.Spliced.{as_first_list, drop_items, first_items, list_of_kind, mark_at, mark_further, spliced_list, spliced_marks, take_items, tight_list}
 use Rattle.mdblock.specs.held.TreesBehind.{placed_before}
@@ -118,25 +118,55 @@ popped_alone old [] x w is = (refl, ap (λ z. first_items (blocks_view z)) (sym 
 popped_alone old (n ∷ []) x w is = let v = subst (λ z. IsAlone (blocks_view z)) is w in absurd v
 popped_alone old (n ∷ m ∷ new) x w is = let v = subst (λ z. IsAlone (blocks_view z)) is w in absurd v
 
--- ---- fronts that are put in place
+-- ---- parts that are put in place
 
-pub items_put : (n : ℕ) (first items : List i.Item) → items_view (take n first ++ drop n items) ≡ placed_before (take_items n (items_view first)) (drop_items n (items_view items))
-items_put n first items =
-    items_together (take n first) (drop n items)
-    ∙ ap (λ z. placed_before z (items_view (drop n items))) (items_taken n first)
-    ∙ ap (placed_before (take_items n (items_view first))) (items_dropped n items)
+pub items_parted : (start end : ℕ) (parts olds : List i.Item) → items_view (parts_between start end parts olds) ≡ items_between start end (items_view parts) (items_view olds)
+items_parted start end parts olds =
+    items_together (take start olds) (take (end - start) parts ++ drop end olds)
+    ∙ ap (λ z. placed_before z (items_view (take (end - start) parts ++ drop end olds))) (items_taken start olds)
+    ∙ ap (placed_before (take_items start (items_view olds)))
+    (items_together (take (end - start) parts) (drop end olds)
+    ∙ ap (λ z. placed_before z (items_view (drop end olds))) (items_taken (end - start) parts)
+    ∙ ap (placed_before (take_items (end - start) (items_view parts))) (items_dropped end olds))
 
-pub map_put : {A B : Type 0} (f : A → B) (n : ℕ) (xs ys : List A) → map f (take n xs ++ drop n ys) ≡ take n (map f xs) ++ drop n (map f ys)
-map_put f n xs ys =
-    map-append f (take n xs) (drop n ys) ∙ ap (λ z. z ++ map f (drop n ys)) (sym (take-map f n xs)) ∙ ap (λ z. take n (map f xs) ++ z) (sym (drop-map f n ys))
+pub parts_mapped : {A B : Type 0} (f : A → B) (start end : ℕ) (parts olds : List A) → map f (parts_between start end parts olds) ≡ parts_between start end (map f parts) (map f olds)
+parts_mapped f start end parts olds =
+    map-append f (take start olds) (take (end - start) parts ++ drop end olds)
+    ∙ ap (λ z. z ++ map f (take (end - start) parts ++ drop end olds)) (sym (take-map f start olds))
+    ∙ ap (λ z. take start (map f olds) ++ z)
+    (map-append f (take (end - start) parts) (drop end olds)
+    ∙ ap (λ z. z ++ map f (drop end olds)) (sym (take-map f (end - start) parts))
+    ∙ ap (λ z. take (end - start) (map f parts) ++ z) (sym (drop-map f end olds)))
 
-pub put_length : {A : Type 0} (n : ℕ) (xs ys : List A) → n ≤ length xs → n ≤ length ys → length (take n xs ++ drop n ys) ≡ length ys
-put_length n xs ys enough room =
-    let a = length-append (take n xs) (drop n ys) in
-    let b = length-take-le n xs enough in
-    let c = length-take-le n ys room in
-    let d : length (take n ys) + length (drop n ys) ≡ length ys = sym (length-append (take n ys) (drop n ys)) ∙ ap length (take-append-drop n ys) in
-    omega (arith, a, b, c, d)
+pub parts_length : {A : Type 0} (start end : ℕ) (parts olds : List A) → start ≤ end → end ≤ length olds → end - start ≤ length parts → length (parts_between start end parts olds) ≡ length olds
+parts_length start end parts olds ordered room enough =
+    let a = length-append (take start olds) (take (end - start) parts ++ drop end olds) in
+    let b = length-append (take (end - start) parts) (drop end olds) in
+    let c = length-take-le start olds (omega (arith, ordered, room)) in
+    let d = length-take-le (end - start) parts enough in
+    let e = length-drop end olds in
+    omega (arith, a, b, c, d, e, room, ordered)
+
+pub first_parts : {A : Type 0} (n : ℕ) (parts olds : List A) → n ≡ length parts → parts_between 0 n parts olds ≡ parts ++ drop (length parts) olds
+first_parts n parts olds is =
+    let all : length parts ≤ n - 0 = omega (arith, is) in
+    ap (λ z. z ++ drop n olds) (take_all (n - 0) parts all) ∙ ap (λ z. parts ++ drop z olds) is
+
+pub parts_behind : {A : Type 0} (start end : ℕ) (parts olds : List A) → start ≤ length olds → end ≡ start + length parts →
+    parts_between start end parts olds ≡ (take start olds ++ parts) ++ drop (length (take start olds ++ parts)) olds
+parts_behind start end parts olds room is =
+    let all : length parts ≤ end - start = omega (arith, is) in
+    let a = length-append (take start olds) parts in
+    let b = length-take-le start olds room in
+    let size : end ≡ length (take start olds ++ parts) = omega (arith, is, a, b) in
+    ap (λ z. take start olds ++ (z ++ drop end olds)) (take_all (end - start) parts all)
+    ∙ sym (append_assoc (take start olds) parts (drop end olds))
+    ∙ ap (λ z. (take start olds ++ parts) ++ drop z olds) size
+
+pub mark_in_front : (front behind : List ItemMark) (k : ℕ) → k < length front → mark_at (front ++ behind) k ≡ mark_at front k
+mark_in_front [] behind k h = absurd (omega (arith, h))
+mark_in_front (m ∷ front) behind zero h = refl
+mark_in_front (m ∷ front) behind (suc k) h = mark_in_front front behind k (omega (arith, h))
 
 -- ---- joins that move where they lie
 

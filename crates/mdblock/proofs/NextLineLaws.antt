@@ -52,7 +52,7 @@ use Rattle.mdblock.proofs.LevelLines.{apart_sinks}
 -- ---- the last unit
 
 -- one unit has all lines from its first one on
-only_unit : (gs : List Group) (n : ℕ) (v : FoundUnit) → found_units gs n ≡ v ∷ [] → v ≡ record { begin = v.begin; lines = n - v.begin; unit = unit_of (nodes_of gs) }
+pub only_unit : (gs : List Group) (n : ℕ) (v : FoundUnit) → found_units gs n ≡ v ∷ [] → v ≡ record { begin = v.begin; lines = n - v.begin; unit = unit_of (nodes_of gs) }
 unfolding found_units nodes_of
 only_unit [] n v e = absurd (let x : ⊥ = cc in x)
 only_unit (g ∷ []) n v e = let s : record { begin = g.begin; lines = n - g.begin; unit = unit_of (nodes_of (g ∷ [])) } ≡ v = cc in subst (λ (z : FoundUnit). z ≡ record { begin = z.begin; lines = n - z.begin; unit = unit_of (nodes_of (g ∷ [])) }) s refl
@@ -199,7 +199,7 @@ open_next e ls l =
     ∙ ap (λ z. if begins_after (summary_of e (lines_held [] xs)) x then Some z else last_of (begins_in (units_of e xs))) (lines_mapped ls)
     ∙ ap (λ z. if begins_after (summary_of e (lines_held [] xs)) x then Some (length ls) else last_of (begins_in z)) (sym (document_units e ls))
 
-handed_next : (e : EntityTable) (ls : List (List ℕ)) (l : List ℕ) →
+pub handed_next : (e : EntityTable) (ls : List (List ℕ)) (l : List ℕ) →
     handed e (ls ++ l ∷ []) ≡ (if begins_after (summary_of e (lines_held [] (map document_line ls))) (document_line l) then units e ls else handed e ls)
 handed_next e ls l =
     let xs = map document_line ls in

@@ -1,10 +1,10 @@
 -- The items of a list in front of a later one are those of the lines before that one.
-use Rattle.std.proofs.Common.{◌≡◌, ◌<◌, ℕ, suc, ◌+◌, List, [], ◌∷◌, ◌++◌, length, map, Some, refl, sym, ◌∙◌, ap, subst, arith, append-nil}
-use Rattle.std.proofs.lemmas.List.{length-append}
+use Rattle.std.proofs.Common.{◌≡◌, ◌<◌, ◌≤◌, ℕ, suc, ◌+◌, List, [], ◌∷◌, ◌++◌, length, map, Some, refl, sym, ◌∙◌, ap, subst, arith, append-nil}
+use Rattle.std.proofs.lemmas.List.{length-append, map-append}
 use Rattle.std.specs.Prelude.{Bool, true, take}
 use Rattle.mdleaf.specs.DefinedLinks.{LinkDefinition}
 use Rattle.mdtext.specs.EntityTable.{EntityTable}
-use Rattle.blockspec.specs.BlockLine.{BlockLine}
+use Rattle.blockspec.specs.BlockLine.{BlockLine, document_line}
 use Rattle.blockspec.specs.BlockTree.{ListKind}
 use Rattle.blockspec.specs.Lists.{items_before}
 use Rattle.blockspec.specs.Meetings.{joins_list, gap_after}
@@ -18,11 +18,13 @@ use Rattle.blockspec.specs.TopBlocks.{ListItem, ItemList, is_tight_list, nodes_o
 use Rattle.blockspec.proofs.ItemsMeet.{items_meet_at}
 use Rattle.blockspec.proofs.ListsSpliced.{one_parted, marks_parted, unit_of_list}
 use Rattle.blockspec.proofs.MarkedLines.{marked_at}
-use Rattle.blockspec.proofs.UnitsMeet.{list_definitions, list_texts}
+use Rattle.blockspec.proofs.UnitsMeet.{definitions_together, list_definitions, list_texts, texts_together}
 use Rattle.mdblock.specs.Copies.{items_positions, texts_at}
-use Rattle.mdblock.specs.FoundLists.{FoundList}
+use Rattle.mdblock.specs.FoundLists.{FoundList, StandsForUnit}
 use Rattle.mdblock.specs.Spliced.{first_items, first_kind, mark_at, take_items}
+use Rattle.mdblock.proofs.HeldMarks.{lines_mapped}
 use Rattle.mdblock.proofs.SingleItems.{front_taken}
+use Rattle.mdblock.proofs.SplicedLines.{mark_cut, to_lines}
 use Rattle.mdblock.proofs.SplicedLists.{StandsForLines, definitions_before, nodes_together, one_unit, same_found, single_list}
 use Rattle.mdblock.proofs.SplicedMarks.{list_count}
 use Rattle.mdblock.proofs.SplicedUnits.{definitions_kept, list_unit, texts_kept}
@@ -49,11 +51,14 @@ pub record ListFront (e : EntityTable) (zs : List BlockLine) (l : BlockLine) (ol
   pub one : IsOne (begins_in (units_of e zs))
   pub joins : joins_list zs l ≡ true
   pub within : length zs < old.lines
+  pub mark : mark_at old.marks k ≡ mark_behind e zs
   pub marks : take (k + 1) old.marks ≡ list_marks e zs ++ mark_behind e zs ∷ []
   pub kind_is : first_kind old.unit.blocks ≡ Some kind
   pub items : take_items (k + 1) (first_items old.unit.blocks) ≡ placed_items 0 (nodes_of_items first later)
   pub texts : texts_at old.unit.texts (items_positions (placed_items 0 (nodes_of_items first later))) ≡ texts_in_items (nodes_of_items first later)
   pub definitions : take (mark_at old.marks k).definitions old.unit.definitions ≡ definitions_in_items (nodes_of_items first later)
+  pub few_texts : length (texts_in_items (nodes_of_items first later)) ≤ length old.unit.texts
+  pub few_definitions : length (definitions_in_items (nodes_of_items first later)) ≤ length old.unit.definitions
 
 pub list_front : (e : EntityTable) (zs : List BlockLine) (l : BlockLine) (ys : List BlockLine) (old : FoundList) (k : ℕ) → StandsForLines e old (zs ++ l ∷ ys) → (before behind : List ItemMark) →
     old.marks ≡ before ++ mark_at old.marks k ∷ behind → length before ≡ k → (mark_at old.marks k).line ≡ length zs → ListFront e zs l old k
@@ -76,6 +81,12 @@ list_front e zs l ys old k stands before behind cut size line =
     let many : k + 1 ≡ suc (length w.later) = let c = m.count in let d = list_count e zs w.kind w.first w.later a.front in omega (arith, c, d, size) in
     let single = single_list e zs w.kind w.first w.later a.front in
     let mark : mark_at old.marks k ≡ mark_behind e zs = sym m.is in
+    let texts_are : length old.unit.texts ≡ length (texts_in_items N) + length (texts_in_items M) =
+    ap (λ (u : UnitTree). length u.texts) unit ∙ ap length (list_texts w.kind t (items_before N M) ∙ texts_together N M) ∙ length-append (texts_in_items N) (texts_in_items M) in
+    let definitions_are : length old.unit.definitions ≡ length (definitions_in_items N) + length (definitions_in_items M) =
+    ap (λ (u : UnitTree). length u.definitions) unit
+    ∙ ap length (list_definitions w.kind t (items_before N M) ∙ definitions_together N M)
+    ∙ length-append (definitions_in_items N) (definitions_in_items M) in
     record {
       kind = w.kind;
       first = w.first;
@@ -85,6 +96,7 @@ list_front e zs l ys old k stands before behind cut size line =
       one = subst (λ z. IsOne (begins_in z)) (sym (unit_of_list e zs w.kind w.first w.later a.line a.front)) refl;
       joins = m.joins;
       within = let size = same.0 in let whole = length-append zs (l ∷ ys) in omega (arith, size, whole);
+      mark = mark;
       marks =
           ap (take (k + 1)) (stands.1 ∙ parted)
           ∙ ap (λ z. take z (list_marks e zs ++ mark_behind e zs ∷ item_marks 0 (mark_behind e zs).texts (mark_behind e zs).definitions (item_behind (gap_after zs) n w.item) (map (moved_item n) w.items))) count
@@ -105,4 +117,16 @@ list_front e zs l ys old k stands before behind cut size line =
           ∙ ap (λ (z : ItemMark). take z.definitions (definitions_in_items (items_before N M) ++ [])) mark
           ∙ ap (λ z. take z (definitions_in_items (items_before N M) ++ [])) (definitions_before e zs w.kind w.first w.later a.front)
           ∙ definitions_kept N M;
+      few_texts = omega (arith, texts_are);
+      few_definitions = omega (arith, definitions_are);
     }
+
+-- the list's items before the one that is read on from
+pub front_of : (e : EntityTable) (k : ℕ) (old : FoundList) (text : List ℕ) (zs ys : List (List ℕ)) → k < length old.marks → StandsForUnit e old (zs ++ text ∷ ys) → (mark_at old.marks k).line ≡ length zs →
+    ListFront e (map document_line zs) (document_line text) old k
+front_of e k old text zs ys small stands line =
+    let X = map document_line zs in
+    let L = document_line text in
+    let Y = map document_line ys in
+    let cut = mark_cut old.marks k small in
+    list_front e X L Y old k (to_lines e old (zs ++ text ∷ ys) (X ++ L ∷ Y) (map-append document_line zs (text ∷ ys)) stands) cut.before cut.behind cut.is cut.size (line ∙ sym (lines_mapped zs))

@@ -24,7 +24,7 @@ use Rattle.blockspec.proofs.MarkLines.{marks_join}
 use Rattle.blockspec.proofs.UnitsMeet.{units_meet_inside}
 use Rattle.mdblock.specs.FoundLists.{FoundList, StandsForUnit, found_unit}
 use Rattle.mdblock.specs.Seams.{IsSpliced, SplicedAt}
-use Rattle.mdblock.specs.Spliced.{IsFrontOf, MeetsAt, mark_at, spliced_list}
+use Rattle.mdblock.specs.Spliced.{IsFrontOf, mark_at, spliced_list}
 use Rattle.mdblock.specs.held.ReaderState.{ReaderState, UnitSoFar, held_joined}
 use Rattle.mdblock.specs.held.Reads.{HoldsUnit, Reads, handed, open_begin}
 use Rattle.mdblock.proofs.HeldMarks.{begin_held, held_rest, lines_mapped, open_is, with_line}
@@ -200,31 +200,29 @@ told e front old k xs l ys h begin w =
       texts = w.texts;
     }
 
-met : (limit : ℕ) (e : EntityTable) (reading : ReaderState) (front old : FoundList) (k : ℕ) (xs : List (List ℕ)) (l : List ℕ) (zs ys : List (List ℕ)) →
-    (let X = map document_line xs in
-    let L = document_line l in
-    HeldJoin X L → IsFrontOf e front xs l → MarkCut old.marks k → MeetsAt limit e reading old k xs l zs ys →
-    front.lines + (old.lines - (mark_at old.marks k).line - 1) ≤ most → AreFew front.unit old.unit → SplicedAt e (spliced_list front old k) old k xs l ys)
-met limit e reading front old k xs l zs ys h w cut m fits few =
+-- A front, and an old list from a later item on that begins in the same line, make one list of the lines of both.
+pub spliced_behind : (e : EntityTable) (front old : FoundList) (k : ℕ) (xs : List (List ℕ)) (l : List ℕ) (zs ys : List (List ℕ)) → is_joined e (xs ++ l ∷ []) ≡ true → IsFrontOf e front xs l → k < length old.marks →
+    StandsForUnit e old (zs ++ l ∷ ys) → (mark_at old.marks k).line ≡ length zs → front.lines + (old.lines - (mark_at old.marks k).line - 1) ≤ most → AreFew front.unit old.unit →
+    SplicedAt e (spliced_list front old k) old k xs l ys
+spliced_behind e front old k xs l zs ys joined w small stands line fits few =
     let X = map document_line xs in
     let L = document_line l in
     let Z = map document_line zs in
     let Y = map document_line ys in
+    let h = held_join X L (sym (joined_next e xs l) ∙ joined) in
+    let cut = mark_cut old.marks k small in
     let begins : Some front.begin ≡ Some (front_lines [] (X ++ L ∷ [])) = sym w.0 ∙ begin_at e xs l h in
     let begin : front.begin ≡ front_lines [] (X ++ L ∷ []) = cc in
     told e front old k xs l ys h begin
     (list_joined e (lines_held [] X) Z L Y front old k h.joins (held_one e X)
     w.1 w.2 w.3
-    (to_lines e old (zs ++ l ∷ ys) (Z ++ L ∷ Y) (map-append document_line zs (l ∷ ys)) m.1)
-    cut.before cut.behind cut.is cut.size (m.2 ∙ sym (lines_mapped zs)) fits few)
+    (to_lines e old (zs ++ l ∷ ys) (Z ++ L ∷ Y) (map-append document_line zs (l ∷ ys)) stands)
+    cut.before cut.behind cut.is cut.size (line ∙ sym (lines_mapped zs)) fits few)
 
 -- What a reader holds, and an old list from a later item on, make one list of the lines of both.
 pub spliced_at : (reading : ReaderState) (front old : FoundList) (k : ℕ) → held_joined reading.held ≡ true → k < length old.marks → reading.fed + (old.lines - (mark_at old.marks k).line - 1) ≤ most →
     front.lines ≤ reading.fed → ((limit : ℕ) (e : EntityTable) (xs : List (List ℕ)) (l : List ℕ) → Reads limit e reading (xs ++ l ∷ []) → IsFrontOf e front xs l) → AreFew front.unit old.unit →
     IsSpliced reading old k (spliced_list front old k)
 spliced_at reading front old k joined small fits lines in_front few limit e xs l zs ys m =
-    let X = map document_line xs in
-    let L = document_line l in
-    let h = held_join X L (sym (joined_next e xs l) ∙ if_joined limit e reading (xs ++ l ∷ []) joined m.0) in
     let lines_fit : front.lines + (old.lines - (mark_at old.marks k).line - 1) ≤ most = omega (arith, fits, lines) in
-    met limit e reading front old k xs l zs ys h (in_front limit e xs l m.0) (mark_cut old.marks k small) m lines_fit few
+    spliced_behind e front old k xs l zs ys (if_joined limit e reading (xs ++ l ∷ []) joined m.0) (in_front limit e xs l m.0) small m.1 m.2 lines_fit few

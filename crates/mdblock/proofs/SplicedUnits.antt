@@ -35,10 +35,10 @@ pub same_unit : (b c : Blocks) (d f : List LinkDefinition) (t u : List (List ℕ
 same_unit b c d f t u hb hd ht = ap (λ z. unit_tree z d t) hb ∙ ap (λ z. unit_tree c z t) hd ∙ ap (unit_tree c f) ht
 
 -- copies of both parts
-abbrev both_items : (kept later : Items) → Items
+abbrev pub both_items : (kept later : Items) → Items
 both_items kept later = placed_before (copied_items 0 kept) (copied_items (length (items_positions kept)) later)
 
-items_spliced : (n : ℕ) (N P : ItemNodes) → both_items (placed_items 0 N) (placed_items n P) ≡ placed_items 0 (items_before N P)
+pub items_spliced : (n : ℕ) (N P : ItemNodes) → both_items (placed_items 0 N) (placed_items n P) ≡ placed_items 0 (items_before N P)
 items_spliced n N P =
     let kept = placed_items 0 N in
     let later = placed_items n P in
@@ -48,7 +48,7 @@ items_spliced n N P =
     ∙ ap (placed_before kept) (items_placed_copied (0 + texts_of N) n P)
     ∙ sym (placed_items_before 0 N P)
 
-texts_first : (N : ItemNodes) (texts : List (List ℕ)) → texts_at (texts_in_items N ++ texts) (items_positions (placed_items 0 N)) ≡ texts_in_items N
+pub texts_first : (N : ItemNodes) (texts : List (List ℕ)) → texts_at (texts_in_items N ++ texts) (items_positions (placed_items 0 N)) ≡ texts_in_items N
 texts_first N texts = ap (texts_at (texts_in_items N ++ texts)) (items_placed_positions 0 N) ∙ texts_there [] (texts_in_items N) texts
 
 pub texts_kept : (N M : ItemNodes) → texts_at (texts_in_items (items_before N M) ++ []) (items_positions (placed_items 0 N)) ≡ texts_in_items N

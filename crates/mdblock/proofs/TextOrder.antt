@@ -1,6 +1,6 @@
 -- Texts with positions one after the other, in document order: copies of them are the same, and they are the first ones that there are.
-use Rattle.std.proofs.Common.{◌≡◌, ℕ, zero, suc, ◌+◌, ◌≤◌, List, [], ◌∷◌, ◌++◌, length, drop, refl, sym, ◌∙◌, ap, subst, append_assoc, arith, length-append}
-use Rattle.std.specs.List.{flat_map, range_with_len}
+use Rattle.std.proofs.Common.{◌≡◌, ℕ, zero, suc, ◌+◌, ◌<◌, ◌≤◌, List, [], ◌∷◌, ◌++◌, length, drop, refl, sym, ◌∙◌, ap, subst, append_assoc, arith, length-append}
+use Rattle.std.specs.List.{AllByRecursion, flat_map, range_with_len}
 use Rattle.std.specs.Prelude.{take}
 use Rattle.blockspec.specs.BlockTree.{Block, paragraph, heading, thematic_break, code_block, html_block, block_quote, list, table, Blocks, no_blocks, block, Items, no_items, item}
 use Rattle.mdblock.specs.Copies.{IsBehind, block_positions, blocks_positions, items_positions, copied_rows, copied_block, copied_blocks, copied_items, text_at, texts_at}
@@ -11,7 +11,7 @@ behind_both at mid end [] qs w v = subst (λ z. IsBehind z qs end) w v
 behind_both at mid end (p ∷ ps) qs w v = (w.0, behind_both (at + 1) mid end ps qs w.1 v)
 
 -- both parts of such a row
-behind_front : (at end : ℕ) (ps qs : List ℕ) → IsBehind at (ps ++ qs) end → IsBehind at ps (at + length ps)
+pub behind_front : (at end : ℕ) (ps qs : List ℕ) → IsBehind at (ps ++ qs) end → IsBehind at ps (at + length ps)
 behind_front at end [] qs w = omega arith
 behind_front at end (p ∷ ps) qs w =
     let e : (at + 1) + length ps ≡ at + suc (length ps) = omega arith in
@@ -26,6 +26,11 @@ behind_rest at end (p ∷ ps) qs w =
 pub behind_is : (at end : ℕ) (ps : List ℕ) → IsBehind at ps end → end ≡ at + length ps
 behind_is at end [] w = omega (arith, w)
 behind_is at end (p ∷ ps) w = let e = behind_is (at + 1) end ps w.1 in omega (arith, e)
+
+-- they are below that number
+pub all_below : (at end : ℕ) (ps : List ℕ) → IsBehind at ps end → AllByRecursion (λ p. p < end) ps
+all_below at end [] w = tt
+all_below at end (p ∷ ps) w = let is = w.0 in let e = behind_is (at + 1) end ps w.1 in (omega (arith, is, e), all_below (at + 1) end ps w.1)
 
 -- a row of numbers is one
 pub range_behind : (n k : ℕ) → IsBehind n (range_with_len n k) (n + k)

@@ -1,7 +1,9 @@
+pub mod Bases
 pub mod BlockView
 pub mod Copies
 pub mod CountedLines
 pub mod FoundLists
+pub mod Fronted
 pub mod Insets
 pub mod Positions
 pub mod Seams

@@ -3,6 +3,7 @@ pub mod ClosedViews
 pub mod ContainerContinuations
 pub mod Continuations
 pub mod EndedItems
+pub mod Following
 pub mod Growing
 pub mod HandedIn
 pub mod HeldLevel
@@ -18,6 +19,5 @@ pub mod StartSpans
 pub mod ParagraphLines
 pub mod ReaderState
 pub mod Reads
-pub mod ResumedItems
 pub mod StartParts
 pub mod TreesBehind

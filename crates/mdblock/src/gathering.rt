@@ -35,25 +35,6 @@ impl<'e> Gathering<'e> {
         }
     }
 
-    /// What was taken in before.
-    pub(crate) fn of(
-        alloc: Global,
-        entities: &'e Entities,
-        definitions: Vec<Definition>,
-        texts: Vec<String>,
-    ) -> Gathering<'e>
-        ensures definitions { result.definitions ≡ definitions }
-        ensures texts { result.texts ≡ texts }
-        ensures entities { result.entities ≡ entities.entry }
-    {
-        Gathering {
-            alloc,
-            entities,
-            definitions,
-            texts,
-        }
-    }
-
     pub(crate) fn alloc(&self) -> Global {
         self.alloc
     }

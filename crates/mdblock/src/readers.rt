@@ -1,6 +1,6 @@
 //! The reading of a text line by line, and the handing out of its units.
 
-ghost use Rattle.std.specs.Prelude.{List, [], ℕ, ◌≡◌, ◌+◌, ◌-◌, ◌*◌, ◌^◌, ◌<◌, ◌≤◌, false, true, None, Some, IfErr, IfOk, IfSome, OnOk, OnErr, IsErrOf, ◌∷◌, ◌++◌, ◌||◌, drop, is_some, length, unwrap_or};
+ghost use Rattle.std.specs.Prelude.{List, [], ℕ, ◌≡◌, ◌+◌, ◌-◌, ◌*◌, ◌^◌, ◌<◌, ◌≤◌, false, true, None, Some, IfOk, IfSome, OnOk, OnErr, IsErrOf, ◌∷◌, ◌++◌, ◌||◌, drop, is_some, length, min, unwrap_or};
 ghost use Rattle.std.specs.Option.{option_map, option_to_list};
 ghost use Rattle.mdtext.specs.Counted.{counted};
 ghost use Rattle.mdblock.specs.declared.faults.BlockFault.TheVariants.{Failed, NestedTooDeep};
@@ -9,12 +9,12 @@ ghost use Rattle.blockspec.specs.BlockLine.{document_line};
 ghost use Rattle.blockspec.specs.BlockUnits.{units};
 ghost use Rattle.blockspec.specs.Nesting.{first_too_deep};
 ghost use Rattle.blockspec.specs.SummaryDepth.{sinks};
-ghost use Rattle.mdblock.specs.CountedLines.{counted_by};
 ghost use Rattle.mdblock.specs.FoundLists.{AreJoinsOf, StandsForUnit, found_unit, join_mark};
-ghost use Rattle.mdblock.specs.Spliced.{IsFrontOf, mark_at};
+ghost use Rattle.mdblock.specs.Spliced.{IsFrontOf};
 ghost use Rattle.mdblock.specs.held.Continuations.{IsBeginningOf, IsContinuationOf, ContinuesOpen, begins_item};
 ghost use Rattle.mdblock.specs.held.EndedItems.{IsNextIn};
 ghost use Rattle.mdblock.specs.held.LinesAdded.{ContinuesLevel};
+ghost use Rattle.mdblock.specs.held.Following.{moved_reading};
 ghost use Rattle.mdblock.specs.held.HeldLevel.{HoldsSummary, GivesUnit, is_parted_last, list_between};
 ghost use Rattle.blockspec.specs.LineSummary.{Summary, no_summary};
 ghost use Rattle.blockspec.specs.Joins.{is_joined};
@@ -27,8 +27,6 @@ use crate::faults::{BlockFault, LineFault};
 use crate::gathering::Gathering;
 use crate::lines::Line;
 use crate::open_blocks::{Continuation, Level};
-use crate::resuming::item_behind;
-use crate::splicing::join_at;
 use crate::units::{Found, Join};
 use mdtext::{Count, Entities};
 use std::alloc::{AllocError, Global};
@@ -91,56 +89,6 @@ impl<'e> Reader<'e> {
             fed: 0,
             held: Some(OpenUnit::new(alloc, entities, None)),
         }
-    }
-
-    /// A reader that goes on inside a list that was found: it has read the list's lines up to its join `k`, and that line, which is `text`. So many containers, 1 to
-    /// 256, may be open inside one another. Nothing, where the unit is no list or has no join `k`, and where the line begins no item of the list, or too many
-    /// containers. Counts each line that it takes over, and the line that it reads, as it is done; at an error, and where there is nothing, no others. Takes
-    /// memory for the items before that one (CommonMark 5.3).
-    pub fn resume<C: Count>(
-        alloc: Global,
-        entities: &'e Entities,
-        limit: usize,
-        old: &Found,
-        k: usize,
-        text: &str,
-        count: &mut C,
-    ) -> Result<Option<Reader<'e>>, AllocError>
-        requires some { 1 ≤ limit }
-        requires few { limit ≤ 256 }
-        requires short { 4 * length text.now < 2 ^ 64 }
-        ensures fed { IfOk result (λ resumed. IfSome resumed (λ reader. reader.fed ≡ (mark_at old.now.marks k).line + 1)) }
-        ensures reads { IfOk result (λ resumed. IfSome resumed (λ reader. (zs ys : List (List ℕ)) → StandsForUnit entities.now old.now (zs ++ text.now ∷ ys)
-            → (mark_at old.now.marks k).line ≡ length zs → first_too_deep limit (zs ++ text.now ∷ ys) ≡ None → Reads limit entities.now reader (zs ++ text.now ∷ []))) }
-        ensures given { IfOk result (λ resumed. (zs ys : List (List ℕ)) → k < length old.now.marks → StandsForUnit entities.now old.now (zs ++ text.now ∷ ys)
-            → (mark_at old.now.marks k).line ≡ length zs → first_too_deep limit (zs ++ text.now ∷ ys) ≡ None → is_some resumed ≡ true) }
-        ensures lines { IfOk result (λ resumed. IfSome resumed (λ reader. C.lines count.new ≡ counted_by reader.fed (C.lines count.old))) }
-        ensures no_more { C.lines count.new ≤ C.lines count.old + ((mark_at old.now.marks k).line + 1) }
-        ensures inlines { C.inlines count.new ≡ C.inlines count.old }
-    {
-        let line = join_at(old.joins(), k).line;
-        if line >= old.lines() {
-            return Ok(None);
-        }
-        let item = match item_behind(alloc, entities, limit, old, k, text, count) {
-            Ok(Some(item)) => item,
-            Ok(None) => return Ok(None),
-            Err(LineFault::TooDeep) => return Ok(None),
-            Err(LineFault::NoMemory) => return Err(AllocError),
-        };
-        Ok(Some(Reader {
-            alloc,
-            entities,
-            limit,
-            fed: line + 1,
-            held: Some(OpenUnit {
-                level: item.level,
-                gathering: item.gathering,
-                begin: Some(0),
-                joins: item.joins,
-                joined: true,
-            }),
-        }))
     }
 
     /// Counts the next line, which has no line ending, and reads it. Answers the unit before the one that the line begins. A line has fewer than 2^62
@@ -243,6 +191,20 @@ impl<'e> Reader<'e> {
         self.alloc
     }
 
+    /// Goes on as if so many lines more had been read before all that were.
+    pub(crate) fn move_on(&mut self, lines: usize)
+        requires { lines + self.old.fed ≤ usize.MAX }
+        ensures moved { (limit : ℕ) (e : EntityTable) (ls : List (List ℕ)) → Reads limit e self.old ls → self.new ≡ moved_reading lines self.old }
+        ensures fed { self.new.fed ≡ lines + self.old.fed }
+        ensures held { is_some self.new.held ≡ is_some self.old.held }
+    {
+        self.fed = lines + self.fed;
+        let Some(held) = &mut self.held else {
+            return;
+        };
+        held.begin = moved_begin(held.begin, lines);
+    }
+
     /// The list that is read, without the item that the last line began.
     pub(crate) fn into_front(self) -> Result<Found, AllocError>
         requires { held_joined self.held ≡ true }
@@ -258,6 +220,16 @@ impl<'e> Reader<'e> {
             }
             None => unreachable!(),
         }
+    }
+}
+
+/// So many lines further, as far as numbers reach.
+fn moved_begin(begin: Option<usize>, lines: usize) -> Option<usize>
+    ensures { result ≡ option_map (λ at. min (lines + at) usize.MAX) begin }
+{
+    match begin {
+        Some(at) => Some(lines.saturating_add(at)),
+        None => None,
     }
 }
 

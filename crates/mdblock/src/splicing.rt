@@ -1,13 +1,13 @@
 //! A list whose front a reader holds, and whose later items were found before (CommonMark 5.3).
 
-ghost use Rattle.std.specs.Prelude.{◌≡◌, ◌<◌, ◌++◌, ℕ, IfOk, OnOk, drop, length, map, option_map, string_bytes, true};
+ghost use Rattle.std.specs.Prelude.{◌≡◌, ◌<◌, ◌++◌, ℕ, IfOk, OnOk, drop, length, map, option_map, string_bytes, take, true};
 ghost use Rattle.blockspec.specs.BlockTree.{Items};
 ghost use Rattle.mdblock.specs.BlockView.{blocks_view, items_view, kind_view};
 ghost use Rattle.mdblock.specs.Copies.{copied_items, items_positions, texts_at};
 ghost use Rattle.mdblock.specs.FoundLists.{join_mark};
 ghost use Rattle.mdblock.specs.Insets.{with_items};
 ghost use Rattle.mdblock.specs.Positions.{BlocksIn, ItemsIn};
-ghost use Rattle.mdblock.specs.Spliced.{first_items, first_kind, further_on, list_of_kind, mark_at, mark_further, spliced_list, take_items, tight_list};
+ghost use Rattle.mdblock.specs.Spliced.{first_items, first_kind, further_on, list_of_kind, mark_at, mark_further, no_mark, spliced_list, take_items, tight_list};
 
 use crate::blocks::{Block, Item, ListKind};
 use crate::copies::{copied_items, push_definitions};
@@ -81,13 +81,27 @@ pub(crate) fn join_at(joins: &[Join], k: usize) -> Join
 {
     match joins.get(k) {
         Some(join) => *join,
-        None => Join {
-            line: 0,
-            texts: 0,
-            definitions: 0,
-            loose: false,
-        },
+        None => no_join(),
     }
+}
+
+/// What stands before a list's first item.
+pub(crate) fn no_join() -> Join
+    ensures { join_mark result ≡ no_mark }
+{
+    Join {
+        line: 0,
+        texts: 0,
+        definitions: 0,
+        loose: false,
+    }
+}
+
+/// What is before so many.
+pub(crate) fn before<T>(all: &[T], count: usize) -> &[T]
+    ensures { result.now ≡ take count all.now }
+{
+    all.get(..count).unwrap_or(all)
 }
 
 /// What is behind so many.
@@ -147,7 +161,7 @@ pub(crate) fn is_list_of(blocks: &[Block], kind: Option<ListKind>, tight: bool) 
 }
 
 /// A list of these items, of this kind; nothing where there is none.
-fn as_list(
+pub(crate) fn as_list(
     alloc: Global,
     kind: Option<ListKind>,
     tight: bool,
@@ -171,7 +185,12 @@ pub(crate) fn is_tight(joins: &[Join], parted: bool) -> bool
 }
 
 /// Puts joins behind those that are there, which stood behind `from` and stand behind `to` then.
-fn push_joins(behind: &[Join], from: Join, to: Join, joins: &mut Vec<Join>) -> Result<(), NoMemory>
+pub(crate) fn push_joins(
+    behind: &[Join],
+    from: Join,
+    to: Join,
+    joins: &mut Vec<Join>,
+) -> Result<(), NoMemory>
     ensures { OnOk result (map join_mark joins.new.items
         ≡ map join_mark joins.old.items ++ map (mark_further (join_mark from) (join_mark to)) (map join_mark behind.now)) }
 {

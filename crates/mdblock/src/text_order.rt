@@ -1,11 +1,24 @@
 //! Whether the texts of items have positions one after the other, in document order, as a unit's texts have that was read.
 
-ghost use Rattle.std.specs.Prelude.{◌++◌, ◌∷◌, [], IfSome, map};
+ghost use Rattle.std.specs.Prelude.{◌≡◌, ◌++◌, ◌∷◌, [], IfSome, map, true};
 ghost use Rattle.std.specs.List.{flat_map};
 ghost use Rattle.mdblock.specs.BlockView.{block_view, blocks_view, item_view, items_view};
+ghost use Rattle.mdblock.specs.Fronted.{HasOrder};
 ghost use Rattle.mdblock.specs.Copies.{IsBehind, block_positions, blocks_positions, items_positions};
 
 use crate::blocks::{Block, Item};
+use crate::splicing::list_items;
+use crate::units::Found;
+
+/// Whether the texts of a list's items have positions one after the other, from 0 on, and all are there.
+pub(crate) fn has_order(list: &Found) -> bool
+    ensures { result ≡ true → HasOrder list.now }
+{
+    match behind_items(list_items(list.unit().blocks()), 0) {
+        Some(end) => end <= list.unit().texts().len(),
+        None => false,
+    }
+}
 
 /// The position behind the texts of items, where these have positions one after the other from `at` on.
 #[cycle(block)]

@@ -1,6 +1,6 @@
 //! Units: what is handed out of a document.
 
-ghost use Rattle.std.specs.Prelude.{◌≡◌, ◌+◌, ◌≤◌, length, map, string_bytes};
+ghost use Rattle.std.specs.Prelude.{◌≡◌, ◌+◌, ◌*◌, ◌≤◌, length, map, string_bytes};
 ghost use Rattle.mdleaf.specs.DefinedLinks.{definition_of};
 ghost use Rattle.mdblock.specs.BlockView.{blocks_view};
 ghost use Rattle.mdblock.specs.FoundLists.{join_mark};
@@ -63,6 +63,17 @@ impl Unit {
         ensures { map string_bytes result.now ≡ self.now.texts }
     {
         &self.texts
+    }
+
+    /// A few units' definitions and texts can be counted together, since each of them lies in memory.
+    pub(crate) fn lies_in_memory(&self)
+        ensures definitions { 4 * length self.now.definitions ≤ usize.MAX }
+        ensures texts { 4 * length self.now.texts ≤ usize.MAX }
+    {
+        let definitions: &[Definition] = &self.definitions;
+        let texts: &[String] = &self.texts;
+        let _ = definitions.len();
+        let _ = texts.len();
     }
 
     /// The definitions and the texts of two units can be counted together, since each of them lies in a vector.

@@ -54,24 +54,6 @@ impl OpenList {
         }
     }
 
-    /// A list of this kind whose last item is open, with the columns that the item's later lines need; these are the items before it.
-    pub(crate) fn going_on(kind: ListKind, items: Vec<Item>, loose: bool, needed: usize) -> OpenList
-        ensures kind { result.kind ≡ kind }
-        ensures items { result.items ≡ items }
-        ensures loose { result.loose ≡ loose }
-        ensures needed { result.needed ≡ needed }
-        ensures open { result.item_open ≡ true }
-    {
-        OpenList {
-            kind,
-            loose,
-            items,
-            item_open: true,
-            needed,
-            parted: false,
-        }
-    }
-
     /// Whether its last item is open.
     pub(crate) fn is_open(&self) -> bool
         ensures { result ≡ self.now.item_open }

@@ -1,6 +1,6 @@
 //! A line that goes on with no open block begins one, or is blank.
 
-ghost use Rattle.std.specs.Prelude.{◌≡◌, ◌&&◌, ◌||◌, ◌≤◌, ℕ, [], IfErr, IfOk, IsErrOf, None, OnOk, Some, false, length, true};
+ghost use Rattle.std.specs.Prelude.{◌≡◌, ◌&&◌, ◌||◌, ℕ, IsErrOf, None, OnOk, Some, false, length, true};
 ghost use Rattle.blockspec.specs.BlankLines.{is_blank_line};
 ghost use Rattle.blockspec.specs.LineSummary.{no_summary};
 ghost use Rattle.blockspec.specs.SummaryDepth.{sinks};
@@ -28,19 +28,6 @@ use mdscan::AtxLine;
 use std::alloc::{AllocError, Global};
 
 impl Level {
-    /// An open list whose last item has these blocks, and nothing before it.
-    pub(crate) fn of_list(alloc: Global, inner: Level, list: OpenList) -> Result<Level, AllocError>
-        ensures within { IfOk result (λ level. (n : ℕ) → LevelIn n inner → ItemsIn n (items_view list.items.items) → LevelIn n level) }
-        ensures over { IfOk result (λ level. level.over.items ≡ []) }
-        ensures last { IfOk result (λ level. IsListOf inner list level.last) }
-        ensures marks { IfOk result (λ level. (level.in_item ≡ false) × (level.begun ≡ true) × (level.blank ≡ false) × (level.spaced ≡ false)) }
-    {
-        let mut level = Level::new(alloc, false);
-        level.mark_begun();
-        level.hold_list(alloc, inner, list)?;
-        Ok(level)
-    }
-
     /// Reads a line that no open block takes.
     #[cycle(begin)]
     #[tactic(auto, using(crate::proofs::Within::growing))]

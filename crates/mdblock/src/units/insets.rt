@@ -1,51 +1,108 @@
-//! The front of a list, put where an old list lies in the place of its first items. It takes no memory.
+//! Items put where an old list lies in the place of some of its own. It takes no memory.
 
-ghost use Rattle.std.specs.Prelude.{◌≡◌, ◌≤◌, ◌<◌, ◌++◌, [], length, map, option_map, take, drop};
+ghost use Rattle.std.specs.Prelude.{◌≡◌, ◌+◌, ◌-◌, ◌≤◌, ◌<◌, ◌++◌, [], IfOk, IfSome, None, Some, length, map, option_map, string_bytes, take, drop};
 ghost use Rattle.std.specs.Vec.{vec_len, vec_capacity};
 ghost use Rattle.blockspec.specs.BlockTree.{no_blocks, block};
 ghost use Rattle.mdblock.specs.BlockView.{block_view, blocks_view, items_view, kind_view};
-ghost use Rattle.mdblock.specs.FoundLists.{join_mark};
-ghost use Rattle.mdblock.specs.Insets.{FitsInto, HasLists, IsAlone, PutsInto, put_blocks};
-ghost use Rattle.mdblock.specs.Spliced.{first_items, list_of_kind, mark_further, spliced_list};
+ghost use Rattle.mdblock.specs.FoundLists.{FoundList};
+ghost use Rattle.mdblock.specs.Fronted.{items_staying};
+ghost use Rattle.mdblock.specs.Insets.{FitsList, HasItems, IsAlone, TakesIn, inset_base, inset_front, items_between, parts_between};
+ghost use Rattle.mdblock.specs.Positions.{BlocksIn};
+ghost use Rattle.mdblock.specs.Spliced.{first_items, first_kind, list_of_kind, spliced_list};
+
+mod joins;
 
 use crate::blocks::{Block, Item, ListKind};
-use crate::splicing::{into_items, is_tight, join_at, list_kind, moved};
-use crate::units::{Found, Join, Unit};
+use crate::copies::{Source, items_from};
+use crate::splicing::{is_tight, join_at, list_items, list_kind};
+use crate::units::{Found, Unit};
+use joins::put_joins;
+use mdtext::NoMemory;
 use std::alloc::Global;
 use std::marker::Model;
 use std::mem;
 
-/// The front of a list that can take the place of an old list's first items, up to one of its joins. Only this crate makes one, of a [`Seam`](crate::Seam).
+/// Items that can take the place of an old list's, from its first item or from one of its joins on, up to another. Only this crate makes one, of a
+/// [`Seam`](crate::Seam).
 #[derive(Drop)]
 pub struct Inset {
     alloc: Global,
-    front: Found,
+    /// The join from which on items give way; none where all do that are before the other.
+    stay: Option<usize>,
+    /// How many texts stay before them.
+    before: usize,
+    part: Found,
+    /// The part's items, with positions behind these texts.
+    items: Vec<Item>,
+    /// Their texts.
+    texts: Vec<String>,
     join: usize,
 }
 
 impl Model for Inset {
+    ghost use Rattle.std.specs.Prelude.{◌≡◌, map, string_bytes};
+    ghost use Rattle.mdblock.specs.BlockView.{items_view};
+    ghost use Rattle.mdblock.specs.Copies.{copied_items, items_positions, texts_at};
     ghost use Rattle.mdblock.specs.Insets.{ListInset, inset_code};
+    ghost use Rattle.mdblock.specs.Spliced.{first_items};
 
     ghost Value = { ListInset };
 
     ghost coded = { inset_code };
 
-    ghost view = { λ i. record { front = i.front; join = i.join } };
+    ghost view = { λ i. record { stay = i.stay; before = i.before; part = i.part; join = i.join } };
+
+    ghost invariant = { λ i. (items_view i.items.items ≡ copied_items i.before (first_items i.part.unit.blocks))
+        × (map string_bytes i.texts.items ≡ texts_at i.part.unit.texts (items_positions (first_items i.part.unit.blocks))) };
 }
 
 impl Inset {
-    /// A front, and the join up to which it goes.
-    pub(crate) fn new(alloc: Global, front: Found, join: usize) -> Inset
-        ensures { result ≡ record { front = front; join = join } }
+    /// What was read, the join from which on items give way, how many texts stand before it, and the join up to which they do.
+    pub(crate) fn new(
+        alloc: Global,
+        stay: Option<usize>,
+        before: usize,
+        part: Found,
+        join: usize,
+    ) -> Result<Inset, NoMemory>
+        ensures { IfOk result (λ inset. inset ≡ record { stay = stay; before = before; part = part; join = join }) }
     {
-        Inset { alloc, front, join }
+        let mut texts = Vec::new(alloc);
+        let from = Source {
+            texts: part.unit().texts(),
+            before,
+        };
+        let items = items_from(alloc, list_items(part.unit().blocks()), &from, &mut texts)?;
+        Ok(Inset {
+            alloc,
+            stay,
+            before,
+            part,
+            items,
+            texts,
+            join,
+        })
     }
 
-    /// The list in front. Takes no memory.
-    pub fn front(&self) -> &Found
-        ensures { result.now ≡ self.now.front }
+    /// The number of the old list's join from which on items give way; none where all do that are before the other. Takes no memory.
+    pub fn stay(&self) -> Option<usize>
+        ensures { result ≡ self.now.stay }
     {
-        &self.front
+        self.stay
+    }
+
+    /// How many texts stand before those that give way. Takes no memory.
+    pub fn before(&self) -> usize
+        ensures { result ≡ self.now.before }
+    {
+        self.before
+    }
+
+    /// What was read. Takes no memory.
+    pub fn part(&self) -> &Found
+        ensures { result.now ≡ self.now.part }
+    {
+        &self.part
     }
 
     /// The number of the old list's join up to which it goes. Takes no memory.
@@ -54,62 +111,139 @@ impl Inset {
     {
         self.join
     }
+
+    /// How many lines were fed before all items in front.
+    fn begin(&self) -> usize
+        ensures { (old : FoundList) → result ≡ (inset_front self.now old).begin }
+    {
+        match self.stay {
+            None => self.part.begin,
+            Some(_) => 0,
+        }
+    }
+
+    /// How many lines these have, and that of the join.
+    fn lines(&self, old: &Found) -> usize
+        ensures { result ≡ (inset_front self.now old.now).lines }
+    {
+        match self.stay {
+            None => self.part.lines,
+            Some(k) => join_at(&old.joins, k).line.saturating_add(self.part.lines),
+        }
+    }
+
+    /// The kind of the list in front.
+    fn kind(&self, old: &Found) -> Option<ListKind>
+        ensures { option_map kind_view result ≡ first_kind (inset_front self.now old.now).unit.blocks }
+    {
+        match self.stay {
+            None => list_kind(self.part.unit().blocks()),
+            Some(_) => list_kind(old.unit().blocks()),
+        }
+    }
+
+    /// How many items stay.
+    fn start(&self) -> usize
+        requires { IfSome self.now.stay (λ k. k < usize.MAX) }
+        ensures { (old : FoundList) → result ≡ items_staying (inset_base self.now old) }
+    {
+        match self.stay {
+            None => 0,
+            Some(k) => k + 1,
+        }
+    }
 }
 
 impl Found {
-    /// Puts the front of a list in the place of the items up to a join. The items behind it and their texts stay where they lie, and what was in front is let
-    /// go. Takes no memory.
+    /// Puts what was read in the place of the items up to a join. The items that stay, those behind the join and the texts of both stay where they lie, and what
+    /// gives way is let go. Takes no memory.
     pub fn put(&mut self, inset: Inset)
-        requires { FitsInto inset.front self.old inset.join }
-        ensures { self.new ≡ spliced_list inset.front self.old inset.join }
+        requires { FitsList inset self.old }
+        ensures { self.new ≡ spliced_list (inset_front inset self.old) self.old inset.join }
     {
-        let Inset { alloc, front, join } = inset;
-        let Found {
-            begin,
-            lines,
-            unit,
-            joins,
-            ..
-        } = front;
+        let begin = inset.begin();
+        let lines = inset.lines(self);
+        let kind = inset.kind(self);
+        let start = inset.start();
+        let Inset {
+            alloc,
+            stay,
+            before,
+            part,
+            items,
+            texts,
+            join,
+        } = inset;
         let from = join_at(&self.joins, join);
-        let to = join_at(&joins, join);
         let behind = self.lines.saturating_sub(from.line).saturating_sub(1);
         self.begin = begin;
         self.lines = lines.saturating_add(behind);
-        put_joins(&mut self.joins, joins, from, to);
+        put_joins(&mut self.joins, part.joins, stay, join, from);
         let tight = is_tight(&self.joins, self.parted);
-        self.unit.put(alloc, unit, join + 1, from.texts, tight);
+        let place = Place {
+            start,
+            end: join + 1,
+            before,
+            behind: from.texts,
+        };
+        self.unit.put(alloc, kind, tight, items, texts, place);
     }
+}
+
+/// Where items and their texts go in: so many of both stay in front, and as many give way that so many are in front with them.
+#[derive(Clone, Copy)]
+struct Place {
+    start: usize,
+    end: usize,
+    before: usize,
+    behind: usize,
 }
 
 impl Unit {
-    /// Puts so many items of a list and so many texts in the place of as many of this one.
-    fn put(&mut self, alloc: Global, front: Unit, items: usize, texts: usize, tight: bool)
-        requires { PutsInto front self.old items texts }
-        ensures blocks { self.new.blocks ≡ put_blocks tight items front.blocks self.old.blocks }
+    /// Puts items and texts in a place of this one.
+    fn put(
+        &mut self,
+        alloc: Global,
+        kind: Option<ListKind>,
+        tight: bool,
+        items: Vec<Item>,
+        texts: Vec<String>,
+        place: Place,
+    )
+        requires there { TakesIn self.old (items_view items.items) (map string_bytes texts.items) place.start place.end place.before place.behind }
+        requires within { BlocksIn (length self.old.texts)
+            (list_of_kind tight (items_between place.start place.end (items_view items.items) (first_items self.old.blocks)) (option_map kind_view kind)) }
+        ensures blocks { self.new.blocks
+            ≡ list_of_kind tight (items_between place.start place.end (items_view items.items) (first_items self.old.blocks)) (option_map kind_view kind) }
         ensures definitions { self.new.definitions ≡ self.old.definitions }
-        ensures texts { self.new.texts ≡ take texts front.texts ++ drop texts self.old.texts }
+        ensures texts { self.new.texts ≡ parts_between place.before place.behind (map string_bytes texts.items) self.old.texts }
     {
-        let Unit {
-            blocks,
-            texts: mut first,
-            ..
-        } = front;
-        put_items(alloc, &mut self.blocks, blocks, items, tight);
-        swap_fronts(&mut self.texts, &mut first, texts);
+        let mut first = texts;
+        put_items(alloc, &mut self.blocks, kind, tight, items, place);
+        swap_between(&mut self.texts, place.before, place.behind, &mut first);
     }
 }
 
-/// Puts so many items of a list in the place of as many of another that stands alone, which is tight or not then.
-fn put_items(alloc: Global, blocks: &mut Vec<Block>, front: Vec<Block>, count: usize, tight: bool)
-    requires { HasLists count (blocks_view front.items) (blocks_view blocks.old.items) }
-    ensures { blocks_view blocks.new.items ≡ put_blocks tight count (blocks_view front.items) (blocks_view blocks.old.items) }
+/// Puts items in a place of a list that stands alone, which is of this kind, and tight or not, then.
+fn put_items(
+    alloc: Global,
+    blocks: &mut Vec<Block>,
+    kind: Option<ListKind>,
+    tight: bool,
+    items: Vec<Item>,
+    place: Place,
+)
+    requires alone { IsAlone (blocks_view blocks.old.items) }
+    requires ordered { place.start ≤ place.end }
+    requires within { HasItems place.end (first_items (blocks_view blocks.old.items)) }
+    requires enough { HasItems (place.end - place.start) (items_view items.items) }
+    ensures { blocks_view blocks.new.items
+        ≡ list_of_kind tight (items_between place.start place.end (items_view items.items) (first_items (blocks_view blocks.old.items))) (option_map kind_view kind) }
 {
-    let kind = list_kind(&front);
-    let mut first = into_items(alloc, front);
-    let mut items = pop_items(alloc, blocks);
-    swap_fronts(&mut items, &mut first, count);
-    push_list(blocks, kind, tight, items);
+    let mut first = items;
+    let mut olds = pop_items(alloc, blocks);
+    swap_between(&mut olds, place.start, place.end, &mut first);
+    push_list(blocks, kind, tight, olds);
 }
 
 /// Takes a block out that stands alone, and its items, if it is a list.
@@ -146,34 +280,14 @@ fn push_list(blocks: &mut Vec<Block>, kind: Option<ListKind>, tight: bool, items
     }
 }
 
-/// Puts joins in the place of as many, and moves those behind them, which stood behind `from` and stand behind `to` then.
-fn put_joins(joins: &mut Vec<Join>, front: Vec<Join>, from: Join, to: Join)
-    requires { length front.items ≤ length joins.old.items }
-    ensures { map join_mark joins.new.items
-        ≡ map join_mark front.items ++ map (mark_further (join_mark from) (join_mark to)) (map join_mark (drop (length front.items) joins.old.items)) }
+/// Exchanges the members from `start` up to `end` with as many first ones of others.
+fn swap_between<T: Drop>(items: &mut Vec<T>, start: usize, end: usize, others: &mut Vec<T>)
+    requires ordered { start ≤ end }
+    requires within { end ≤ length items.old.items }
+    requires enough { end - start ≤ length others.old.items }
+    ensures { items.new.items ≡ parts_between start end others.old.items items.old.items }
 {
-    let mut front = front;
-    let count = front.len();
-    swap_fronts(joins, &mut front, count);
-    move_joins(&mut joins[count..], from, to);
-}
-
-/// Moves joins that stood behind `from` and stand behind `to` then.
-fn move_joins(joins: &mut [Join], from: Join, to: Join)
-    ensures { map join_mark joins.new ≡ map (mark_further (join_mark from) (join_mark to)) (map join_mark joins.old) }
-{
-    for i in 0..joins.len() {
-        joins[i] = moved(joins[i], from, to);
-    }
-}
-
-/// Exchanges so many first members.
-fn swap_fronts<T: Drop>(items: &mut Vec<T>, others: &mut Vec<T>, count: usize)
-    requires within { count ≤ length items.old.items }
-    requires enough { count ≤ length others.old.items }
-    ensures { items.new.items ≡ take count others.old.items ++ drop count items.old.items }
-{
-    for i in 0..count {
-        mem::swap(&mut items[i], &mut others[i]);
+    for i in 0..end - start {
+        mem::swap(&mut items[start + i], &mut others[i]);
     }
 }
