@@ -2,9 +2,9 @@ pub mod Attributes
 pub mod BlockHtml
 pub mod InlineHtml
 pub mod InlineWriting
+pub mod InsetLists
 pub mod TableHtml
 pub mod Limits
 pub mod ListEnds
-pub mod SplicedLists
 pub mod WrittenUnits
 pub mod held

@@ -24,9 +24,9 @@ mod thematic_breaks;
 mod unit_texts;
 mod unit_writer;
 
+pub use lists::inset_lists::{append_inset_anew, append_inset_list};
 pub use lists::item_ends::append_unit_ends;
 pub use lists::like_lists::{Like, append_unit_like};
-pub use lists::spliced_lists::append_spliced_list;
 pub use options::{Breaks, Options};
 pub use pieces::{append_unit_html, unit_html};
 pub use unit_writer::UnitWriter;

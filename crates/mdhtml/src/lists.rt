@@ -7,12 +7,12 @@ ghost use Rattle.mdblock.specs.Positions.{ItemsIn};
 ghost use Rattle.mdhtml.specs.held.UnitTexts.{shown_texts};
 ghost use Rattle.mdhtml.specs.BlockHtml.{block_html, fresh, list_open, list_close, numbered_open};
 
+pub(crate) mod inset_lists;
 pub(crate) mod item_ends;
 pub(crate) mod items;
 mod kept_items;
 pub(crate) mod like_lists;
 mod same_blocks;
-pub(crate) mod spliced_lists;
 pub(crate) mod task_list_items;
 
 use crate::lists::items::write_item;
