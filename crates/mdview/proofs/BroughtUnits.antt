@@ -12,12 +12,11 @@ use Rattle.mdsource.specs.UnitTexts.{trees_in}
 use Rattle.mdview.specs.HeldUnit.{HeldUnit, IsRendered}
 use Rattle.mdview.specs.JoinedLists.{GoesInto, IsJoined, texts_in_front}
 use Rattle.mdview.specs.KeptTexts.{IsKept, last_texts}
-use Rattle.mdview.specs.TextSetting.{AreReadFrom, DidReadIn, IsReadFrom, TextSetting}
+use Rattle.mdview.specs.TextSetting.{AreReadFrom, DidReadIn, TextSetting}
 use Rattle.mdview.specs.UnitsFound.{IsHeldOn, found_in, trees_found, with_list}
 use Rattle.mdview.specs.declared.blocks.reparse.Reparsed.{Reparsed}
 use Rattle.mdview.specs.UnitInsets.{FitsUnit, put_in}
 use Rattle.mdview.specs.Update.{IsInLast, with_inset}
-use Rattle.mdview.specs.declared.held.unit_insets.UnitInset.{UnitInset}
 use Rattle.mdview.specs.declared.inlines.brought_units.BroughtUnits.{BroughtUnits}
 use Rattle.mdview.specs.declared.inlines.spliced_lists.JoinedList.{JoinedList}
 use Rattle.mdview.specs.declared.inlines.spliced_lists.JoinedList.TheVariants.{Made, Inset}
@@ -78,8 +77,11 @@ module _ (s : TextSetting) (held : List HeldUnit) (r : Reparsed) (l : ListSeam) 
       let at : r.next - 1 ≡ w.number = omega (arith, next) in
       subst (λ o. IfSome o (GoesInto s l)) (sym (ap (slice_get held) at ∙ w.held)) (record {
         old = w.old;
+        own = w.stays.own;
         even = w.stays.even;
-        fits = w.fits;
+        fits = w.fits.0;
+        order = w.fits.1;
+        part = w.stays.ordered;
         alike = w.stays.alike;
         read = read_member (DidReadIn s) held w.number w.unit w.held read;
         rendered = read_member (IsRendered s.options) held w.number w.unit w.held rendered;

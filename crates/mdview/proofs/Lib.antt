@@ -35,6 +35,8 @@ pub mod Numbers
 pub mod HeldItems
 pub mod PassedItems
 pub mod ReadStretches
+pub mod FollowedLines
+pub mod FailedReadings
 pub mod EditPlaces
 pub mod CountedLaws
 pub mod Reparses

@@ -6,8 +6,8 @@ use Rattle.mdtext.specs.EntityTable.{EntityTable}
 use Rattle.blockspec.specs.BlockUnits.{begins, units}
 use Rattle.blockspec.specs.Nesting.{first_too_deep}
 use Rattle.mdblock.specs.FoundLists.{FoundList, found_unit}
-use Rattle.mdblock.specs.held.ReaderState.{ReaderState}
-use Rattle.mdblock.specs.held.Reads.{Reads, handed, open_begin}
+use Rattle.mdblock.specs.held.Following.{Follows, ItemReading}
+use Rattle.mdblock.specs.held.Reads.{handed, open_begin}
 use Rattle.mdchunks.specs.Sequences.{Sequence}
 use Rattle.mdsource.specs.Stretch.{from_line, is_meeting, meeting_line, units_before}
 use Rattle.mdsource.specs.UnitTiles.{IsAhead}
@@ -33,9 +33,9 @@ pub record AtLine (e : EntityTable) (text : NewText) (from first : ℕ) (held : 
   pub ahead : IsAhead (map lines_in held) (places_of e text).old_begins next.unit next.line (line_before (places_of e text) line)
 
 -- The reader takes it, and what was found has the unit that ends there.
-pub record LineRead (text : NewText) (before reader : ReaderState) (found_before found : List FoundList) (unit : Option FoundList) (line : ℕ) : Type 0 where
-  pub reads : (limit : ℕ) (e : EntityTable) (ls : List (List ℕ)) → Reads limit e before ls → Reads limit e reader (ls ++ get_or (lines_of text) line [] ∷ [])
-  pub hands : (limit : ℕ) (e : EntityTable) (ls : List (List ℕ)) → Reads limit e before ls
+pub record LineRead (text : NewText) (before reader : ItemReading) (found_before found : List FoundList) (unit : Option FoundList) (line : ℕ) : Type 0 where
+  pub reads : (limit : ℕ) (e : EntityTable) (ls : List (List ℕ)) → Follows limit e before ls → Follows limit e reader (ls ++ get_or (lines_of text) line [] ∷ [])
+  pub hands : (limit : ℕ) (e : EntityTable) (ls : List (List ℕ)) → Follows limit e before ls
       → handed e (ls ++ get_or (lines_of text) line [] ∷ []) ≡ handed e ls ++ option_to_list (option_map found_unit unit)
   pub pushed : found ≡ found_before ++ option_to_list unit
 
@@ -57,7 +57,7 @@ module _ (limit : ℕ) (e : EntityTable) (text : NewText) (from first : ℕ) (he
       (ap (λ n. is_at (line - n) (open_begin e (up_to_line e text line))) a.from_is)
 
   -- one begins there in both texts: there reading ends
-  pub met_there : first_too_deep limit (old_lines text) ≡ None → (before reader : ReaderState) (found_before found : List FoundList) (unit : Option FoundList) → LineRead text before reader found_before found unit line
+  pub met_there : first_too_deep limit (old_lines text) ≡ None → (before reader : ItemReading) (found_before found : List FoundList) (unit : Option FoundList) → LineRead text before reader found_before found unit line
       → ReadAbove limit e (lines_of text) (places_of e text) before (map found_unit found_before) line → true ≡ (begins_there && is_meeting (places_of e text) line)
       → (is_meeting (places_of e text) line ≡ true) × (meeting_line (places_of e text) ≡ line)
       × (map found_unit found ≡ units e (drop (from_line (places_of e text)) (take line (lines_of text)))) × (first_too_deep limit (lines_of text) ≡ None)
@@ -72,7 +72,7 @@ module _ (limit : ℕ) (e : EntityTable) (text : NewText) (from first : ℕ) (he
   unmet_there unmet there = elim (unmet_told begins_there (is_meeting (places_of e text) line) unmet) [ inl h ↦ absurd (told.1 h there) | inr h ↦ h ]
 
 -- The lines were read to the end of the text: no unit begins in both texts.
-pub record AtEnd (limit : ℕ) (e : EntityTable) (text : NewText) (from first : ℕ) (reader : ReaderState) (found : List FoundList) (line : ℕ) : Type 0 where
+pub record AtEnd (limit : ℕ) (e : EntityTable) (text : NewText) (from first : ℕ) (reader : ItemReading) (found : List FoundList) (line : ℕ) : Type 0 where
   pub from_is : from ≡ from_line (places_of e text)
   pub first_is : first ≡ units_before (places_of e text)
   pub last : line ≡ length (lines_of text)

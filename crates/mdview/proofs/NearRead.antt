@@ -11,10 +11,10 @@ use Rattle.blockspec.specs.Nesting.{first_too_deep}
 use Rattle.blockspec.specs.UnitTree.{FoundUnit, UnitTree}
 use Rattle.mdblock.specs.FoundLists.{FoundList, found_unit}
 use Rattle.mdblock.specs.Insets.{MayFit}
-use Rattle.mdblock.specs.Seams.{ListSeam}
-use Rattle.mdblock.specs.Spliced.{MeetsAt}
-use Rattle.mdblock.specs.held.ReaderState.{ReaderState}
-use Rattle.mdblock.specs.held.Reads.{Reads, handed}
+use Rattle.mdblock.specs.Fronted.{IsInOrder}
+use Rattle.mdblock.specs.Seams.{ListSeam, seam_front}
+use Rattle.mdblock.specs.held.Following.{Follows, ItemReading, MeetsIn}
+use Rattle.mdblock.specs.held.Reads.{handed}
 use Rattle.mdsource.specs.Stops.{near_line, stop_line}
 use Rattle.mdsource.specs.Stretch.{Places, from_line, meeting_line, units_before}
 use Rattle.mdsource.specs.UnitTexts.{trees_in}
@@ -71,7 +71,7 @@ IsPlaced first from line item r =
     (r.first ≡ first) × (r.from ≡ from) × (r.next ≡ min (item.number + 1) (2 ^ 64 - 1)) × (r.meet ≡ min (line + (item.unit.now.read.lines - (mark_in item).line)) (2 ^ 64 - 1))
 
 -- and of the list
-abbrev pub IsListed : ReaderState → (found : List FoundList) → HeldItem → Reparsed → Type 0
+abbrev pub IsListed : ItemReading → (found : List FoundList) → HeldItem → Reparsed → Type 0
 IsListed reader found item r =
     (list : FoundList) × (found_in r ≡ found ++ list ∷ []) × IsSpliced reader (list_in item.unit.now) item.item list × KeepsTexts reader item list r.kept
 
@@ -105,9 +105,9 @@ read_to_stop e text found is =
     let none : length (kept_texts None (trees_in (map found_unit found))) ≡ 0 = refl in
     omega (arith, many, sums, none)
 
-module _ (e : EntityTable) (text : NewText) (held : List HeldUnit) (limit : ℕ) (fits : first_too_deep limit (old_lines text) ≡ None) (reader : ReaderState) (found : List FoundList) (line : ℕ) (item : HeldItem)
+module _ (e : EntityTable) (text : NewText) (held : List HeldUnit) (limit : ℕ) (fits : first_too_deep limit (old_lines text) ≡ None) (reader : ItemReading) (found : List FoundList) (line : ℕ) (item : HeldItem)
     (s : StopsAt e text held item line) (of : IsItemOf held item) (few : length (lines_of text) ≤ 1000000) (few_held : length held < 2 ^ 64) (order : from_line (places_of e text) ≤ line)
-    (reads : Reads limit e reader (drop (from_line (places_of e text)) (take (line + 1) (lines_of text))))
+    (reads : Follows limit e reader (drop (from_line (places_of e text)) (take (line + 1) (lines_of text))))
     (out : map found_unit found ≡ handed e (drop (from_line (places_of e text)) (take (line + 1) (lines_of text))))
     (stands : All (StandsAt e (drop (from_line (places_of e text)) (take (line + 1) (lines_of text)))) found) where
   abbrev pub new : List (List ℕ)
@@ -125,12 +125,12 @@ module _ (e : EntityTable) (text : NewText) (held : List HeldUnit) (limit : ℕ)
   inside : (list : FoundList) → IsSpliced reader (list_in item.unit.now) item.item list → ReadInside limit e new (stops_of e text) s.before (map found_unit found) (list_in item.unit.now) item.item list
   inside list spliced =
       read_inside limit e (old_lines text) new (stops_of e text) (is_stop e text) s.small s.inside s.before s.one s.back (list_in item.unit.now) item.item s.holds fits reader (map found_unit found) list
-      (subst (λ n. Reads limit e reader (drop from (take (n + 1) new))) (sym s.near) reads) (out ∙ ap (λ n. handed e (drop from (take (n + 1) new))) (sym s.near)) spliced s.behind
+      (subst (λ n. Follows limit e reader (drop from (take (n + 1) new))) (sym s.near) reads) (out ∙ ap (λ n. handed e (drop from (take (n + 1) new))) (sym s.near)) spliced s.behind
 
-  there : (P : Type 0) → ((limit : ℕ) (e : EntityTable) (xs : List (List ℕ)) (l : List ℕ) (zs ys : List (List ℕ)) → MeetsAt limit e reader (list_in item.unit.now) item.item xs l zs ys → P) → P
+  there : (P : Type 0) → ((limit : ℕ) (e : EntityTable) (xs : List (List ℕ)) (l : List ℕ) (zs ys : List (List ℕ)) → MeetsIn limit e reader (list_in item.unit.now) item.item xs l zs ys → P) → P
   there P told =
       met_inside limit e (old_lines text) new (stops_of e text) (is_stop e text) s.small s.inside s.before s.one s.back (list_in item.unit.now) item.item s.holds reader
-      (subst (λ n. Reads limit e reader (drop from (take (n + 1) new))) (sym s.near) reads) P told
+      (subst (λ n. Follows limit e reader (drop from (take (n + 1) new))) (sym s.near) reads) P told
 
   kept_is : (list : FoundList) (kept : Option KeptTexts) → KeepsTexts reader item list kept → kept ≡ Some (kept_of item list)
   kept_is list kept keeps = there (kept ≡ Some (kept_of item list)) keeps
@@ -215,7 +215,7 @@ module _ (e : EntityTable) (text : NewText) (held : List HeldUnit) (limit : ℕ)
         kept = w.kept;
         old = w.old;
         stays = w.stays;
-        fits = there (MayFit list.front list.old list.join) w.fits;
+        fits = there (MayFit (seam_front list) list.old list.join × IsInOrder list.base) w.fits;
       }) seam
 
   pub joined_order : (r : Reparsed) → IsPlaced (units_before p) from line item r → IsListed reader found item r → (r.first ≤ r.next) × (r.next ≤ length held)

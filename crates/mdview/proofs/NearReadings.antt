@@ -10,8 +10,8 @@ use Rattle.blockspec.specs.Nesting.{first_too_deep}
 use Rattle.blockspec.specs.UnitTree.{FoundUnit}
 use Rattle.blockspec.proofs.NestingLaws.{moved_on}
 use Rattle.mdblock.specs.FoundLists.{FoundList, StandsForUnit, found_unit}
-use Rattle.mdblock.specs.held.ReaderState.{ReaderState}
-use Rattle.mdblock.specs.held.Reads.{Reads, handed}
+use Rattle.mdblock.specs.held.Following.{Follows, ItemReading, MeetsIn}
+use Rattle.mdblock.specs.held.Reads.{handed}
 use Rattle.mdsource.specs.StoppedInside.{HoldsLine, IsStoppedIn}
 use Rattle.mdsource.specs.Stops.{Stops, near_line}
 use Rattle.mdsource.specs.UnitItems.{own_lines}
@@ -20,10 +20,10 @@ use Rattle.mdsource.proofs.NearLines.{IsStop}
 use Rattle.mdsource.proofs.NearStretch.{joins_told, line_more, near_above, near_there}
 use Rattle.mdsource.proofs.StoppedLists.{stopped_in}
 use Rattle.mdsource.specs.Stretch.{Places, from_line, meeting_line, old_line, units_before, units_removed}
-use Rattle.mdsource.proofs.ReadLines.{none_deep}
 use Rattle.mdview.specs.HeldItems.{IsSpliced}
 use Rattle.mdview.specs.HeldUnit.{texts_in}
-use Rattle.mdblock.specs.Spliced.{MeetsAt, mark_at}
+use Rattle.mdblock.specs.Spliced.{mark_at}
+use Rattle.mdview.proofs.FollowedLines.{gi_none_deep}
 use Rattle.mdview.proofs.JoinedTexts.{texts_joined}
 
 last_line : (xs : List (List ℕ)) (a b : List ℕ) → xs ++ a ∷ [] ≡ xs ++ b ∷ [] → a ≡ b
@@ -103,19 +103,19 @@ module _ (limit : ℕ) (e : EntityTable) (old new : List (List ℕ)) (s : Stops)
   same : get_or new near [] ≡ l
   same = last_line xs (get_or new near []) l (sym (line_more new (from_line p) near [] (near_above e old new s w) below) ∙ more)
 
-  meets : (reader : ReaderState) → Reads limit e reader (drop (from_line p) (take (near + 1) new)) → MeetsAt limit e reader f k xs l zs ys
-  meets reader reads = (subst (Reads limit e reader) more reads, subst (StandsForUnit e f) olds h.stands, sym size)
+  meets : (reader : ItemReading) → Follows limit e reader (drop (from_line p) (take (near + 1) new)) → MeetsIn limit e reader f k xs l zs ys
+  meets reader reads = (subst (Follows limit e reader) more reads, subst (StandsForUnit e f) olds h.stands, sym size)
 
   -- what holds where the item begins in the last line that was read
-  pub met_inside : (reader : ReaderState) → Reads limit e reader (drop (from_line p) (take (near + 1) new)) → (P : Type 0)
-      → ((limit : ℕ) (e : EntityTable) (xs : List (List ℕ)) (l : List ℕ) (zs ys : List (List ℕ)) → MeetsAt limit e reader f k xs l zs ys → P) → P
+  pub met_inside : (reader : ItemReading) → Follows limit e reader (drop (from_line p) (take (near + 1) new)) → (P : Type 0)
+      → ((limit : ℕ) (e : EntityTable) (xs : List (List ℕ)) (l : List ℕ) (zs ys : List (List ℕ)) → MeetsIn limit e reader f k xs l zs ys → P) → P
   met_inside reader reads P told = told limit e xs l zs ys (meets reader reads)
 
   joined : joins_list (map document_line xs) (document_line l) ≡ true
   joined = ap (λ d. joins_list (map document_line xs) (document_line d)) (sym same) ∙ (joins_told e old new p w.edit_there near [] (near_above e old new s w) below).0 (near_there e old new s w below).0
 
-  pub read_inside : first_too_deep limit old ≡ None → (reader : ReaderState) (found : List FoundUnit) (list : FoundList)
-      → Reads limit e reader (drop (from_line p) (take (near + 1) new)) → found ≡ handed e (drop (from_line p) (take (near + 1) new)) → IsSpliced reader f k list
+  pub read_inside : first_too_deep limit old ≡ None → (reader : ItemReading) (found : List FoundUnit) (list : FoundList)
+      → Follows limit e reader (drop (from_line p) (take (near + 1) new)) → found ≡ handed e (drop (from_line p) (take (near + 1) new)) → IsSpliced reader f k list
       → p.at + p.come ≤ near → ReadInside limit e new s before found f k list
   read_inside fits reader found list reads is spliced behind =
       let r = spliced limit e xs l zs ys (meets reader reads) in
@@ -132,7 +132,7 @@ module _ (limit : ℕ) (e : EntityTable) (old new : List (List ℕ)) (s : Stops)
         meet = omega (arith, ends, item, lines, behind, small, short);
         found_is = sym all ∙ ap (units e) news;
         stands = subst (λ ls. StandsForUnit e list (drop list.begin ls)) news r.2;
-        fits = near_deep e limit old new s w fits ∙ ap (moved_on (from_line p)) (none_deep limit e reader (drop (from_line p) (take (near + 1) new)) reads);
+        fits = near_deep e limit old new s w fits ∙ ap (moved_on (from_line p)) (gi_none_deep limit e reader (drop (from_line p) (take (near + 1) new)) reads);
         texts =
             let front = ap (sum_by (λ (one : FoundUnit). texts_in one.unit)) t.front in
             let last = sum_by-cons (λ (one : FoundUnit). texts_in one.unit) t.last [] in

@@ -12,7 +12,7 @@ use Rattle.mdtext.specs.EntityTable.{EntityTable}
 use Rattle.blockspec.specs.BlockUnits.{begins, units}
 use Rattle.blockspec.specs.UnitTree.{FoundUnit}
 use Rattle.blockspec.specs.Joins.{is_joined, joins}
-use Rattle.mdblock.specs.held.ReaderState.{ReaderState}
+use Rattle.mdblock.specs.held.Following.{ItemReading}
 use Rattle.mdsource.specs.Stops.{Stops, is_near, lines_to_stop, near_line, stop_line}
 use Rattle.mdsource.specs.UnitItems.{own_lines}
 use Rattle.mdsource.proofs.NearLines.{IsStop}
@@ -44,7 +44,7 @@ is_stop e text = record { edit_there = is_edit e text; olds = refl; news = refl 
 
 -- ---- how many lines are read
 
-pub few_soon : (e : EntityTable) (text : NewText) (limit : ℕ) (reader : ReaderState) (found : List FoundUnit) (line : ℕ) → line ≤ length (lines_of text) → line ≤ near_line (stops_of e text)
+pub few_soon : (e : EntityTable) (text : NewText) (limit : ℕ) (reader : ItemReading) (found : List FoundUnit) (line : ℕ) → line ≤ length (lines_of text) → line ≤ near_line (stops_of e text)
     → ReadAbove limit e (lines_of text) (places_of e text) reader found line → (line - from_line (places_of e text)) + 1 ≤ lines_to_stop (stops_of e text)
 few_soon e text limit reader found line below near s =
     let later = meets_later e (old_lines text) (lines_of text) (places_of e text) (is_edit e text) line below s.none in
@@ -142,7 +142,7 @@ is_behind s line h = by (nat_le (s.places.at + s.places.come) line) refl h
     by true k h = grind (arith, nat_tests, k)
     by false k h = cc
 
-pub stops_at : (e : EntityTable) (text : NewText) (head : ℕ) (held : List HeldUnit) (limit : ℕ) (reader : ReaderState) (found : List FoundUnit) (line : ℕ) (item : HeldItem)
+pub stops_at : (e : EntityTable) (text : NewText) (head : ℕ) (held : List HeldUnit) (limit : ℕ) (reader : ItemReading) (found : List FoundUnit) (line : ℕ) (item : HeldItem)
     → HoldsUnits e (old_lines text) head (map read_of held) → from_line (places_of e text) ≤ line → line < length (lines_of text) → line ≤ near_line (stops_of e text)
     → ReadAbove limit e (lines_of text) (places_of e text) reader found line → IsItemOf held item → IsItemAt (begins e (old_lines text)) (line_before (places_of e text) line) item
     → true ≡ (is_joined e (drop (from_line (places_of e text)) (take (line + 1) (lines_of text))) && is_near (stops_of e text) line) → StopsAt e text held item line

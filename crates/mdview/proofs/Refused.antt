@@ -2,7 +2,7 @@
 use Rattle.std.proofs.Common.{◌≡◌, Bool, Result}
 use Rattle.std.specs.Result.{IsErrAnd}
 use Rattle.mdinline.specs.declared.faults.InlineFault.{InlineFault}
-use Rattle.mdinline.specs.declared.faults.InlineFault.TheVariants.{NoMemory, TooDeep}
+use Rattle.mdinline.specs.declared.faults.InlineFault.TheVariants.{NoMemory}
 use Rattle.mdview.specs.TextSetting.{TellsDeep}
 use Rattle.mdview.proofs.ToldTexts.{told_deep}
 

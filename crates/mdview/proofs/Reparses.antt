@@ -14,14 +14,13 @@ use Rattle.blockspec.specs.UnitTree.{FoundUnit}
 use Rattle.mdblock.specs.FoundLists.{FoundList, StandsForUnit, found_unit}
 use Rattle.mdblock.specs.declared.faults.BlockFault.{BlockFault}
 use Rattle.mdblock.specs.declared.faults.BlockFault.TheVariants as block
-use Rattle.mdblock.specs.held.ReaderState.{ReaderState}
-use Rattle.mdblock.specs.held.Reads.{Reads, handed, open_begin}
+use Rattle.mdblock.specs.held.Following.{Follows, ItemReading}
+use Rattle.mdblock.specs.held.Reads.{handed, open_begin}
 use Rattle.mdsource.specs.Stretch.{Places, count_between, from_line, is_meeting, lines_read, meeting_line, old_line, units_before, units_removed}
 use Rattle.mdsource.specs.UnitTiles.{IsAhead, begins_from}
 use Rattle.blockspec.proofs.NestingLaws.{moved_on}
 use Rattle.mdsource.proofs.Cuts.{begins_before_end, begins_within}
 use Rattle.mdsource.proofs.Depths.{deep_spliced}
-use Rattle.mdsource.proofs.ReadLines.{none_deep}
 use Rattle.mdsource.proofs.Splices.{IsEdit, from_above}
 use Rattle.mdsource.proofs.StretchEnds.{counts_join, deep_here, fits_before, handed_above}
 use Rattle.mdsource.proofs.StretchReadings.{meets_at, meets_nowhere}
@@ -32,6 +31,7 @@ use Rattle.mdview.specs.HeldLists.{StandsAt}
 use Rattle.mdview.specs.HeldUnit.{HeldUnit, read_of}
 use Rattle.mdview.specs.NewText.{lines_of}
 use Rattle.mdview.specs.declared.source.new_text.NewText.{NewText}
+use Rattle.mdview.proofs.FollowedLines.{gi_none_deep}
 use Rattle.mdview.proofs.EditPlaces.{begins_are, begins_many}
 use Rattle.mdview.proofs.ListsStand.{all_longer, stands_pushed}
 use Rattle.mdview.proofs.ReadStretches.{is_edit, meets_later, none_more, stretch_next, stretch_rest, stretch_size, tells_begin}
@@ -49,8 +49,8 @@ stands_read e new from line d old found unit order below is last all =
     (all_longer e (drop from (take line new)) (get_or new line d ∷ []) found (stands_pushed e (drop from (take line new)) old found unit is last all))
 
 -- What was read above a line: no unit begins in both texts there.
-pub record ReadAbove (limit : ℕ) (e : EntityTable) (new : List (List ℕ)) (p : Places) (reader : ReaderState) (found : List FoundUnit) (line : ℕ) : Type 0 where
-  pub reads : Reads limit e reader (drop (from_line p) (take line new))
+pub record ReadAbove (limit : ℕ) (e : EntityTable) (new : List (List ℕ)) (p : Places) (reader : ItemReading) (found : List FoundUnit) (line : ℕ) : Type 0 where
+  pub reads : Follows limit e reader (drop (from_line p) (take line new))
   pub handed_out : found ≡ handed e (drop (from_line p) (take line new))
   pub none : (before : ℕ) → Contains (begins e new) before → before < line → is_meeting p before ≡ false
 
@@ -62,15 +62,15 @@ module _ (limit : ℕ) (e : EntityTable) (old new : List (List ℕ)) (p : Places
   in_new = let a = w.fits in let b = w.sizes in omega (arith, a, b)
 
   -- one line more
-  pub read_next : (old_reader reader : ReaderState) (old_found found : List FoundUnit) (unit : Option FoundUnit) (line : ℕ) (d : List ℕ) → from_line p ≤ line → line < length new
-      → ((limit : ℕ) (e : EntityTable) (ls : List (List ℕ)) → Reads limit e old_reader ls → Reads limit e reader (ls ++ get_or new line d ∷ []))
-      → ((limit : ℕ) (e : EntityTable) (ls : List (List ℕ)) → Reads limit e old_reader ls → handed e (ls ++ get_or new line d ∷ []) ≡ handed e ls ++ option_to_list unit)
+  pub read_next : (old_reader reader : ItemReading) (old_found found : List FoundUnit) (unit : Option FoundUnit) (line : ℕ) (d : List ℕ) → from_line p ≤ line → line < length new
+      → ((limit : ℕ) (e : EntityTable) (ls : List (List ℕ)) → Follows limit e old_reader ls → Follows limit e reader (ls ++ get_or new line d ∷ []))
+      → ((limit : ℕ) (e : EntityTable) (ls : List (List ℕ)) → Follows limit e old_reader ls → handed e (ls ++ get_or new line d ∷ []) ≡ handed e ls ++ option_to_list unit)
       → found ≡ old_found ++ option_to_list unit → (Contains (begins e new) line → is_meeting p line ≡ false) → ReadAbove limit e new p old_reader old_found line
       → ReadAbove limit e new p reader found (line + 1)
   read_next old_reader reader old_found found unit line d order below reads hands pushed here s =
       let next = stretch_next new (from_line p) line d order below in
       record {
-        reads = subst (Reads limit e reader) (sym next) (reads limit e (drop (from_line p) (take line new)) s.reads);
+        reads = subst (Follows limit e reader) (sym next) (reads limit e (drop (from_line p) (take line new)) s.reads);
         handed_out = pushed ∙ ap (λ z. z ++ option_to_list unit) s.handed_out ∙ sym (hands limit e (drop (from_line p) (take line new)) s.reads) ∙ ap (handed e) (sym next);
         none = none_more e new p line s.none here;
       }
@@ -98,8 +98,8 @@ module _ (limit : ℕ) (e : EntityTable) (old new : List (List ℕ)) (p : Places
       no : true ≡ false → ⊥
       no h = cc
 
-  pub deep_at : first_too_deep limit old ≡ None → (reader : ReaderState) (found : List FoundUnit) (line : ℕ) (d : List ℕ) → from_line p ≤ line → line < length new
-      → ((limit : ℕ) (e : EntityTable) (ls : List (List ℕ)) → Reads limit e reader ls → first_too_deep limit (ls ++ get_or new line d ∷ []) ≡ Some (length ls))
+  pub deep_at : first_too_deep limit old ≡ None → (reader : ItemReading) (found : List FoundUnit) (line : ℕ) (d : List ℕ) → from_line p ≤ line → line < length new
+      → ((limit : ℕ) (e : EntityTable) (ls : List (List ℕ)) → Follows limit e reader ls → first_too_deep limit (ls ++ get_or new line d ∷ []) ≡ Some (length ls))
       → ReadAbove limit e new p reader found line → first_too_deep limit new ≡ Some line
   deep_at fits reader found line d order below deep s =
       let ls = drop (from_line p) (take line new) in
@@ -109,12 +109,12 @@ module _ (limit : ℕ) (e : EntityTable) (old new : List (List ℕ)) (p : Places
       ∙ ap (λ z. Some z) place
 
   -- how many lines are read so far
-  pub few_read : (reader : ReaderState) (found : List FoundUnit) (line : ℕ) → line ≤ length new → ReadAbove limit e new p reader found line → (line - from_line p) + 1 ≤ lines_read p
+  pub few_read : (reader : ItemReading) (found : List FoundUnit) (line : ℕ) → line ≤ length new → ReadAbove limit e new p reader found line → (line - from_line p) + 1 ≤ lines_read p
   few_read reader found line below s = let later = meets_later e old new p w line below s.none in omega (arith, later)
 
   -- ---- where a unit begins in both texts
 
-  pub met : (line : ℕ) → Contains (begins e new) line → is_meeting p line ≡ true → (reader : ReaderState) (found : List FoundUnit) → ReadAbove limit e new p reader found line → meeting_line p ≡ line
+  pub met : (line : ℕ) → Contains (begins e new) line → is_meeting p line ≡ true → (reader : ItemReading) (found : List FoundUnit) → ReadAbove limit e new p reader found line → meeting_line p ≡ line
   met line c is reader found s = meets_at e old new p w line c is s.none
 
   pub found_above : (line : ℕ) (d : List ℕ) → from_line p ≤ line → line < length new → Contains (begins e new) line
@@ -148,7 +148,7 @@ module _ (limit : ℕ) (e : EntityTable) (old new : List (List ℕ)) (p : Places
 
   -- ---- at the end
 
-  pub ended : (reader : ReaderState) (found : List FoundUnit) → ReadAbove limit e new p reader found (length new) → meeting_line p ≡ length new
+  pub ended : (reader : ItemReading) (found : List FoundUnit) → ReadAbove limit e new p reader found (length new) → meeting_line p ≡ length new
   ended reader found s = meets_nowhere e old new p w (λ line c. s.none line c (begins_before_end e new line c))
 
   pub next_ends : (unit : ℕ) → unit ≡ length (begins e old) → meeting_line p ≡ length new → unit ≡ units_before p + units_removed p
@@ -165,8 +165,8 @@ module _ (limit : ℕ) (e : EntityTable) (old new : List (List ℕ)) (p : Places
       all ∙ ap (count_between 0 (length old)) (sym w.olds) ∙ counts_join (from_line p) (length old) p.old_begins order
       ∙ ap (λ z. count_between 0 (from_line p) p.old_begins + count_between (from_line p) z p.old_begins) was
 
-  pub found_all : (old_found found : List FoundUnit) (unit : Option FoundUnit) (reader : ReaderState) → found ≡ old_found ++ option_to_list unit
-      → ((limit : ℕ) (e : EntityTable) (ls : List (List ℕ)) → Reads limit e reader ls → units e ls ≡ handed e ls ++ option_to_list unit)
+  pub found_all : (old_found found : List FoundUnit) (unit : Option FoundUnit) (reader : ItemReading) → found ≡ old_found ++ option_to_list unit
+      → ((limit : ℕ) (e : EntityTable) (ls : List (List ℕ)) → Follows limit e reader ls → units e ls ≡ handed e ls ++ option_to_list unit)
       → ReadAbove limit e new p reader old_found (length new) → found ≡ units e (drop (from_line p) (take (length new) new))
   found_all old_found found unit reader pushed hands s =
       pushed ∙ ap (λ z. z ++ option_to_list unit) s.handed_out ∙ sym (hands limit e (drop (from_line p) (take (length new) new)) s.reads)
@@ -178,11 +178,11 @@ module _ (limit : ℕ) (e : EntityTable) (old new : List (List ℕ)) (p : Places
       ∙ ap (λ z. moved_on (from_line p) (first_too_deep limit (drop (from_line p) (take z new)))) meet
       ∙ ap (moved_on (from_line p)) none
 
-  pub fits_above : (reader : ReaderState) (found : List FoundUnit) (line : ℕ) (d : List ℕ) → from_line p ≤ line → line < length new → ReadAbove limit e new p reader found (line + 1)
+  pub fits_above : (reader : ItemReading) (found : List FoundUnit) (line : ℕ) (d : List ℕ) → from_line p ≤ line → line < length new → ReadAbove limit e new p reader found (line + 1)
       → first_too_deep limit (drop (from_line p) (take line new)) ≡ None
   fits_above reader found line d order below s =
       fits_before limit (drop (from_line p) (take line new)) (get_or new line d ∷ [])
-      (ap (first_too_deep limit) (sym (stretch_next new (from_line p) line d order below)) ∙ none_deep limit e reader (drop (from_line p) (take (line + 1) new)) s.reads)
+      (ap (first_too_deep limit) (sym (stretch_next new (from_line p) line d order below)) ∙ gi_none_deep limit e reader (drop (from_line p) (take (line + 1) new)) s.reads)
 
 -- where a unit begins in both texts in the last line that was read, and where not
 pub met_told : (told meeting : Bool) → true ≡ (told && meeting) → (told ≡ true) × (meeting ≡ true)
@@ -196,16 +196,16 @@ unmet_told true false h = inr refl
 unmet_told false meeting h = inl refl
 
 pub met_all : (limit : ℕ) (e : EntityTable) (old new : List (List ℕ)) (p : Places) (w : IsEdit e old new p) → first_too_deep limit old ≡ None
-    → (old_reader reader : ReaderState) (old_found found : List FoundUnit) (unit : Option FoundUnit) (line : ℕ) (d : List ℕ) → from_line p ≤ line → line < length new
-    → ((limit : ℕ) (e : EntityTable) (ls : List (List ℕ)) → Reads limit e old_reader ls → Reads limit e reader (ls ++ get_or new line d ∷ []))
-    → ((limit : ℕ) (e : EntityTable) (ls : List (List ℕ)) → Reads limit e old_reader ls → handed e (ls ++ get_or new line d ∷ []) ≡ handed e ls ++ option_to_list unit)
+    → (old_reader reader : ItemReading) (old_found found : List FoundUnit) (unit : Option FoundUnit) (line : ℕ) (d : List ℕ) → from_line p ≤ line → line < length new
+    → ((limit : ℕ) (e : EntityTable) (ls : List (List ℕ)) → Follows limit e old_reader ls → Follows limit e reader (ls ++ get_or new line d ∷ []))
+    → ((limit : ℕ) (e : EntityTable) (ls : List (List ℕ)) → Follows limit e old_reader ls → handed e (ls ++ get_or new line d ∷ []) ≡ handed e ls ++ option_to_list unit)
     → found ≡ old_found ++ option_to_list unit → Contains (begins e new) line → is_meeting p line ≡ true → ReadAbove limit e new p old_reader old_found line
     → (meeting_line p ≡ line) × (found ≡ units e (drop (from_line p) (take line new))) × (first_too_deep limit new ≡ None)
 met_all limit e old new p w fits old_reader reader old_found found unit line d order below reads hands pushed c is s =
     let ls = drop (from_line p) (take line new) in
     let next = stretch_next new (from_line p) line d order below in
     let meet = met limit e old new p w line c is old_reader old_found s in
-    let deep = fits_before limit ls (get_or new line d ∷ []) (none_deep limit e reader (ls ++ get_or new line d ∷ []) (reads limit e ls s.reads)) in
+    let deep = fits_before limit ls (get_or new line d ∷ []) (gi_none_deep limit e reader (ls ++ get_or new line d ∷ []) (reads limit e ls s.reads)) in
     let out : found ≡ handed e (drop (from_line p) (take (line + 1) new)) =
     pushed ∙ ap (λ z. z ++ option_to_list unit) s.handed_out ∙ sym (hands limit e ls s.reads) ∙ ap (handed e) (sym next) in
     (meet, found_above limit e old new p w line d order below c found out, new_fits limit e old new p w fits line meet deep)

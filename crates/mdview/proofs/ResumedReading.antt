@@ -13,8 +13,8 @@ use Rattle.blockspec.specs.UnitTree.{FoundUnit}
 use Rattle.blockspec.specs.ItemMarks.{ItemMark}
 use Rattle.mdblock.specs.FoundLists.{FoundList, StandsForUnit}
 use Rattle.mdblock.specs.Spliced.{mark_at}
-use Rattle.mdblock.specs.held.ReaderState.{ReaderState}
-use Rattle.mdblock.specs.held.Reads.{Reads, handed}
+use Rattle.mdblock.specs.held.Following.{Follows, ItemReading, fed_in}
+use Rattle.mdblock.specs.held.Reads.{handed}
 use Rattle.mdsource.specs.MetInside.{first_line as first_begin}
 use Rattle.mdsource.specs.Stops.{Stops, lines_to_stop, near_line}
 use Rattle.mdsource.specs.UnitItems.{own_lines}
@@ -96,7 +96,7 @@ module _ (e : EntityTable) (old new : List (List ℕ)) (p : Places) (w : IsEdit 
   same_above n above = sym (take-take n p.at new above) ∙ ap (take n) w.front ∙ take-take n p.at old above
 
   -- no unit begins in both texts up to the edit
-  pub res_above : (limit : ℕ) (reader : ReaderState) (found : List FoundUnit) (line : ℕ) → line ≤ p.at → Reads limit e reader (drop (from_line p) (take line new))
+  pub res_above : (limit : ℕ) (reader : ItemReading) (found : List FoundUnit) (line : ℕ) → line ≤ p.at → Follows limit e reader (drop (from_line p) (take line new))
       → handed e (drop (from_line p) (take line new)) ≡ [] → found ≡ [] → ReadAbove limit e new p reader found line
   res_above limit reader found line above reads none empty = record {
     reads = reads;
@@ -105,13 +105,13 @@ module _ (e : EntityTable) (old new : List (List ℕ)) (p : Places) (w : IsEdit 
   }
 
   -- A new reader has read nothing.
-  pub res_new : (limit : ℕ) (reader : ReaderState) (from : ℕ) → from ≤ p.at → reader.fed ≡ 0 → Reads limit e reader []
-      → (from + reader.fed ≤ p.at) × Reads limit e reader (drop from (take (from + reader.fed) new)) × (handed e (drop from (take (from + reader.fed) new)) ≡ [])
+  pub res_new : (limit : ℕ) (reader : ItemReading) (from : ℕ) → from ≤ p.at → fed_in reader ≡ 0 → Follows limit e reader []
+      → (from + fed_in reader ≤ p.at) × Follows limit e reader (drop from (take (from + fed_in reader) new)) × (handed e (drop from (take (from + fed_in reader) new)) ≡ [])
   res_new limit reader from above fed reads =
-      let at : from + reader.fed ≡ from = omega (arith, fed) in
+      let at : from + fed_in reader ≡ from = omega (arith, fed) in
       let inside = in_new limit e old new p w in
-      let empty : drop from (take (from + reader.fed) new) ≡ [] = ap (λ n. drop from (take n new)) at ∙ stretch_none new from (omega (arith, above, inside)) in
-      (omega (arith, at, above), subst (Reads limit e reader) (sym empty) reads, ap (handed e) empty ∙ none_handed e)
+      let empty : drop from (take (from + fed_in reader) new) ≡ [] = ap (λ n. drop from (take n new)) at ∙ stretch_none new from (omega (arith, above, inside)) in
+      (omega (arith, at, above), subst (Follows limit e reader) (sym empty) reads, ap (handed e) empty ∙ none_handed e)
 
 -- Reading may stop inside a list only behind the edit.
 pub res_near : (e : EntityTable) (old new : List (List ℕ)) (s : Stops) → IsStop e old new s → s.places.at ≤ near_line s
@@ -221,17 +221,17 @@ module _ (e : EntityTable) (limit : ℕ) (old new : List (List ℕ)) (p : Places
   res_given list same resumed text is given =
       let f = as_found list same text is in given zs ys f.joined f.stands f.placed f.fit
 
-  pub res_read : (list : FoundList) → unplaced list ≡ list_in u → (reader : ReaderState) (text : List ℕ) → text ≡ get_or new (from + (mark_at u.read.items k).line) []
-      → reader.fed ≡ (mark_at list.marks k).line + 1
+  pub res_read : (list : FoundList) → unplaced list ≡ list_in u → (reader : ItemReading) (text : List ℕ) → text ≡ get_or new (from + (mark_at u.read.items k).line) []
+      → fed_in reader ≡ (mark_at list.marks k).line + 1
       → ((zs ys : List (List ℕ)) → StandsForUnit e list (zs ++ text ∷ ys) → (mark_at list.marks k).line ≡ length zs → first_too_deep limit (zs ++ text ∷ ys) ≡ None
-      → Reads limit e reader (zs ++ text ∷ []))
-      → (from + reader.fed ≤ p.at) × Reads limit e reader (drop from (take (from + reader.fed) new)) × (handed e (drop from (take (from + reader.fed) new)) ≡ [])
+      → Follows limit e reader (zs ++ text ∷ []))
+      → (from + fed_in reader ≤ p.at) × Follows limit e reader (drop from (take (from + fed_in reader) new)) × (handed e (drop from (take (from + fed_in reader) new)) ≡ [])
   res_read list same reader text is fed reads =
       let f = as_found list same text is in
       let placed = f.mark_is in
-      let at : from + reader.fed ≡ line + 1 = omega (arith, fed, placed) in
-      let read : drop from (take (from + reader.fed) new) ≡ zs ++ text ∷ [] = ap (λ n. drop from (take n new)) at ∙ next ∙ ap (λ t. zs ++ t ∷ []) (sym is) in (
+      let at : from + fed_in reader ≡ line + 1 = omega (arith, fed, placed) in
+      let read : drop from (take (from + fed_in reader) new) ≡ zs ++ text ∷ [] = ap (λ n. drop from (take n new)) at ∙ next ∙ ap (λ t. zs ++ t ∷ []) (sym is) in (
         omega (arith, at, above),
-        subst (Reads limit e reader) (sym read) (reads zs ys f.stands f.placed f.fit),
+        subst (Follows limit e reader) (sym read) (reads zs ys f.stands f.placed f.fit),
         ap (handed e) (read ∙ ap (λ t. zs ++ t ∷ []) is) ∙ none,
       )

@@ -1,8 +1,9 @@
 -- Which lines units that were found, or are held, stand for.
-use Rattle.std.specs.Prelude.{ℕ, List, [], ◌∷◌, drop, take}
+use Rattle.std.specs.Prelude.{ℕ, ◌≡◌, List, [], ◌∷◌, IfSome, Option, drop, take}
 use Rattle.mdtext.specs.EntityTable.{EntityTable}
 use Rattle.blockspec.specs.ItemMarks.{ItemMark}
 use Rattle.mdblock.specs.FoundLists.{FoundList, StandsForUnit}
+use Rattle.mdblock.specs.Fronted.{ListBase}
 use Rattle.mdview.specs.HeldUnit.{HeldUnit, ReadUnit}
 
 -- a unit that was found, without its place
@@ -16,6 +17,10 @@ list_read u = record { begin = 0; lines = u.lines; unit = u.unit; marks = u.item
 -- the same of a unit that is held
 abbrev pub list_in : HeldUnit → FoundList
 list_in u = list_read u.read
+
+-- what stays of a list, if anything does, is this unit's
+abbrev pub IsBaseIn : HeldUnit → Option ListBase → Type 0
+IsBaseIn u base = IfSome base (λ b. unplaced b.list ≡ list_in u)
 
 abbrev pub list_lines : FoundList → ℕ
 list_lines f = f.lines

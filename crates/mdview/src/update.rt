@@ -262,7 +262,7 @@ fn head_of(found: &[Found], list: Option<&Seam<'_>>, meet: usize) -> usize
         return one.begin();
     }
     match list {
-        Some(list) => list.front().begin(),
+        Some(list) => list.begin(),
         None => meet,
     }
 }

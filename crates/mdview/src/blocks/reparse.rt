@@ -1,38 +1,35 @@
 //! Reads the lines again that an edit may have changed the blocks of.
 
-ghost use Rattle.std.specs.Prelude.{◌≡◌, ◌≤◌, ◌+◌, ◌<◌, ◌-◌, ◌^◌, ◌++◌, ◌&&◌, ◌∷◌, ℕ, List, None, Some, IfErr, IfOk, IfSome, OnErr, OnOk, [], drop, is_some, length, map, min, sum_by, take, true};
+ghost use Rattle.std.specs.Prelude.{◌≡◌, ◌≤◌, ◌+◌, ◌<◌, ◌-◌, ◌++◌, ◌&&◌, ◌∷◌, ℕ, List, None, IfErr, IfOk, IfSome, OnErr, OnOk, [], drop, is_some, length, map, take, true};
 ghost use Rattle.std.specs.Option.{option_to_list};
 ghost use Rattle.mdtext.specs.EntityTable.{EntityTable, usual_table};
-ghost use Rattle.blockspec.specs.BlockUnits.{begins, units};
+ghost use Rattle.blockspec.specs.BlockUnits.{begins};
 ghost use Rattle.blockspec.specs.Nesting.{first_too_deep};
 ghost use Rattle.blockspec.specs.Joins.{is_joined};
 ghost use Rattle.mdsource.specs.Stops.{is_near, lines_to_stop};
-ghost use Rattle.mdblock.specs.FoundLists.{FoundList};
-ghost use Rattle.mdblock.specs.Insets.{MayFit};
-ghost use Rattle.mdblock.specs.Seams.{seam_list};
+ghost use Rattle.mdblock.specs.held.Following.{Follows, IsPast, fed_in};
 ghost use Rattle.mdblock.specs.held.ReaderState.{held_joined};
-ghost use Rattle.mdblock.specs.held.Reads.{Reads, handed, open_begin};
+ghost use Rattle.mdblock.specs.held.Reads.{handed, open_begin};
 ghost use Rattle.mdsource.specs.Stretch.{is_meeting};
 ghost use Rattle.mdsource.specs.UnitTiles.{IsAhead};
 ghost use Rattle.mdview.specs.HeldBlocks.{HoldsUnits, IsDeepAt, IsReread, is_at, line_before, lines_in, old_lines, places_of};
-ghost use Rattle.mdview.specs.HeldItems.{IsCounted, IsItemAt, IsItemOf, IsSpliced, KeepsTexts, kept_of, mark_in};
-ghost use Rattle.mdview.specs.HeldLists.{list_in, unplaced};
+ghost use Rattle.mdview.specs.HeldItems.{IsBaseOf, IsCounted, IsItemAt, IsItemOf, mark_in};
 ghost use Rattle.mdview.specs.HeldUnit.{read_of};
 ghost use Rattle.mdview.specs.KeptTexts.{IsKept};
 ghost use Rattle.mdview.specs.StopLines.{IsReadToStop, stops_of};
-ghost use Rattle.mdview.specs.UnitsFound.{CanStay, IsHeldOn, IsSeamOf, found_in, kept_behind, trees_found, with_list};
+ghost use Rattle.mdview.specs.UnitsFound.{IsHeldOn, trees_found};
 ghost use Rattle.mdview.specs.UnitCursors.{GoesOn};
 ghost use Rattle.mdblock.specs.CountedLines.{counted_by};
 ghost use Rattle.mdsource.specs.SourceLimits.{size_of};
 ghost use Rattle.mdview.specs.NewText.{lines_of};
 ghost use Rattle.mdsource.specs.BlockFaults.{OfBlocks};
-ghost use Rattle.mdsource.specs.declared.fault.EditFault.TheVariants.{NoMemory};
 
 use crate::blocks::held_places::{HeldItem, Resume, UnitCursor, UnitStart, resume_at};
+use crate::blocks::joined_lists::join_held;
 use crate::held::HeldText;
 use crate::held::units::HeldUnit;
 use crate::source::new_text::NewText;
-use mdblock::{Found, Reader, Seam};
+use mdblock::{Found, ItemReader, Seam};
 use mdchunks::Chunks;
 use mdsource::{EditFault, fault_in_line};
 use mdtext::Count;
@@ -131,11 +128,11 @@ pub(crate) fn reparse<'a, C: Count>(
 /// such item, which it takes over, and it has read that item's first line. Each of them is counted.
 fn begun_reader<'a, C: Count>(
     held: &HeldText<'a>,
-    text: NewText<'a>,
+    text: NewText<'_>,
     from: usize,
     start: UnitStart,
     count: &mut C,
-) -> Result<Reader<'a>, AllocError>
+) -> Result<ItemReader<'a, 'a>, AllocError>
     requires few { length (lines_of text) ≤ 1000000 }
     requires small { size_of (lines_of text) ≤ 16777216 }
     requires old { length (old_lines text) ≤ 1000000 }
@@ -143,23 +140,24 @@ fn begun_reader<'a, C: Count>(
     requires fits { first_too_deep held.now.options.now.max_containers (old_lines text) ≡ None }
     requires from { from ≤ text.at }
     requires counted { IsCounted held.now.head held.now.units.now.items start }
-    ensures above { IfOk result (λ reader. from + reader.fed ≤ text.entry.at) }
+    ensures above { IfOk result (λ reader. from + fed_in reader ≤ text.entry.at) }
     ensures reads { IfOk result (λ reader.
-        Reads held.now.options.now.max_containers held.now.entities.now reader (drop from (take (from + reader.fed) (lines_of text.entry)))) }
-    ensures none { IfOk result (λ reader. handed held.now.entities.now (drop from (take (from + reader.fed) (lines_of text.entry))) ≡ []) }
-    ensures lines { IfOk result (λ reader. C.lines count.new ≡ counted_by reader.fed (C.lines count.old)) }
+        Follows held.now.options.now.max_containers held.now.entities.now reader (drop from (take (from + fed_in reader) (lines_of text.entry)))) }
+    ensures none { IfOk result (λ reader. handed held.now.entities.now (drop from (take (from + fed_in reader) (lines_of text.entry))) ≡ []) }
+    ensures base { IfOk result (λ reader. IsBaseOf held.now.units.now.items start.unit reader.base) }
+    ensures lines { IfOk result (λ reader. C.lines count.new ≡ counted_by (fed_in reader) (C.lines count.old)) }
     ensures no_more { OnErr result (C.lines count.new ≤ C.lines count.old + (text.entry.at - from)) }
     ensures inlines { C.inlines count.new ≡ C.inlines count.old }
 {
     let limit = held.options.max_containers;
     let Some(item) = item_above(held.units, text, from, start) else {
-        return Ok(Reader::new(held.alloc, held.entities, limit));
+        return Ok(ItemReader::new(held.alloc, held.entities, limit));
     };
     let list = item.unit.found();
     let number = from + list.joins()[item.item].line;
     let mut ahead = text.lines_from(number);
     let line = text.line(number, &mut ahead);
-    let resumed = Reader::resume(
+    let begun = ItemReader::inside(
         held.alloc,
         held.entities,
         limit,
@@ -169,7 +167,7 @@ fn begun_reader<'a, C: Count>(
         count,
     )?;
     // Above the edit the line begins that item as it did.
-    Ok(resumed.unwrap())
+    Ok(begun.unwrap())
 }
 
 /// Where the unit `start` begins in line `from` and is a list, the last of its later items above the edit.
@@ -196,88 +194,6 @@ fn item_above<'a>(
     })
 }
 
-/// A list that goes on in one that is held: what was read up to `line`, the last that was read, which begins that item, and the held list's items from there on.
-fn join_held<'a>(
-    reader: Reader<'_>,
-    item: HeldItem<'a>,
-    resume: Resume,
-    line: usize,
-    mut found: Vec<Found>,
-) -> Result<Reparsed<'a>, EditFault>
-    requires joined { held_joined reader.held ≡ true }
-    requires item { item.item < length item.unit.now.read.items }
-    requires fits { reader.fed + (item.unit.now.read.lines - (mark_in item).line - 1) ≤ usize.MAX }
-    ensures fault { IfErr result (λ fault. fault ≡ NoMemory) }
-    ensures place { IfOk result (λ r. (r.first ≡ resume.start.unit) × (r.from ≡ resume.from) × (r.next ≡ min (item.entry.number + 1) (2 ^ 64 - 1))
-        × (r.meet ≡ min (line + (item.entry.unit.now.read.lines - (mark_in item.entry).line)) (2 ^ 64 - 1))) }
-    ensures list { IfOk result (λ r. (list : FoundList) × (found_in r ≡ found.items ++ list ∷ [])
-        × IsSpliced reader.entry (list_in item.entry.unit.now) item.entry.item list × KeepsTexts reader.entry item.entry list r.kept) }
-    ensures seam { IfOk result (λ r. IfSome r.list (IsSeamOf reader.entry item.entry r.kept)) }
-{
-    let old = item.unit.found();
-    let join = old.joins()[item.item];
-    let seam = Seam::new(reader, old, item.item)?;
-    let (list, kept) = push_joined(seam, item, join.texts, &mut found)?;
-    Ok(Reparsed {
-        first: resume.start.unit,
-        next: item.number.saturating_add(1),
-        from: resume.from,
-        meet: line.saturating_add(old.lines().saturating_sub(join.line)),
-        found,
-        list,
-        kept: Some(kept),
-    })
-}
-
-/// Puts a list that goes on in one that is held behind the units found. It is put together, but where the held list's items can stay where they are: then it is handed
-/// back. Tells which of its texts stay; so many stand in front of the item in the held list.
-fn push_joined<'a>(
-    seam: Seam<'a>,
-    item: HeldItem<'_>,
-    from: usize,
-    found: &mut Vec<Found>,
-) -> Result<(Option<Seam<'a>>, KeptTexts), AllocError>
-    requires old { unplaced seam.old ≡ list_in item.unit.now }
-    requires join { seam.join ≡ item.item }
-    requires from { from ≡ (mark_in item).texts }
-    ensures list { IfOk result (λ r. with_list found.new.items r.0 ≡ found.old.items ++ seam_list seam.entry ∷ []) }
-    ensures seam { IfOk result (λ r. IfSome r.0 (λ s. (s ≡ seam.entry) × CanStay s × (r.1 ≡ kept_behind item.entry.number s))) }
-    ensures kept { IfOk result (λ r. MayFit seam.entry.front seam.entry.old seam.entry.join → r.1 ≡ kept_of item.entry (seam_list seam.entry)) }
-{
-    let old = item.unit.unit().texts().len();
-    if can_stay(&seam, item.unit) {
-        let kept = KeptTexts {
-            unit: item.number,
-            from,
-            at: from,
-        };
-        return Ok((Some(seam), kept));
-    }
-    let list = seam.made()?;
-    let kept = KeptTexts {
-        unit: item.number,
-        from,
-        at: list
-            .unit()
-            .texts()
-            .len()
-            .saturating_sub(old.saturating_sub(from)),
-    };
-    found.push(list)?;
-    Ok((None, kept))
-}
-
-/// Whether the items of a held list from the join on can stay where they are. For long lists alone, of which it is known where the items end.
-fn can_stay(seam: &Seam<'_>, unit: &HeldUnit) -> bool
-    requires { unplaced seam.now.old ≡ list_in unit.now }
-    ensures { result ≡ true → CanStay seam.now }
-{
-    unit.ends().is_some()
-        && unit.unit().definitions().is_empty()
-        && seam.is_even()
-        && seam.is_alike()
-}
-
 fn push_some(found: &mut Vec<Found>, unit: Option<Found>) -> Result<(), AllocError>
     ensures { OnOk result (found.new.items ≡ found.old.items ++ option_to_list unit) }
 {
@@ -288,8 +204,8 @@ fn push_some(found: &mut Vec<Found>, unit: Option<Found>) -> Result<(), AllocErr
 }
 
 /// Whether the line of this number, the last that was read, begins a unit.
-fn begins_at(reader: &Reader<'_>, line: usize) -> bool
-    ensures { (limit : ℕ) (e : EntityTable) (ls : List (List ℕ)) → Reads limit e reader.now ls → result ≡ is_at line (open_begin e ls) }
+fn begins_at(reader: &ItemReader<'_, '_>, line: usize) -> bool
+    ensures { (limit : ℕ) (e : EntityTable) (ls : List (List ℕ)) → Follows limit e reader.now ls → result ≡ is_at line (open_begin e ls) }
 {
     match reader.open_at() {
         Some(begin) => begin == line,
@@ -299,7 +215,7 @@ fn begins_at(reader: &Reader<'_>, line: usize) -> bool
 
 /// The unit that is held and begins in this line, the last that was read, if the line begins a unit of the new text too and stands behind the edit.
 fn met_at(
-    reader: &Reader<'_>,
+    reader: &ItemReader<'_, '_>,
     cursor: &mut UnitCursor<'_>,
     text: NewText<'_>,
     from: usize,
@@ -313,7 +229,7 @@ fn met_at(
     ensures ahead { (e : EntityTable) → let p = places_of e text.entry in
         IsAhead (map lines_in cursor.old.units.now.items) p.old_begins cursor.old.next.unit cursor.old.next.line (line_before p line)
         → IsAhead (map lines_in cursor.old.units.now.items) p.old_begins cursor.new.next.unit cursor.new.next.line (line_before p line) }
-    ensures met { (limit : ℕ) (e : EntityTable) (ls : List (List ℕ)) → Reads limit e reader.now ls → let p = places_of e text.entry in
+    ensures met { (limit : ℕ) (e : EntityTable) (ls : List (List ℕ)) → Follows limit e reader.now ls → let p = places_of e text.entry in
         IsAhead (map lines_in cursor.old.units.now.items) p.old_begins cursor.old.next.unit cursor.old.next.line (line_before p line)
         → is_some result ≡ (is_at (line - from) (open_begin e ls) && is_meeting p line) }
     ensures here { is_some result ≡ true → cursor.new.next.line ≡ line_before (places_of (usual_table []) text.entry) line }
@@ -328,11 +244,12 @@ fn met_at(
 /// The later item of a held list that begins in this line, the last that was read, if the line begins a later item of a list of the new text too and stands
 /// behind the edit.
 fn joined_at<'a>(
-    reader: &Reader<'_>,
+    reader: &ItemReader<'_, '_>,
     cursor: &mut UnitCursor<'a>,
     text: NewText<'_>,
     line: usize,
 ) -> Option<HeldItem<'a>>
+    requires past { IsPast reader.now }
     requires old { length (old_lines text) ≤ 1000000 }
     requires new { line ≤ 1000000 }
     ensures on { GoesOn cursor.old cursor.new }
@@ -340,8 +257,8 @@ fn joined_at<'a>(
         IsAhead (map lines_in cursor.old.units.now.items) p.old_begins cursor.old.next.unit cursor.old.next.line (line_before p line)
         → IsAhead (map lines_in cursor.old.units.now.items) p.old_begins cursor.new.next.unit cursor.new.next.line (line_before p line) }
     ensures item { IfSome result (IsItemOf cursor.new.units.now.items) }
-    ensures joined { is_some result ≡ true → held_joined reader.now.held ≡ true }
-    ensures told { (limit : ℕ) (e : EntityTable) (ls : List (List ℕ)) (head : ℕ) → Reads limit e reader.now ls → let p = places_of e text.entry in
+    ensures joined { is_some result ≡ true → held_joined reader.now.reading.held ≡ true }
+    ensures told { (limit : ℕ) (e : EntityTable) (ls : List (List ℕ)) (head : ℕ) → Follows limit e reader.now ls → let p = places_of e text.entry in
         HoldsUnits e (old_lines text.entry) head (map read_of cursor.old.units.now.items) → line < length (lines_of text.entry)
         → IsAhead (map lines_in cursor.old.units.now.items) p.old_begins cursor.old.next.unit cursor.old.next.line (line_before p line)
         → IsCounted head cursor.old.units.now.items cursor.old.next

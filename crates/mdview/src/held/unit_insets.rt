@@ -1,4 +1,4 @@
-//! What comes into a list that is held, in the place of its first items.
+//! What comes into a list that is held, in the place of some of its items.
 
 use crate::held::pieces::Piece;
 use crate::held::units::HeldUnit;
@@ -6,8 +6,7 @@ use mdblock::Inset;
 use mdchunks::Change;
 use mdinline::Parsed;
 
-/// The front of a list that a unit which is held takes in, by the number of the unit, with what the texts of the front read as, and the piece of the whole list
-/// then.
+/// Items of a list that a unit which is held takes in, by the number of the unit, with what their texts read as, and the piece of the whole list then.
 #[derive(Drop)]
 pub(crate) struct UnitInset {
     pub(crate) unit: usize,
@@ -16,7 +15,7 @@ pub(crate) struct UnitInset {
     pub(crate) piece: Piece,
 }
 
-/// The unit takes the front in, with its readings, and the piece.
+/// The unit takes the items in, with their readings, and the piece.
 impl Change<HeldUnit> for UnitInset {
     ghost use Rattle.mdview.specs.UnitInsets.{FitsUnit, put_in};
 

@@ -3,8 +3,9 @@
 ghost use Rattle.std.specs.Prelude.{◌≡◌, ◌<◌, ◌≤◌, ◌+◌, ◌-◌, ◌++◌, IfSome, MatchOption, Some, drop, is_some, length, map, nat_eq, option_map, slice_get};
 ghost use Rattle.std.specs.List.{All, list_any};
 ghost use Rattle.std.specs.List.Sorted.{IsNonDecreasing};
-ghost use Rattle.mdblock.specs.Insets.{FitsInto};
+ghost use Rattle.mdblock.specs.Insets.{FitsList, inset_front};
 ghost use Rattle.mdblock.specs.Spliced.{mark_at, spliced_list};
+ghost use Rattle.mdhtml.specs.InsetLists.{inset_readings};
 ghost use Rattle.mdview.specs.HeldLists.{item_line, list_in, unplaced};
 ghost use Rattle.mdview.specs.LabelMarks.{held_marks};
 
@@ -167,28 +168,43 @@ impl HeldUnit {
         self.piece = piece;
     }
 
-    /// Takes the front of a list in, where its own items stood up to a join, with what the texts of the front read as; and another piece. It takes no memory.
+    /// Takes items of a list in, where its own ones stood up to a join, with what their texts read as; and another piece. It takes no memory.
     pub(crate) fn put(&mut self, inset: Inset, inlines: Vec<Parsed>, piece: Piece)
-        requires fits { FitsInto inset.front (list_in self.old) inset.join }
-        requires texts { length inlines.items ≡ (mark_at self.old.read.items inset.join).texts }
-        ensures { let list = spliced_list inset.front (list_in self.old) inset.join in
+        requires fits { FitsList inset (list_in self.old) }
+        requires texts { inset.before + length inlines.items ≡ (mark_at self.old.read.items inset.join).texts }
+        ensures { let list = spliced_list (inset_front inset (list_in self.old)) (list_in self.old) inset.join in
             self.new ≡ record {
-              read = record { lines = list.lines; unit = list.unit; readings = inlines.items ++ drop (length inlines.items) self.old.read.readings; items = list.marks; parted = list.parted };
+              read = record {
+                lines = list.lines;
+                unit = list.unit;
+                readings = inset_readings inset.before inlines.items self.old.read.readings;
+                items = list.marks;
+                parted = list.parted;
+              };
               piece = piece.html;
               ends = piece.ends;
             } }
     {
+        let before = inset.before();
         self.found.put(inset);
-        put_first(&mut self.inlines, inlines);
+        put_between(&mut self.inlines, before, inlines);
         self.marks = marks_in(self.found.unit(), &self.inlines);
         self.piece = piece;
     }
 }
 
+/// Puts readings in the place of as many behind so many.
+fn put_between(inlines: &mut Vec<Parsed>, before: usize, part: Vec<Parsed>)
+    requires { before + length part.items ≤ length inlines.old.items }
+    ensures { inlines.new.items ≡ inset_readings before part.items inlines.old.items }
+{
+    put_first(&mut inlines[before..], part);
+}
+
 /// Puts readings in the place of as many first ones.
-fn put_first(inlines: &mut Vec<Parsed>, first: Vec<Parsed>)
-    requires { length first.items ≤ length inlines.old.items }
-    ensures { inlines.new.items ≡ first.items ++ drop (length first.items) inlines.old.items }
+fn put_first(inlines: &mut [Parsed], first: Vec<Parsed>)
+    requires { length first.items ≤ length inlines.old }
+    ensures { inlines.new ≡ first.items ++ drop (length first.items) inlines.old }
 {
     let mut first = first;
     for i in 0..first.len() {

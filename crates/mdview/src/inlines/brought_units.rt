@@ -131,7 +131,7 @@ impl<'a> UnitTextReader<'a> {
         let units = self.read_units(found, held, first, next, from, room, count)?;
         let number = next - 1;
         let unit = held.get(number).unwrap();
-        let begin = from.saturating_add(list.front().begin());
+        let begin = from.saturating_add(list.begin());
         match self.read_list(list, unit, number, room, count) {
             Ok(joined) => Ok(with_joined(units, joined)?),
             Err(fault) => Err(fault_in_unit(fault, begin)),

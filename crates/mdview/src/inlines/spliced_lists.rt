@@ -1,13 +1,13 @@
-//! What the inline texts of a list read as whose later items a held list has, and its piece.
+//! What the inline texts of a list read as of which a held list has items, and its piece.
 
-ghost use Rattle.std.specs.Prelude.{◌≡◌, ◌+◌, ◌++◌, ◌≤◌, ℕ, List, IfOk, IfSome, None, OnOk, drop, length, map, take};
+ghost use Rattle.std.specs.Prelude.{◌≡◌, ◌+◌, ◌-◌, ◌++◌, ◌≤◌, ℕ, List, IfOk, IfSome, None, OnOk, drop, take};
 ghost use Rattle.mdblock.specs.BlockView.{blocks_view, items_view};
-ghost use Rattle.mdblock.specs.FoundLists.{join_mark};
+ghost use Rattle.mdblock.specs.Fronted.{texts_staying};
 ghost use Rattle.mdblock.specs.Seams.{seam_list};
-ghost use Rattle.mdblock.specs.Spliced.{first_items, mark_at, take_items};
-ghost use Rattle.mdhtml.specs.SplicedLists.{spliced_readings};
+ghost use Rattle.mdblock.specs.Spliced.{first_items, take_items};
+ghost use Rattle.mdhtml.specs.InsetLists.{inset_readings};
 ghost use Rattle.mdview.specs.HeldTexts.{entities_in};
-ghost use Rattle.mdview.specs.JoinedLists.{AreFront, GoesInto, IsJoined, texts_in_front};
+ghost use Rattle.mdview.specs.JoinedLists.{AreBetween, GoesInto, IsJoined, texts_in_front};
 ghost use Rattle.mdview.specs.LabelTargets.{at};
 ghost use Rattle.mdview.specs.TextSetting.{IsReadFrom, Stays, TellsDeep, are_deep, asking, texts_under};
 ghost use Rattle.mdview.specs.WrittenPieces.{IsPieceOf};
@@ -17,12 +17,12 @@ use crate::held::unit_insets::UnitInset;
 use crate::held::units::HeldUnit;
 use crate::inlines::UnitTextReader;
 use crate::pieces::text_room::{Alike, TextRoom};
-use mdblock::{Block, Item, Join, Seam};
+use mdblock::{Block, Item, Seam};
 use mdinline::{InlineFault, Parsed};
 use mdtext::{Count, NoMemory};
 use std::alloc::Global;
 
-/// A list whose later items a held list has.
+/// A list of which a held list has items.
 #[derive(Drop)]
 pub(crate) enum JoinedList {
     /// The list put together.
@@ -32,8 +32,8 @@ pub(crate) enum JoinedList {
 }
 
 impl<'a> UnitTextReader<'a> {
-    /// Reads the texts of a list in front of the items of a held unit, where no label leads elsewhere. Answers what comes into that unit, which has the number
-    /// `number`; where its HTML can't be cut, the list put together.
+    /// Reads the texts of a list between items of a held unit, where no label leads elsewhere. Answers what comes into that unit, which has the number `number`;
+    /// where its HTML can't be cut, the list put together.
     pub(crate) fn read_list<C: Count>(
         &self,
         seam: Seam<'_>,
@@ -50,36 +50,32 @@ impl<'a> UnitTextReader<'a> {
         ensures inlines { C.inlines count.new ≤ C.inlines count.old
             + (texts_in_front seam.entry + asking (texts_under self.now room.old) (drop (texts_in_front seam.entry) (seam_list seam.entry).unit.texts)) }
     {
-        let (inlines, same) = self.read_front(&seam, held, room, count)?;
-        let like = Alike {
-            unit: held,
-            front: same,
-            behind: 0,
-        };
-        let list = self.join_list(seam, inlines, like, number, room)?;
+        count_texts(seam.texts_staying(), count);
+        let inlines = self.read_between(&seam, held, room, count)?;
+        let list = self.join_list(seam, inlines, held, number, room)?;
         Ok(list)
     }
 
-    /// What comes into the held unit, or the list put together, where the texts in front of the join read so.
+    /// What comes into the held unit, or the list put together, where the texts of the items that were read read so.
     fn join_list(
         &self,
         seam: Seam<'_>,
         inlines: Vec<Parsed>,
-        like: Alike<'_>,
+        held: &HeldUnit,
         number: usize,
         room: &mut TextRoom<'a>,
     ) -> Result<JoinedList, NoMemory>
-        requires goes { GoesInto (texts_under self.now room.old) seam like.unit.now }
-        requires front { AreFront (texts_under self.now room.old) seam like.unit.now inlines.items like.front }
-        ensures list { IfOk result (IsJoined (texts_under self.now room.old) seam.entry number like.entry.unit.now) }
+        requires goes { GoesInto (texts_under self.now room.old) seam held.now }
+        requires between { AreBetween (texts_under self.now room.old) seam held.now inlines.items }
+        ensures list { IfOk result (IsJoined (texts_under self.now room.old) seam.entry number held.now) }
         ensures room { entities_in room.new ≡ entities_in room.old }
     {
-        let written = self.piece_in_place(&seam, &inlines, like, room)?;
+        let written = self.piece_in_place(&seam, &inlines, held, room)?;
         let Some(piece) = written else {
-            let unit = self.made_list(seam, inlines, like, room)?;
+            let unit = self.made_list(seam, inlines, held, room)?;
             return Ok(JoinedList::Made(unit));
         };
-        let inset = seam.inset();
+        let inset = seam.inset()?;
         Ok(JoinedList::Inset(UnitInset {
             unit: number,
             inset,
@@ -88,29 +84,27 @@ impl<'a> UnitTextReader<'a> {
         }))
     }
 
-    /// What the texts in front of the join read as, and how many of them, from the front on, the held unit has too.
-    fn read_front<C: Count>(
+    /// What the texts of the items that were read read as.
+    fn read_between<C: Count>(
         &self,
         seam: &Seam<'_>,
         held: &HeldUnit,
         room: &mut TextRoom<'a>,
         count: &mut C,
-    ) -> Result<(Vec<Parsed>, usize), InlineFault>
+    ) -> Result<Vec<Parsed>, InlineFault>
         requires none { (label : List ℕ) → at label self.now.labels.now.changes.now.targets.entries ≡ None }
         requires goes { GoesInto (texts_under self.now room.old) seam.now held.now }
-        ensures front { IfOk result (λ read. AreFront (texts_under self.now room.old) seam.now held.now read.0.items read.1) }
+        ensures between { IfOk result (λ read. AreBetween (texts_under self.now room.old) seam.now held.now read.items) }
         ensures deep { TellsDeep result (are_deep (texts_under self.now room.old) (seam_list seam.now).unit.texts) }
         ensures stays { Stays room.old room.new (C.lines count.old) (C.lines count.new) }
-        ensures inlines { C.inlines count.new ≤ C.inlines count.old + texts_in_front seam.now }
+        ensures inlines { C.inlines count.new ≤ C.inlines count.old + (texts_in_front seam.now - texts_staying seam.now.base) }
     {
-        let front = seam.front();
-        let joins = front.joins();
-        let before = texts_before(joins, joins.len().saturating_sub(1));
-        let texts = first_of(front.unit().texts(), before);
-        let behind = held.inlines().len().saturating_sub(texts.len());
+        let texts = first_of(seam.part().unit().texts(), seam.texts_read());
+        let behind = seam.texts_staying().saturating_add(texts.len());
+        let behind = held.inlines().len().saturating_sub(behind);
         let mut inlines = Vec::with_capacity(self.alloc, texts.len())?;
-        let same = self.read_alike(texts, behind, Some(held), &mut inlines, room, count)?;
-        Ok((inlines, same))
+        self.read_alike(texts, behind, Some(held), &mut inlines, room, count)?;
+        Ok(inlines)
     }
 
     /// The piece of the list, where the HTML of the held one can be cut.
@@ -118,54 +112,84 @@ impl<'a> UnitTextReader<'a> {
         &self,
         seam: &Seam<'_>,
         inlines: &[Parsed],
-        like: Alike<'_>,
+        held: &HeldUnit,
         room: &mut TextRoom<'a>,
     ) -> Result<Option<Piece>, NoMemory>
-        requires goes { GoesInto (texts_under self.now room.old) seam.now like.unit.now }
-        requires front { AreFront (texts_under self.now room.old) seam.now like.unit.now inlines.now like.front }
-        ensures piece { IfOk result (λ piece. IfSome piece (IsPieceOf self.now.options.now (spliced_readings inlines.now like.entry.unit.now.read.readings) (seam_list seam.now).unit.blocks)) }
+        requires goes { GoesInto (texts_under self.now room.old) seam.now held.now }
+        requires between { AreBetween (texts_under self.now room.old) seam.now held.now inlines.now }
+        ensures piece { IfOk result (λ piece. IfSome piece (IsPieceOf self.now.options.now (inset_readings (texts_staying seam.now.base) inlines.now held.now.read.readings) (seam_list seam.now).unit.blocks)) }
         ensures room { entities_in room.new ≡ entities_in room.old }
     {
-        let front = seam.front();
-        let count = front.joins().len();
-        let items = items_in_front(front.unit().blocks(), count);
-        room.spliced_piece(items, count, inlines, self.options, like)
+        let part = seam.part();
+        let items = items_in_front(part.unit().blocks(), part.joins().len());
+        let like = Alike {
+            unit: held,
+            front: seam.texts_staying(),
+            behind: 0,
+        };
+        room.inset_piece(
+            items,
+            seam.items_staying(),
+            seam.later(),
+            inlines,
+            self.options,
+            like,
+        )
     }
 
-    /// The list put together. The readings of the later items' texts are shared.
+    /// The list put together. The readings of the texts in front and behind are shared.
     fn made_list(
         &self,
         seam: Seam<'_>,
         inlines: Vec<Parsed>,
-        like: Alike<'_>,
+        held: &HeldUnit,
         room: &mut TextRoom<'a>,
     ) -> Result<HeldUnit, NoMemory>
-        requires goes { GoesInto (texts_under self.now room.old) seam like.unit.now }
-        requires front { AreFront (texts_under self.now room.old) seam like.unit.now inlines.items like.front }
+        requires goes { GoesInto (texts_under self.now room.old) seam held.now }
+        requires between { AreBetween (texts_under self.now room.old) seam held.now inlines.items }
         ensures unit { IfOk result (IsReadFrom (texts_under self.now room.old) (seam_list seam.entry)) }
         ensures room { entities_in room.new ≡ entities_in room.old }
     {
+        let staying = seam.texts_staying();
         let found = seam.made()?;
-        let mut inlines = inlines;
-        let kept = later_of(like.unit.inlines(), inlines.len());
-        push_copies(self.alloc, kept, &mut inlines)?;
+        let front = first_of(held.inlines(), staying);
+        let behind = later_of(held.inlines(), staying);
+        let kept = later_of(behind, inlines.len());
+        let all = self.with_held(front, inlines, kept)?;
         let whole = Alike {
-            unit: like.unit,
-            front: like.front,
+            unit: held,
+            front: staying,
             behind: kept.len(),
         };
-        let piece = room.piece_like(found.unit().blocks(), &inlines, self.options, whole)?;
-        Ok(HeldUnit::new(found, inlines, piece))
+        let piece = room.piece_like(found.unit().blocks(), &all, self.options, whole)?;
+        Ok(HeldUnit::new(found, all, piece))
+    }
+
+    /// Readings with copies of others in front of them and behind them: what these hold is shared.
+    fn with_held(
+        &self,
+        front: &[Parsed],
+        inlines: Vec<Parsed>,
+        kept: &[Parsed],
+    ) -> Result<Vec<Parsed>, NoMemory>
+        ensures { IfOk result (λ all. all.items ≡ front.now ++ (inlines.items ++ kept.now)) }
+    {
+        let mut inlines = inlines;
+        let mut all = Vec::new(self.alloc);
+        push_copies(self.alloc, front, &mut all)?;
+        all.append(&mut inlines)?;
+        push_copies(self.alloc, kept, &mut all)?;
+        Ok(all)
     }
 }
 
-/// How many texts the items before a join give; none where there is no such join.
-fn texts_before(joins: &[Join], k: usize) -> usize
-    ensures { result ≡ (mark_at (map join_mark joins.now) k).texts }
+/// Counts so many texts as read, which stay as they are.
+fn count_texts<C: Count>(texts: usize, count: &mut C)
+    ensures inlines { C.inlines count.new ≤ C.inlines count.old + texts }
+    ensures lines { C.lines count.new ≡ C.lines count.old }
 {
-    match joins.get(k) {
-        Some(join) => join.texts,
-        None => 0,
+    for _ in 0..texts {
+        count.inline();
     }
 }
 

@@ -1,13 +1,14 @@
 //! What the reading of texts and the writing of units use again.
 
-ghost use Rattle.std.specs.Prelude.{◌≡◌, ◌≤◌, [], false, IfOk, IfSome, Some, length, string_bytes, take};
+ghost use Rattle.std.specs.Prelude.{◌≡◌, ◌+◌, ◌<◌, ◌≤◌, [], false, IfOk, IfSome, Some, length, string_bytes, true};
 ghost use Rattle.std.specs.List.{AllByRecursion};
 ghost use Rattle.mdblock.specs.BlockView.{blocks_view, items_view};
-ghost use Rattle.mdblock.specs.Copies.{items_positions};
+ghost use Rattle.mdblock.specs.Copies.{IsBehind, items_positions};
 ghost use Rattle.mdblock.specs.Positions.{BlocksIn, ItemsIn};
-ghost use Rattle.mdblock.specs.Spliced.{drop_items, first_items};
+ghost use Rattle.mdblock.specs.Spliced.{drop_items, first_items, take_items};
 ghost use Rattle.mdhtml.specs.BlockHtml.{blocks_html, texts_html};
-ghost use Rattle.mdhtml.specs.SplicedLists.{spliced_blocks, spliced_readings};
+ghost use Rattle.mdhtml.specs.InsetLists.{inset_blocks, inset_readings};
+ghost use Rattle.mdhtml.specs.ListEnds.{unit_ends};
 ghost use Rattle.mdview.specs.HeldTexts.{entities_in};
 ghost use Rattle.mdview.specs.HeldUnit.{AreEnds, IsRendered};
 ghost use Rattle.mdview.specs.AlikeUnits.{AreAlike};
@@ -17,7 +18,8 @@ use crate::held::pieces::Piece;
 use crate::held::units::HeldUnit;
 use mdblock::{Block, Item};
 use mdhtml::{
-    Like, Options, append_spliced_list, append_unit_ends, append_unit_html, append_unit_like,
+    Like, Options, append_inset_anew, append_inset_list, append_unit_ends, append_unit_html,
+    append_unit_like,
 };
 use mdinline::{Parsed, TextReader};
 use mdtext::{Entities, NoMemory};
@@ -112,43 +114,36 @@ impl<'a> TextRoom<'a> {
         self.written(ends)
     }
 
-    /// The piece of a list of `items` and, behind them, the items of a held list from number `later` on, which stay where they are, of the same kind, and tight
-    /// or loose as that is. `None` where it is not known where the items of the held list end.
-    pub(crate) fn spliced_piece(
+    /// The piece of a list of a held list's first `front` items, of `items`, and of the held list's items from number `later` on, which stay where they are; of the
+    /// same kind, and tight or loose as that is. `None` where the HTML of the held list can't be cut.
+    pub(crate) fn inset_piece(
         &mut self,
         items: &[Item],
+        front: usize,
         later: usize,
         texts: &[Parsed],
         options: &Options,
         like: Alike<'_>,
     ) -> Result<Option<Piece>, NoMemory>
         requires within { ItemsIn (length texts.now) (items_view items.now) }
-        requires behind { AllByRecursion (λ at. length texts.now ≤ at) (items_positions (drop_items later (first_items like.unit.now.read.unit.blocks))) }
+        requires order { IsBehind 0 (items_positions (items_view items.now)) (length texts.now) }
+        requires room { like.front ≤ length like.unit.now.read.readings }
+        requires before { AllByRecursion (λ at. at < like.front) (items_positions (take_items front (first_items like.unit.now.read.unit.blocks))) }
+        requires behind { AllByRecursion (λ at. like.front + length texts.now ≤ at) (items_positions (drop_items later (first_items like.unit.now.read.unit.blocks))) }
         requires rendered { IsRendered options.now like.unit.now }
-        requires front { take like.front texts.now ≡ take like.front like.unit.now.read.readings }
-        ensures piece { IfOk result (λ piece. IfSome piece (IsPieceOf options.now (spliced_readings texts.now like.entry.unit.now.read.readings)
-            (spliced_blocks (items_view items.now) later like.entry.unit.now.read.unit.blocks))) }
+        ensures piece { IfOk result (λ piece. IfSome piece (IsPieceOf options.now (inset_readings like.entry.front texts.now like.entry.unit.now.read.readings)
+            (inset_blocks front like.entry.front (items_view items.now) later like.entry.unit.now.read.unit.blocks))) }
         ensures room { entities_in self.new ≡ entities_in self.old }
     {
-        let Some(like_ends) = like.unit.ends() else {
-            return Ok(None);
-        };
-        let was = Like {
-            blocks: like.unit.unit().blocks(),
-            texts: like.unit.inlines(),
-            html: like.unit.piece(),
-            ends: like_ends,
-            front: like.front,
-            behind: 0,
-        };
         self.html.clear();
         let mut ends = Vec::new(self.alloc);
-        if !append_spliced_list(
+        if !write_inset(
             items,
+            front,
             later,
             texts,
             options,
-            &was,
+            like,
             &mut self.html,
             &mut ends,
         )? {
@@ -228,4 +223,47 @@ impl<'a> TextRoom<'a> {
         html.shrink_to_fit();
         Ok(html)
     }
+}
+
+/// Writes a list of a held list's first `front` items, of `items`, and of the held list's items from number `later` on: where it is known where the held ones end
+/// in its HTML, their bytes are taken over. Answers whether it wrote them.
+fn write_inset(
+    items: &[Item],
+    front: usize,
+    later: usize,
+    texts: &[Parsed],
+    options: &Options,
+    like: Alike<'_>,
+    html: &mut String,
+    ends: &mut Vec<usize>,
+) -> Result<bool, NoMemory>
+    requires within { ItemsIn (length texts.now) (items_view items.now) }
+    requires order { IsBehind 0 (items_positions (items_view items.now)) (length texts.now) }
+    requires room { like.front ≤ length like.unit.now.read.readings }
+    requires before { AllByRecursion (λ at. at < like.front) (items_positions (take_items front (first_items like.unit.now.read.unit.blocks))) }
+    requires behind { AllByRecursion (λ at. like.front + length texts.now ≤ at) (items_positions (drop_items later (first_items like.unit.now.read.unit.blocks))) }
+    requires rendered { IsRendered options.now like.unit.now }
+    requires no_text { string_bytes html.old ≡ [] }
+    requires no_ends { ends.old.items ≡ [] }
+    ensures html { IfOk result (λ done. done ≡ true → string_bytes html.new
+        ≡ blocks_html options.now (texts_html options.now (inset_readings like.entry.front texts.now like.entry.unit.now.read.readings)) false
+        (inset_blocks front like.entry.front (items_view items.now) later like.entry.unit.now.read.unit.blocks) []) }
+    ensures ends { IfOk result (λ done. done ≡ true → ends.new.items
+        ≡ unit_ends options.now (texts_html options.now (inset_readings like.entry.front texts.now like.entry.unit.now.read.readings))
+        (inset_blocks front like.entry.front (items_view items.now) later like.entry.unit.now.read.unit.blocks)) }
+{
+    let unit = like.unit;
+    let was = Like {
+        blocks: unit.unit().blocks(),
+        texts: unit.inlines(),
+        html: unit.piece(),
+        ends: unit.ends().unwrap_or(&[]),
+        front: like.front,
+        behind: 0,
+    };
+    if unit.ends().is_some() {
+        return append_inset_list(items, front, later, texts, options, &was, html, ends);
+    }
+    html.reserve(unit.piece().len().saturating_add(HTML_ROOM))?;
+    append_inset_anew(items, front, later, texts, options, &was, html, ends)
 }

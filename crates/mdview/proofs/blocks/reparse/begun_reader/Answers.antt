@@ -1,29 +1,35 @@
-use Rattle.std.proofs.Common.{true, [], Some, Result, Ok, Err, ◌≡◌, ◌≤◌, ◌+◌, arith, drop, map, take, get_or, ap, ◌∙◌, sym}
+use Rattle.std.proofs.Common.{true, [], Some, Result, Ok, Err, refl, subst, ◌≡◌, ◌≤◌, ◌+◌, arith, drop, map, take, get_or, ap, ◌∙◌, sym}
 use Rattle.std.specs.Prelude.{OnErr, is_some}
+use Rattle.std.proofs.lemmas.Result.{IfOk-from_err}
 use Rattle.blockspec.specs.ItemMarks.{ItemMark}
+use Rattle.mdblock.specs.CountedLines.{counted_by}
 use Rattle.mdblock.specs.FoundLists.{FoundList}
 use Rattle.mdblock.specs.Spliced.{mark_at}
-use Rattle.mdblock.specs.held.ReaderState.{ReaderState}
-use Rattle.mdblock.specs.held.Reads.{Reads, handed}
+use Rattle.mdblock.specs.held.Following.{Follows, ItemReading, fed_in}
+use Rattle.mdblock.specs.held.Reads.{handed}
 use Rattle.mdview.specs.HeldBlocks.{old_lines, places_of}
+use Rattle.mdview.specs.HeldItems.{IsBaseOf}
+use Rattle.mdview.specs.HeldLists.{IsBaseIn}
 use Rattle.mdview.specs.HeldUnit.{HeldUnit, first_line, read_of}
 use Rattle.mdview.specs.NewText.{lines_of}
+use Rattle.mdview.proofs.FollowedLines.{gi_based}
 use Rattle.mdview.proofs.HeldJoins.{joined_mark, no_join}
 use Rattle.mdview.proofs.ReadStretches.{is_edit}
 use Rattle.mdview.proofs.ResumedReading.{res_given, res_new, res_read}
 use Rattle.mdview.proofs.blocks.reparse.begun_reader.Given.{Over}
-use Rattle.mdview.proofs.blocks.reparse.begun_reader.Goals.{In_ok-resumed}
+use Rattle.mdview.proofs.blocks.reparse.begun_reader.Goals.{In_ok-begun}
 use Rattle.mdview.proofs.blocks.reparse.begun_reader.Goals as goal
 
 -- A reader goes on in the list from that item, and has read the lines of the new text up to the item, and its line.
-record Begun (g : Over) (c : In_ok-resumed g) : Type 0 where
-  given : is_some c.in_ok-resumed.resumed ≡ true
-  read : (reader : ReaderState) → c.in_ok-resumed.resumed ≡ Some reader → (c.args.from + reader.fed ≤ c.args.text.at)
-      × Reads c.args.held.now.options.now.max_containers c.args.held.now.entities.now reader
-      (drop c.args.from (take (c.args.from + reader.fed) (lines_of c.args.text)))
-      × (handed c.args.held.now.entities.now (drop c.args.from (take (c.args.from + reader.fed) (lines_of c.args.text))) ≡ [])
+record Begun (g : Over) (c : In_ok-begun g) : Type 0 where
+  given : is_some c.in_ok-begun.begun ≡ true
+  read : (reader : ItemReading) → c.in_ok-begun.begun ≡ Some reader → (c.args.from + fed_in reader ≤ c.args.text.at)
+      × Follows c.args.held.now.options.now.max_containers c.args.held.now.entities.now reader
+      (drop c.args.from (take (c.args.from + fed_in reader) (lines_of c.args.text)))
+      × (handed c.args.held.now.entities.now (drop c.args.from (take (c.args.from + fed_in reader) (lines_of c.args.text))) ≡ [])
+  base : (reader : ItemReading) → c.in_ok-begun.begun ≡ Some reader → IsBaseOf c.args.held.now.units.now.items c.args.start.unit reader.base
 
-begun : (g : Over) (c : In_ok-resumed g) → Begun g c
+begun : (g : Over) (c : In_ok-begun g) → Begun g c
 begun g c =
     let held = c.args.held.now in
     let e = held.entities.now in
@@ -42,38 +48,65 @@ begun g c =
     record {
       given = res_given e limit old new (places_of e text) (is_edit e text) held.head held.units.now.items c.requires.held c.requires.old c.requires.fits
           item.number u is.0 item.item is.1 c.args.from from c.in-Some.ensures.above
-          list c.found-list.ensures (is_some c.in_ok-resumed.resumed) c.line-line.result.now line c.in_ok-resumed.ensures.given;
+          list c.found-list.ensures (is_some c.in_ok-begun.begun) c.line-line.result.now line c.in_ok-begun.ensures.given;
       read = λ reader some.
           res_read e limit old new (places_of e text) (is_edit e text) held.head held.units.now.items c.requires.held c.requires.old c.requires.fits
           item.number u is.0 item.item is.1 c.args.from from c.in-Some.ensures.above list c.found-list.ensures reader c.line-line.result.now line
-          (rw some at c.in_ok-resumed.ensures.fed) (rw some at c.in_ok-resumed.ensures.reads);
+          (rw some at c.in_ok-begun.ensures.fed) (rw some at c.in_ok-begun.ensures.reads);
+      base = λ reader some.
+          gi_based held.units.now.items item.number c.args.start.unit u begins.0 is.0 list c.found-list.ensures item.item reader.base (rw some at c.in_ok-begun.ensures.base);
     }
 
 pub unwrap-requires : goal.unwrap-requires
-unwrap-requires g c = (begun g (goal.at.unwrap-requires g c).In_ok-resumed).given
+unwrap-requires g c = (begun g (goal.at.unwrap-requires g c).In_ok-begun).given
 
-pub returns-clause-above : goal.returns-clause-above
-returns-clause-above g c = ((begun g (goal.at.returns-clause-above g c).In_ok-resumed).read c.unwrap.result c.unwrap.ensures).0
-
-pub returns-clause-reads : goal.returns-clause-reads
-returns-clause-reads g c = ((begun g (goal.at.returns-clause-reads g c).In_ok-resumed).read c.unwrap.result c.unwrap.ensures).1
-
-pub returns-clause-none : goal.returns-clause-none
-returns-clause-none g c = ((begun g (goal.at.returns-clause-none g c).In_ok-resumed).read c.unwrap.result c.unwrap.ensures).2
+pub returns : goal.returns
+returns g c =
+    let b = begun g (goal.at.returns g c).In_ok-begun in
+    let read = b.read c.unwrap.result c.unwrap.ensures in
+    record {
+      above = read.0;
+      reads = read.1;
+      none = read.2;
+      base = b.base c.unwrap.result c.unwrap.ensures;
+      lines = rw c.unwrap.ensures at c.in_ok-begun.ensures.lines;
+      no_more = tt;
+      inlines = c.inside.ensures.inlines;
+    }
 
 err_any : {X Y : Type 0} (r : Result X Y) {P : Type 0} → P → OnErr r P
 err_any (Ok x) p = tt
 err_any (Err y) p = p
 
-pub returns-in_err-resumed-clause-no_more : goal.returns-in_err-resumed-clause-no_more
-returns-in_err-resumed-clause-no_more g c =
+pub returns-in_err-begun : goal.returns-in_err-begun
+returns-in_err-begun g c =
+    let r = c.from_residual.result in
+    let fails = c.from_residual.ensures.0 in
     let item = c.in-Some.item in
     let list : FoundList = c.found-list.result.now in
     let same = ap (λ (f : FoundList). (mark_at f.marks item.item).line) c.found-list.ensures in
-    err_any c.from_residual.result (omega (arith, same, c.resume.ensures.no_more, c.in-Some.ensures.above))
+    record {
+      above = IfOk-from_err r _ fails;
+      reads = IfOk-from_err r _ fails;
+      none = IfOk-from_err r _ fails;
+      base = IfOk-from_err r _ fails;
+      lines = IfOk-from_err r _ fails;
+      no_more = err_any r (omega (arith, same, c.inside.ensures.no_more, c.in-Some.ensures.above));
+      inlines = c.inside.ensures.inlines;
+    }
 
-pub returns-in_default-clause-none : goal.returns-in_default-clause-none
-returns-in_default-clause-none g c =
+pub returns-in_default : goal.returns-in_default
+returns-in_default g c =
     let e = c.args.held.now.entities.now in
     let text = c.args.text in
-    (res_new e (old_lines text) (lines_of text) (places_of e text) (is_edit e text) c.args.held.now.options.now.max_containers c.new.result c.args.from c.requires.from c.new.ensures.fed c.new.ensures.reads).2
+    let fed = c.new.ensures.fed in
+    let read = res_new e (old_lines text) (lines_of text) (places_of e text) (is_edit e text) c.args.held.now.options.now.max_containers c.new.result c.args.from c.requires.from fed c.new.ensures.reads in
+    record {
+      above = read.0;
+      reads = read.1;
+      none = read.2;
+      base = λ u there. subst (IsBaseIn u) (sym c.new.ensures.base) tt;
+      lines = ap (λ n. counted_by n (g.C.Count.lines c.args.count.now)) (sym fed);
+      no_more = tt;
+      inlines = refl;
+    }

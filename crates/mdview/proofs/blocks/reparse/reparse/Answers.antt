@@ -6,11 +6,11 @@ use Rattle.std.proofs.lemmas.Result.{IfErr-weaker}
 use Rattle.blockspec.specs.BlockUnits.{units}
 use Rattle.blockspec.specs.Nesting.{first_too_deep}
 use Rattle.mdblock.specs.FoundLists.{found_unit}
-use Rattle.mdblock.specs.held.Reads.{Reads, handed}
+use Rattle.mdblock.specs.held.Following.{Follows, fed_in}
+use Rattle.mdblock.specs.held.Reads.{handed}
 use Rattle.mdtext.specs.EntityTable.{EntityTable}
 use Rattle.mdsource.specs.Stretch.{from_line, is_meeting, meeting_line}
 use Rattle.mdsource.specs.UnitTiles.{IsAhead}
-use Rattle.mdsource.proofs.ReadLines.{none_deep}
 use Rattle.mdsource.proofs.UnitPlaces.{ahead_later}
 use Rattle.mdview.specs.HeldBlocks.{IsDeepAt, IsReread, line_before, lines_in, old_lines, places_of}
 use Rattle.mdview.specs.NewText.{lines_of}
@@ -18,6 +18,8 @@ use Rattle.mdchunks.specs.Sequences.{Sequence}
 use Rattle.mdview.specs.HeldLists.{StandsAt}
 use Rattle.mdview.specs.HeldUnit.{HeldUnit}
 use Rattle.mdview.specs.declared.blocks.held_places.UnitStart.{UnitStart}
+use Rattle.mdview.proofs.FailedReadings.{gi_failed}
+use Rattle.mdview.proofs.FollowedLines.{gi_base_next, gi_none_deep}
 use Rattle.mdview.proofs.CountedLaws.{counted_within}
 use Rattle.mdview.proofs.EditPlaces.{begins_many}
 use Rattle.mdview.proofs.LineReads.{AtEnd, AtLine, CursorAt, LineRead, met_there, unmet_there, up_to_line}
@@ -30,7 +32,7 @@ use Rattle.mdsource.specs.Stops.{lines_to_stop, near_line}
 use Rattle.mdsource.specs.declared.fault.EditFault.{EditFault}
 use Rattle.mdsource.specs.declared.fault.EditFault.TheVariants.{NoMemory}
 use Rattle.mdsource.proofs.NearStretch.{near_told}
-use Rattle.std.specs.Prelude.{IfOk}
+use Rattle.std.specs.Prelude.{IfOk, IfSome, slice_get}
 use Rattle.std.proofs.lemmas.Bool.Decides.{nat_tests}
 use Rattle.blockspec.proofs.NestingLaws.{moved_on}
 use Rattle.blockspec.specs.Joins.{is_joined}
@@ -40,7 +42,8 @@ use Rattle.mdsource.specs.Stretch.{units_before}
 use Rattle.mdview.specs.HeldBlocks.{HoldsUnits}
 use Rattle.mdview.specs.HeldItems.{IsCounted, IsItemOf}
 use Rattle.mdview.specs.StopLines.{IsReadToStop, stops_of}
-use Rattle.mdview.specs.UnitsFound.{found_in}
+use Rattle.mdview.specs.KeptTexts.{IsKept}
+use Rattle.mdview.specs.UnitsFound.{IsHeldOn, found_in, trees_found}
 use Rattle.mdview.specs.HeldUnit.{read_of}
 use Rattle.mdview.specs.declared.blocks.reparse.Reparsed.{Reparsed}
 use Rattle.mdview.proofs.FewUnits.{few_units}
@@ -63,23 +66,24 @@ loop-line-init g c =
     let reader = c.in_ok-reader.reader in
     let so_far = c.in_ok-reader.ensures in
     let begun = r.from + c.fed.result in
-    let place : r.from + reader.fed ≡ begun = omega (arith, c.fed.ensures) in
+    let place : r.from + fed_in reader ≡ begun = omega (arith, c.fed.ensures) in
     let up_to : begun ≤ p.at = omega (arith, so_far.above, place) in
-    let read : drop r.from (take (r.from + reader.fed) new) ≡ drop (from_line p) (take begun new) = ap (λ n. drop r.from (take n new)) place ∙ ap (λ n. drop n (take begun new)) s.0 in
+    let read : drop r.from (take (r.from + fed_in reader) new) ≡ drop (from_line p) (take begun new) = ap (λ n. drop r.from (take n new)) place ∙ ap (λ n. drop n (take begun new)) s.0 in
     let was : line_before p r.from ≡ line_before p begun = omega (arith, up_to) in
     record {
       rest = search rules;
       fed = search rules;
-      lines = let counted = counted_within reader.fed (g.C.Count.lines c.args.count.now) in let here = so_far.lines in omega (arith, counted, here, place);
+      lines = let counted = counted_within (fed_in reader) (g.C.Count.lines c.args.count.now) in let here = so_far.lines in omega (arith, counted, here, place);
       inlines = search rules;
       same = search rules;
       forward = search rules;
-      above = res_above e old new p (is_edit e text) limit reader (map found_unit c.new-found.result.items) begun up_to (subst (Reads limit e reader) read so_far.reads)
+      above = res_above e old new p (is_edit e text) limit reader (map found_unit c.new-found.result.items) begun up_to (subst (Follows limit e reader) read so_far.reads)
           (ap (handed e) (sym read) ∙ so_far.none) (ap (map found_unit) c.new-found.ensures.items);
       near = let behind = res_near e old new (stops_of e text) (is_stop e text) in omega (arith, behind, up_to);
       counted = subst (IsCounted c.args.held.now.head c.args.held.now.units.now.items) (sym c.at-cursor.ensures.1) c.resume_at-resume.ensures.counted;
       ahead = subst (λ (next : UnitStart). IsAhead (map lines_in c.args.held.now.units.now.items) p.old_begins next.unit next.line (line_before p begun)) (sym c.at-cursor.ensures.1)
           (subst (λ n. IsAhead (map lines_in c.args.held.now.units.now.items) p.old_begins r.start.unit r.start.line n) was s.2);
+      base = so_far.base;
       stands = subst (All (StandsAt e (drop (from_line p) (take begun new)))) (sym c.new-found.ensures.items) (All-nil (StandsAt e (drop (from_line p) (take begun new))));
     }
 
@@ -106,9 +110,9 @@ line_read : (g : Over) (c : In_ok-push_some-in-Ok g) → LineRead c.args.text c.
 line_read g c =
     let is = c.line.ensures.value in
     record {
-      reads = λ (limit : ℕ) (e : EntityTable) (ls : List (List ℕ)) (h : Reads limit e c.loop-line.reader ls).
-          subst (λ t. Reads limit e c.line-in-loop-line.new.self (ls ++ t ∷ [])) is (c.in-Ok.ensures.reads limit e ls h);
-      hands = λ (limit : ℕ) (e : EntityTable) (ls : List (List ℕ)) (h : Reads limit e c.loop-line.reader ls).
+      reads = λ (limit : ℕ) (e : EntityTable) (ls : List (List ℕ)) (h : Follows limit e c.loop-line.reader ls).
+          subst (λ t. Follows limit e c.line-in-loop-line.new.self (ls ++ t ∷ [])) is (c.in-Ok.ensures.reads limit e ls h);
+      hands = λ (limit : ℕ) (e : EntityTable) (ls : List (List ℕ)) (h : Follows limit e c.loop-line.reader ls).
           subst (λ t. handed e (ls ++ t ∷ []) ≡ handed e ls ++ option_to_list (option_map found_unit c.in-Ok.unit)) is (c.in-Ok.ensures.hands limit e ls h);
       pushed = c.in_ok-push_some-in-Ok.ensures;
     }
@@ -141,47 +145,86 @@ stretch_in_loop g c =
     let few = few_soon c.args.held.now.entities.now c.args.text c.args.held.now.options.now.max_containers c.loop-line.reader (map found_unit c.loop-line.found.items) c.loop-line.line (omega (arith, below)) inv.near inv.above in
     omega (arith, few, inv.lines, c.line-in-loop-line.ensures.lines, a.from_is)
 
-pub returns-in_err-reader-clause-stretch : goal.returns-in_err-reader-clause-stretch
-returns-in_err-reader-clause-stretch g c =
+-- how many lines so far
+lines_in_loop : (g : Over) (c : After-line-in-loop-line g) → g.C.Count.lines c.line-in-loop-line.new.count ≤ g.C.Count.lines c.args.count.now + length (lines_of c.args.text)
+lines_in_loop g c =
+    let a = at_line g c in
+    let inv = c.loop-line.invariant in
+    let below = a.below in
+    omega (arith, inv.lines, c.line-in-loop-line.ensures.lines, below)
+
+pub returns-in_err-reader : goal.returns-in_err-reader
+returns-in_err-reader g c =
     let e = c.args.held.now.entities.now in
     let text = c.args.text in
+    let limit = c.args.held.now.options.now.max_containers in
     let r = c.resume_at-resume.result in
     let s = begins_reading e text c.args.held.now.head c.args.held.now.units.now.items c.at.result r.from r.start.unit r.start.line c.requires.held c.requires.old c.at.ensures.at c.resume_at-resume.ensures.resumed in
     let few = few_above e (old_lines text) (lines_of text) (stops_of e text) (is_stop e text) in
-    omega (arith, few, c.in_err-reader.ensures.no_more, s.0)
+    let within = in_new limit e (old_lines text) (lines_of text) (places_of e text) (is_edit e text) in
+    let f = gi_failed limit e text c.args.held.now.units.now.items c.from_residual.result c.from_residual.ensures.1 in
+    record {
+      fault = f.fault;
+      deep = f.deep;
+      fits = f.fits;
+      read = f.read;
+      kept = f.kept;
+      list = f.list;
+      soon = f.soon;
+      stretch = omega (arith, few, c.in_err-reader.ensures.no_more, s.0);
+      order = f.order;
+      lines = omega (arith, within, c.in_err-reader.ensures.no_more);
+      inlines = c.begun_reader.ensures.inlines;
+    }
 
-pub returns-in_err-reader-clause-lines : goal.returns-in_err-reader-clause-lines
-returns-in_err-reader-clause-lines g c =
-    let e = c.args.held.now.entities.now in
-    let text = c.args.text in
-    let within = in_new c.args.held.now.options.now.max_containers e (old_lines text) (lines_of text) (places_of e text) (is_edit e text) in
-    omega (arith, within, c.in_err-reader.ensures.no_more)
-
-pub returns-in_err-push_some-in-Ok-clause-stretch : goal.returns-in_err-push_some-in-Ok-clause-stretch
-returns-in_err-push_some-in-Ok-clause-stretch g c = stretch_in_loop g (goal.at.returns-in_err-push_some-in-Ok-clause-stretch g c).After-line-in-loop-line
-
-pub returns-in-Err-clause-stretch : goal.returns-in-Err-clause-stretch
-returns-in-Err-clause-stretch g c = stretch_in_loop g (goal.at.returns-in-Err-clause-stretch g c).After-line-in-loop-line
-
-pub returns-in-Some-clause-stretch : goal.returns-in-Some-clause-stretch
-returns-in-Some-clause-stretch g c = stretch_in_loop g (goal.at.returns-in-Some-clause-stretch g c).After-line-in-loop-line
+pub returns-in_err-push_some-in-Ok : goal.returns-in_err-push_some-in-Ok
+returns-in_err-push_some-in-Ok g c =
+    let s = (goal.at.returns-in_err-push_some-in-Ok g c).After-line-in-loop-line in
+    let r = c.from_residual-in_err-push_some-in-Ok in
+    let f = gi_failed c.args.held.now.options.now.max_containers c.args.held.now.entities.now c.args.text c.args.held.now.units.now.items r.result r.ensures.1 in
+    record {
+      fault = f.fault;
+      deep = f.deep;
+      fits = f.fits;
+      read = f.read;
+      kept = f.kept;
+      list = f.list;
+      soon = f.soon;
+      stretch = stretch_in_loop g s;
+      order = f.order;
+      lines = lines_in_loop g s;
+      inlines = c.line-in-loop-line.ensures.inlines ∙ c.loop-line.invariant.inlines;
+    }
 
 -- ---- a line that begins a container too deep
 
-pub returns-in-Err-clause-deep : goal.returns-in-Err-clause-deep
-returns-in-Err-clause-deep g c =
+pub returns-in-Err : goal.returns-in-Err
+returns-in-Err g c =
     let text = c.args.text in
     let new = lines_of text in
     let e = c.args.held.now.entities.now in
     let limit = c.args.held.now.options.now.max_containers in
     let line = c.loop-line.line in
-    let a = at_line g (goal.at.returns-in-Err-clause-deep g c).After-line-in-loop-line in
-    subst (IsDeepAt (first_too_deep limit new)) (sym c.fault_in_line.ensures.value)
-    (deep_told (first_too_deep limit new) c.in-Err.fault line
-    (λ is. deep_at limit e (old_lines text) new (places_of e text) (is_edit e text) c.requires.fits c.loop-line.reader (map found_unit c.loop-line.found.items) line [] a.order a.below
-    (λ (limit : ℕ) (e : EntityTable) (ls : List (List ℕ)) (h : Reads limit e c.loop-line.reader ls).
-    subst (λ t. first_too_deep limit (ls ++ t ∷ []) ≡ Some (length ls)) c.line.ensures.value (c.in-Err.ensures.deep (ap Err is) limit e ls h))
-    c.loop-line.invariant.above))
+    let s = (goal.at.returns-in-Err g c).After-line-in-loop-line in
+    let a = at_line g s in
+    record {
+      fault = c.fault_in_line.ensures.reading;
+      deep = subst (IsDeepAt (first_too_deep limit new)) (sym c.fault_in_line.ensures.value)
+          (deep_told (first_too_deep limit new) c.in-Err.fault line
+          (λ is. deep_at limit e (old_lines text) new (places_of e text) (is_edit e text) c.requires.fits c.loop-line.reader (map found_unit c.loop-line.found.items) line [] a.order a.below
+          (λ (limit : ℕ) (e : EntityTable) (ls : List (List ℕ)) (h : Follows limit e c.loop-line.reader ls).
+          subst (λ t. first_too_deep limit (ls ++ t ∷ []) ≡ Some (length ls)) c.line.ensures.value (c.in-Err.ensures.deep (ap Err is) limit e ls h))
+          c.loop-line.invariant.above));
+      fits = tt;
+      read = tt;
+      kept = tt;
+      list = tt;
+      soon = tt;
+      stretch = stretch_in_loop g s;
+      order = tt;
+      lines = lines_in_loop g s;
+      inlines = c.line-in-loop-line.ensures.inlines ∙ c.loop-line.invariant.inlines;
+    }
 
 -- ---- a unit begins in both texts
 
@@ -251,6 +294,31 @@ returns-in-Some-clause-read g c =
           (stands_pushed e ls c.loop-line.found.items c.push_some.new.found.items c.in-Ok.unit l.pushed (c.in-Ok.ensures.stands limit e ls inv.above.reads) inv.stands);
     })
 
+pub returns-in-Some-clause-kept : goal.returns-in-Some-clause-kept
+returns-in-Some-clause-kept g c = subst (λ (r : Reparsed). IfSome r.kept (IsKept c.args.held.now.units.now.items (trees_found r))) (sym c.up_to.ensures) tt
+
+pub returns-in-Some-clause-list : goal.returns-in-Some-clause-list
+returns-in-Some-clause-list g c = subst (λ (r : Reparsed). IfSome r.list (IsHeldOn c.args.held.now.units.now.items r)) (sym c.up_to.ensures) tt
+
+pub returns-in-Some-clause-stretch : goal.returns-in-Some-clause-stretch
+returns-in-Some-clause-stretch g c = stretch_in_loop g (goal.at.returns-in-Some-clause-stretch g c).After-line-in-loop-line
+
+pub returns-in-Some-clause-order : goal.returns-in-Some-clause-order
+returns-in-Some-clause-order g c =
+    let held = c.args.held.now.units.now.items in
+    let inv = c.loop-line.invariant in
+    let unit = c.in-Some.ensures.unit in
+    let forward = c.in-Some.ensures.on.forward in
+    let below = subst (λ (us : Sequence HeldUnit). c.in-Some.next < length us.items) (c.in-Some.ensures.on.same ∙ inv.same) unit.1 in
+    let from = inv.forward in
+    subst (λ (r : Reparsed). (r.first ≤ r.next) × (r.next ≤ length held)) (sym c.up_to.ensures) (omega (arith, from, forward, unit.0), omega (arith, below))
+
+pub returns-in-Some-clause-lines : goal.returns-in-Some-clause-lines
+returns-in-Some-clause-lines g c = lines_in_loop g (goal.at.returns-in-Some-clause-lines g c).After-line-in-loop-line
+
+pub returns-in-Some-clause-inlines : goal.returns-in-Some-clause-inlines
+returns-in-Some-clause-inlines g c = c.line-in-loop-line.ensures.inlines ∙ c.loop-line.invariant.inlines
+
 -- ---- no unit and no item does
 
 pub loop-line-preserved : goal.loop-line-preserved
@@ -291,6 +359,7 @@ loop-line-preserved g c =
       counted = subst (λ (us : Sequence HeldUnit). IsCounted head us.items then.next) at.same (c.joined_at.ensures.on.counted head at.counted);
       ahead = ahead_later (map lines_in c.args.held.now.units.now.items) p.old_begins then.next.unit then.next.line (line_before p line) (line_before p (line + 1)) later
           (subst (λ (us : Sequence HeldUnit). IsAhead (map lines_in us.items) p.old_begins then.next.unit then.next.line (line_before p line)) at.same (c.joined_at.ensures.ahead e at.ahead));
+      base = gi_base_next c.args.held.now.units.now.items c.resume_at-resume.result.start.unit c.loop-line.reader.base c.line-in-loop-line.new.self.base c.in-Ok.ensures.base inv.base;
       stands = stands_read e new (from_line p) line [] c.loop-line.found.items c.push_some.new.found.items c.in-Ok.unit a.order a.below l.pushed (c.in-Ok.ensures.stands limit e lines inv.above.reads) inv.stands;
     }
 
@@ -327,8 +396,55 @@ stretch_at_end g c =
     (let near = inv.near in omega (arith, near, last)) a.above in
     omega (arith, few, inv.lines, a.from_is, last)
 
-pub returns-in_err-push_some-in-Ok-finish-clause-stretch : goal.returns-in_err-push_some-in-Ok-finish-clause-stretch
-returns-in_err-push_some-in-Ok-finish-clause-stretch g c = stretch_at_end g (goal.at.returns-in_err-push_some-in-Ok-finish-clause-stretch g c).After-finish
+-- how many lines were read
+lines_at_end : (g : Over) (c : After-finish g) → g.C.Count.lines c.loop-line.count ≤ g.C.Count.lines c.args.count.now + length (lines_of c.args.text)
+lines_at_end g c =
+    let a = at_end g c in
+    let inv = c.loop-line.invariant in
+    let last = a.last in
+    omega (arith, inv.lines, last)
+
+pub returns-in_err-push_some-in-Ok-finish : goal.returns-in_err-push_some-in-Ok-finish
+returns-in_err-push_some-in-Ok-finish g c =
+    let s = (goal.at.returns-in_err-push_some-in-Ok-finish g c).After-finish in
+    let r = c.from_residual-in_err-push_some-in-Ok-finish in
+    let f = gi_failed c.args.held.now.options.now.max_containers c.args.held.now.entities.now c.args.text c.args.held.now.units.now.items r.result r.ensures.1 in
+    record {
+      fault = f.fault;
+      deep = f.deep;
+      fits = f.fits;
+      read = f.read;
+      kept = f.kept;
+      list = f.list;
+      soon = f.soon;
+      stretch = stretch_at_end g s;
+      order = f.order;
+      lines = lines_at_end g s;
+      inlines = c.loop-line.invariant.inlines;
+    }
+
+pub returns-in-Err-finish-clause-lines : goal.returns-in-Err-finish-clause-lines
+returns-in-Err-finish-clause-lines g c = lines_at_end g (goal.at.returns-in-Err-finish-clause-lines g c).After-finish
+
+pub returns-in-Err-finish-clause-inlines : goal.returns-in-Err-finish-clause-inlines
+returns-in-Err-finish-clause-inlines g c = c.loop-line.invariant.inlines
+
+pub returns-clause-kept : goal.returns-clause-kept
+returns-clause-kept g c = subst (λ (r : Reparsed). IfSome r.kept (IsKept c.args.held.now.units.now.items (trees_found r))) (sym c.up_to-2.ensures) tt
+
+pub returns-clause-list : goal.returns-clause-list
+returns-clause-list g c = subst (λ (r : Reparsed). IfSome r.list (IsHeldOn c.args.held.now.units.now.items r)) (sym c.up_to-2.ensures) tt
+
+pub returns-clause-order : goal.returns-clause-order
+returns-clause-order g c =
+    let held = c.args.held.now.units.now.items in
+    subst (λ (r : Reparsed). (r.first ≤ r.next) × (r.next ≤ length held)) (sym c.up_to-2.ensures) (omega (arith, c.resume_at-resume.ensures.unit, c.len.ensures), omega (arith, c.len.ensures))
+
+pub returns-clause-lines : goal.returns-clause-lines
+returns-clause-lines g c = lines_at_end g (goal.at.returns-clause-lines g c).After-finish
+
+pub returns-clause-inlines : goal.returns-clause-inlines
+returns-clause-inlines g c = c.loop-line.invariant.inlines
 
 pub returns-in-Err-finish-clause-stretch : goal.returns-in-Err-finish-clause-stretch
 returns-in-Err-finish-clause-stretch g c = stretch_at_end g (goal.at.returns-in-Err-finish-clause-stretch g c).After-finish
@@ -343,7 +459,7 @@ returns-clause-fits g c =
     let p = places_of e c.args.text in
     let limit = c.args.held.now.options.now.max_containers in
     let a = at_end g (goal.at.returns-clause-fits g c).After-finish in
-    new_fits limit e (old_lines c.args.text) new p (is_edit e c.args.text) c.requires.fits (length new) a.meet (none_deep limit e c.loop-line.reader (drop (from_line p) (take (length new) new)) a.above.reads)
+    new_fits limit e (old_lines c.args.text) new p (is_edit e c.args.text) c.requires.fits (length new) a.meet (gi_none_deep limit e c.loop-line.reader (drop (from_line p) (take (length new) new)) a.above.reads)
 
 -- all units from there on are found
 found_at_end : (g : Over) (c : In_ok-push_some-in-Ok-finish g)
@@ -430,13 +546,23 @@ join_held-requires-clause-fits g c =
     let below = a.below in
     omega (arith, within, fed, c.in-Ok.ensures.read, c.requires.old, c.requires.few, below)
 
+pub join_held-requires-clause-base : goal.join_held-requires-clause-base
+join_held-requires-clause-base g c =
+    let s = goal.at.join_held-requires-clause-base g c in
+    let a = at_line g s.After-line-in-loop-line in
+    let at = cursor_at g s.After-joined_at a in
+    let item = c.in-Some-joined_at.item in
+    let of = subst (λ (us : Sequence HeldUnit). IsItemOf us.items item) (c.in-Some-joined_at.ensures.on.same ∙ at.same) c.in-Some-joined_at.ensures.item in
+    λ own. gi_base_next c.args.held.now.units.now.items c.resume_at-resume.result.start.unit c.loop-line.reader.base c.line-in-loop-line.new.self.base c.in-Ok.ensures.base c.loop-line.invariant.base
+    item.unit.now (ap (slice_get c.args.held.now.units.now.items) (sym own) ∙ of.0)
+
 -- What is known where the list that was read goes on in a held one.
 record JoinedThere (g : Over) (c : After-join_held g) : Type 0 where
   order : from_line (places_of c.args.held.now.entities.now c.args.text) ≤ c.loop-line.line
   stop : StopsAt c.args.held.now.entities.now c.args.text c.args.held.now.units.now.items c.in-Some-joined_at.item c.loop-line.line
   of : IsItemOf c.args.held.now.units.now.items c.in-Some-joined_at.item
   few_units_held : length c.args.held.now.units.now.items < 18446744073709551616
-  reads : Reads c.args.held.now.options.now.max_containers c.args.held.now.entities.now c.line-in-loop-line.new.self
+  reads : Follows c.args.held.now.options.now.max_containers c.args.held.now.entities.now c.line-in-loop-line.new.self
       (drop (from_line (places_of c.args.held.now.entities.now c.args.text)) (take (c.loop-line.line + 1) (lines_of c.args.text)))
   out : map found_unit c.push_some.new.found.items
       ≡ handed c.args.held.now.entities.now (drop (from_line (places_of c.args.held.now.entities.now c.args.text)) (take (c.loop-line.line + 1) (lines_of c.args.text)))
@@ -466,7 +592,7 @@ joined_there g c a l at stop =
       stop = stop;
       of = subst (λ (us : Sequence HeldUnit). IsItemOf us.items c.in-Some-joined_at.item) (c.in-Some-joined_at.ensures.on.same ∙ at.same) c.in-Some-joined_at.ensures.item;
       few_units_held = few_units e (old_lines text) c.args.held.now.head c.args.held.now.units.now.items c.requires.held c.requires.old;
-      reads = subst (Reads limit e c.line-in-loop-line.new.self) (sym next) (l.reads limit e ls inv.above.reads);
+      reads = subst (Follows limit e c.line-in-loop-line.new.self) (sym next) (l.reads limit e ls inv.above.reads);
       out =
           units_pushed c.loop-line.found.items c.push_some.new.found.items c.in-Ok.unit l.pushed
           ∙ ap (λ z. z ++ option_to_list (option_map found_unit c.in-Ok.unit)) inv.above.handed_out ∙ sym (l.hands limit e ls inv.above.reads) ∙ ap (handed e) (sym next);
@@ -497,7 +623,7 @@ returns-in-Some-joined_at g c =
       fault = IfErr-weaker c.join_held.result (λ (f : EditFault). f ≡ NoMemory) OfBlocks (λ f is. subst OfBlocks (sym is) tt) c.join_held.ensures.fault;
       deep = IfErr-weaker c.join_held.result (λ (f : EditFault). f ≡ NoMemory) (IsDeepAt (first_too_deep limit new)) (λ f is. subst (IsDeepAt (first_too_deep limit new)) (sym is) tt) c.join_held.ensures.fault;
       fits = ok_any c.join_held.result (near_deep e limit (old_lines text) new (stops_of e text) (is_stop e text) c.requires.fits
-          ∙ ap (moved_on from) (ap (λ n. first_too_deep limit (drop from (take (n + 1) new))) j.stop.near ∙ none_deep limit e reader (drop from (take (line + 1) new)) j.reads));
+          ∙ ap (moved_on from) (ap (λ n. first_too_deep limit (drop from (take (n + 1) new))) j.stop.near ∙ gi_none_deep limit e reader (drop from (take (line + 1) new)) j.reads));
       read = ok_both c.join_held.result
           (joined_reread e text held limit c.requires.fits reader found line item j.stop j.of c.requires.few j.few_units_held j.order j.reads j.out j.stands) j.place c.join_held.ensures.list;
       kept = ok_one c.join_held.result

@@ -1,11 +1,12 @@
 use Rattle.std.proofs.Common.{◌≡◌, ◌+◌, ◌≤◌, ◌-◌, drop, map, take}
 use Rattle.std.specs.List.{All}
 use Rattle.mdblock.specs.FoundLists.{found_unit}
+use Rattle.mdblock.specs.held.Following.{fed_in}
 use Rattle.mdsource.specs.Stretch.{from_line}
 use Rattle.mdsource.specs.UnitTiles.{IsAhead}
 use Rattle.mdview.specs.HeldBlocks.{line_before, lines_in, places_of}
 use Rattle.mdsource.specs.Stops.{near_line}
-use Rattle.mdview.specs.HeldItems.{IsCounted}
+use Rattle.mdview.specs.HeldItems.{IsBaseOf, IsCounted}
 use Rattle.mdview.specs.StopLines.{stops_of}
 use Rattle.mdview.specs.HeldLists.{StandsAt}
 use Rattle.mdview.specs.NewText.{lines_of}
@@ -16,7 +17,7 @@ use Rattle.mdview.proofs.blocks.reparse.reparse.Given as goal
 abbrev pub invariant-loop-line : goal.invariant-loop-line
 invariant-loop-line g l = record {
   rest : l.ahead ≡ drop l.line (lines_of l.text);
-  fed : l.reader.fed ≡ l.line - l.from;
+  fed : fed_in l.reader ≡ l.line - l.from;
   lines : g.C.Count.lines l.count ≤ g.C.Count.lines l.fn.count + (l.line - l.from);
   inlines : g.C.Count.inlines l.count ≡ g.C.Count.inlines l.fn.count;
   same : l.cursor.units.now ≡ l.held.units.now;
@@ -26,5 +27,6 @@ invariant-loop-line g l = record {
   counted : IsCounted l.held.head l.held.units.now.items l.cursor.next;
   ahead : IsAhead (map lines_in l.held.units.now.items) (places_of l.held.entities.now l.text).old_begins l.cursor.next.unit l.cursor.next.line
       (line_before (places_of l.held.entities.now l.text) l.line);
+  base : IsBaseOf l.held.units.now.items l.resume.start.unit l.reader.base;
   stands : All (StandsAt l.held.entities.now (drop (from_line (places_of l.held.entities.now l.text)) (take l.line (lines_of l.text)))) l.found.items;
 }

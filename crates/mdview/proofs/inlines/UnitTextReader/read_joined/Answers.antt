@@ -1,5 +1,4 @@
-use Rattle.std.proofs.Common.{◌≡◌, ◌≤◌, ◌<◌, ◌+◌, ◌-◌, ◌++◌, ◌∷◌, ℕ, List, [], Option, Some, Err, Ok, ap, arith, length, map, option_map, slice_get, subst, sym, ◌∙◌}
-use Rattle.std.specs.Prelude.{IfSome, is_some}
+use Rattle.std.proofs.Common.{◌≡◌, ◌-◌, ◌++◌, ◌∷◌, [], Some, Err, ap, arith, map, option_map, slice_get, sym, ◌∙◌}
 use Rattle.std.proofs.lemmas.List.{map-append}
 use Rattle.mdblock.specs.FoundLists.{found_unit}
 use Rattle.mdblock.specs.Seams.{seam_list}
@@ -34,7 +33,7 @@ unwrap-unit-requires g c =
 pub returns-in-Err-clause-deep : goal.returns-in-Err-clause-deep
 returns-in-Err-clause-deep g c =
     let s = texts_under c.args.self.now c.args.room.now in
-    rw (map-append found_unit c.args.found.items (seam_list c.args.list ∷ []), c.fault_in_unit.ensures, c.saturating_add-begin.ensures, c.begin.ensures, c.front.ensures) (
+    rw (map-append found_unit c.args.found.items (seam_list c.args.list ∷ []), c.fault_in_unit.ensures, c.saturating_add-begin.ensures, c.begin.ensures) (
       tt,
       fault_last s.options.max_spans s.entities s.behind
           (map found_unit c.args.found.items) (found_unit (seam_list c.args.list)) c.args.from c.in-Err.fault (none_mapped _ _ c.in_ok-units.ensures.deep.0)

@@ -1,4 +1,4 @@
-use Rattle.std.proofs.Common.{◌≡◌, Err, ap, refl, subst, sym, ◌∙◌}
+use Rattle.std.proofs.Common.{Err, ap, refl, subst, sym, ◌∙◌}
 use Rattle.std.proofs.lemmas.Result.{IfOk-from_err}
 use Rattle.mdview.specs.HeldTexts.{entities_in, labels_before}
 use Rattle.blockspec.specs.UnitTree.{UnitTree}

@@ -1,4 +1,4 @@
-use Rattle.std.proofs.Common.{◌≡◌, Err, ap, refl, subst, sym, ◌∙◌}
+use Rattle.std.proofs.Common.{Err, ap, refl, subst, sym, ◌∙◌}
 use Rattle.std.proofs.lemmas.Result.{IfOk-from_err}
 use Rattle.mdview.specs.TextSetting.{IsReadFrom, texts_under}
 use Rattle.mdview.proofs.Refused.{told_memory}

@@ -1,12 +1,15 @@
-use Rattle.std.proofs.Common.{◌≡◌, ◌+◌, ℕ, false, ◌-◌, ◌^◌, ◌<◌, ◌≤◌, List, map, length, string_bytes, arith, ap, sym, ◌∙◌, refl, subst}
+use Rattle.std.proofs.Common.{◌≡◌, ◌+◌, ℕ, None, Result, false, true, ◌-◌, ◌^◌, ◌<◌, ◌≤◌, List, map, length, string_bytes, arith, ap, sym, ◌∙◌, refl, subst}
+use Rattle.std.specs.Prelude.{IsErrAnd, IsSome}
 use Rattle.std.proofs.lemmas.List.{length-map}
-use Rattle.mdsource.specs.Calls.{Call, put}
+use Rattle.mdsource.specs.Calls.{Call, due_at_once, put}
 use Rattle.mdsource.specs.ChangedPieces.{ChangedPieces}
 use Rattle.mdsource.specs.SoonTexts.{texts_soon}
 use Rattle.mdsource.specs.Stops.{lines_soon}
 use Rattle.mdsource.specs.Outcome.{accepted}
 use Rattle.mdsource.specs.Patch.{Brings}
 use Rattle.mdsource.specs.Refusals.{nesting_refusal}
+use Rattle.mdsource.specs.declared.fault.EditFault.{EditFault}
+use Rattle.mdsource.specs.declared.fault.EditFault.TheVariants.{NoMemory}
 use Rattle.mdview.specs.Document.{Document, pieces_of, readings_of, setting_of, source_of}
 use Rattle.mdsource.specs.SourceLimits.{size_of}
 use Rattle.mdview.specs.Edit.{call_of, due}
@@ -23,7 +26,8 @@ use Rattle.mdview.proofs.Committed.{brought_count}
 use Rattle.mdview.proofs.EditOutcomes.{IsTextOf, IsUpdateOf, lines_of_call, next_blocks, next_rendered, next_texts, patch_is, pieces_brought, readings_brought, text_of_edit, texts_of_call, update_of_call}
 use Rattle.mdview.proofs.FewUnits.{come_few, held_few}
 use Rattle.mdview.proofs.HeldReadings.{holds_relabelled, shallow_still}
-use Rattle.mdview.proofs.Outcomes.{accepts, refused_by_reading, returns_refusal}
+use Rattle.mdview.proofs.DueReasons.{none_due}
+use Rattle.mdview.proofs.Outcomes.{accepts, refused_by_reading, returns_refusal, starves}
 use Rattle.mdview.proofs.Sizes.{map_replaced}
 use Rattle.mdview.proofs.preview.Preview.edit_lines.Given.{Over}
 use Rattle.mdview.proofs.preview.Preview.edit_lines.Goals.{After-of, After-commit}
@@ -128,6 +132,46 @@ returns-in_err-update-clause-outcome g c =
     let why = subst (λ ls. IsRefusedBy (nesting_refusal (setting_of held) (record { lines = ls; prelude = held.prelude })) fault) is.behind c.in_err-update.ensures.refused in
     subst (λ (d : Document). (answer_of result, d) ≡ outcome_of (is_starved result) d call) c.self.view_is
     (returns_refusal result fault held call c.from_residual-in_err-update.ensures.1 (refused_by_reading held call fault once why))
+
+-- ---- memory was refused behind the reading
+
+not_due : (g : Over) (c : After-of g) → due c.args.self.now.lines (call_of c.args.at c.args.del c.args.add.now) ≡ None
+not_due g c = c.in_ok-size.ensures.ok.0
+
+-- nothing is counted where a refusal is due at once, and none was
+counted_none : (g : Over) (c : After-of g) → IsSome (due_at_once (source_of c.args.self.now) (call_of c.args.at c.args.del c.args.add.now)) → c.of.new.count ≡ c.args.count.now
+counted_none g c some =
+    let none : false ≡ true = subst IsSome (none_due (source_of c.args.self.now) (call_of c.args.at c.args.del c.args.add.now) (not_due g c)) some in absurd (let x : ⊥ = cc in x)
+
+starved : (g : Over) (c : After-of g) (result : Result ChangedPieces EditFault) (new : Document) → IsErrAnd result (λ f. f ≡ NoMemory) → new ≡ c.args.self.now
+    → (answer_of result, new) ≡ outcome_of (is_starved result) c.args.self.now (call_of c.args.at c.args.del c.args.add.now)
+starved g c result new is same =
+    let call : Call = call_of c.args.at c.args.del c.args.add.now in
+    ap (λ (d : Document). (answer_of result, d)) same ∙ returns_refusal result NoMemory c.args.self.now call is (starves c.args.self.now call (not_due g c))
+
+pub returns-in_err-reserve_splice-clause-outcome : goal.returns-in_err-reserve_splice-clause-outcome
+returns-in_err-reserve_splice-clause-outcome g c =
+    starved g (goal.at.returns-in_err-reserve_splice-clause-outcome g c).After-of c.from_residual-in_err-reserve_splice.result _ c.from_residual-in_err-reserve_splice.ensures.1
+    (ap (λ ls. with_lines c.self.inside (map string_bytes ls)) c.reserve_splice.ensures.items ∙ c.self.view_is)
+
+pub returns-in_err-reserve_splice-clause-uncounted : goal.returns-in_err-reserve_splice-clause-uncounted
+returns-in_err-reserve_splice-clause-uncounted g c = counted_none g (goal.at.returns-in_err-reserve_splice-clause-uncounted g c).After-of
+
+pub returns-in_err-reserve_splice-2-clause-outcome : goal.returns-in_err-reserve_splice-2-clause-outcome
+returns-in_err-reserve_splice-2-clause-outcome g c =
+    starved g (goal.at.returns-in_err-reserve_splice-2-clause-outcome g c).After-of c.from_residual-in_err-reserve_splice-2.result _ c.from_residual-in_err-reserve_splice-2.ensures.1
+    (ap (λ ls. with_lines c.self.inside (map string_bytes ls)) c.in_ok-reserve_splice.ensures.items ∙ c.self.view_is)
+
+pub returns-in_err-reserve_splice-2-clause-uncounted : goal.returns-in_err-reserve_splice-2-clause-uncounted
+returns-in_err-reserve_splice-2-clause-uncounted g c = counted_none g (goal.at.returns-in_err-reserve_splice-2-clause-uncounted g c).After-of
+
+pub returns-in_err-make_room-clause-outcome : goal.returns-in_err-make_room-clause-outcome
+returns-in_err-make_room-clause-outcome g c =
+    starved g (goal.at.returns-in_err-make_room-clause-outcome g c).After-of c.from_residual-in_err-make_room.result _ c.from_residual-in_err-make_room.ensures.1
+    (ap (λ ls. with_lines c.self.inside (map string_bytes ls)) c.in_ok-reserve_splice.ensures.items ∙ c.self.view_is)
+
+pub returns-in_err-make_room-clause-uncounted : goal.returns-in_err-make_room-clause-uncounted
+returns-in_err-make_room-clause-uncounted g c = counted_none g (goal.at.returns-in_err-make_room-clause-uncounted g c).After-of
 
 -- What is known once the update is taken in.
 record Taken (g : Over) (c : After-commit g) : Type 0 where

@@ -27,7 +27,7 @@ returns-clause-led c = λ q.
     let gone = map unit_in (take (next - first) (drop first units)) in
     let found = map (λ one. one.unit) c.args.reparsed.now.found.items in
     let all = map (λ one. one.unit) (found_in c.args.reparsed.now) in
-    let none = if_some c.args.reparsed.now.list (λ (s : ListSeam) (w : IsHeldOn units c.args.reparsed.now s). defines_none s w.stays w.fits) c.requires.list in
+    let none = if_some c.args.reparsed.now.list (λ (s : ListSeam) (w : IsHeldOn units c.args.reparsed.now s). defines_none s w.stays w.fits.0) c.requires.list in
     let back = map unit_in (drop next units) in
     let from_front : take (first - 0) (drop 0 units) ≡ take first units = let n : first - 0 ≡ first = omega arith in ap (λ n. take n units) n in
     let touched_gone : told c.touch_held.new.self q ≡ touched_by (labels_by gone) q None = c.in_ok-touch_held.ensures q ∙ ap (touched_by (labels_by gone) q) (c.new-touched.ensures q) in

@@ -1,6 +1,6 @@
 use Rattle.std.proofs.Common.{◌∙◌}
 use Rattle.mdview.proofs.KeptLists.{kept_front, kept_same}
-use Rattle.mdview.proofs.blocks.reparse.push_joined.Goals as goal
+use Rattle.mdview.proofs.blocks.joined_lists.push_joined.Goals as goal
 
 pub returns-then-can_stay-clause-kept : goal.returns-then-can_stay-clause-kept
 returns-then-can_stay-clause-kept c = λ fits.
