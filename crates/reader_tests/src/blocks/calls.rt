@@ -2,7 +2,7 @@
 
 ghost use Rattle.std.specs.Prelude.{◌≤◌};
 
-use mdblock::{BlockFault, Found, Reader, splice};
+use mdblock::{BlockFault, Found, ItemReader, Reader, splice};
 use mdtext::{Entities, Tally};
 use std::alloc::{AllocError, Global};
 
@@ -48,18 +48,34 @@ pub(crate) fn finish(reader: Reader<'_>) -> Result<Option<Found>, BlockFault> {
 }
 
 /// Goes on inside a list from one of its later items, which begins with this line.
-pub(crate) fn resume<'e>(
+pub(crate) fn inside<'e, 'o>(
     alloc: Global,
     entities: &'e Entities,
-    found: &Found,
+    found: &'o Found,
     k: usize,
     text: &str,
     count: &mut Tally,
-) -> Result<Option<Reader<'e>>, AllocError> {
+) -> Result<Option<ItemReader<'e, 'o>>, AllocError> {
     if text.len() > usize::MAX / 4 {
         return Ok(None);
     }
-    Reader::resume(alloc, entities, LIMIT, found, k, text, count)
+    ItemReader::inside(alloc, entities, LIMIT, found, k, text, count)
+}
+
+/// `read_line` for what reads inside a list.
+pub(crate) fn read_line_inside(
+    reader: &mut ItemReader<'_, '_>,
+    text: &str,
+    count: &mut Tally,
+) -> Result<Option<Found>, BlockFault> {
+    if reader.fed() == usize::MAX || text.len() > usize::MAX / 4 {
+        return Err(BlockFault::Failed);
+    }
+    reader.line(text, count)
+}
+
+pub(crate) fn finish_inside(reader: ItemReader<'_, '_>) -> Result<Option<Found>, BlockFault> {
+    reader.finish()
 }
 
 /// Joins what was read with the rest of an old list from one of its later items on, where the last line that was read begins such an item.

@@ -1,7 +1,9 @@
 //! Lists in two parts, beside the same lines read from their front.
 
-use super::calls::{LIMIT, finish, new_reader, read_line, resume, spliced};
-use mdblock::{BlockFault, Found, Reader};
+use super::calls::{
+    LIMIT, finish, finish_inside, inside, new_reader, read_line, read_line_inside, spliced,
+};
+use mdblock::{BlockFault, Found, ItemReader, Reader};
 use mdtext::{Entities, Tally};
 use std::alloc::{AllocError, Global};
 use std::process::Abort;
@@ -198,52 +200,108 @@ fn join_all(
     Ok(count)
 }
 
-/// Whether each line that a list's reader took over was counted, up to this one, which begins a later item.
-fn is_resumed(reader: &Reader<'_>, count: &Tally, at: usize) -> bool {
+/// Whether each line up to this one, which begins a later item, was counted.
+fn is_inside(reader: &ItemReader<'_, '_>, count: &Tally, at: usize) -> bool {
     u64::try_from(reader.fed()) == Ok(count.lines())
         && count.inlines() == 0
-        && reader.joined()
         && reader.fed() == at.saturating_add(1)
 }
 
-/// What is held where a list is gone on in from its join `k`, by a reader of its own lines. Each line that it takes over or reads is counted.
-fn resumed_told(
+fn read_on_inside(reader: &mut ItemReader<'_, '_>, lines: &[&'static str]) {
+    let mut count = Tally::new();
+    for line in lines {
+        let _ = read_line_inside(reader, line, &mut count);
+    }
+}
+
+/// What is held of a list behind these lines.
+fn told_inside(
+    alloc: Global,
+    mut reader: ItemReader<'_, '_>,
+    lines: &[&'static str],
+) -> Result<String, AllocError> {
+    read_on_inside(&mut reader, lines);
+    told(alloc, finish_inside(reader))
+}
+
+/// Two lines that end each list: the second begins a paragraph.
+static ENDS: [&str; 2] = ["", "p"];
+
+/// What is held of a list behind these lines where it ends, and of the paragraph behind it.
+fn told_ended(
+    alloc: Global,
+    mut reader: ItemReader<'_, '_>,
+    lines: &[&'static str],
+) -> Result<String, AllocError> {
+    read_on_inside(&mut reader, lines);
+    read_on_inside(&mut reader, &ENDS[..1]);
+    let list = told(
+        alloc,
+        read_line_inside(&mut reader, ENDS[1], &mut Tally::new()),
+    )?;
+    let behind = told(alloc, finish_inside(reader))?;
+    format!(in alloc; "{list}, {behind}")
+}
+
+/// What is held where a list is gone on in from its join `k`, by a reader of its own lines, to its end or behind it. Each line that stays or is read is counted.
+fn inside_told(
     rt: &impl Abort,
     alloc: Global,
     entities: &Entities,
     found: &Found,
     k: usize,
     own: &[&'static str],
+    ends: bool,
 ) -> Result<String, AllocError> {
     let at = line_of(found, k);
     let text = own.get(at).unwrap_or(&"");
     let mut count = Tally::new();
-    match resume(alloc, entities, found, k, text, &mut count)? {
+    match inside(alloc, entities, found, k, text, &mut count)? {
         Some(reader) => {
-            assert!(rt; is_resumed(&reader, &count, at));
+            assert!(rt; is_inside(&reader, &count, at));
             let later = own.get(at.saturating_add(1)..).unwrap_or(&[]);
-            told(alloc, finished(reader, later))
+            if ends {
+                told_ended(alloc, reader, later)
+            } else {
+                told_inside(alloc, reader, later)
+            }
         }
         None => String::from_str(alloc, "nothing"),
     }
 }
 
-fn check_resumed(
+/// The same where all lines are read.
+fn wanted(
+    alloc: Global,
+    entities: &Entities,
+    own: &[&'static str],
+    ends: bool,
+) -> Result<String, AllocError> {
+    if !ends {
+        return whole(alloc, entities, own, &[]);
+    }
+    let list = whole(alloc, entities, own, &ENDS[..1])?;
+    let behind = whole(alloc, entities, own, &ENDS)?;
+    format!(in alloc; "{list}, {behind}")
+}
+
+fn check_inside(
     rt: &impl Abort,
     alloc: Global,
     entities: &Entities,
     found: &Found,
     k: usize,
     own: &[&'static str],
+    ends: bool,
 ) -> Result<(), AllocError> {
-    let resumed = resumed_told(rt, alloc, entities, found, k, own)?;
-    let want = whole(alloc, entities, own, &[])?;
-    assert_eq!(rt; resumed.as_str(), want.as_str());
+    let read = inside_told(rt, alloc, entities, found, k, own, ends)?;
+    let want = wanted(alloc, entities, own, ends)?;
+    assert_eq!(rt; read.as_str(), want.as_str());
     Ok(())
 }
 
 /// Goes on inside a list from each of its later items, and answers how many it has.
-fn resume_all(
+fn go_on_all(
     rt: &impl Abort,
     alloc: Global,
     entities: &Entities,
@@ -254,7 +312,8 @@ fn resume_all(
     };
     let own = lines.get(found.begin()..).unwrap_or(&[]);
     for k in 0..found.joins().len() {
-        check_resumed(rt, alloc, entities, &found, k, own)?;
+        check_inside(rt, alloc, entities, &found, k, own, false)?;
+        check_inside(rt, alloc, entities, &found, k, own, true)?;
     }
     Ok(found.joins().len())
 }
@@ -266,38 +325,22 @@ fn more_lines(alloc: Global, seed: &mut u64) -> Result<Vec<&'static str>, AllocE
     Ok(lines)
 }
 
-fn resume_some(
+fn go_on_some(
     rt: &impl Abort,
     alloc: Global,
     entities: &Entities,
     seed: &mut u64,
 ) -> Result<usize, AllocError> {
     let lines = more_lines(alloc, seed)?;
-    resume_all(rt, alloc, entities, &lines)
+    go_on_all(rt, alloc, entities, &lines)
 }
 
-/// Whether a list can't be gone on in so, and nothing is counted.
-fn resumes_nothing(
-    alloc: Global,
-    entities: &Entities,
-    found: &Found,
-    k: usize,
-    text: &str,
-) -> Result<bool, AllocError> {
-    let mut count = Tally::new();
-    let is_none = resume(alloc, entities, found, k, text, &mut count)?.is_none();
-    Ok(is_none && count.lines() == 0)
-}
-
-/// Joins, each with a line that is none of it.
-static NO_ITEMS: [(usize, &str); 3] = [(0, "1. b"), (0, "b"), (1, "- b")];
-
-/// A line that begins no item of the list `- a`, `- b`, and a join that is not there, are answered by nothing, and nothing is counted.
+/// A join that is not there is answered by nothing, and nothing is counted.
 fn check_nothing(rt: &impl Abort, alloc: Global, entities: &Entities) -> Result<(), Fail> {
     let found = last_unit(alloc, entities, &["- a", "- b"]).ok_or("no unit")?;
-    for &(k, text) in &NO_ITEMS {
-        assert!(rt; resumes_nothing(alloc, entities, &found, k, text)?);
-    }
+    let mut count = Tally::new();
+    assert!(rt; inside(alloc, entities, &found, 1, "- b", &mut count)?.is_none());
+    assert_eq!(rt; count.lines(), 0);
     Ok(())
 }
 
@@ -307,7 +350,7 @@ fn lists_are_read_on_from_each_item(rt: HostRuntime) -> Result<(), Fail> {
     let mut seed = 5;
     let mut count: usize = 0;
     for _ in 0..2000 {
-        count = count.saturating_add(resume_some(&rt, rt.alloc(), &entities, &mut seed)?);
+        count = count.saturating_add(go_on_some(&rt, rt.alloc(), &entities, &mut seed)?);
     }
     check_nothing(&rt, rt.alloc(), &entities)?;
     assert!(rt; count > 500);
