@@ -5,7 +5,7 @@ import sys
 
 import rows_common as common
 
-CRATES = ['mdtext', 'mdchunks', 'mdscan', 'mdpair', 'mdleaf', 'blockspec', 'block_rows', 'inlinespec', 'inline_rows', 'mdinline', 'mdblock', 'mdhtml', 'mdsource', 'edit_rows']
+CRATES = ['mdtext', 'mdchunks', 'mdscan', 'mdpair', 'mdleaf', 'blockspec', 'block_rows', 'inlinespec', 'inline_rows', 'htmlspec', 'mdinline', 'mdblock', 'mdsource', 'edit_rows']
 IN_A_FILE = 25
 ROWS = 300
 

@@ -6,7 +6,7 @@ import sys
 import rows_common as common
 from rows_edits import call_term, is_plain, source_term
 
-CRATES = ['mdtext', 'mdchunks', 'mdscan', 'mdpair', 'mdleaf', 'blockspec', 'block_rows', 'inlinespec', 'inline_rows', 'mdinline', 'mdblock', 'mdhtml', 'mdsource', 'edit_rows']
+CRATES = ['mdtext', 'mdchunks', 'mdscan', 'mdpair', 'mdleaf', 'blockspec', 'block_rows', 'inlinespec', 'inline_rows', 'htmlspec', 'mdinline', 'mdblock', 'mdsource', 'edit_rows']
 IN_A_FILE = 25
 ROWS = 300
 

@@ -1,7 +1,7 @@
 //! `edit_counts`: how many lines and inline texts each edit of a script reads, a line for each command.
 #![tactic(auto)]
 
-ghost use Rattle.mdhtml.specs.Limits.{HasLimits};
+ghost use Rattle.htmlspec.specs.Limits.{HasLimits};
 
 use mdtool::{
     Halt, Words, WriteOut, ended, entities_of, prelude_of, serve_counts, text_end, text_of,

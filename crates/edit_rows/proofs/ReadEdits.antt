@@ -5,9 +5,9 @@ use Rattle.mdtext.specs.EntityTable.{builtin_table}
 use Rattle.mdtext.specs.HtmlEscapes.{escaped_byte}
 use Rattle.mdtext.specs.EscapedUrl.{is_url_plain, url_byte}
 use Rattle.percent_encoding.specs.Percent.{percent_encode_byte}
-use Rattle.mdhtml.specs.declared.options.Breaks.TheVariants.{Soft}
-use Rattle.mdhtml.specs.Attributes.{is_harmful}
-use Rattle.mdhtml.specs.BlockHtml.{fresh}
+use Rattle.htmlspec.specs.declared.options.Breaks.TheVariants.{Soft}
+use Rattle.htmlspec.specs.Attributes.{is_harmful}
+use Rattle.htmlspec.specs.BlockHtml.{fresh}
 use Rattle.block_rows.proofs.ReadText.{deep_line}
 use Rattle.inline_rows.specs.Opened.{inline_words}
 use Rattle.mdsource.specs.Setting.{Setting, Source}

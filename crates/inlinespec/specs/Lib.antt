@@ -22,3 +22,5 @@ pub mod Links
 pub mod Pieces
 pub mod RawHtml
 pub mod Strikethrough
+pub mod ParsedText
+pub mod StoredTree

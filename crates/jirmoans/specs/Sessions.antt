@@ -9,7 +9,7 @@ use Rattle.mdtext.specs.EntityTable.{EntityTable, builtin_table}
 use Rattle.mdtext.specs.Lines.{split_lines, text_lines}
 use Rattle.mdtext.specs.declared.entity_file.TableFault.{TableFault}
 use Rattle.mdtext.specs.declared.entity_file.TableFault.TheVariants.{NoMemory as TableNoMemory}
-use Rattle.mdhtml.specs.declared.options.Options.{Options}
+use Rattle.htmlspec.specs.declared.options.Options.{Options}
 use Rattle.mdsource.specs.declared.fault.EditFault.{EditFault}
 use Rattle.mdsource.specs.declared.fault.EditFault.TheVariants.{NoMemory}
 use Rattle.blockspec.specs.BlockUnits.{begins}

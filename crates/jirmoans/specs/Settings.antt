@@ -1,8 +1,8 @@
 -- The options that C's settings stand for.
 use Rattle.std.specs.Prelude.{ℕ, ◌||◌, Option, Some, None, Result, Ok, Err, if◌then◌else◌, ◌==◌, nat_lt}
-use Rattle.mdhtml.specs.declared.options.Breaks.{Breaks}
-use Rattle.mdhtml.specs.declared.options.Breaks.TheVariants.{Soft, Hard, Space}
-use Rattle.mdhtml.specs.declared.options.Options.{Options}
+use Rattle.htmlspec.specs.declared.options.Breaks.{Breaks}
+use Rattle.htmlspec.specs.declared.options.Breaks.TheVariants.{Soft, Hard, Space}
+use Rattle.htmlspec.specs.declared.options.Options.{Options}
 use Rattle.jirmoans.specs.declared.faults.Refusal.{Refusal}
 use Rattle.jirmoans.specs.declared.faults.Refusal.TheVariants.{UnknownBreaks, LimitTooLarge}
 use Rattle.jirmoans.specs.declared.settings.Settings.{Settings}

@@ -1,6 +1,6 @@
 //! How a text is read and written, as C says it.
 ghost use Rattle.std.specs.Prelude.{◌≡◌, IfOk, if◌then◌else◌, ◌==◌};
-ghost use Rattle.mdhtml.specs.Limits.{HasLimits};
+ghost use Rattle.htmlspec.specs.Limits.{HasLimits};
 ghost use Rattle.jirmoans.specs.Settings.{breaks_of, limit_of, options_of};
 
 use crate::faults::Refusal;

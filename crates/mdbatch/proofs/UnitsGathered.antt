@@ -2,11 +2,11 @@
 use Rattle.std.proofs.Common.{◌≡◌, ℕ, List, [], ◌∷◌, ◌++◌, Option, None, Some, false, true, string_bytes, refl, ap, sym, ◌∙◌, append_assoc, append-nil, arith, subst, length-append}
 use Rattle.std.specs.Prelude.{is_some}
 use Rattle.std.proofs.lemmas.Grind.{common_steps}
-use Rattle.mdhtml.specs.BlockHtml.{ends_line}
+use Rattle.htmlspec.specs.BlockHtml.{ends_line}
 use Rattle.blockspec.specs.UnitTree.{FoundUnit}
 use Rattle.inlinespec.specs.LabelMap.{LabelMap}
 use Rattle.inlinespec.specs.LinkTails.{Table}
-use Rattle.mdhtml.specs.WrittenUnits.{is_deep_unit}
+use Rattle.htmlspec.specs.WrittenUnits.{is_deep_unit}
 use Rattle.mdinline.specs.declared.faults.InlineFault.{InlineFault}
 use Rattle.mdinline.specs.declared.faults.InlineFault.TheVariants as inline
 use Rattle.mdsource.specs.LabelTable.{with_units}

@@ -9,8 +9,8 @@ use Rattle.mdtext.specs.EntityTable.{EntityTable}
 use Rattle.inlinespec.specs.LinkTails.{Table}
 use Rattle.inlinespec.specs.TextTree.{asked, inl}
 use Rattle.blockspec.specs.UnitTree.{FoundUnit}
-use Rattle.mdhtml.specs.BlockHtml.{blocks_html, texts_html}
-use Rattle.mdhtml.specs.WrittenUnits.{is_deep_text, is_deep_unit, read_html, written_unit}
+use Rattle.htmlspec.specs.BlockHtml.{blocks_html, texts_html}
+use Rattle.htmlspec.specs.WrittenUnits.{is_deep_text, is_deep_unit, read_html, written_unit}
 use Rattle.mdsource.specs.Refusals.{is_deep, is_too_deep}
 use Rattle.mdsource.specs.Setting.{Setting}
 use Rattle.mdsource.specs.View.{ViewedUnit, reading_of, viewed, viewed_with}

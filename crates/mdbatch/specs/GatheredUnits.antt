@@ -4,8 +4,8 @@ use Rattle.std.specs.List.{All, list_any}
 use Rattle.inlinespec.specs.LinkTails.{Table}
 use Rattle.blockspec.specs.UnitTree.{FoundUnit}
 use Rattle.mdblock.specs.FoundLists.{found_unit}
-use Rattle.mdhtml.specs.BlockHtml.{ends_line}
-use Rattle.mdhtml.specs.WrittenUnits.{entities_of, options_of}
+use Rattle.htmlspec.specs.BlockHtml.{ends_line}
+use Rattle.mdhtml.specs.UnitWriters.{entities_of, options_of}
 use Rattle.mdhtml.specs.declared.unit_writer.UnitWriter.{UnitWriter}
 use Rattle.mdsource.specs.Setting.{Setting}
 use Rattle.mdbatch.specs.declared.gathered.Gathered.{Gathered}

@@ -3,7 +3,7 @@ use Rattle.std.specs.Prelude.{◌≡◌, ℕ, List, [], true}
 use Rattle.inlinespec.specs.LinkTails.{Table}
 use Rattle.blockspec.specs.BlockUnits.{definitions_of}
 use Rattle.blockspec.specs.UnitTree.{FoundUnit}
-use Rattle.mdhtml.specs.BlockHtml.{ends_line}
+use Rattle.htmlspec.specs.BlockHtml.{ends_line}
 use Rattle.mdsource.specs.Setting.{Setting}
 use Rattle.mdbatch.specs.BatchHtml.{WritesUnits}
 

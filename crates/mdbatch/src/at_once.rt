@@ -1,7 +1,7 @@
 //! The HTML of a text that defines no label: each unit is written as it is found.
 ghost use Rattle.std.specs.Prelude.{◌≡◌, ◌∷◌, [], IfErr, IfOk, IfSome, None, string_bytes, true};
 ghost use Rattle.mdblock.specs.FoundLists.{found_unit};
-ghost use Rattle.mdhtml.specs.BlockHtml.{ends_line};
+ghost use Rattle.htmlspec.specs.BlockHtml.{ends_line};
 ghost use Rattle.mdbatch.specs.BatchHtml.{IsReadFault, WritesPage};
 ghost use Rattle.mdbatch.specs.CleanText.{lines_in, nested_in, setting_for, units_in};
 ghost use Rattle.mdbatch.specs.GatheredUnits.{setting_of};

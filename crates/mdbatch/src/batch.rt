@@ -3,8 +3,8 @@ ghost use Rattle.std.specs.Prelude.{ℕ, List, [], ◌≡◌, ◌++◌, true, No
 ghost use Rattle.std.specs.List.{All};
 ghost use Rattle.blockspec.specs.UnitTree.{FoundUnit};
 ghost use Rattle.mdtext.specs.Lines.{text_lines};
-ghost use Rattle.mdhtml.specs.Limits.{HasLimits};
-ghost use Rattle.mdhtml.specs.BlockHtml.{ends_line};
+ghost use Rattle.htmlspec.specs.Limits.{HasLimits};
+ghost use Rattle.htmlspec.specs.BlockHtml.{ends_line};
 ghost use Rattle.mdsource.specs.Preludes.{IsDefinedBy};
 ghost use Rattle.mdbatch.specs.CleanText.{lines_in, nested_in, setting_for};
 ghost use Rattle.mdbatch.specs.BatchHtml.{IsFaultOf, TextHtml, WritesPage, WritesUnits, deep_line, deep_on_page};

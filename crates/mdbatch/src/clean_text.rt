@@ -2,7 +2,7 @@
 
 ghost use Rattle.std.specs.Prelude.{◌≡◌, ◌≤◌, length};
 ghost use Rattle.mdtext.specs.Lines.{split_lines};
-ghost use Rattle.mdhtml.specs.Limits.{HasLimits};
+ghost use Rattle.htmlspec.specs.Limits.{HasLimits};
 ghost use Rattle.mdsource.specs.SourceLimits.{size_of};
 
 use mdhtml::Options;

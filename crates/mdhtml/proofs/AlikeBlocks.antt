@@ -3,9 +3,9 @@ use Rattle.std.proofs.Common.{◌≡◌, ℕ, suc, ◌+◌, ◌<◌, Bool, List,
 use Rattle.blockspec.specs.BlockTree.{Blocks}
 use Rattle.mdhtml.specs.declared.lists.same_blocks.SharedTexts.{SharedTexts}
 use Rattle.mdhtml.specs.held.Alike.{SharedHtml, TextAlike, CellsAlike, BlocksAlike}
-use Rattle.mdhtml.specs.BlockHtml.{fresh, text_html}
-use Rattle.mdhtml.specs.ListEnds.{item_html}
-use Rattle.mdhtml.specs.TableHtml.{cells_html, cell_html, align_of}
+use Rattle.htmlspec.specs.BlockHtml.{fresh, text_html}
+use Rattle.htmlspec.specs.ListEnds.{item_html}
+use Rattle.htmlspec.specs.TableHtml.{cells_html, cell_html, align_of}
 
 pub like_text : (s : SharedTexts) (p q : ℕ) (k : ℕ) → p ≡ s.at + k → q ≡ s.like_at + k → k < s.count → TextAlike s p q
 like_text s p q k hp hq lt = record { html = λ T U h. ap (text_html T) hp ∙ h.same k lt ∙ sym (ap (text_html U) hq) }

@@ -2,9 +2,9 @@
 use Rattle.std.proofs.Common.{◌≡◌, ℕ, Bool, true, false, List, [], ◌∷◌, ◌++◌, codes, refl, ap, sym, ◌∙◌, arith, cond, append_assoc, append-nil, length-append}
 use Rattle.std.proofs.lemmas.Grind.{common_steps}
 use Rattle.blockspec.specs.BlockTree.{Block, paragraph, heading, thematic_break, code_block, html_block, block_quote, list, table, Blocks, no_blocks, block, Items, no_items, item}
-use Rattle.mdhtml.specs.declared.options.Options.{Options}
-use Rattle.mdhtml.specs.TableHtml.{table_html}
-use Rattle.mdhtml.specs.BlockHtml.{fresh, ends_line, task_box, text_html, heading_html, code_html, raw_block_html, list_open, list_close, paragraph_html, block_html, blocks_html, items_html}
+use Rattle.htmlspec.specs.declared.options.Options.{Options}
+use Rattle.htmlspec.specs.TableHtml.{table_html}
+use Rattle.htmlspec.specs.BlockHtml.{fresh, ends_line, task_box, text_html, heading_html, code_html, raw_block_html, list_open, list_close, paragraph_html, block_html, blocks_html, items_html}
 
 fresh_alone : (out : List ℕ) → ends_line out ≡ true → fresh out ≡ out
 unfolding fresh

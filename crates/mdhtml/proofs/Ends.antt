@@ -2,9 +2,9 @@
 use Rattle.std.proofs.Common.{◌≡◌, ℕ, ◌<◌, true, false, List, ◌++◌, length, codes, refl, sym, subst, arith, length-append}
 use Rattle.std.proofs.lemmas.Grind.{common_steps}
 use Rattle.blockspec.specs.BlockTree.{Block, paragraph, heading, thematic_break, code_block, html_block, block_quote, list, table, bullet, ordered, Blocks, no_blocks, block}
-use Rattle.mdhtml.specs.declared.options.Options.{Options}
-use Rattle.mdhtml.specs.TableHtml.{head_html, body_html}
-use Rattle.mdhtml.specs.BlockHtml.{fresh, heading_tag, text_html, ends_line, block_html, blocks_html}
+use Rattle.htmlspec.specs.declared.options.Options.{Options}
+use Rattle.htmlspec.specs.TableHtml.{head_html, body_html}
+use Rattle.htmlspec.specs.BlockHtml.{fresh, heading_tag, text_html, ends_line, block_html, blocks_html}
 
 pub ends_append : (xs ys : List ℕ) → 0 < length ys → ends_line ys ≡ true → ends_line (xs ++ ys) ≡ true
 ends_append xs ys some h = grind (arith, common_steps, length-append)

@@ -7,12 +7,12 @@ use Rattle.mdtext.specs.HtmlEscapes.{escaped, escaped_byte}
 use Rattle.inlinespec.specs.CodeSpans.{as_one_line}
 use Rattle.inlinespec.specs.InlineEvents.{InlineSpan, Event, Enter, Leave, written}
 use Rattle.inlinespec.proofs.CodeContents.{IsOneLine, stays}
-use Rattle.mdhtml.specs.declared.options.Options.{Options}
+use Rattle.htmlspec.specs.declared.options.Options.{Options}
 use Rattle.mdhtml.specs.declared.inline_writer.InlineWriter.{InlineWriter}
 use Rattle.mdhtml.specs.declared.inline_writer.OpenSpan.{OpenSpan}
-use Rattle.mdhtml.specs.InlineWriting.{SpanEnd, NoTag, Writing, writing, shows, begins, tag_begins, span_begins, ends_by, after_event, after_events}
+use Rattle.htmlspec.specs.InlineWriting.{SpanEnd, NoTag, Writing, writing, shows, begins, tag_begins, span_begins, ends_by, after_event, after_events}
 use Rattle.mdhtml.specs.held.InlineWriter.{end_of, writing_of, Takes}
-use Rattle.mdhtml.proofs.WrittenEvents.{text_shown}
+use Rattle.htmlspec.proofs.WrittenEvents.{text_shown}
 
 abbrev pub with_html : InlineWriter → String Global → InlineWriter
 with_html w html = record { alloc = w.alloc; options = w.options; html = html; spans = w.spans; in_image = w.in_image }

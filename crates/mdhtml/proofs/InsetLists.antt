@@ -3,7 +3,7 @@ use Rattle.std.proofs.Common.{◌≡◌, ℕ, ◌+◌, ◌-◌, ◌<◌, ◌≤�
 use Rattle.std.specs.List.{AllByRecursion}
 use Rattle.std.proofs.lemmas.List.{length-take-le}
 use Rattle.std.proofs.Math.Seq.{drop-append_seam, take-append_seam}
-use Rattle.mdinline.specs.ParsedText.{ParsedText}
+use Rattle.inlinespec.specs.ParsedText.{ParsedText}
 use Rattle.blockspec.specs.BlockTree.{Blocks, Items, no_items, item}
 use Rattle.mdblock.specs.BlockView.{items_view, kind_view}
 use Rattle.mdblock.specs.Copies.{IsBehind, copied_items, items_positions}
@@ -11,12 +11,12 @@ use Rattle.mdblock.specs.Spliced.{drop_items, first_items, take_items}
 use Rattle.mdblock.specs.held.TreesBehind.{placed_before}
 use Rattle.mdblock.proofs.ItemParts.{items_dropped, items_taken}
 use Rattle.mdblock.proofs.TextOrder.{behind_is, items_in_order}
-use Rattle.mdhtml.specs.declared.options.Options.{Options}
+use Rattle.htmlspec.specs.declared.options.Options.{Options}
 use Rattle.mdhtml.specs.declared.lists.item_ends.OneList.{OneList}
 use Rattle.mdhtml.specs.declared.lists.kept_items.Between.{Between}
-use Rattle.mdhtml.specs.BlockHtml.{blocks_html, items_html, list_close, text_html, texts_html}
+use Rattle.htmlspec.specs.BlockHtml.{blocks_html, items_html, list_close, text_html, texts_html}
 use Rattle.mdhtml.specs.InsetLists.{inset_blocks, inset_items, inset_readings}
-use Rattle.mdhtml.specs.ListEnds.{item_html, item_ends, unit_ends}
+use Rattle.htmlspec.specs.ListEnds.{item_html, item_ends, unit_ends}
 use Rattle.mdhtml.specs.held.KeptItems.{list_around, list_begins, list_ends_around}
 use Rattle.mdhtml.specs.held.ListUnits.{unit_of}
 use Rattle.mdhtml.proofs.LikeLists.{text_taken, text_dropped}

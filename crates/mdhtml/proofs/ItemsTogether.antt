@@ -5,11 +5,11 @@ use Rattle.std.specs.List.{AllByRecursion}
 use Rattle.blockspec.specs.BlockTree.{Blocks, Items, no_items, item}
 use Rattle.mdblock.specs.BlockView.{item_view, items_view}
 use Rattle.mdblock.specs.declared.blocks.Item as i
-use Rattle.mdhtml.specs.declared.options.Options.{Options}
+use Rattle.htmlspec.specs.declared.options.Options.{Options}
 use Rattle.mdhtml.specs.declared.lists.same_blocks.SharedTexts.{SharedTexts}
 use Rattle.mdhtml.specs.held.Alike.{BlocksAlike, ItemsAlike}
-use Rattle.mdhtml.specs.BlockHtml.{fresh, ends_line, blocks_html, items_html}
-use Rattle.mdhtml.specs.ListEnds.{item_html, item_ends}
+use Rattle.htmlspec.specs.BlockHtml.{fresh, ends_line, blocks_html, items_html}
+use Rattle.htmlspec.specs.ListEnds.{item_html, item_ends}
 use Rattle.mdhtml.proofs.AlikeBlocks.{like_item}
 use Rattle.mdhtml.proofs.Appended.{line_behind, blocks_behind, items_behind}
 use Rattle.mdhtml.proofs.Ends.{ends_append}

@@ -5,19 +5,19 @@ use Rattle.std.specs.Fmt.{decimal}
 use Rattle.std.specs.List.{AllByRecursion, slice_range}
 use Rattle.std.proofs.lemmas.List.{take_all, take-append-drop}
 use Rattle.std.proofs.Math.Seq.{drop-append_seam, take-append_seam}
-use Rattle.mdinline.specs.ParsedText.{ParsedText}
+use Rattle.inlinespec.specs.ParsedText.{ParsedText}
 use Rattle.blockspec.specs.BlockTree.{ListKind, bullet, ordered}
 use Rattle.mdblock.specs.BlockView.{items_view, kind_view}
 use Rattle.mdblock.specs.declared.blocks.Item as i
-use Rattle.mdhtml.specs.declared.options.Options.{Options}
+use Rattle.htmlspec.specs.declared.options.Options.{Options}
 use Rattle.mdhtml.specs.declared.lists.kept_items.Between.{Between}
 use Rattle.mdhtml.specs.declared.lists.kept_items.KeptHtml.{KeptHtml}
 use Rattle.mdhtml.specs.declared.lists.like_lists.Like.{Like}
 use Rattle.mdhtml.specs.declared.lists.item_ends.OneList.{OneList}
 use Rattle.mdhtml.specs.held.KeptItems.{AreInTail, AreKept, list_begins, html_between, ends_between, html_around, ends_around, moved_ends}
 use Rattle.mdhtml.specs.held.ListUnits.{unit_of}
-use Rattle.mdhtml.specs.BlockHtml.{fresh, ends_line, texts_html, list_open, list_close, blocks_html, items_html}
-use Rattle.mdhtml.specs.ListEnds.{item_ends, unit_ends}
+use Rattle.htmlspec.specs.BlockHtml.{fresh, ends_line, texts_html, list_open, list_close, blocks_html, items_html}
+use Rattle.htmlspec.specs.ListEnds.{item_ends, unit_ends}
 use Rattle.mdhtml.proofs.Ends.{ends_append}
 use Rattle.mdhtml.proofs.ItemsTogether.{like_ends_taken, like_ends_dropped, like_ends_count, like_place, like_together, like_appended, like_ends_line, like_moved, like_between}
 

@@ -3,19 +3,19 @@ use Rattle.std.proofs.Common.{◌≡◌, ℕ, zero, suc, ◌+◌, ◌-◌, ◌<�
 use Rattle.std.specs.List.{slice_range}
 use Rattle.std.proofs.lemmas.List.{take-map, drop-map, get_or-take, get_or-drop, drop-drop, take-append-drop}
 use Rattle.std.proofs.lemmas.List.Folds.{drop_split}
-use Rattle.mdinline.specs.ParsedText.{ParsedText}
+use Rattle.inlinespec.specs.ParsedText.{ParsedText}
 use Rattle.blockspec.specs.BlockTree.{Items}
 use Rattle.mdblock.specs.BlockView.{items_view}
 use Rattle.mdblock.specs.Positions.{ItemsIn}
 use Rattle.mdblock.specs.declared.blocks.Item as i
-use Rattle.mdhtml.specs.declared.options.Options.{Options}
+use Rattle.htmlspec.specs.declared.options.Options.{Options}
 use Rattle.mdhtml.specs.declared.lists.like_lists.SameEnds.{SameEnds}
 use Rattle.mdhtml.specs.declared.lists.same_blocks.SharedTexts.{SharedTexts}
 use Rattle.mdhtml.specs.held.Alike.{SharedHtml, ItemsAlike}
 use Rattle.mdhtml.specs.held.LikeLists.{SharedReadings, AreSameEnds}
-use Rattle.mdhtml.specs.BlockHtml.{text_html, texts_html, items_html}
-use Rattle.mdhtml.specs.InlineHtml.{inlines_html}
-use Rattle.mdhtml.specs.ListEnds.{item_ends}
+use Rattle.htmlspec.specs.BlockHtml.{text_html, texts_html, items_html}
+use Rattle.htmlspec.specs.InlineHtml.{inlines_html}
+use Rattle.htmlspec.specs.ListEnds.{item_ends}
 use Rattle.mdhtml.proofs.ItemsTogether.{like_together, like_ends_together}
 
 -- ---- texts that are shared

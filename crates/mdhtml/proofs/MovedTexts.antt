@@ -5,10 +5,10 @@ use Rattle.std.specs.List.{flat_map, range_with_len}
 use Rattle.mdscan.specs.declared.delimiter_rows.Align.{Align}
 use Rattle.blockspec.specs.BlockTree.{Block, paragraph, heading, thematic_break, code_block, html_block, block_quote, list, table, Blocks, no_blocks, block, Items, no_items, item}
 use Rattle.mdblock.specs.Copies.{block_positions, blocks_positions, items_positions, copied_block, copied_blocks, copied_items, copied_rows}
-use Rattle.mdhtml.specs.declared.options.Options.{Options}
-use Rattle.mdhtml.specs.TableHtml.{align_of, cell_html, cells_html, rows_html, head_html, body_html, table_html}
-use Rattle.mdhtml.specs.BlockHtml.{fresh, text_html, task_box, heading_html, list_open, list_close, paragraph_html, block_html, blocks_html, items_html}
-use Rattle.mdhtml.specs.ListEnds.{item_html, item_ends}
+use Rattle.htmlspec.specs.declared.options.Options.{Options}
+use Rattle.htmlspec.specs.TableHtml.{align_of, cell_html, cells_html, rows_html, head_html, body_html, table_html}
+use Rattle.htmlspec.specs.BlockHtml.{fresh, text_html, task_box, heading_html, list_open, list_close, paragraph_html, block_html, blocks_html, items_html}
+use Rattle.htmlspec.specs.ListEnds.{item_html, item_ends}
 
 rows_count : (c : ℕ) (rows : List (List ℕ)) → length (copied_rows c rows) ≡ length rows
 rows_count c [] = refl

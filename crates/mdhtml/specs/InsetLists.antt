@@ -1,6 +1,6 @@
 -- Units that are one list, of which some items are new and those in front of them and behind them are an old list's.
 use Rattle.std.specs.Prelude.{ℕ, ◌+◌, List, ◌++◌, drop, length, take}
-use Rattle.mdinline.specs.ParsedText.{ParsedText}
+use Rattle.inlinespec.specs.ParsedText.{ParsedText}
 use Rattle.blockspec.specs.BlockTree.{Blocks, Items}
 use Rattle.mdblock.specs.Copies.{copied_items}
 use Rattle.mdblock.specs.Insets.{with_items}

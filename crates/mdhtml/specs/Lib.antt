@@ -1,10 +1,3 @@
-pub mod Attributes
-pub mod BlockHtml
-pub mod InlineHtml
-pub mod InlineWriting
 pub mod InsetLists
-pub mod TableHtml
-pub mod Limits
-pub mod ListEnds
-pub mod WrittenUnits
+pub mod UnitWriters
 pub mod held

@@ -5,7 +5,7 @@ ghost use Rattle.mdblock.specs.BlockView.{blocks_view};
 ghost use Rattle.blockspec.specs.BlockTree.{block_quote};
 ghost use Rattle.mdblock.specs.Positions.{BlocksIn};
 ghost use Rattle.mdhtml.specs.held.UnitTexts.{shown_texts};
-ghost use Rattle.mdhtml.specs.BlockHtml.{block_html};
+ghost use Rattle.htmlspec.specs.BlockHtml.{block_html};
 
 use crate::blocks::write_blocks;
 use crate::pieces::write_fresh;

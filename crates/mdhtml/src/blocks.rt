@@ -4,7 +4,7 @@ ghost use Rattle.std.specs.Prelude.{◌≡◌, ◌<◌, OnOk, length, string_byt
 ghost use Rattle.mdblock.specs.BlockView.{block_view, blocks_view};
 ghost use Rattle.mdblock.specs.Positions.{BlockIn, BlocksIn};
 ghost use Rattle.mdhtml.specs.held.UnitTexts.{shown_texts};
-ghost use Rattle.mdhtml.specs.BlockHtml.{block_html, blocks_html};
+ghost use Rattle.htmlspec.specs.BlockHtml.{block_html, blocks_html};
 
 use crate::block_quotes::write_quote;
 use crate::code_blocks::write_code;

@@ -1,10 +1,10 @@
 //! HTML of code blocks, fenced and indented.
 
 ghost use Rattle.std.specs.Prelude.{◌≡◌, ◌++◌, OnOk, string_bytes};
-ghost use Rattle.mdhtml.specs.BlockHtml.{fresh, code_html, code_open, meta_attribute};
+ghost use Rattle.htmlspec.specs.BlockHtml.{fresh, code_html, code_open, meta_attribute};
 
-use crate::options::Options;
 use crate::pieces::write_fresh;
+use htmlspec::Options;
 use mdtext::{NoMemory, escape_text};
 
 pub(crate) fn write_code(

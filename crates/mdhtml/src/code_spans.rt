@@ -3,7 +3,7 @@
 ghost use Rattle.std.specs.Prelude.{◌≡◌, ◌++◌, OnOk, codes, string_bytes};
 ghost use Rattle.mdtext.specs.HtmlEscapes.{escaped};
 ghost use Rattle.inlinespec.specs.CodeSpans.{as_one_line};
-ghost use Rattle.mdhtml.specs.InlineHtml.{wrapped};
+ghost use Rattle.htmlspec.specs.InlineHtml.{wrapped};
 
 use mdtext::{NoMemory, escape_text};
 

@@ -1,9 +1,9 @@
 //! Destinations and titles of links and images, as attributes hold them.
 
 ghost use Rattle.std.specs.Prelude.{◌≡◌, ◌++◌, OnOk, string_bytes};
-ghost use Rattle.mdhtml.specs.Attributes.{begins_with, is_harmful, destination_html, title_html};
+ghost use Rattle.htmlspec.specs.Attributes.{begins_with, is_harmful, destination_html, title_html};
 
-use crate::options::Options;
+use htmlspec::Options;
 use mdtext::{NoMemory, escape_text, escape_url};
 
 /// A destination; without `unsafe_html` a harmful one is written empty.
@@ -34,7 +34,7 @@ pub(crate) fn write_title(title: &str, out: &mut String) -> Result<(), NoMemory>
 }
 
 /// Whether a destination may run a script or show local data.
-#[tactic(auto, unfolding(crate::specs::Attributes::is_harmful))]
+#[tactic(auto, unfolding(htmlspec::specs::Attributes::is_harmful))]
 fn is_harmful(url: &[u8]) -> bool
     ensures { result ≡ is_harmful url.now }
 {

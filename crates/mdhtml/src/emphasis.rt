@@ -2,10 +2,10 @@
 
 ghost use Rattle.std.specs.Prelude.{◌≡◌, ◌++◌, OnOk, string_bytes};
 ghost use Rattle.mdinline.specs.TreeView.{inlines_view};
-ghost use Rattle.mdhtml.specs.InlineHtml.{wrapped, inlines_html};
+ghost use Rattle.htmlspec.specs.InlineHtml.{wrapped, inlines_html};
 
 use crate::inlines::write_inlines;
-use crate::options::Options;
+use htmlspec::Options;
 use mdinline::Inline;
 use mdtext::NoMemory;
 

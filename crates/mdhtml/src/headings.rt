@@ -2,7 +2,7 @@
 
 ghost use Rattle.std.specs.Prelude.{◌≡◌, ◌++◌, ◌<◌, OnOk, codes, length, string_bytes};
 ghost use Rattle.mdhtml.specs.held.UnitTexts.{shown_texts};
-ghost use Rattle.mdhtml.specs.BlockHtml.{fresh, heading_html, heading_tag, text_html};
+ghost use Rattle.htmlspec.specs.BlockHtml.{fresh, heading_html, heading_tag, text_html};
 
 use crate::pieces::write_fresh;
 use crate::unit_texts::UnitTexts;

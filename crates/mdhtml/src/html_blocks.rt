@@ -1,11 +1,11 @@
 //! HTML blocks.
 
 ghost use Rattle.std.specs.Prelude.{◌≡◌, ◌++◌, OnOk, string_bytes};
-ghost use Rattle.mdhtml.specs.BlockHtml.{fresh, raw_block_html};
+ghost use Rattle.htmlspec.specs.BlockHtml.{fresh, raw_block_html};
 
-use crate::options::Options;
 use crate::pieces::write_fresh;
 use crate::raw_html::write_raw;
+use htmlspec::Options;
 use mdtext::NoMemory;
 
 pub(crate) fn write_html(text: &str, options: &Options, out: &mut String) -> Result<(), NoMemory>

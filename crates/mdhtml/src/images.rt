@@ -3,10 +3,10 @@
 ghost use Rattle.std.specs.Prelude.{◌≡◌, ◌++◌, OnOk, codes, string_bytes};
 ghost use Rattle.mdtext.specs.HtmlEscapes.{escaped};
 ghost use Rattle.mdinline.specs.TreeView.{inline_view, inlines_view};
-ghost use Rattle.mdhtml.specs.InlineHtml.{alt, alts, image_begins, image_ends, image_html};
+ghost use Rattle.htmlspec.specs.InlineHtml.{alt, alts, image_begins, image_ends, image_html};
 
 use crate::destinations::{write_destination, write_title};
-use crate::options::Options;
+use htmlspec::Options;
 use mdinline::Inline;
 use mdtext::{NoMemory, Target, escape_text};
 

@@ -8,8 +8,8 @@ use crate::code_spans::write_as_one_line;
 use crate::images::{begin_image, end_image};
 use crate::line_breaks::{write_hard, write_soft};
 use crate::links::open_link;
-use crate::options::Options;
 use crate::raw_html::write_raw;
+use htmlspec::Options;
 use mdinline::{InlineSink, SpanKind};
 use mdtext::{NoMemory, escape_text};
 use std::alloc::Global;
@@ -38,7 +38,7 @@ pub(crate) struct InlineWriter {
 
 impl InlineWriter {
     ghost use Rattle.mdhtml.specs.held.InlineWriter.{writing_of};
-    ghost use Rattle.mdhtml.specs.InlineWriting.{writing};
+    ghost use Rattle.htmlspec.specs.InlineWriting.{writing};
 
     /// A writer of a text of which nothing is written yet. What `html` and `spans` have is let go, and their room is used.
     pub(crate) fn begin_text(
@@ -162,7 +162,7 @@ impl InlineSink for InlineWriter {
 
 impl InlineWriter {
     ghost use Rattle.mdhtml.specs.held.InlineWriter.{end_of, writing_of};
-    ghost use Rattle.mdhtml.specs.InlineWriting.{begins, ended};
+    ghost use Rattle.htmlspec.specs.InlineWriting.{begins, ended};
 
     /// Ends a span that is open no more.
     fn end(&mut self, span: OpenSpan) -> Result<(), NoMemory>

@@ -2,15 +2,15 @@
 
 ghost use Rattle.std.specs.Prelude.{◌≡◌, ◌++◌, OnOk, string_bytes};
 ghost use Rattle.mdinline.specs.TreeView.{inline_view, inlines_view};
-ghost use Rattle.mdhtml.specs.InlineHtml.{inline_html, inlines_html};
+ghost use Rattle.htmlspec.specs.InlineHtml.{inline_html, inlines_html};
 
 use crate::code_spans::write_code_span;
 use crate::emphasis::write_wrapped;
 use crate::images::write_image;
 use crate::line_breaks::{write_hard, write_soft};
 use crate::links::write_link;
-use crate::options::Options;
 use crate::raw_html::write_raw;
+use htmlspec::Options;
 use mdinline::Inline;
 use mdtext::{NoMemory, escape_text};
 

@@ -15,7 +15,6 @@ mod inlines;
 mod line_breaks;
 mod links;
 mod lists;
-mod options;
 mod paragraphs;
 mod pieces;
 mod raw_html;
@@ -24,9 +23,9 @@ mod thematic_breaks;
 mod unit_texts;
 mod unit_writer;
 
+pub use htmlspec::{Breaks, Options};
 pub use lists::inset_lists::{append_inset_anew, append_inset_list};
 pub use lists::item_ends::append_unit_ends;
 pub use lists::like_lists::{Like, append_unit_like};
-pub use options::{Breaks, Options};
 pub use pieces::{append_unit_html, unit_html};
 pub use unit_writer::UnitWriter;

@@ -1,9 +1,9 @@
 //! HTML of line breaks, soft and hard.
 
 ghost use Rattle.std.specs.Prelude.{◌≡◌, ◌++◌, OnOk, codes, string_bytes};
-ghost use Rattle.mdhtml.specs.InlineHtml.{break_html};
+ghost use Rattle.htmlspec.specs.InlineHtml.{break_html};
 
-use crate::options::{Breaks, Options};
+use htmlspec::{Breaks, Options};
 use mdtext::NoMemory;
 
 pub(crate) fn write_soft(options: &Options, out: &mut String) -> Result<(), NoMemory>

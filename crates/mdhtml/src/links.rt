@@ -2,11 +2,11 @@
 
 ghost use Rattle.std.specs.Prelude.{◌≡◌, ◌++◌, OnOk, codes, string_bytes};
 ghost use Rattle.mdinline.specs.TreeView.{inlines_view};
-ghost use Rattle.mdhtml.specs.InlineHtml.{inlines_html, link_open};
+ghost use Rattle.htmlspec.specs.InlineHtml.{inlines_html, link_open};
 
 use crate::destinations::{write_destination, write_title};
 use crate::inlines::write_inlines;
-use crate::options::Options;
+use htmlspec::Options;
 use mdinline::Inline;
 use mdtext::{NoMemory, Target};
 

@@ -5,7 +5,7 @@ ghost use Rattle.mdblock.specs.BlockView.{kind_view, items_view};
 ghost use Rattle.blockspec.specs.BlockTree.{list};
 ghost use Rattle.mdblock.specs.Positions.{ItemsIn};
 ghost use Rattle.mdhtml.specs.held.UnitTexts.{shown_texts};
-ghost use Rattle.mdhtml.specs.BlockHtml.{block_html, fresh, list_open, list_close, numbered_open};
+ghost use Rattle.htmlspec.specs.BlockHtml.{block_html, fresh, list_open, list_close, numbered_open};
 
 pub(crate) mod inset_lists;
 pub(crate) mod item_ends;

@@ -2,7 +2,7 @@
 
 ghost use Rattle.std.specs.Prelude.{◌≡◌, ◌++◌, ◌<◌, OnOk, length, string_bytes};
 ghost use Rattle.mdhtml.specs.held.UnitTexts.{shown_texts};
-ghost use Rattle.mdhtml.specs.BlockHtml.{paragraph_html, text_html, task_box};
+ghost use Rattle.htmlspec.specs.BlockHtml.{paragraph_html, text_html, task_box};
 
 use crate::lists::task_list_items::write_box;
 use crate::pieces::write_fresh;

@@ -4,11 +4,11 @@ ghost use Rattle.std.specs.Prelude.{◌≡◌, ◌++◌, ◌<◌, IfOk, OnOk, tr
 ghost use Rattle.mdblock.specs.BlockView.{blocks_view};
 ghost use Rattle.mdblock.specs.Positions.{BlocksIn};
 ghost use Rattle.mdhtml.specs.held.UnitTexts.{shown_texts};
-ghost use Rattle.mdhtml.specs.BlockHtml.{fresh, ends_line, texts_html, blocks_html};
+ghost use Rattle.htmlspec.specs.BlockHtml.{fresh, ends_line, texts_html, blocks_html};
 
 use crate::blocks::write_blocks;
-use crate::options::Options;
 use crate::unit_texts::{HeldTexts, UnitTexts};
+use htmlspec::Options;
 use mdblock::Block;
 use mdinline::Parsed;
 use mdtext::NoMemory;
@@ -68,7 +68,7 @@ pub(crate) fn append_blocks(
 }
 
 /// A line ending, unless the piece so far is empty or ends with one.
-#[tactic(auto, unfolding(crate::specs::BlockHtml::fresh))]
+#[tactic(auto, unfolding(htmlspec::specs::BlockHtml::fresh))]
 pub(crate) fn write_fresh(out: &mut String) -> Result<(), NoMemory>
     ensures { OnOk result (string_bytes out.new ≡ fresh (string_bytes out.old)) }
 {

@@ -1,9 +1,9 @@
 //! Raw HTML.
 
 ghost use Rattle.std.specs.Prelude.{◌≡◌, ◌++◌, OnOk, string_bytes};
-ghost use Rattle.mdhtml.specs.InlineHtml.{raw_html};
+ghost use Rattle.htmlspec.specs.InlineHtml.{raw_html};
 
-use crate::options::Options;
+use htmlspec::Options;
 use mdtext::NoMemory;
 
 /// Raw HTML, which is left out without `unsafe_html`.

@@ -5,8 +5,8 @@ ghost use Rattle.std.specs.List.{AllByRecursion};
 ghost use Rattle.mdblock.specs.Positions.{CellsIn};
 ghost use Rattle.mdhtml.specs.held.CellTags.{tag_of};
 ghost use Rattle.mdhtml.specs.held.UnitTexts.{shown_texts};
-ghost use Rattle.mdhtml.specs.BlockHtml.{fresh, text_html};
-ghost use Rattle.mdhtml.specs.TableHtml.{align_attribute, align_of, cell_html, row_html, head_html, body_html, table_html};
+ghost use Rattle.htmlspec.specs.BlockHtml.{fresh, text_html};
+ghost use Rattle.htmlspec.specs.TableHtml.{align_attribute, align_of, cell_html, row_html, head_html, body_html, table_html};
 
 use crate::pieces::write_fresh;
 use crate::unit_texts::UnitTexts;

@@ -1,7 +1,7 @@
 //! HTML of thematic breaks.
 
 ghost use Rattle.std.specs.Prelude.{◌≡◌, ◌++◌, OnOk, codes, string_bytes};
-ghost use Rattle.mdhtml.specs.BlockHtml.{fresh};
+ghost use Rattle.htmlspec.specs.BlockHtml.{fresh};
 
 use crate::pieces::write_fresh;
 use mdtext::NoMemory;

@@ -1,11 +1,11 @@
 //! The HTML of the inline texts of a unit, by their positions.
 
 ghost use Rattle.std.specs.Prelude.{◌≡◌, ◌++◌, ◌<◌, OnOk, length, map, string_bytes};
-ghost use Rattle.mdhtml.specs.BlockHtml.{texts_html};
-ghost use Rattle.mdhtml.specs.TableHtml.{text_html};
+ghost use Rattle.htmlspec.specs.BlockHtml.{texts_html};
+ghost use Rattle.htmlspec.specs.TableHtml.{text_html};
 
 use crate::inlines::write_inlines;
-use crate::options::Options;
+use htmlspec::Options;
 use mdinline::Parsed;
 use mdtext::NoMemory;
 
@@ -27,7 +27,7 @@ pub(crate) enum HeldTexts<'a> {
 
 impl<'a> UnitTexts<'a> {
     ghost use Rattle.std.specs.Prelude.{◌≡◌, ◌++◌, ◌<◌, OnOk, length, string_bytes};
-    ghost use Rattle.mdhtml.specs.TableHtml.{text_html};
+    ghost use Rattle.htmlspec.specs.TableHtml.{text_html};
     ghost use Rattle.mdhtml.specs.held.UnitTexts.{shown_texts};
 
     /// Appends the HTML of the text at a position.

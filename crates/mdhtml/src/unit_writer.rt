@@ -3,13 +3,13 @@
 ghost use Rattle.std.specs.Prelude.{◌≡◌, ◌++◌, ◌∷◌, [], ◌≤◌, IfOk, IsErrOf, OnOk, false, true, length, map, string_bytes};
 ghost use Rattle.std.specs.List.{list_any};
 ghost use Rattle.mdinline.specs.declared.faults.InlineFault.TheVariants.{TooDeep};
-ghost use Rattle.mdhtml.specs.BlockHtml.{ends_line};
-ghost use Rattle.mdhtml.specs.Limits.{HasLimits};
+ghost use Rattle.htmlspec.specs.BlockHtml.{ends_line};
+ghost use Rattle.htmlspec.specs.Limits.{HasLimits};
 
 use crate::inline_writer::{InlineWriter, OpenSpan};
-use crate::options::Options;
 use crate::pieces::append_blocks;
 use crate::unit_texts::{HeldTexts, UnitTexts};
+use htmlspec::Options;
 use mdblock::Unit;
 use mdinline::{InlineFault, Labels, TextReader, Unasked};
 use mdtext::{Entities, NoMemory};
@@ -31,7 +31,8 @@ pub struct UnitWriter<'a> {
 }
 
 impl<'a> UnitWriter<'a> {
-    ghost use Rattle.mdhtml.specs.WrittenUnits.{entities_of, is_deep_text, is_deep_unit, options_of, read_html, written_unit};
+    ghost use Rattle.htmlspec.specs.WrittenUnits.{is_deep_text, is_deep_unit, read_html, written_unit};
+    ghost use Rattle.mdhtml.specs.UnitWriters.{entities_of, options_of};
 
     /// A writer of units whose texts are read with these entities. Takes no memory.
     pub fn new(alloc: Global, entities: &'a Entities, options: &Options) -> UnitWriter<'a>

@@ -1,4 +1,3 @@
-pub mod ParsedText
 pub mod SpanKinds
 pub mod TreeView
 pub mod held

@@ -20,7 +20,6 @@ pub mod ReadSteps
 pub mod ReadTo
 pub mod Recognised
 pub mod StopTables
-pub mod StoredTree
 pub mod Ticks
 pub mod TreeBuilding
 pub mod TreeTakings

@@ -34,7 +34,7 @@ pub struct Parsed {
 }
 
 impl Model for Parsed {
-    ghost use Rattle.mdinline.specs.ParsedText.{ParsedText, parsed_code};
+    ghost use Rattle.inlinespec.specs.ParsedText.{ParsedText, parsed_code};
 
     ghost Value = { ParsedText };
 

@@ -1,7 +1,7 @@
 //! `mdpreview`: answers a script of line edits with the pieces of HTML that changed.
 #![tactic(auto)]
 
-ghost use Rattle.mdhtml.specs.Limits.{HasLimits};
+ghost use Rattle.htmlspec.specs.Limits.{HasLimits};
 
 use mdtool::{
     Halt, Words, WriteOut, ended, entities_of, prelude_of, serve_to_the_end, text_end, text_of,

@@ -1,7 +1,7 @@
 //! `mdrender`: writes the HTML of a Markdown text.
 #![tactic(auto)]
 
-ghost use Rattle.mdhtml.specs.Limits.{HasLimits};
+ghost use Rattle.htmlspec.specs.Limits.{HasLimits};
 
 use mdtool::{
     Halt, Words, WriteOut, convert, ended, entities_of, prelude_of, text_end, text_of, words_of,

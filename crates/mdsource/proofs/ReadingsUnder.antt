@@ -8,7 +8,7 @@ use Rattle.blockspec.specs.UnitTree.{FoundUnit, UnitTree}
 use Rattle.inlinespec.specs.LinkTails.{Table}
 use Rattle.inlinespec.specs.TextTree.{Agree, asked, inl}
 use Rattle.inlinespec.proofs.AskedLabels.{same_inl, same_asked}
-use Rattle.mdinline.specs.ParsedText.{ParsedText}
+use Rattle.inlinespec.specs.ParsedText.{ParsedText}
 use Rattle.mdsource.specs.Changes.{asks_changed, is_same_target, leads_elsewhere}
 use Rattle.mdsource.specs.Refusals.{is_deep}
 use Rattle.mdsource.specs.View.{reading_of}

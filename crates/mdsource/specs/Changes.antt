@@ -6,7 +6,7 @@ use Rattle.blockspec.specs.BlockUnits.{begins}
 use Rattle.inlinespec.specs.LabelMap.{LinkTarget}
 use Rattle.inlinespec.specs.LinkTails.{Table}
 use Rattle.inlinespec.specs.TextTree.{as_set}
-use Rattle.mdinline.specs.ParsedText.{ParsedText}
+use Rattle.inlinespec.specs.ParsedText.{ParsedText}
 use Rattle.mdsource.specs.ChangedPieces.{ChangedPieces}
 use Rattle.mdsource.specs.Setting.{Setting, Source}
 use Rattle.mdsource.specs.LabelTable.{definitions_in, table}

@@ -7,7 +7,7 @@ use Rattle.blockspec.specs.BlockUnits.{units}
 use Rattle.blockspec.specs.Nesting.{first_too_deep}
 use Rattle.blockspec.specs.UnitTree.{FoundUnit}
 use Rattle.inlinespec.specs.Nesting.{nest}
-use Rattle.mdinline.specs.ParsedText.{ParsedText}
+use Rattle.inlinespec.specs.ParsedText.{ParsedText}
 use Rattle.mdsource.specs.Setting.{Setting, Source}
 use Rattle.mdsource.specs.View.{ViewedUnit, view}
 

@@ -1,7 +1,7 @@
 -- What a text is read with, and what of it is somebody's.
 use Rattle.std.specs.Prelude.{ℕ, List}
 use Rattle.mdtext.specs.EntityTable.{EntityTable}
-use Rattle.mdhtml.specs.declared.options.Options.{Options}
+use Rattle.htmlspec.specs.declared.options.Options.{Options}
 
 -- the entities, and how HTML is written, with the limits on nesting
 pub record Setting : Type 0 where

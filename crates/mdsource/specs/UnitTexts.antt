@@ -4,7 +4,7 @@ use Rattle.std.specs.List.{filter, find, list_any, sum_by}
 use Rattle.mdtext.specs.EntityTable.{EntityTable}
 use Rattle.blockspec.specs.UnitTree.{FoundUnit, UnitTree}
 use Rattle.inlinespec.specs.LinkTails.{Table}
-use Rattle.mdinline.specs.ParsedText.{ParsedText}
+use Rattle.inlinespec.specs.ParsedText.{ParsedText}
 use Rattle.mdsource.specs.Changes.{asks_changed}
 use Rattle.mdsource.specs.Refusals.{is_deep}
 use Rattle.mdsource.specs.View.{reading_of}

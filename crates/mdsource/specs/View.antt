@@ -5,9 +5,9 @@ use Rattle.blockspec.specs.BlockUnits.{units}
 use Rattle.blockspec.specs.UnitTree.{UnitTree, FoundUnit}
 use Rattle.inlinespec.specs.LinkTails.{Table}
 use Rattle.inlinespec.specs.TextTree.{inl, asked}
-use Rattle.mdinline.specs.ParsedText.{ParsedText}
-use Rattle.mdhtml.specs.declared.options.Options.{Options}
-use Rattle.mdhtml.specs.BlockHtml.{texts_html, blocks_html}
+use Rattle.inlinespec.specs.ParsedText.{ParsedText}
+use Rattle.htmlspec.specs.declared.options.Options.{Options}
+use Rattle.htmlspec.specs.BlockHtml.{texts_html, blocks_html}
 use Rattle.mdsource.specs.Setting.{Setting, Source}
 use Rattle.mdsource.specs.LabelTable.{table}
 

@@ -6,7 +6,7 @@ ghost use Rattle.std.specs.Option.{option_map, option_to_list};
 ghost use Rattle.blockspec.specs.BlockUnits.{units};
 ghost use Rattle.blockspec.specs.UnitTree.{FoundUnit};
 ghost use Rattle.mdblock.specs.FoundLists.{found_unit};
-ghost use Rattle.mdhtml.specs.Limits.{HasLimits};
+ghost use Rattle.htmlspec.specs.Limits.{HasLimits};
 ghost use Rattle.mdleaf.specs.DefinedLinks.{definition_of};
 ghost use Rattle.mdsource.specs.LabelTable.{with_definitions, with_units};
 ghost use Rattle.mdsource.specs.Refusals.{undefining_line};
@@ -15,8 +15,8 @@ ghost use Rattle.mdsource.specs.SourceLimits.{size_of};
 ghost use Rattle.mdsource.specs.Preludes.{OfDefinitions, IsUndefiningAt};
 
 use crate::fault::EditFault;
+use htmlspec::Options;
 use mdblock::{BlockFault, Definition, Found, Reader};
-use mdhtml::Options;
 use mdtext::{Count, Entities, Label, NoMemory, Target};
 use std::alloc::Global;
 use std::collections::BTreeMap;

@@ -1,7 +1,6 @@
 //! The laws of the definitions of a text's view and of its edits: each is the contract of a function with an empty body, and no program calls it.
 
 pub(crate) mod edits;
-pub(crate) mod html;
 pub(crate) mod joined_depths;
 pub(crate) mod labels;
 pub(crate) mod stops;

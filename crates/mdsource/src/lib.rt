@@ -15,7 +15,6 @@ mod reading_faults;
 pub use added_lines::AddedLines;
 pub use fault::EditFault;
 pub use laws::edits::{edits_splice, stretches_tell_the_first_too_deep};
-pub use laws::html::events_are_written_as_their_tree;
 pub use laws::joined_depths::{parts_tell_the_first_too_deep, stops_tell_the_first_too_deep};
 pub use laws::labels::{
     labels_are_those_of_three_parts, one_asking_is_the_other, too_deep_units_asked,

@@ -2,7 +2,7 @@
 use Rattle.std.proofs.Common.{◌≡◌, ℕ, List, [], ◌∷◌, Some, None, true, false, refl, codes}
 use Rattle.std.specs.Fmt.{digits}
 use Rattle.mdtext.specs.EntityTable.{usual_table}
-use Rattle.mdhtml.specs.Limits.{plain}
+use Rattle.htmlspec.specs.Limits.{plain}
 use Rattle.mdsource.specs.Calls.{edit}
 use Rattle.mdsource.specs.Outcome.{accepted, refused}
 use Rattle.mdsource.specs.Refusals.{nested_too_deep, not_definitions}

@@ -6,14 +6,14 @@ ghost use Rattle.mdtool.specs.Convert.{Conversion, IsPreludeOf, PreludeRead, Tex
 ghost use Rattle.mdtool.specs.ToolRefusals.{IsRefusal, refusal_of};
 ghost use Rattle.mdtool.specs.Drained.{TakesSome};
 ghost use Rattle.mdtool.specs.Steps.{Steps, failures_after, out_failures_after};
-ghost use Rattle.mdhtml.specs.Limits.{HasLimits};
+ghost use Rattle.htmlspec.specs.Limits.{HasLimits};
 
 use crate::device::{Feed, Out};
 use crate::draining::read_all;
 use crate::fault::ToolFault;
 use crate::serving::{lent, send};
+use htmlspec::Options;
 use mdbatch::to_html;
-use mdhtml::Options;
 use mdtext::{Entities, Tally};
 use mdview::{EditFault, Prelude};
 use std::alloc::{AllocError, Global};

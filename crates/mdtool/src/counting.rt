@@ -1,6 +1,6 @@
 //! Answers a script of edits and preludes with what was read for each, so that it can be compared with what an edit may read.
 ghost use Rattle.std.specs.Prelude.{◌≡◌, ◌-◌, ◌^◌, ◌<◌, IfOk, map, string_bytes};
-ghost use Rattle.mdhtml.specs.Limits.{HasLimits};
+ghost use Rattle.htmlspec.specs.Limits.{HasLimits};
 ghost use Rattle.mdtool.specs.Counts.{Counting, CountsBeside, IsCountLine, count_line};
 ghost use Rattle.mdtool.specs.Steps.{failures_after, out_failures_after};
 ghost use Rattle.mdtool.specs.Views.{command_view};
@@ -11,7 +11,7 @@ use crate::device::{Feed, Out};
 use crate::fault::ToolFault;
 use crate::replier::Replier;
 use crate::serving::{answer, preview_with};
-use mdhtml::Options;
+use htmlspec::Options;
 use mdtext::{Count, Entities, Tally};
 use mdview::Preview;
 use std::alloc::{AllocError, Global};

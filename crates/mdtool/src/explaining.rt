@@ -8,7 +8,7 @@ use crate::device::{Out, put_all};
 use crate::endings::{put_text, status};
 use crate::fault::{Stop, ToolFault};
 use crate::halt::{Cause, Halt, Source};
-use mdhtml::Options;
+use htmlspec::Options;
 use mdtext::TableFault;
 use mdview::EditFault;
 use mdwords::Words;

@@ -1,7 +1,7 @@
 //! What the programs do around their engines: words, files, endings.
 ghost use Rattle.std.specs.Prelude.{◌≡◌, ◌-◌, ◌^◌, ◌==◌, IfErr, IfOk, if◌then◌else◌};
 ghost use Rattle.std.specs.Process.{exit_status};
-ghost use Rattle.mdhtml.specs.Limits.{HasLimits};
+ghost use Rattle.htmlspec.specs.Limits.{HasLimits};
 ghost use Rattle.mdtool.specs.Endings.{EndsBy, IsNotOpened, end_status, status_of};
 ghost use Rattle.mdtool.specs.NamedFiles.{EntitiesOf, IsNotOpenedOf, NamesOf, PreludeOf};
 

@@ -8,7 +8,7 @@ ghost use Rattle.mdtool.specs.Replies.{IsReply};
 ghost use Rattle.mdtool.specs.ScriptEnds.{Served};
 ghost use Rattle.mdtool.specs.Serve.{ServedBeside};
 ghost use Rattle.mdtool.specs.Steps.{failures_after, out_failures_after};
-ghost use Rattle.mdhtml.specs.Limits.{HasLimits};
+ghost use Rattle.htmlspec.specs.Limits.{HasLimits};
 ghost use Rattle.mdwords.specs.declared.reply_forms.ReplyForm.TheVariants.{Plain};
 
 use crate::command::Command;
@@ -18,7 +18,7 @@ use crate::fault::ToolFault;
 use crate::replier::Replier;
 use crate::replies::{edit_reply, html_reply};
 use crate::script::Script;
-use mdhtml::Options;
+use htmlspec::Options;
 use mdtext::{Entities, Tally};
 use mdview::Preview;
 use mdwords::ReplyForm;

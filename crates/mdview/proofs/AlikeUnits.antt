@@ -3,7 +3,7 @@ use Rattle.std.proofs.Common.{◌≡◌, ℕ, zero, suc, ◌-◌, ◌≤◌, ◌
 use Rattle.std.proofs.lemmas.List.{drop-map, length-drop, length-map, length-take, take-map}
 use Rattle.std.proofs.Math.Seq.{drop-length}
 use Rattle.mdtext.specs.EntityTable.{EntityTable}
-use Rattle.mdinline.specs.ParsedText.{ParsedText}
+use Rattle.inlinespec.specs.ParsedText.{ParsedText}
 use Rattle.blockspec.specs.UnitTree.{UnitTree}
 use Rattle.mdsource.specs.View.{reading_of}
 use Rattle.mdsource.specs.UnitTexts.{readings_under}

@@ -7,7 +7,7 @@ use Rattle.std.proofs.lemmas.Bool.Decides.{nat_tests}
 use Rattle.std.proofs.lemmas.List.{length-map}
 use Rattle.std.proofs.lemmas.Option.{slice_get-map}
 use Rattle.blockspec.specs.UnitTree.{UnitTree}
-use Rattle.mdhtml.specs.declared.options.Options.{Options}
+use Rattle.htmlspec.specs.declared.options.Options.{Options}
 use Rattle.mdview.specs.declared.inlines.concerned_texts.Again.{Again}
 use Rattle.mdview.specs.declared.update.Update.{Update}
 use Rattle.mdview.specs.HeldUnit.{HeldUnit, IsRendered, unit_in, texts_in}

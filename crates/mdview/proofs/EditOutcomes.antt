@@ -10,7 +10,7 @@ use Rattle.mdtext.specs.Lines.{without_nul}
 use Rattle.blockspec.specs.BlockUnits.{units as text_units}
 use Rattle.blockspec.specs.Nesting.{first_too_deep}
 use Rattle.inlinespec.specs.LinkTails.{Table}
-use Rattle.mdhtml.specs.declared.options.Options.{Options}
+use Rattle.htmlspec.specs.declared.options.Options.{Options}
 use Rattle.mdsource.specs.Calls.{edit, put}
 use Rattle.mdsource.specs.ChangedPieces.{ChangedPieces}
 use Rattle.mdsource.specs.Changes.{asking_from, patch_of, places}

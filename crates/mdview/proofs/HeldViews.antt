@@ -4,7 +4,7 @@ use Rattle.std.specs.List.{All}
 use Rattle.blockspec.specs.BlockUnits.{units as text_units}
 use Rattle.blockspec.specs.UnitTree.{FoundUnit, UnitTree}
 use Rattle.inlinespec.specs.LinkTails.{Table}
-use Rattle.mdinline.specs.ParsedText.{ParsedText}
+use Rattle.inlinespec.specs.ParsedText.{ParsedText}
 use Rattle.mdsource.specs.LabelTable.{table}
 use Rattle.mdsource.specs.Setting.{Setting}
 use Rattle.mdsource.specs.View.{ViewedUnit, view, viewed}

@@ -19,7 +19,7 @@ use Rattle.mdblock.proofs.CopyLaws.{items_in}
 use Rattle.mdblock.proofs.FrontedValues.{fronted_length, own_fits, own_front, placed_items, placed_texts, seam_blocks, seam_enough, seam_first, seam_read, seam_room, seam_texts}
 use Rattle.mdblock.proofs.TextOrder.{behind_is, items_in_order}
 use Rattle.mdhtml.specs.InsetLists.{inset_blocks, inset_items, inset_readings}
-use Rattle.mdinline.specs.ParsedText.{ParsedText}
+use Rattle.inlinespec.specs.ParsedText.{ParsedText}
 use Rattle.mdsource.specs.Refusals.{is_deep}
 use Rattle.mdsource.specs.UnitTexts.{readings_under}
 use Rattle.mdsource.specs.View.{reading_of}

@@ -10,7 +10,7 @@ use Rattle.std.specs.Option.{option_to_list}
 use Rattle.std.specs.Ordering.{nat_cmp}
 use Rattle.std.proofs.lemmas.Nat.{and_comm, pow_pos}
 use Rattle.mdchunks.proofs.MarkSums.{apart_left, apart_right}
-use Rattle.mdinline.specs.ParsedText.{ParsedText}
+use Rattle.inlinespec.specs.ParsedText.{ParsedText}
 use Rattle.mdview.specs.LabelMarks.{label_mark, marks_after, marks_asked, place_from}
 use Rattle.mdview.proofs.Elsewhere.{key_is}
 

@@ -5,7 +5,7 @@ use Rattle.std.specs.List.{All, list_any}
 use Rattle.mdtext.specs.EntityTable.{EntityTable}
 use Rattle.blockspec.specs.UnitTree.{UnitTree}
 use Rattle.inlinespec.specs.LinkTails.{Table}
-use Rattle.mdinline.specs.ParsedText.{ParsedText}
+use Rattle.inlinespec.specs.ParsedText.{ParsedText}
 use Rattle.mdsource.specs.Changes.{asks_changed, leads_elsewhere}
 use Rattle.mdsource.specs.Refusals.{is_deep}
 use Rattle.mdsource.specs.UnitTexts.{asking_units, asks_again, deep_from, readings_under}

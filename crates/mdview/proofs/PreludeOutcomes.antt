@@ -9,7 +9,7 @@ use Rattle.std.proofs.lemmas.Simd.{map-map}
 use Rattle.mdtext.specs.EntityTable.{EntityTable}
 use Rattle.mdtext.specs.Lines.{without_nul}
 use Rattle.blockspec.specs.BlockUnits.{units as text_units}
-use Rattle.mdhtml.specs.declared.options.Options.{Options}
+use Rattle.htmlspec.specs.declared.options.Options.{Options}
 use Rattle.mdsource.specs.Calls.{set_prelude}
 use Rattle.mdsource.specs.ChangedPieces.{ChangedPieces}
 use Rattle.mdsource.specs.Changes.{asking_from, patch_of, texts_due, texts_read}

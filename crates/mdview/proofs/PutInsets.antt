@@ -7,7 +7,7 @@ use Rattle.mdblock.specs.Spliced.{mark_at, spliced_list}
 use Rattle.mdblock.proofs.FrontedValues.{placed_is, placed_texts, placing}
 use Rattle.mdblock.proofs.InsetLaws.{parts_length}
 use Rattle.mdhtml.specs.InsetLists.{inset_readings}
-use Rattle.mdinline.specs.ParsedText.{ParsedText}
+use Rattle.inlinespec.specs.ParsedText.{ParsedText}
 use Rattle.mdview.specs.HeldLists.{unplaced}
 
 -- where a list stands in its text does not matter

@@ -1,6 +1,6 @@
 -- A unit that comes in the place of a held one, of which texts read as those of the other.
 use Rattle.std.specs.Prelude.{◌≡◌, ◌≤◌, ◌-◌, List, drop, length, take}
-use Rattle.mdinline.specs.ParsedText.{ParsedText}
+use Rattle.inlinespec.specs.ParsedText.{ParsedText}
 use Rattle.mdview.specs.declared.pieces.text_room.Alike.{Alike}
 
 -- so many readings from the front on and from the end on are those of a held unit

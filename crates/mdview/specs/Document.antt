@@ -1,9 +1,9 @@
 -- What a preview is: a text and a prelude, and what they are read with. All else that it shows is their view.
 use Rattle.std.specs.Prelude.{ℕ, List, [], map}
 use Rattle.mdtext.specs.EntityTable.{EntityTable}
-use Rattle.mdinline.specs.ParsedText.{ParsedText}
+use Rattle.inlinespec.specs.ParsedText.{ParsedText}
 use Rattle.blockspec.specs.UnitTree.{UnitTree}
-use Rattle.mdhtml.specs.declared.options.Options.{Options}
+use Rattle.htmlspec.specs.declared.options.Options.{Options}
 use Rattle.mdsource.specs.Setting.{Setting, Source}
 use Rattle.mdsource.specs.View.{ViewedUnit, view}
 

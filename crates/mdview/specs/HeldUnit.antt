@@ -4,10 +4,10 @@ use Rattle.std.specs.Coded.{Coded, code_by, coded×, coded_ℕ, coded_bool, code
 use Rattle.blockspec.specs.UnitTree.{UnitTree, unit_code}
 use Rattle.blockspec.specs.ItemMarks.{ItemMark}
 use Rattle.mdblock.specs.FoundLists.{mark_code}
-use Rattle.mdinline.specs.ParsedText.{ParsedText, parsed_code}
-use Rattle.mdhtml.specs.declared.options.Options.{Options}
-use Rattle.mdhtml.specs.BlockHtml.{blocks_html, texts_html}
-use Rattle.mdhtml.specs.ListEnds.{unit_ends}
+use Rattle.inlinespec.specs.ParsedText.{ParsedText, parsed_code}
+use Rattle.htmlspec.specs.declared.options.Options.{Options}
+use Rattle.htmlspec.specs.BlockHtml.{blocks_html, texts_html}
+use Rattle.htmlspec.specs.ListEnds.{unit_ends}
 use Rattle.blockspec.specs.BlockTree.{Blocks}
 use Rattle.mdwalk.specs.TreeEdges.{TreeEdge, blocks_edges}
 

@@ -6,7 +6,7 @@ use Rattle.mdblock.specs.Insets.{IsEven, MayFit, with_items}
 use Rattle.mdblock.specs.Seams.{IsOwnBase, ListSeam, seam_front, seam_list}
 use Rattle.mdblock.specs.Spliced.{as_first_list, mark_at, spliced_marks, tight_list}
 use Rattle.mdhtml.specs.InsetLists.{inset_readings}
-use Rattle.mdinline.specs.ParsedText.{ParsedText}
+use Rattle.inlinespec.specs.ParsedText.{ParsedText}
 use Rattle.mdview.specs.HeldLists.{list_in, unplaced}
 use Rattle.mdview.specs.HeldUnit.{HeldUnit, IsRendered}
 use Rattle.mdview.specs.TextSetting.{DidReadIn, IsReadFrom, TextSetting, readings_as}

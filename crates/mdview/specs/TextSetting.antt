@@ -5,8 +5,8 @@ use Rattle.mdtext.specs.EntityTable.{EntityTable}
 use Rattle.blockspec.specs.UnitTree.{FoundUnit, UnitTree}
 use Rattle.inlinespec.specs.LinkTails.{Table}
 use Rattle.mdblock.specs.FoundLists.{FoundList}
-use Rattle.mdhtml.specs.declared.options.Options.{Options}
-use Rattle.mdinline.specs.ParsedText.{ParsedText}
+use Rattle.htmlspec.specs.declared.options.Options.{Options}
+use Rattle.inlinespec.specs.ParsedText.{ParsedText}
 use Rattle.mdinline.specs.declared.faults.InlineFault.{InlineFault}
 use Rattle.mdinline.specs.declared.faults.InlineFault.TheVariants.{TooDeep}
 use Rattle.mdsource.specs.Refusals.{is_deep}

@@ -1,9 +1,9 @@
 -- Pieces that are written.
 use Rattle.std.specs.Prelude.{◌≡◌, List, [], false}
 use Rattle.blockspec.specs.BlockTree.{Blocks}
-use Rattle.mdhtml.specs.BlockHtml.{blocks_html, texts_html}
-use Rattle.mdhtml.specs.declared.options.Options.{Options}
-use Rattle.mdinline.specs.ParsedText.{ParsedText}
+use Rattle.htmlspec.specs.BlockHtml.{blocks_html, texts_html}
+use Rattle.htmlspec.specs.declared.options.Options.{Options}
+use Rattle.inlinespec.specs.ParsedText.{ParsedText}
 use Rattle.mdview.specs.HeldUnit.{AreEnds, WrittenPiece}
 
 -- It is the HTML of these blocks whose texts read so, and their items end where it says.

@@ -1,7 +1,7 @@
 //! What inline texts read as after an edit: each is read under the labels of the text that the edit leaves.
 
 ghost use Rattle.std.specs.Prelude.{◌≡◌};
-ghost use Rattle.mdhtml.specs.Limits.{HasLimits};
+ghost use Rattle.htmlspec.specs.Limits.{HasLimits};
 ghost use Rattle.mdtext.specs.Counted.{counted};
 ghost use Rattle.mdview.specs.LabelTargets.{IsElsewhere};
 

@@ -1,7 +1,7 @@
 //! What holds of any list of edits and new preludes.
 ghost use Rattle.std.specs.Prelude.{◌≡◌, ℕ, Bool, Err, List};
 ghost use Rattle.mdtext.specs.EntityTable.{EntityTable};
-ghost use Rattle.mdhtml.specs.declared.options.Options.{Options};
+ghost use Rattle.htmlspec.specs.declared.options.Options.{Options};
 ghost use Rattle.mdsource.specs.Setting.{Setting};
 ghost use Rattle.mdsource.specs.Calls.{Call};
 ghost use Rattle.mdsource.specs.declared.fault.EditFault.{EditFault};

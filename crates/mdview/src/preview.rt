@@ -1,10 +1,10 @@
 //! `Preview`: a text that is edited by lines, and its HTML in pieces.
 
 ghost use Rattle.std.specs.Prelude.{◌≡◌, ◌≤◌, ◌+◌, List, None, Some, IfErr, IfOk, IsSome, OnOk, false, length, map, option_map, slice_get, true};
-ghost use Rattle.mdhtml.specs.Limits.{HasLimits};
+ghost use Rattle.htmlspec.specs.Limits.{HasLimits};
 ghost use Rattle.blockspec.specs.BlockUnits.{begins, units};
 ghost use Rattle.blockspec.specs.UnitTree.{UnitTree};
-ghost use Rattle.mdinline.specs.ParsedText.{ParsedText};
+ghost use Rattle.inlinespec.specs.ParsedText.{ParsedText};
 ghost use Rattle.mdwalk.specs.EdgeView.{edges_left};
 ghost use Rattle.mdsource.specs.Calls.{due_at_once, put, set_prelude};
 ghost use Rattle.mdsource.specs.SoonTexts.{texts_soon};
@@ -56,7 +56,7 @@ impl Model for Preview {
     ghost use Rattle.std.specs.Prelude.{◌≡◌, ◌≤◌, None, length, map, string_bytes};
     ghost use Rattle.std.specs.List.{All};
     ghost use Rattle.blockspec.specs.Nesting.{first_too_deep};
-    ghost use Rattle.mdhtml.specs.Limits.{HasLimits};
+    ghost use Rattle.htmlspec.specs.Limits.{HasLimits};
     ghost use Rattle.mdview.specs.Document.{Document};
     ghost use Rattle.mdsource.specs.SourceLimits.{size_of};
     ghost use Rattle.mdview.specs.HeldBlocks.{HoldsUnits};

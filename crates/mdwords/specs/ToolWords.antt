@@ -6,9 +6,9 @@ use Rattle.std.specs.Str.{bytes_eq}
 use Rattle.clap.specs.Words.{App, Rule, Text, new_app, new_rule, with_rule, rows_of, matches_of, matched_of, found_of, first_value, raw_values}
 use Rattle.clap.specs.declared.builder.action.ArgAction.TheVariants.{SetTrue, Append}
 use Rattle.clap.specs.declared.parser.matches.ArgMatches.{ArgMatches}
-use Rattle.mdhtml.specs.declared.options.Breaks.{Breaks}
-use Rattle.mdhtml.specs.declared.options.Breaks.TheVariants.{Soft, Hard, Space}
-use Rattle.mdhtml.specs.declared.options.Options.{Options}
+use Rattle.htmlspec.specs.declared.options.Breaks.{Breaks}
+use Rattle.htmlspec.specs.declared.options.Breaks.TheVariants.{Soft, Hard, Space}
+use Rattle.htmlspec.specs.declared.options.Options.{Options}
 use Rattle.mdwords.specs.declared.commands.Choice.{Choice}
 use Rattle.mdwords.specs.declared.reply_forms.ReplyForm.{ReplyForm}
 use Rattle.mdwords.specs.declared.reply_forms.ReplyForm.TheVariants.{Plain, WithLines}

@@ -2,7 +2,7 @@
 ghost use Rattle.std.specs.Prelude.{◌≡◌, ◌≢◌, ◌≤◌, [], IfErr, IfNone, IfOk, IfSome, IsNone, IsSome, IsSomeAnd, OnOk, Some, codes, drop, length, map, option_map, string_bytes, true, false};
 ghost use Rattle.std.specs.List.{list_all, prefix_len};
 ghost use Rattle.clap.specs.Words.{first_value, found_of, kind_of};
-ghost use Rattle.mdhtml.specs.Limits.{HasLimits};
+ghost use Rattle.htmlspec.specs.Limits.{HasLimits};
 ghost use Rattle.mdwords.specs.Numbers.{number};
 ghost use Rattle.mdwords.specs.ToolWords.{IsBreaks, IsDoneAnyway, IsHtml, IsLimit, OptionsRead, WordsRead, is_extension, is_on, is_zero, program_of, replies_of, values_of};
 ghost use Rattle.mdwords.specs.WordRefusals.{IsNoLimit, IsReadOf, MatchesDeclined, NotUnderstoodFor, RefusesMatches, RefusesWords, TellsKind, faults_of};
@@ -13,7 +13,7 @@ use crate::reply_forms::ReplyForm;
 use crate::word_faults::WordFault;
 use clap::error::ErrorKind;
 use clap::{ArgMatches, Error};
-use mdhtml::{Breaks, Options};
+use htmlspec::{Breaks, Options};
 use std::alloc::{AllocError, Global};
 
 /// What a program's words say.

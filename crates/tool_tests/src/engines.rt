@@ -7,7 +7,7 @@ mod tildes;
 mod tools;
 mod worked_texts;
 
-ghost use Rattle.mdhtml.specs.Limits.{HasLimits};
+ghost use Rattle.htmlspec.specs.Limits.{HasLimits};
 
 use crate::options::SOFT;
 use crate::runs::{Devices, Engine, SOUND, run_of};

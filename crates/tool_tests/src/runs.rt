@@ -3,7 +3,7 @@
 //! An engine is called here alone, and so are words read: such a call is dear to prove.
 
 ghost use Rattle.std.specs.Prelude.{◌-◌, ◌^◌, ◌<◌};
-ghost use Rattle.mdhtml.specs.Limits.{HasLimits};
+ghost use Rattle.htmlspec.specs.Limits.{HasLimits};
 
 use mdtext::Entities;
 use mdtool::{

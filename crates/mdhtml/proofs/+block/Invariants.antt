@@ -1,7 +1,7 @@
 use Rattle.std.proofs.Common.{◌≡◌, ◌++◌, string_bytes, drop, length}
 use Rattle.mdblock.specs.BlockView.{blocks_view, items_view, kind_view}
 use Rattle.mdhtml.specs.held.UnitTexts.{shown_texts}
-use Rattle.mdhtml.specs.BlockHtml.{blocks_html, fresh, items_html, list_open}
+use Rattle.htmlspec.specs.BlockHtml.{blocks_html, fresh, items_html, list_open}
 use Rattle.mdblock.specs.Positions.{BlocksIn, ItemsIn}
 use Rattle.mdhtml.proofs.+block.Given as goal
 

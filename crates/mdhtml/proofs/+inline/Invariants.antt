@@ -1,6 +1,6 @@
 use Rattle.std.proofs.Common.{◌≡◌, ◌++◌, string_bytes, drop}
 use Rattle.mdinline.specs.TreeView.{inlines_view}
-use Rattle.mdhtml.specs.InlineHtml.{inlines_html}
+use Rattle.htmlspec.specs.InlineHtml.{inlines_html}
 use Rattle.mdhtml.proofs.+inline.Given as goal
 
 abbrev pub invariant-inlines::write_inlines-loop-inline : goal.invariant-inlines::write_inlines-loop-inline

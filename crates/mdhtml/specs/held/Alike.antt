@@ -2,11 +2,11 @@
 use Rattle.std.specs.Prelude.{◌≡◌, ℕ, ◌+◌, ◌<◌, Bool, List, length}
 use Rattle.blockspec.specs.BlockTree.{Block, Blocks, Items}
 use Rattle.mdscan.specs.declared.delimiter_rows.Align.{Align}
-use Rattle.mdhtml.specs.declared.options.Options.{Options}
+use Rattle.htmlspec.specs.declared.options.Options.{Options}
 use Rattle.mdhtml.specs.declared.lists.same_blocks.SharedTexts.{SharedTexts}
-use Rattle.mdhtml.specs.BlockHtml.{block_html, blocks_html, items_html}
-use Rattle.mdhtml.specs.ListEnds.{item_ends}
-use Rattle.mdhtml.specs.TableHtml.{text_html, cells_html, rows_html}
+use Rattle.htmlspec.specs.BlockHtml.{block_html, blocks_html, items_html}
+use Rattle.htmlspec.specs.ListEnds.{item_ends}
+use Rattle.htmlspec.specs.TableHtml.{text_html, cells_html, rows_html}
 
 -- T and U are the HTML of the texts of both units: the shared ones have the same
 pub record SharedHtml (s : SharedTexts) (T U : List (List ℕ)) : Type 0 where

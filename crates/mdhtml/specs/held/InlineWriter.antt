@@ -6,7 +6,7 @@ use Rattle.inlinespec.specs.InlineEvents.{Event}
 use Rattle.mdhtml.specs.declared.inline_writer.InlineWriter.{InlineWriter}
 use Rattle.mdhtml.specs.declared.inline_writer.OpenSpan.{OpenSpan}
 use Rattle.mdhtml.specs.declared.inline_writer.OpenSpan.TheVariants.{Tag, Image, Alternative}
-use Rattle.mdhtml.specs.InlineWriting.{SpanEnd, EndTag, EndImage, NoTag, Writing, writing, after_event, after_events}
+use Rattle.htmlspec.specs.InlineWriting.{SpanEnd, EndTag, EndImage, NoTag, Writing, writing, after_event, after_events}
 
 abbrev pub end_of : OpenSpan → SpanEnd
 end_of (Tag end) = EndTag end.now

@@ -1,17 +1,17 @@
 -- Lists of which some items, at the front and at the end, are those of an old list.
 use Rattle.std.specs.Prelude.{◌≡◌, ℕ, ◌+◌, ◌-◌, ◌≤◌, Bool, List, [], ◌∷◌, ◌++◌, length, map, take, drop, slice_index}
 use Rattle.std.specs.List.{AllByRecursion, slice_range}
-use Rattle.mdinline.specs.ParsedText.{ParsedText}
+use Rattle.inlinespec.specs.ParsedText.{ParsedText}
 use Rattle.blockspec.specs.BlockTree.{ListKind}
 use Rattle.mdblock.specs.BlockView.{items_view, kind_view}
 use Rattle.mdblock.specs.declared.blocks.Item as i
-use Rattle.mdhtml.specs.declared.options.Options.{Options}
+use Rattle.htmlspec.specs.declared.options.Options.{Options}
 use Rattle.mdhtml.specs.declared.lists.kept_items.Between.{Between}
 use Rattle.mdhtml.specs.declared.lists.kept_items.KeptHtml.{KeptHtml}
 use Rattle.mdhtml.specs.declared.lists.like_lists.Like.{Like}
 use Rattle.mdhtml.specs.declared.lists.item_ends.OneList.{OneList}
-use Rattle.mdhtml.specs.BlockHtml.{fresh, texts_html, items_html, list_open, list_close}
-use Rattle.mdhtml.specs.ListEnds.{item_ends}
+use Rattle.htmlspec.specs.BlockHtml.{fresh, texts_html, items_html, list_open, list_close}
+use Rattle.htmlspec.specs.ListEnds.{item_ends}
 
 -- what a list in a unit of its own begins with
 abbrev pub list_begins : ListKind → List ℕ

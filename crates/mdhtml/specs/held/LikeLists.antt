@@ -1,13 +1,13 @@
 -- Lists that are made from lists like them.
 use Rattle.std.specs.Prelude.{◌≡◌, ℕ, ◌+◌, ◌-◌, ◌≤◌, Bool, List, length, take, drop}
-use Rattle.mdinline.specs.ParsedText.{ParsedText}
+use Rattle.inlinespec.specs.ParsedText.{ParsedText}
 use Rattle.blockspec.specs.BlockTree.{Items}
 use Rattle.mdblock.specs.BlockView.{items_view}
 use Rattle.mdblock.specs.declared.blocks.Item as i
-use Rattle.mdhtml.specs.declared.options.Options.{Options}
+use Rattle.htmlspec.specs.declared.options.Options.{Options}
 use Rattle.mdhtml.specs.declared.lists.like_lists.SameEnds.{SameEnds}
-use Rattle.mdhtml.specs.BlockHtml.{texts_html, items_html}
-use Rattle.mdhtml.specs.ListEnds.{item_ends}
+use Rattle.htmlspec.specs.BlockHtml.{texts_html, items_html}
+use Rattle.htmlspec.specs.ListEnds.{item_ends}
 
 -- so many readings at the front, and so many at the end, are the same
 pub record SharedReadings (texts others : List ParsedText) (first last : ℕ) : Type 0 where

@@ -2,9 +2,9 @@
 use Rattle.std.specs.Prelude.{◌≡◌, ℕ, List, []}
 use Rattle.blockspec.specs.BlockTree.{list, Blocks, no_blocks, block}
 use Rattle.mdblock.specs.BlockView.{kind_view, items_view}
-use Rattle.mdhtml.specs.declared.options.Options.{Options}
+use Rattle.htmlspec.specs.declared.options.Options.{Options}
 use Rattle.mdhtml.specs.declared.lists.item_ends.OneList.{OneList}
-use Rattle.mdhtml.specs.ListEnds.{unit_ends}
+use Rattle.htmlspec.specs.ListEnds.{unit_ends}
 
 abbrev pub unit_of : OneList → Blocks
 unit_of one = block (list (kind_view one.kind) one.tight (items_view one.items.now)) no_blocks

@@ -1,10 +1,10 @@
 -- The inline texts of a unit, as their HTML.
 use Rattle.std.specs.Prelude.{ℕ, List, map, string_bytes}
-use Rattle.mdhtml.specs.declared.options.Options.{Options}
+use Rattle.htmlspec.specs.declared.options.Options.{Options}
 use Rattle.mdhtml.specs.declared.unit_texts.HeldTexts.{HeldTexts}
 use Rattle.mdhtml.specs.declared.unit_texts.HeldTexts.TheVariants.{Read, Written}
 use Rattle.mdhtml.specs.declared.unit_texts.UnitTexts.{UnitTexts}
-use Rattle.mdhtml.specs.BlockHtml.{texts_html}
+use Rattle.htmlspec.specs.BlockHtml.{texts_html}
 
 abbrev pub held_texts : Options → HeldTexts → List (List ℕ)
 held_texts options (Read texts) = texts_html options texts.now

@@ -6,14 +6,14 @@ ghost use Rattle.mdblock.specs.BlockView.{block_view, blocks_view, items_view};
 ghost use Rattle.mdblock.specs.Positions.{BlocksIn, ItemsIn};
 ghost use Rattle.mdhtml.specs.held.ListUnits.{NoList, unit_of};
 ghost use Rattle.mdhtml.specs.held.UnitTexts.{shown_texts};
-ghost use Rattle.mdhtml.specs.BlockHtml.{texts_html, blocks_html, items_html};
-ghost use Rattle.mdhtml.specs.ListEnds.{item_ends, unit_ends};
+ghost use Rattle.htmlspec.specs.BlockHtml.{texts_html, blocks_html, items_html};
+ghost use Rattle.htmlspec.specs.ListEnds.{item_ends, unit_ends};
 
 use crate::blocks::write_blocks;
 use crate::lists::items::write_item;
 use crate::lists::{begin_list, close_list};
-use crate::options::Options;
 use crate::unit_texts::{HeldTexts, UnitTexts};
+use htmlspec::Options;
 use mdblock::{Block, Item, ListKind};
 use mdinline::Parsed;
 use mdtext::NoMemory;

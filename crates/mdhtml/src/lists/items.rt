@@ -4,7 +4,7 @@ ghost use Rattle.std.specs.Prelude.{◌≡◌, ◌++◌, ◌<◌, OnOk, length, 
 ghost use Rattle.mdblock.specs.BlockView.{item_view};
 ghost use Rattle.mdblock.specs.Positions.{BlocksIn};
 ghost use Rattle.mdhtml.specs.held.UnitTexts.{shown_texts};
-ghost use Rattle.mdhtml.specs.ListEnds.{item_html};
+ghost use Rattle.htmlspec.specs.ListEnds.{item_html};
 
 use crate::blocks::write_blocks;
 use crate::pieces::write_fresh;

@@ -7,14 +7,14 @@ ghost use Rattle.mdblock.specs.BlockView.{items_view};
 ghost use Rattle.mdblock.specs.Positions.{ItemsIn};
 ghost use Rattle.mdhtml.specs.held.KeptItems.{AreKept, AreInTail, html_between, ends_between, moved_ends, list_around, list_ends_around};
 ghost use Rattle.mdhtml.specs.held.ListUnits.{unit_of};
-ghost use Rattle.mdhtml.specs.BlockHtml.{texts_html, blocks_html};
-ghost use Rattle.mdhtml.specs.ListEnds.{unit_ends};
+ghost use Rattle.htmlspec.specs.BlockHtml.{texts_html, blocks_html};
+ghost use Rattle.htmlspec.specs.ListEnds.{unit_ends};
 
 use crate::lists::item_ends::{OneList, write_item_ends};
 use crate::lists::like_lists::Like;
 use crate::lists::{begin_list, close_list};
-use crate::options::Options;
 use crate::unit_texts::{HeldTexts, UnitTexts};
+use htmlspec::Options;
 use mdblock::Item;
 use mdinline::Parsed;
 use mdtext::NoMemory;

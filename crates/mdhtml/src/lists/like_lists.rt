@@ -6,13 +6,13 @@ ghost use Rattle.mdblock.specs.BlockView.{blocks_view, items_view, kind_view};
 ghost use Rattle.mdblock.specs.Positions.{BlocksIn, ItemsIn};
 ghost use Rattle.mdhtml.specs.held.LikeLists.{SharedReadings, AreSameEnds};
 ghost use Rattle.mdhtml.specs.held.ListUnits.{unit_of};
-ghost use Rattle.mdhtml.specs.BlockHtml.{texts_html, blocks_html};
-ghost use Rattle.mdhtml.specs.ListEnds.{unit_ends};
+ghost use Rattle.htmlspec.specs.BlockHtml.{texts_html, blocks_html};
+ghost use Rattle.htmlspec.specs.ListEnds.{unit_ends};
 
 use crate::lists::item_ends::{OneList, append_unit_ends, one_list};
 use crate::lists::kept_items::{Between, append_between};
 use crate::lists::same_blocks::{SharedTexts, same_behind, same_front};
-use crate::options::Options;
+use htmlspec::Options;
 use mdblock::Block;
 use mdinline::Parsed;
 use mdtext::NoMemory;

@@ -1,7 +1,7 @@
 //! HTML of the box of a task list item.
 
 ghost use Rattle.std.specs.Prelude.{◌≡◌, ◌++◌, OnOk, string_bytes};
-ghost use Rattle.mdhtml.specs.BlockHtml.{task_box};
+ghost use Rattle.htmlspec.specs.BlockHtml.{task_box};
 
 use mdtext::NoMemory;
 

@@ -1,7 +1,7 @@
 -- What the reading of a text is, as it is held.
 use Rattle.std.specs.Prelude.{[], ◌∷◌}
 use Rattle.inlinespec.specs.InlineTree.{Inlines, no_inlines}
-use Rattle.mdinline.specs.ParsedText.{ParsedText}
+use Rattle.inlinespec.specs.ParsedText.{ParsedText}
 use Rattle.mdinline.specs.TreeView.{inlines_view}
 use Rattle.mdinline.specs.declared.parsed.Held as held
 use Rattle.mdinline.specs.declared.parsed.Held.TheVariants.{Empty, Shared}

@@ -2,7 +2,7 @@
 
 ghost use Rattle.std.specs.Prelude.{◌≡◌, ◌+◌, ◌<◌, ◌≤◌, ℕ, Bool, List, if◌then◌else◌, IfOk, IfSome, Some, false, is_some, length, map, slice_get, string_bytes, take, true, None};
 ghost use Rattle.std.specs.List.{list_any};
-ghost use Rattle.mdinline.specs.ParsedText.{ParsedText};
+ghost use Rattle.inlinespec.specs.ParsedText.{ParsedText};
 ghost use Rattle.mdtext.specs.Counted.{counted};
 ghost use Rattle.mdview.specs.LabelTargets.{at};
 ghost use Rattle.mdview.specs.TextSetting.{Appends, DidRead, DidReadIn, Reads, Stays, texts_under};

@@ -3,9 +3,9 @@
 ghost use Rattle.std.specs.Prelude.{◌≡◌, ◌≤◌, ◌-◌, [], IfOk, false, take, drop, length, string_bytes};
 ghost use Rattle.mdblock.specs.BlockView.{blocks_view};
 ghost use Rattle.mdblock.specs.Positions.{BlocksIn};
-ghost use Rattle.mdhtml.specs.BlockHtml.{texts_html, blocks_html};
-ghost use Rattle.mdhtml.specs.Limits.{plain};
-ghost use Rattle.mdhtml.specs.ListEnds.{unit_ends};
+ghost use Rattle.htmlspec.specs.BlockHtml.{texts_html, blocks_html};
+ghost use Rattle.htmlspec.specs.Limits.{plain};
+ghost use Rattle.htmlspec.specs.ListEnds.{unit_ends};
 
 use super::calls::{blocks_of, found, readings};
 use mdblock::{Block, Unit};

@@ -1,7 +1,7 @@
 //! Limits other than the usual ones, and the deepest texts that they allow.
 
 ghost use Rattle.std.specs.Prelude.{◌≤◌};
-ghost use Rattle.mdhtml.specs.Limits.{HasLimits};
+ghost use Rattle.htmlspec.specs.Limits.{HasLimits};
 
 use crate::options::SOFT;
 use crate::runs::{Engine, WIDE, run_of, words_read};

@@ -1,6 +1,6 @@
 //! The whole-text engine, entity files and words, at worked rows; devices that fail at each call.
 
-ghost use Rattle.mdhtml.specs.Limits.{HasLimits};
+ghost use Rattle.htmlspec.specs.Limits.{HasLimits};
 
 use crate::options::SOFT;
 use crate::runs::{Devices, Engine, Run, SOUND, run_of, words_read};

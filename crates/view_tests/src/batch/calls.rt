@@ -1,6 +1,6 @@
 //! The calls of the batch way and of a preview as tests make them. What they promise stays here: a test looks at the answers, so its own proof is short.
 
-ghost use Rattle.mdhtml.specs.Limits.{HasLimits};
+ghost use Rattle.htmlspec.specs.Limits.{HasLimits};
 
 use crate::calls::{edit, set_prelude};
 use mdbatch::{Breaks, EditFault, Entities, Options, Prelude, to_html};

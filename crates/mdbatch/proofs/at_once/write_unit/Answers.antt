@@ -1,7 +1,7 @@
 use Rattle.std.proofs.Common.{◌++◌, ◌∙◌, ap, eqb-true, string_bytes, sym, append-nil}
 use Rattle.std.proofs.lemmas.List.{nil_from_length}
 use Rattle.std.specs.Prelude.{map}
-use Rattle.mdhtml.specs.WrittenUnits.{is_deep_unit, written_unit}
+use Rattle.htmlspec.specs.WrittenUnits.{is_deep_unit, written_unit}
 use Rattle.mdleaf.specs.DefinedLinks.{definition_of}
 use Rattle.mdblock.specs.FoundLists.{found_unit}
 use Rattle.mdbatch.specs.GatheredUnits.{setting_of}

@@ -2,8 +2,8 @@ use Rattle.std.proofs.Common.{◌++◌, ◌≡◌, ◌∙◌, Err, true, ap, ari
 use Rattle.std.proofs.lemmas.List.{nil_from_length}
 use Rattle.std.proofs.lemmas.List.Elements.{All-head, All-tail}
 use Rattle.std.specs.List.{All}
-use Rattle.mdhtml.specs.BlockHtml.{ends_line}
-use Rattle.mdhtml.specs.WrittenUnits.{is_deep_unit, written_unit}
+use Rattle.htmlspec.specs.BlockHtml.{ends_line}
+use Rattle.htmlspec.specs.WrittenUnits.{is_deep_unit, written_unit}
 use Rattle.mdsource.specs.Setting.{Setting}
 use Rattle.mdblock.specs.FoundLists.{found_unit}
 use Rattle.mdbatch.specs.BatchHtml.{deep_line}

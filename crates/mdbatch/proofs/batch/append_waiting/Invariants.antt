@@ -1,7 +1,7 @@
 use Rattle.std.proofs.Common.{◌≡◌, ℕ, List, true, string_bytes}
 use Rattle.std.specs.List.{All}
 use Rattle.blockspec.specs.UnitTree.{FoundUnit}
-use Rattle.mdhtml.specs.BlockHtml.{ends_line}
+use Rattle.htmlspec.specs.BlockHtml.{ends_line}
 use Rattle.mdbatch.specs.GatheredUnits.{EndsLine, IsWoven, IsWrittenTo, setting_of}
 use Rattle.mdbatch.specs.TextLabels.{target_on_page}
 use Rattle.mdbatch.proofs.batch.append_waiting.Given as goal

@@ -1,5 +1,5 @@
 use Rattle.std.proofs.Common.{◌≡◌, ℕ, Bool, false, List, ◌++◌, if◌then◌else◌, sym, ◌∙◌, ap, append_assoc}
-use Rattle.mdhtml.specs.BlockHtml.{language_open, meta_attribute}
+use Rattle.htmlspec.specs.BlockHtml.{language_open, meta_attribute}
 use Rattle.mdhtml.proofs.code_blocks.open_code.Goals as goal
 
 last_case : (empty : Bool) (out short before lang more after named : List ℕ) → empty ≡ false → named ≡ before ++ lang ++ more ++ after →

@@ -1,6 +1,6 @@
 use Rattle.std.proofs.Common.{◌≡◌, ℕ, suc, ◌<◌, false, List, ◌∷◌, length, drop, get_or, sym, ap, ◌∙◌, arith, drop-cons}
 use Rattle.std.proofs.lemmas.List.{nil_from_length}
-use Rattle.mdhtml.specs.Attributes.{begins_with}
+use Rattle.htmlspec.specs.Attributes.{begins_with}
 use Rattle.mdhtml.proofs.destinations.begins_with.Goals as goal
 
 -- nothing is left, and more is wanted

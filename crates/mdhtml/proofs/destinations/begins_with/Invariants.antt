@@ -1,5 +1,5 @@
 use Rattle.std.proofs.Common.{◌≡◌, drop}
-use Rattle.mdhtml.specs.Attributes.{begins_with}
+use Rattle.htmlspec.specs.Attributes.{begins_with}
 use Rattle.mdhtml.proofs.destinations.begins_with.Given as goal
 
 abbrev pub invariant-loop-want : goal.invariant-loop-want

@@ -1,7 +1,7 @@
 use Rattle.std.proofs.Common.{◌≡◌, ◌++◌, string_bytes, drop}
 use Rattle.mdtext.specs.HtmlEscapes.{escaped}
 use Rattle.mdinline.specs.TreeView.{inlines_view}
-use Rattle.mdhtml.specs.InlineHtml.{alts}
+use Rattle.htmlspec.specs.InlineHtml.{alts}
 use Rattle.mdhtml.proofs.images.+alt.Given as goal
 
 abbrev pub invariant-write_alts-loop-inline : goal.invariant-write_alts-loop-inline

@@ -1,7 +1,7 @@
 use Rattle.std.proofs.Common.{ap, ◌∙◌, string_bytes}
 use Rattle.mdblock.specs.BlockView.{blocks_view}
 use Rattle.mdhtml.specs.held.UnitTexts.{shown_texts}
-use Rattle.mdhtml.specs.BlockHtml.{ends_line}
+use Rattle.htmlspec.specs.BlockHtml.{ends_line}
 use Rattle.mdhtml.proofs.Appended.{blocks_appended}
 use Rattle.mdhtml.proofs.Ends.{ends_blocks}
 use Rattle.mdhtml.proofs.pieces.append_blocks.Goals as goal

@@ -2,7 +2,7 @@ use Rattle.std.proofs.Common.{◌≡◌, ◌++◌, codes, string_bytes, drop, le
 use Rattle.std.specs.List.{AllByRecursion}
 use Rattle.mdblock.specs.Positions.{CellsIn}
 use Rattle.mdhtml.specs.held.UnitTexts.{shown_texts}
-use Rattle.mdhtml.specs.TableHtml.{rows_html}
+use Rattle.htmlspec.specs.TableHtml.{rows_html}
 use Rattle.mdhtml.proofs.tables.write_body.Given as goal
 
 abbrev pub invariant-loop-row : goal.invariant-loop-row

@@ -2,7 +2,7 @@ use Rattle.std.proofs.Common.{◌≡◌, ◌++◌, codes, string_bytes, drop, le
 use Rattle.mdblock.specs.Positions.{CellsIn}
 use Rattle.mdhtml.specs.held.CellTags.{tag_of}
 use Rattle.mdhtml.specs.held.UnitTexts.{shown_texts}
-use Rattle.mdhtml.specs.TableHtml.{cells_html}
+use Rattle.htmlspec.specs.TableHtml.{cells_html}
 use Rattle.mdhtml.proofs.tables.write_row.Given as goal
 
 abbrev pub invariant-loop-column : goal.invariant-loop-column

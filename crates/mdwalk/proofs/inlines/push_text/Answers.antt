@@ -1,7 +1,7 @@
 use Rattle.std.proofs.Common.{◌++◌, ◌≤◌, Option, ap, append-nil, arith, length, sym, ◌∙◌}
 use Rattle.std.proofs.lemmas.Bool.Decides.{nat_tests}
 use Rattle.std.proofs.lemmas.Option.{slice_get_past}
-use Rattle.mdinline.specs.ParsedText.{ParsedText}
+use Rattle.inlinespec.specs.ParsedText.{ParsedText}
 use Rattle.mdwalk.specs.TreeEdges.{inside_text}
 use Rattle.mdwalk.specs.EdgeView.{edges_view}
 use Rattle.mdwalk.proofs.inlines.push_text.Goals as goal

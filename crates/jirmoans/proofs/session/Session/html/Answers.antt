@@ -3,7 +3,7 @@ use Rattle.std.specs.Prelude.{String}
 use Rattle.std.specs.Global.{Global}
 use Rattle.mdtext.specs.EntityTable.{EntityTable}
 use Rattle.mdtext.specs.Lines.{text_lines}
-use Rattle.mdhtml.specs.declared.options.Options.{Options}
+use Rattle.htmlspec.specs.declared.options.Options.{Options}
 use Rattle.mdbatch.specs.ViewHtml.{ViewHtml}
 use Rattle.mdsource.specs.Preludes.{HeldPrelude, IsDefinedBy}
 use Rattle.mdsource.specs.declared.fault.EditFault.{EditFault}

@@ -2,8 +2,8 @@ use Rattle.std.proofs.Common.{◌≡◌, ◌++◌, ◌∙◌, [], ◌∷◌, Err
 use Rattle.std.specs.List.{All, list_any}
 use Rattle.std.proofs.lemmas.List.Elements.{All-push}
 use Rattle.inlinespec.specs.LabelMap.{target_in}
-use Rattle.mdhtml.specs.BlockHtml.{ends_line}
-use Rattle.mdhtml.specs.WrittenUnits.{is_deep_unit, written_unit}
+use Rattle.htmlspec.specs.BlockHtml.{ends_line}
+use Rattle.htmlspec.specs.WrittenUnits.{is_deep_unit, written_unit}
 use Rattle.mdblock.specs.FoundLists.{found_unit}
 use Rattle.mdbatch.specs.GatheredUnits.{EndsLine, IsWoven, closes_bracket, setting_of}
 use Rattle.mdsource.specs.LabelTable.{with_definitions}

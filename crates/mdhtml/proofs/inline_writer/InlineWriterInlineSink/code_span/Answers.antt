@@ -3,10 +3,10 @@ use Rattle.std.proofs.lemmas.Result.{on_ok_weaker}
 use Rattle.mdtext.specs.HtmlEscapes.{escaped}
 use Rattle.inlinespec.specs.CodeSpans.{as_one_line}
 use Rattle.inlinespec.specs.InlineEvents.{CodeSpan}
-use Rattle.mdhtml.specs.InlineHtml.{wrapped}
-use Rattle.mdhtml.specs.InlineWriting.{shows, shown_in}
+use Rattle.htmlspec.specs.InlineHtml.{wrapped}
+use Rattle.htmlspec.specs.InlineWriting.{shows, shown_in}
 use Rattle.mdhtml.specs.held.InlineWriter.{writing_of}
-use Rattle.mdhtml.proofs.WrittenEvents.{tags_whole}
+use Rattle.htmlspec.proofs.WrittenEvents.{tags_whole}
 use Rattle.mdhtml.proofs.InlineWriterSteps.{takes_leaf}
 use Rattle.mdhtml.proofs.inline_writer.InlineWriterInlineSink.code_span.Goals as goal
 

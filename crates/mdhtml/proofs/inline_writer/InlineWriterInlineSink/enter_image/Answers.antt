@@ -1,7 +1,7 @@
 use Rattle.std.proofs.Common.{ap, ◌∙◌, ◌∷◌, ◌++◌, true, append-nil, map, reverse, string_bytes}
 use Rattle.inlinespec.specs.InlineEvents.{ImageOf}
-use Rattle.mdhtml.specs.InlineHtml.{image_begins}
-use Rattle.mdhtml.specs.InlineWriting.{EndImage, writing}
+use Rattle.htmlspec.specs.InlineHtml.{image_begins}
+use Rattle.htmlspec.specs.InlineWriting.{EndImage, writing}
 use Rattle.mdhtml.specs.held.InlineWriter.{end_of}
 use Rattle.mdhtml.proofs.InlineWriterSteps.{takes_in_image, takes_tag}
 use Rattle.mdhtml.proofs.inline_writer.InlineWriterInlineSink.enter_image.Goals as goal

@@ -1,7 +1,7 @@
 use Rattle.std.proofs.Common.{ap, ◌∙◌, ◌∷◌, append-nil, codes, map, reverse, string_bytes}
 use Rattle.std.proofs.lemmas.Result.{on_ok_weaker}
 use Rattle.inlinespec.specs.InlineEvents.{LinkTo}
-use Rattle.mdhtml.specs.InlineWriting.{EndTag, writing}
+use Rattle.htmlspec.specs.InlineWriting.{EndTag, writing}
 use Rattle.mdhtml.specs.held.InlineWriter.{end_of}
 use Rattle.mdhtml.proofs.InlineWriterSteps.{takes_in_image, takes_tag}
 use Rattle.mdhtml.proofs.inline_writer.InlineWriterInlineSink.enter_link.Goals as goal

@@ -1,6 +1,6 @@
 use Rattle.std.proofs.Common.{ap, sym, ◌∙◌, ◌∷◌, [], refl, map, reverse, string_bytes}
 use Rattle.std.proofs.lemmas.Result.{on_ok_weaker}
-use Rattle.mdhtml.specs.InlineWriting.{writing}
+use Rattle.htmlspec.specs.InlineWriting.{writing}
 use Rattle.mdhtml.specs.held.InlineWriter.{end_of}
 use Rattle.mdhtml.proofs.InlineWriterSteps.{ends_pushed, none_open, takes_end}
 use Rattle.mdhtml.proofs.inline_writer.InlineWriterInlineSink.leave.Goals as goal

@@ -2,8 +2,8 @@ use Rattle.std.proofs.Common.{ap}
 use Rattle.std.proofs.lemmas.Result.{on_ok_weaker}
 use Rattle.mdtext.specs.HtmlEscapes.{escaped}
 use Rattle.inlinespec.specs.InlineEvents.{RawHtml}
-use Rattle.mdhtml.specs.InlineHtml.{raw_html}
-use Rattle.mdhtml.specs.InlineWriting.{shows, shown_in}
+use Rattle.htmlspec.specs.InlineHtml.{raw_html}
+use Rattle.htmlspec.specs.InlineWriting.{shows, shown_in}
 use Rattle.mdhtml.specs.held.InlineWriter.{writing_of}
 use Rattle.mdhtml.proofs.InlineWriterSteps.{takes_leaf}
 use Rattle.mdhtml.proofs.inline_writer.InlineWriterInlineSink.raw_html.Goals as goal

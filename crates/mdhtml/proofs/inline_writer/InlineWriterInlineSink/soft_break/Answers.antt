@@ -1,8 +1,8 @@
 use Rattle.std.proofs.Common.{ap, codes}
 use Rattle.std.proofs.lemmas.Result.{on_ok_weaker}
 use Rattle.inlinespec.specs.InlineEvents.{SoftBreak}
-use Rattle.mdhtml.specs.InlineHtml.{break_html}
-use Rattle.mdhtml.specs.InlineWriting.{shows, shown_in}
+use Rattle.htmlspec.specs.InlineHtml.{break_html}
+use Rattle.htmlspec.specs.InlineWriting.{shows, shown_in}
 use Rattle.mdhtml.specs.held.InlineWriter.{writing_of}
 use Rattle.mdhtml.proofs.InlineWriterSteps.{takes_leaf}
 use Rattle.mdhtml.proofs.inline_writer.InlineWriterInlineSink.soft_break.Goals as goal

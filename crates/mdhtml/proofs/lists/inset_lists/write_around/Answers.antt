@@ -1,9 +1,9 @@
 use Rattle.std.proofs.Common.{◌-◌, drop, length, take, sym, subst}
 use Rattle.std.proofs.lemmas.List.{length-map}
-use Rattle.mdinline.specs.ParsedText.{ParsedText}
+use Rattle.inlinespec.specs.ParsedText.{ParsedText}
 use Rattle.mdblock.specs.BlockView.{items_view}
 use Rattle.mdblock.specs.Positions.{ItemsIn}
-use Rattle.mdhtml.specs.InlineHtml.{inlines_html}
+use Rattle.htmlspec.specs.InlineHtml.{inlines_html}
 use Rattle.mdhtml.proofs.LikeLists.{like_items_in}
 use Rattle.mdhtml.proofs.lists.inset_lists.write_around.Goals as goal
 

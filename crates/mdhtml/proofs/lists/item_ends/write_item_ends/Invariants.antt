@@ -2,8 +2,8 @@ use Rattle.std.proofs.Common.{◌≡◌, ◌++◌, string_bytes, drop, length}
 use Rattle.mdblock.specs.BlockView.{items_view}
 use Rattle.mdblock.specs.Positions.{ItemsIn}
 use Rattle.mdhtml.specs.held.UnitTexts.{shown_texts}
-use Rattle.mdhtml.specs.BlockHtml.{items_html}
-use Rattle.mdhtml.specs.ListEnds.{item_ends}
+use Rattle.htmlspec.specs.BlockHtml.{items_html}
+use Rattle.htmlspec.specs.ListEnds.{item_ends}
 use Rattle.mdhtml.proofs.lists.item_ends.write_item_ends.Given as goal
 
 abbrev pub invariant-loop-item : goal.invariant-loop-item

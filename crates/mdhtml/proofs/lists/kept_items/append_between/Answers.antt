@@ -1,7 +1,7 @@
 use Rattle.std.proofs.Common.{◌≡◌, ◌≤◌, ◌∙◌, ◌++◌, length, ap, sym, string_bytes, arith}
 use Rattle.mdblock.specs.BlockView.{kind_view}
 use Rattle.mdhtml.specs.held.KeptItems.{list_begins}
-use Rattle.mdhtml.specs.BlockHtml.{list_close, texts_html}
+use Rattle.htmlspec.specs.BlockHtml.{list_close, texts_html}
 use Rattle.mdhtml.proofs.KeptItems.{MadeAround, made_around}
 use Rattle.mdhtml.proofs.ItemsTogether.{like_ends_count}
 use Rattle.mdhtml.proofs.lists.kept_items.append_between.Goals.{After-begin_list, In_ok-reserve-in-Some-2}

@@ -3,8 +3,8 @@ use Rattle.std.proofs.lemmas.Result.{IfOk-weaker}
 use Rattle.blockspec.specs.BlockTree.{list}
 use Rattle.mdblock.specs.BlockView.{items_view, kind_view}
 use Rattle.mdhtml.specs.held.KeptItems.{list_begins}
-use Rattle.mdhtml.specs.BlockHtml.{block_html, list_close, texts_html}
-use Rattle.mdhtml.specs.ListEnds.{item_ends}
+use Rattle.htmlspec.specs.BlockHtml.{block_html, list_close, texts_html}
+use Rattle.htmlspec.specs.ListEnds.{item_ends}
 use Rattle.mdhtml.proofs.LikeLists.{like_items_in, like_around, like_ends_around}
 use Rattle.mdhtml.proofs.lists.like_lists.append_list_like.Goals as goal
 

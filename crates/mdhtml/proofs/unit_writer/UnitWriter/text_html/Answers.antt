@@ -1,10 +1,10 @@
 use Rattle.std.proofs.Common.{ap, ◌∙◌, string_bytes}
 use Rattle.inlinespec.specs.TextReading.{reading}
 use Rattle.inlinespec.specs.TextTree.{events_of}
-use Rattle.mdhtml.specs.declared.options.Options.{Options}
-use Rattle.mdhtml.specs.InlineWriting.{after_events}
+use Rattle.htmlspec.specs.declared.options.Options.{Options}
+use Rattle.htmlspec.specs.InlineWriting.{after_events}
 use Rattle.mdhtml.specs.held.InlineWriter.{writing_of}
-use Rattle.mdhtml.proofs.WrittenTrees.{read_shown}
+use Rattle.htmlspec.proofs.WrittenTrees.{read_shown}
 use Rattle.mdhtml.proofs.unit_writer.UnitWriter.text_html.Goals as goal
 
 pub returns-clause-html : goal.returns-clause-html

@@ -1,7 +1,8 @@
 use Rattle.std.proofs.Common.{ap, refl, sym, ◌∙◌, ◌∷◌, ◌++◌, [], Vec, String, Global, string_bytes}
 use Rattle.mdtext.specs.EntityTable.{EntityTable}
-use Rattle.mdhtml.specs.WrittenUnits.{entities_of, is_deep_text, options_of, read_html}
-use Rattle.mdhtml.specs.declared.options.Options.{Options}
+use Rattle.htmlspec.specs.WrittenUnits.{is_deep_text, read_html}
+use Rattle.mdhtml.specs.UnitWriters.{entities_of, options_of}
+use Rattle.htmlspec.specs.declared.options.Options.{Options}
 use Rattle.mdhtml.proofs.TextsWritten.{all_fit, all_texts, fits_more, none_yet, text_more}
 use Rattle.mdhtml.proofs.unit_writer.UnitWriter.write_texts.Goals as goal
 

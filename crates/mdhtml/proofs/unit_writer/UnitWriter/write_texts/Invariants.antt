@@ -1,5 +1,6 @@
 use Rattle.std.proofs.Common.{◌≡◌, ◌++◌, map, string_bytes}
-use Rattle.mdhtml.specs.WrittenUnits.{entities_of, is_deep_text, options_of, read_html}
+use Rattle.htmlspec.specs.WrittenUnits.{is_deep_text, read_html}
+use Rattle.mdhtml.specs.UnitWriters.{entities_of, options_of}
 use Rattle.mdhtml.proofs.TextsWritten.{deep_from, rest}
 use Rattle.mdhtml.proofs.unit_writer.UnitWriter.write_texts.Given as goal
 

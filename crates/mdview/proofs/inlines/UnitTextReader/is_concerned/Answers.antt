@@ -1,6 +1,6 @@
 use Rattle.std.proofs.Common.{◌+◌, Bool, ◌||◌, drop, ap, ◌∙◌, sym}
 use Rattle.std.specs.List.{list_any}
-use Rattle.mdinline.specs.ParsedText.{ParsedText}
+use Rattle.inlinespec.specs.ParsedText.{ParsedText}
 use Rattle.mdsource.specs.Changes.{asks_changed}
 use Rattle.mdview.specs.HeldTexts.{labels_before, labels_behind}
 use Rattle.mdview.proofs.Concerns.{concerned}

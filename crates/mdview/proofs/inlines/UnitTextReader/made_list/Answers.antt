@@ -7,7 +7,7 @@ use Rattle.mdblock.specs.FoundLists.{FoundList}
 use Rattle.mdblock.specs.Fronted.{texts_staying}
 use Rattle.mdblock.specs.Positions.{BlocksIn}
 use Rattle.mdblock.specs.Seams.{seam_list}
-use Rattle.mdhtml.specs.BlockHtml.{blocks_html, texts_html}
+use Rattle.htmlspec.specs.BlockHtml.{blocks_html, texts_html}
 use Rattle.mdhtml.specs.InsetLists.{inset_readings}
 use Rattle.mdview.specs.HeldLists.{unplaced}
 use Rattle.mdview.specs.HeldUnit.{AreEnds}

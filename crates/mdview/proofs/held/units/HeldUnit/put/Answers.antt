@@ -2,7 +2,7 @@ use Rattle.std.proofs.Common.{◌≡◌, ◌+◌, ◌∙◌, List, ap, subst, sy
 use Rattle.mdblock.specs.FoundLists.{FoundList}
 use Rattle.mdblock.specs.Insets.{FitsList}
 use Rattle.mdblock.specs.Spliced.{mark_at}
-use Rattle.mdinline.specs.ParsedText.{ParsedText}
+use Rattle.inlinespec.specs.ParsedText.{ParsedText}
 use Rattle.mdview.specs.HeldLists.{list_in}
 use Rattle.mdview.specs.HeldUnit.{HeldUnit}
 use Rattle.mdview.specs.LabelMarks.{unit_marks}

@@ -2,7 +2,7 @@
 use Rattle.std.specs.Prelude.{ℕ, List, refl}
 use Rattle.std.specs.Coded.{Coded, code_by, coded×, coded_ℕ, coded_list}
 use Rattle.inlinespec.specs.InlineTree.{Inlines}
-use Rattle.mdinline.specs.held.StoredTree.{inlines_code}
+use Rattle.inlinespec.specs.StoredTree.{inlines_code}
 
 -- the tree, and the labels that were looked up
 pub record ParsedText : Type 0 where

@@ -2,7 +2,7 @@
 use Rattle.std.specs.Prelude.{ℕ, ◌+◌, Bool, true, false, List, [], ◌∷◌, ◌++◌, codes, if◌then◌else◌, length, ◌==◌, slice_index_or}
 use Rattle.mdscan.specs.declared.delimiter_rows.Align.{Align}
 use Rattle.mdscan.specs.declared.delimiter_rows.Align.TheVariants.{Plain, Left, Center, Right}
-use Rattle.mdhtml.specs.declared.options.Options.{Options}
+use Rattle.htmlspec.specs.declared.options.Options.{Options}
 
 -- the HTML of the inline text at a position among the texts of a unit, which are HTML here
 abbrev pub text_html : List (List ℕ) → ℕ → List ℕ

@@ -1,7 +1,7 @@
 -- The limits of what lies in one another.
 use Rattle.std.specs.Prelude.{◌≤◌, false}
-use Rattle.mdhtml.specs.declared.options.Breaks.TheVariants.{Soft}
-use Rattle.mdhtml.specs.declared.options.Options.{Options}
+use Rattle.htmlspec.specs.declared.options.Breaks.TheVariants.{Soft}
+use Rattle.htmlspec.specs.declared.options.Options.{Options}
 
 -- both limits are 1 to 256
 abbrev pub HasLimits : Options → Type 0

@@ -3,8 +3,8 @@ use Rattle.std.specs.Prelude.{ℕ, Bool, true, false, List, [], ◌∷◌, ◌++
 use Rattle.std.specs.List.{fold}
 use Rattle.mdtext.specs.HtmlEscapes.{escaped, escaped_byte}
 use Rattle.inlinespec.specs.InlineEvents.{InlineSpan, Emphasis, StrongEmphasis, Strikethrough, LinkTo, ImageOf, Event, Byte, CodeSpan, RawHtml, SoftBreak, HardBreak, Enter, Leave}
-use Rattle.mdhtml.specs.declared.options.Options.{Options}
-use Rattle.mdhtml.specs.InlineHtml.{wrapped, break_html, raw_html, link_open, image_begins, image_ends}
+use Rattle.htmlspec.specs.declared.options.Options.{Options}
+use Rattle.htmlspec.specs.InlineHtml.{wrapped, break_html, raw_html, link_open, image_begins, image_ends}
 
 -- How a span that is open ends: with a tag; or it is an image, with its title behind the alternative text; or it stands in an image, where no tags are.
 pub data SpanEnd : Type 0 where

@@ -2,8 +2,8 @@
 use Rattle.std.proofs.Common.{◌≡◌, ℕ, List, [], ◌∷◌, ◌++◌, sym, ap, ◌∙◌, append_assoc, append-nil}
 use Rattle.mdtext.specs.HtmlEscapes.{escaped, escaped_byte}
 use Rattle.inlinespec.specs.InlineEvents.{written}
-use Rattle.mdhtml.specs.declared.options.Options.{Options}
-use Rattle.mdhtml.specs.InlineWriting.{Writing, writing, shows, after_events}
+use Rattle.htmlspec.specs.declared.options.Options.{Options}
+use Rattle.htmlspec.specs.InlineWriting.{Writing, writing, shows, after_events}
 
 pub shows_nothing : (w : Writing) → shows w [] ≡ w
 shows_nothing w = ap (λ h. writing h w.ends w.in_image) (append-nil w.html)

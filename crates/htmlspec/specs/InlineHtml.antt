@@ -2,10 +2,10 @@
 use Rattle.std.specs.Prelude.{ℕ, List, [], ◌++◌, codes, if◌then◌else◌}
 use Rattle.mdtext.specs.HtmlEscapes.{escaped}
 use Rattle.inlinespec.specs.InlineTree.{Inline, Inlines, no_inlines, inline, text, code, raw, soft, hard, emph, strong, strike, link, image}
-use Rattle.mdhtml.specs.declared.options.Options.{Options}
-use Rattle.mdhtml.specs.declared.options.Breaks.{Breaks}
-use Rattle.mdhtml.specs.declared.options.Breaks.TheVariants.{Soft, Hard, Space}
-use Rattle.mdhtml.specs.Attributes.{destination_html, title_html}
+use Rattle.htmlspec.specs.declared.options.Options.{Options}
+use Rattle.htmlspec.specs.declared.options.Breaks.{Breaks}
+use Rattle.htmlspec.specs.declared.options.Breaks.TheVariants.{Soft, Hard, Space}
+use Rattle.htmlspec.specs.Attributes.{destination_html, title_html}
 
 abbrev pub wrapped : List ℕ → List ℕ → List ℕ
 wrapped tag inner = codes "<" ++ tag ++ codes ">" ++ inner ++ codes "</" ++ tag ++ codes ">"

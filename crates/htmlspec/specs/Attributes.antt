@@ -3,7 +3,7 @@ use Rattle.std.specs.Prelude.{ℕ, List, [], ◌∷◌, ◌++◌, codes, if◌th
 use Rattle.std.specs.Char.{eq_ignore_ascii_case}
 use Rattle.mdtext.specs.HtmlEscapes.{escaped}
 use Rattle.mdtext.specs.EscapedUrl.{escaped_url}
-use Rattle.mdhtml.specs.declared.options.Options.{Options}
+use Rattle.htmlspec.specs.declared.options.Options.{Options}
 
 -- whether bytes begin with a text, in any case of the ASCII letters
 abbrev pub begins_with : (text bytes : List ℕ) → Bool

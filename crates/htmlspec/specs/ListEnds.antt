@@ -1,8 +1,8 @@
 -- Where the items of a unit that is one list end in its HTML.
 use Rattle.std.specs.Prelude.{ℕ, List, [], ◌∷◌, ◌++◌, codes, Bool, length}
 use Rattle.blockspec.specs.BlockTree.{Block, paragraph, heading, thematic_break, code_block, html_block, block_quote, list, table, Blocks, no_blocks, block, Items, no_items, item}
-use Rattle.mdhtml.specs.declared.options.Options.{Options}
-use Rattle.mdhtml.specs.BlockHtml.{fresh, list_open, blocks_html}
+use Rattle.htmlspec.specs.declared.options.Options.{Options}
+use Rattle.htmlspec.specs.BlockHtml.{fresh, list_open, blocks_html}
 
 -- the piece behind an item
 abbrev pub item_html : Options → List (List ℕ) → (tight : Bool) → Blocks → List ℕ → List ℕ

@@ -1,4 +1,4 @@
--- Units whose HTML is written while their texts are read.
+-- The HTML of a unit under a table of labels, and whether a text of it has too many spans in one another.
 use Rattle.std.specs.Prelude.{ℕ, Bool, List, [], false, map, nat_lt}
 use Rattle.std.specs.List.{list_any}
 use Rattle.mdtext.specs.EntityTable.{EntityTable}
@@ -6,18 +6,9 @@ use Rattle.inlinespec.specs.LinkTails.{Table}
 use Rattle.inlinespec.specs.Nesting.{nest}
 use Rattle.inlinespec.specs.TextTree.{inl}
 use Rattle.blockspec.specs.UnitTree.{UnitTree}
-use Rattle.mdhtml.specs.declared.options.Options.{Options}
-use Rattle.mdhtml.specs.declared.unit_writer.UnitWriter.{UnitWriter}
-use Rattle.mdhtml.specs.InlineHtml.{inlines_html}
-use Rattle.mdhtml.specs.BlockHtml.{blocks_html}
-
--- the options of a writer
-abbrev pub options_of : UnitWriter → Options
-options_of writer = writer.options
-
--- the entities with which it reads texts
-abbrev pub entities_of : UnitWriter → EntityTable
-entities_of writer = writer.reader.entities.now
+use Rattle.htmlspec.specs.declared.options.Options.{Options}
+use Rattle.htmlspec.specs.InlineHtml.{inlines_html}
+use Rattle.htmlspec.specs.BlockHtml.{blocks_html}
 
 -- the HTML of a text, as it reads under a table of labels
 abbrev pub read_html : Options → EntityTable → Table → List ℕ → List ℕ

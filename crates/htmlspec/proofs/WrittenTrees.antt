@@ -13,11 +13,11 @@ use Rattle.inlinespec.specs.TextReading.{reading}
 use Rattle.inlinespec.specs.TextTree.{events_of, inl}
 use Rattle.inlinespec.proofs.PairedSpans.{rows_by}
 use Rattle.inlinespec.proofs.ReadingBalanced.{reading_paired}
-use Rattle.mdhtml.specs.declared.options.Options.{Options}
-use Rattle.mdhtml.specs.InlineHtml.{link_open, image_begins, image_ends, alt, alts, inline_html, inlines_html}
-use Rattle.mdhtml.specs.InlineWriting.{SpanEnd, EndTag, EndImage, NoTag, Writing, writing, shows, shown_in, span_begins, span_ends, ends_by, after_events}
-use Rattle.mdhtml.specs.WrittenUnits.{read_html}
-use Rattle.mdhtml.proofs.WrittenEvents.{shows_nothing, shows_more, tags_whole}
+use Rattle.htmlspec.specs.declared.options.Options.{Options}
+use Rattle.htmlspec.specs.InlineHtml.{link_open, image_begins, image_ends, alt, alts, inline_html, inlines_html}
+use Rattle.htmlspec.specs.InlineWriting.{SpanEnd, EndTag, EndImage, NoTag, Writing, writing, shows, shown_in, span_begins, span_ends, ends_by, after_events}
+use Rattle.htmlspec.specs.WrittenUnits.{read_html}
+use Rattle.htmlspec.proofs.WrittenEvents.{shows_nothing, shows_more, tags_whole}
 
 -- inlines where they stand, in an image or not
 abbrev pub row_html : Options → Bool → Inlines → List ℕ

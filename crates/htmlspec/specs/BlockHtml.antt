@@ -2,12 +2,12 @@
 use Rattle.std.specs.Prelude.{ℕ, ◌-◌, List, [], ◌++◌, codes, if◌then◌else◌, ◌==◌, ◌||◌, ◌&&◌, not, Bool, true, false, Option, Some, None, length, map, slice_index}
 use Rattle.std.specs.Fmt.{decimal}
 use Rattle.mdtext.specs.HtmlEscapes.{escaped}
-use Rattle.mdinline.specs.ParsedText.{ParsedText}
+use Rattle.inlinespec.specs.ParsedText.{ParsedText}
 use Rattle.blockspec.specs.BlockTree.{ListKind, bullet, ordered, Block, paragraph, heading, thematic_break, code_block, html_block, block_quote, list, table, Blocks, no_blocks, block, Items, no_items, item}
-use Rattle.mdhtml.specs.declared.options.Options.{Options}
-use Rattle.mdhtml.specs.InlineHtml.{raw_html, inlines_html}
-use Rattle.mdhtml.specs.TableHtml.{table_html}
-pub use Rattle.mdhtml.specs.TableHtml.{text_html}
+use Rattle.htmlspec.specs.declared.options.Options.{Options}
+use Rattle.htmlspec.specs.InlineHtml.{raw_html, inlines_html}
+use Rattle.htmlspec.specs.TableHtml.{table_html}
+pub use Rattle.htmlspec.specs.TableHtml.{text_html}
 
 -- the HTML of the texts that read so
 abbrev pub texts_html : Options → List ParsedText → List (List ℕ)

@@ -3,9 +3,9 @@
 ghost use Rattle.std.specs.Prelude.{◌≡◌, List, [], false};
 ghost use Rattle.inlinespec.specs.InlineEvents.{Event, tree_of};
 ghost use Rattle.inlinespec.specs.SpanEnds.{EndSpans};
-ghost use Rattle.mdhtml.specs.declared.options.Options.{Options};
-ghost use Rattle.mdhtml.specs.InlineHtml.{inlines_html};
-ghost use Rattle.mdhtml.specs.InlineWriting.{writing, after_events};
+ghost use Rattle.htmlspec.specs.declared.options.Options.{Options};
+ghost use Rattle.htmlspec.specs.InlineHtml.{inlines_html};
+ghost use Rattle.htmlspec.specs.InlineWriting.{writing, after_events};
 
 /// Events in which spans begin and end in pairs are written as the HTML of their tree.
 pub fn events_are_written_as_their_tree()

@@ -1,0 +1,2 @@
+pub mod WrittenEvents
+pub mod WrittenTrees

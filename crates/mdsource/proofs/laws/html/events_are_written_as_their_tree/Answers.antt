@@ -1,7 +1,0 @@
-use Rattle.std.proofs.Common.{refl, false, []}
-use Rattle.mdhtml.specs.InlineWriting.{writing}
-use Rattle.mdhtml.proofs.WrittenTrees.{tree_shown}
-use Rattle.mdsource.proofs.laws.html.events_are_written_as_their_tree.Goals as goal
-
-pub returns : goal.returns
-returns c = λ options events pairs. tree_shown options (writing [] [] false) events refl pairs
